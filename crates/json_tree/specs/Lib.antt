@@ -1,0 +1,4 @@
+pub mod Data
+pub mod DataCode
+pub mod View
+pub mod Falls
