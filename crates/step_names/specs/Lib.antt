@@ -1,0 +1,5 @@
+pub mod Thread
+pub mod Written
+pub mod Grammar
+pub mod Under
+pub mod Order

@@ -1,0 +1,178 @@
+ghost use Rattle.std.specs.Prelude.{◌≡◌, ◌≤◌, ◌<◌, ◌↔◌, ◌⊎◌, [], ◌++◌, length, None, Some, IfOk, OnOk, OnErr, IsErrOf, IsTrue, SomeIff, string_bytes, string_len};
+ghost use Rattle.std.specs.String.{string_capacity};
+ghost use Rattle.std.specs.List.{list_all};
+ghost use Rattle.step_names.specs.Thread.{execution, child_of, is_name, is_name_byte, IsThread};
+ghost use Rattle.step_names.specs.Written.{thread_text};
+ghost use Rattle.step_names.specs.Grammar.{read_thread};
+ghost use Rattle.step_names.specs.Under.{is_under, IsUnder, goes_on_by};
+
+use crate::NameFault;
+use crate::path_buffer::{MOST_BRANCHES, PathBuffer};
+use std::alloc::{AllocError, Global};
+use std::cmp::Ordering;
+use std::marker::Model;
+
+#[derive(Debug, Drop)]
+pub struct ThreadName {
+    exec: String,
+    path: Vec<(u32, u32)>,
+}
+
+impl Model for ThreadName {
+    ghost use Rattle.std.specs.Prelude.{string_bytes};
+    ghost use Rattle.step_names.specs.Thread.{Thread, IsThread};
+
+    ghost Value = { Thread };
+
+    ghost view = { λ a. record { exec = string_bytes a.exec; path = a.path.items } };
+
+    ghost invariant = { λ a. IsThread (record { exec = string_bytes a.exec; path = a.path.items }) };
+}
+
+impl ThreadName {
+    pub fn new(exec: String) -> Option<ThreadName>
+        ensures { SomeIff result (IsTrue (is_name (string_bytes exec))) (execution (string_bytes exec)) }
+    {
+        if !is_name(exec.as_str()) {
+            return None;
+        }
+        let path = Vec::new(*exec.allocator());
+        Some(ThreadName { exec, path })
+    }
+
+    pub fn exec(&self) -> &str
+        ensures exec { result.now ≡ self.now.exec }
+        ensures bounds { IsThread self.now }
+    {
+        self.exec.as_str()
+    }
+
+    pub fn path(&self) -> &[(u32, u32)]
+        ensures path { result.now ≡ self.now.path }
+        ensures bounds { IsThread self.now }
+    {
+        self.path.as_slice()
+    }
+
+    pub fn is_execution(&self) -> bool
+        ensures { IsTrue result ↔ (self.now.path ≡ []) }
+    {
+        self.path.is_empty()
+    }
+
+    pub fn copy(&self) -> Result<ThreadName, AllocError>
+        ensures { IfOk result (λ t. t ≡ self.now) }
+    {
+        let exec = String::from_str(*self.exec.allocator(), self.exec.as_str())?;
+        let path = Vec::from_slice(*self.path.allocator(), self.path.as_slice())?;
+        Ok(ThreadName { exec, path })
+    }
+
+    pub fn child(&self, alloc: Global, fork: u32, branch: u32) -> Result<ThreadName, NameFault>
+        ensures ok { IfOk result (λ t. t ≡ child_of self.now fork branch) }
+        ensures bad { IsErrOf result NameFault.BadName ↔ ((fork ≡ 0) ⊎ (length self.now.path ≡ 31)) }
+    {
+        if fork == 0 || self.path.len() == MOST_BRANCHES {
+            return Err(NameFault::BadName);
+        }
+        let exec = String::from_str(alloc, self.exec.as_str())?;
+        let mut path = Vec::with_capacity(alloc, self.path.len() + 1)?;
+        path.extend_from_slice(self.path.as_slice())?;
+        path.push((fork, branch))?;
+        Ok(ThreadName { exec, path })
+    }
+
+    pub fn is_under(&self, thread: &ThreadName, fork: u32) -> bool
+        ensures test { result ≡ is_under self.now thread.now fork }
+        ensures under { IsTrue result ↔ IsUnder self.now thread.now fork }
+    {
+        self.exec == thread.exec && goes_on_by(self.path.as_slice(), thread.path.as_slice(), fork)
+    }
+}
+
+/// Whether the path is the one above, a branch of the fork, and perhaps more.
+fn goes_on_by(path: &[(u32, u32)], above: &[(u32, u32)], fork: u32) -> bool
+    ensures { result ≡ goes_on_by path.now above.now fork }
+{
+    match path.strip_prefix(above) {
+        Some([next, ..]) => next.0 == fork,
+        Some([]) => false,
+        None => false,
+    }
+}
+
+/// Whether the text is a name of an execution: 1 to 64 ASCII letters, digits, `_` and `-`.
+fn is_name(text: &str) -> bool
+    ensures { result ≡ is_name text.now }
+{
+    let bytes = text.as_bytes();
+    !bytes.is_empty() && bytes.len() <= 64 && all_name_bytes(bytes)
+}
+
+fn all_name_bytes(bytes: &[u8]) -> bool
+    ensures { result ≡ list_all is_name_byte bytes.now }
+{
+    bytes.iter().all(|c| is_name_byte(*c))
+}
+
+fn is_name_byte(c: u8) -> bool
+    ensures { result ≡ is_name_byte c }
+{
+    c.is_ascii_alphanumeric() || c == b'_' || c == b'-'
+}
+
+impl PartialEq for ThreadName {
+    ghost use Rattle.std.specs.Ordering.{eq_by_cmp};
+    ghost use Rattle.std.specs.Cmp.{eq_by_cmp_equiv, partial_equiv_from_equiv};
+    ghost use Rattle.step_names.specs.Order.{thread_cmp, thread_cmp_total};
+
+    ghost eq = { eq_by_cmp thread_cmp };
+
+    ghost laws = { partial_equiv_from_equiv (eq_by_cmp_equiv thread_cmp_total) };
+
+    fn eq(&self, other: &ThreadName) -> bool {
+        self.cmp(other).is_eq()
+    }
+}
+
+impl Eq for ThreadName {
+    ghost use Rattle.std.specs.Cmp.{eq_by_cmp_equiv};
+    ghost use Rattle.step_names.specs.Order.{thread_cmp_total};
+
+    ghost laws = { eq_by_cmp_equiv thread_cmp_total };
+}
+
+impl PartialOrd for ThreadName {
+    ghost use Rattle.std.specs.Prelude.{refl};
+    ghost use Rattle.std.specs.Ordering.{as_partial_cmp};
+    ghost use Rattle.std.specs.Cmp.{partial_order_from_agreeing_total};
+    ghost use Rattle.step_names.specs.Order.{thread_cmp, thread_cmp_total};
+
+    ghost partial_cmp = { as_partial_cmp thread_cmp };
+
+    ghost laws = { partial_order_from_agreeing_total thread_cmp thread_cmp_total (λ _ _. refl) (λ _ _. refl) };
+
+    fn partial_cmp(&self, other: &ThreadName) -> Option<Ordering> {
+        Some(self.cmp(other))
+    }
+}
+
+impl Ord for ThreadName {
+    ghost use Rattle.std.specs.Prelude.{refl};
+    ghost use Rattle.step_names.specs.Order.{thread_cmp, thread_cmp_total};
+
+    ghost cmp = { thread_cmp };
+
+    ghost total = { thread_cmp_total };
+
+    ghost matches_partial_cmp = { λ _ _. refl };
+
+    ghost matches_eq = { λ _ _. refl };
+
+    fn cmp(&self, other: &ThreadName) -> Ordering {
+        match self.exec.cmp(&other.exec) {
+            Ordering::Equal => self.path.cmp(&other.path),
+            unequal => unequal,
+        }
+    }
+}
