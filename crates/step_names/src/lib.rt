@@ -1,6 +1,7 @@
 //! Names of threads and of their steps.
 #![tactic(auto)]
 
+mod name_room;
 mod path_buffer;
 mod step;
 mod thread;
@@ -8,6 +9,7 @@ mod thread;
 use std::alloc::{AllocError, AllocFailed};
 use std::error::Error;
 use std::fmt;
+pub use name_room::NameRoom;
 pub use step::StepName;
 pub use thread::ThreadName;
 

@@ -40,6 +40,14 @@ impl ThreadName {
         Some(ThreadName { exec, path })
     }
 
+    /// The thread of this name and path, which keep the bounds.
+    pub(crate) fn from_parts(exec: String, path: Vec<(u32, u32)>) -> ThreadName
+        requires { IsThread (record { exec = string_bytes exec; path = path.items }) }
+        ensures { result ≡ record { exec = string_bytes exec; path = path.items } }
+    {
+        ThreadName { exec, path }
+    }
+
     pub fn exec(&self) -> &str
         ensures exec { result.now ≡ self.now.exec }
         ensures bounds { IsThread self.now }
