@@ -2,9 +2,15 @@
 
 //! JSON values whose numbers are whole, read by `serde_json` and written in one spelling.
 mod fault;
+mod nesting;
+mod reading;
 mod text;
 mod tree;
+mod writing;
 
 pub use fault::JsonFault;
+pub use nesting::depth;
+pub use reading::{from_value, read};
 pub use text::Text;
 pub use tree::{Json, JsonFields, JsonList};
+pub use writing::write_text;
