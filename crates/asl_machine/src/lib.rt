@@ -1,0 +1,16 @@
+#![tactic(auto)]
+
+//! Definitions of state machines (Amazon States Language), read from JSON and checked once.
+mod fault;
+mod fields;
+mod level;
+mod machine;
+mod read;
+mod shared;
+mod state;
+
+pub use fault::MachineFault;
+pub use level::{Level, LevelPath, LevelStep};
+pub use machine::{Machine, States};
+pub use shared::SharedMachine;
+pub use state::{Pass, State, Transition};
