@@ -3,6 +3,7 @@
 //! JSON values whose numbers are whole, read by `serde_json` and written in one spelling.
 mod fault;
 mod nesting;
+mod order;
 mod reading;
 mod text;
 mod tree;
