@@ -1,1 +1,3 @@
 pub mod UnderLaws
+pub mod Parts
+pub mod Numbers

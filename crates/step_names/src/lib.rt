@@ -1,6 +1,7 @@
 //! Names of threads and of their steps.
 #![tactic(auto)]
 
+mod grammar;
 mod path_buffer;
 mod step;
 mod thread;

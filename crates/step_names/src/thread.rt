@@ -7,6 +7,7 @@ ghost use Rattle.step_names.specs.Grammar.{read_thread};
 ghost use Rattle.step_names.specs.Under.{is_under, IsUnder, goes_on_by};
 
 use crate::NameFault;
+use crate::grammar::{cut, is_name, read_path};
 use crate::path_buffer::{MOST_BRANCHES, PathBuffer};
 use std::alloc::{AllocError, Global};
 use std::cmp::Ordering;
@@ -38,6 +39,25 @@ impl ThreadName {
         }
         let path = Vec::new(*exec.allocator());
         Some(ThreadName { exec, path })
+    }
+
+    pub fn read(alloc: Global, text: &str) -> Result<ThreadName, NameFault>
+        ensures ok { IfOk result (λ t. read_thread text.now ≡ Some t) }
+        ensures bad { IsErrOf result NameFault.BadName ↔ (read_thread text.now ≡ None) }
+    {
+        let (exec, path) = match cut(text, '/') {
+            Some((exec, branches)) => (exec, read_path(branches)),
+            None => (text, Some(PathBuffer::new())),
+        };
+        let Some(path) = path else {
+            return Err(NameFault::BadName);
+        };
+        if !is_name(exec) {
+            return Err(NameFault::BadName);
+        }
+        let exec = String::from_str(alloc, exec)?;
+        let path = Vec::from_slice(alloc, path.as_slice())?;
+        Ok(ThreadName { exec, path })
     }
 
     pub fn exec(&self) -> &str
@@ -99,26 +119,6 @@ fn goes_on_by(path: &[(u32, u32)], above: &[(u32, u32)], fork: u32) -> bool
         Some([]) => false,
         None => false,
     }
-}
-
-/// Whether the text is a name of an execution: 1 to 64 ASCII letters, digits, `_` and `-`.
-fn is_name(text: &str) -> bool
-    ensures { result ≡ is_name text.now }
-{
-    let bytes = text.as_bytes();
-    !bytes.is_empty() && bytes.len() <= 64 && all_name_bytes(bytes)
-}
-
-fn all_name_bytes(bytes: &[u8]) -> bool
-    ensures { result ≡ list_all is_name_byte bytes.now }
-{
-    bytes.iter().all(|c| is_name_byte(*c))
-}
-
-fn is_name_byte(c: u8) -> bool
-    ensures { result ≡ is_name_byte c }
-{
-    c.is_ascii_alphanumeric() || c == b'_' || c == b'-'
 }
 
 impl PartialEq for ThreadName {
