@@ -1,3 +1,5 @@
 pub mod UnderLaws
 pub mod Parts
 pub mod Numbers
+pub mod Paths
+pub mod Bounds

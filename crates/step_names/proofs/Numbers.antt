@@ -8,7 +8,7 @@ use Rattle.std.specs.Fmt.{decimal}
 use Rattle.std.specs.Char.{is_ascii_digit}
 use Rattle.std.proofs.lemmas.Bool.Decides.{Decides-ltb}
 use Rattle.std.proofs.lemmas.Str.Parse.{IsNumeralModel, numerals_by_value, tells_all_ascii_digits, parse_plain}
-use Rattle.std.proofs.lemmas.Fmt.{digits_decimal, digits_value-decimal, decimal-digits_value, decimal_nonempty, first_decimal}
+use Rattle.std.proofs.lemmas.Fmt.{digits_decimal, digits_value-decimal, decimal-digits_value, decimal_nonempty, decimal_digit, first_decimal}
 use Rattle.step_names.specs.Grammar.{is_numeral, read_number}
 use Rattle.step_names.proofs.UnderLaws.{both_true}
 use Rattle.step_names.proofs.Parts.{both_lack, not_from}
@@ -64,7 +64,7 @@ number_reads n h =
     number_some (decimal n) (numeral_from (decimal n) (digits_decimal own n (omega arith)) (decimal_nonempty n (omega arith)) (zero_alone n h)) (rw value h) ∙ ap (λ (m : ℕ). Some m) value
   where
     zero_alone : (n : ℕ) → n < 2 ^ 32 → get_or (decimal n) 0 0 ≡ 48 → length (decimal n) ≡ 1
-    zero_alone zero h e = refl
+    zero_alone zero h e = ap length (decimal_digit 0 (omega arith))
     zero_alone (suc n) h e = absurd (omega (arith, first_decimal (suc n) (omega arith) (omega arith)))
 
 pub number_writes : (ds : List ℕ) (n : ℕ) → read_number ds ≡ Some n → decimal n ≡ ds
@@ -75,11 +75,11 @@ number_writes ds n h =
 
 -- what `parse` gives of a text that begins with no sign and no zero
 pub number_parsed : {E : Type 0} (bs : List ℕ) (r : Result ℕ E) → ParsesUnsigned 32 10 bs r → get_or bs 0 0 ≢ 43 → get_or bs 0 0 ≢ 48 → result_ok r ≡ read_number bs
-number_parsed bs (Ok n) h plus zero =
-    let p = parse_plain own 32 bs (Ok n) h plus in
-    ap (λ (m : ℕ). Some m) p.1 ∙ sym (number_some bs (numeral_from bs p.0.0 p.0.1 (λ e. absurd (zero e))) p.0.2)
-number_parsed bs (Err e) h plus zero =
-    let p = parse_plain own 32 bs (Err e) h plus in
+number_parsed {E} bs (Ok n) h plus not_zero =
+    let p = parse_plain own {E = E} 32 bs (Ok n) h plus in
+    ap (λ (m : ℕ). Some m) p.1 ∙ sym (number_some bs (numeral_from bs p.0.0 p.0.1 (λ e. absurd (not_zero e))) p.0.2)
+number_parsed {E} bs (Err e) h plus not_zero =
+    let p = parse_plain own {E = E} 32 bs (Err e) h plus in
     sym (number_none bs (λ i l. let s = numeral_parts bs i in p (s.0, s.1, l)))
 
 pub zero_read : (bs : List ℕ) → get_or bs 0 0 ≡ 48 → length bs ≡ 1 → read_number bs ≡ Some 0

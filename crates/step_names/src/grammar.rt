@@ -1,9 +1,9 @@
 //! The parts of a name's text, read from the front.
 
-ghost use Rattle.std.specs.Prelude.{◌≡◌, ℕ, ◌<◌, ◌≤◌, ◌==◌, [], ◌∷◌, length, MatchOption, IfSome};
+ghost use Rattle.std.specs.Prelude.{◌≡◌, ℕ, ◌<◌, ◌≤◌, ◌==◌, [], ◌∷◌, length, None, Some, MatchOption, IfSome};
 ghost use Rattle.std.specs.List.{slice_split, list_all};
 ghost use Rattle.step_names.specs.Thread.{is_name, is_name_byte};
-ghost use Rattle.step_names.specs.Grammar.{read_number, read_branch, read_path};
+ghost use Rattle.step_names.specs.Grammar.{read_number, read_branch, read_path, read_thread};
 
 use crate::path_buffer::PathBuffer;
 
@@ -64,7 +64,7 @@ fn read_branch(text: &str) -> Option<(u32, u32)>
 }
 
 /// The branches of a name, parted by `/`. `None` also where they are too many.
-pub fn read_path(text: &str) -> Option<PathBuffer>
+fn read_path(text: &str) -> Option<PathBuffer>
     ensures { result ≡ read_path (slice_split (λ b. b == 47) text.now) }
 {
     let mut path = PathBuffer::new();
@@ -75,4 +75,18 @@ pub fn read_path(text: &str) -> Option<PathBuffer>
     }
     path.push(read_branch(rest)?)?;
     Some(path)
+}
+
+/// The execution's name and the branches, where the text names a thread.
+pub fn read_parts(text: &str) -> Option<(&str, PathBuffer)>
+    ensures { MatchOption result (read_thread text.now ≡ None) (λ p. read_thread text.now ≡ Some (record { exec = p.0.now; path = p.1 })) }
+{
+    let Some((exec, branches)) = cut(text, '/') else {
+        return if is_name(text) { Some((text, PathBuffer::new())) } else { None };
+    };
+    let path = read_path(branches)?;
+    if !is_name(exec) {
+        return None;
+    }
+    Some((exec, path))
 }

@@ -7,8 +7,8 @@ ghost use Rattle.step_names.specs.Grammar.{read_thread};
 ghost use Rattle.step_names.specs.Under.{is_under, IsUnder, goes_on_by};
 
 use crate::NameFault;
-use crate::grammar::{cut, is_name, read_path};
-use crate::path_buffer::{MOST_BRANCHES, PathBuffer};
+use crate::grammar::{is_name, read_parts};
+use crate::path_buffer::MOST_BRANCHES;
 use std::alloc::{AllocError, Global};
 use std::cmp::Ordering;
 use std::marker::Model;
@@ -45,16 +45,9 @@ impl ThreadName {
         ensures ok { IfOk result (λ t. read_thread text.now ≡ Some t) }
         ensures bad { IsErrOf result NameFault.BadName ↔ (read_thread text.now ≡ None) }
     {
-        let (exec, path) = match cut(text, '/') {
-            Some((exec, branches)) => (exec, read_path(branches)),
-            None => (text, Some(PathBuffer::new())),
-        };
-        let Some(path) = path else {
+        let Some((exec, path)) = read_parts(text) else {
             return Err(NameFault::BadName);
         };
-        if !is_name(exec) {
-            return Err(NameFault::BadName);
-        }
         let exec = String::from_str(alloc, exec)?;
         let path = Vec::from_slice(alloc, path.as_slice())?;
         Ok(ThreadName { exec, path })
