@@ -5,7 +5,6 @@ use Rattle.std.specs.List.{slice_split, onto_first, list_all}
 use Rattle.std.proofs.lemmas.Bool.{leb-true, le-leb, lt-ltb}
 use Rattle.step_names.specs.Thread.{Thread, IsThread, is_name, is_branch}
 use Rattle.step_names.specs.Grammar.{is_numeral, read_number, read_branch, read_branch_parts, read_branches, read_path, read_thread, read_thread_parts}
-use Rattle.step_names.proofs.UnderLaws.{both_true}
 use Rattle.step_names.proofs.Numbers.{number_parts}
 
 number_then : (o : Option ℕ) (f : ℕ → Option (ℕ × ℕ)) (p : ℕ × ℕ) → option_and_then f o ≡ Some p → (n : ℕ) × (o ≡ Some n) × (f n ≡ Some p)

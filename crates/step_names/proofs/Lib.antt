@@ -3,3 +3,4 @@ pub mod Parts
 pub mod Numbers
 pub mod Paths
 pub mod Bounds
+pub mod Steps

@@ -6,12 +6,10 @@ use Rattle.std.specs.Str.{all_ascii_digits}
 use Rattle.std.specs.Str.Parse.{digits_value, ParsesUnsigned}
 use Rattle.std.specs.Fmt.{decimal}
 use Rattle.std.specs.Char.{is_ascii_digit}
-use Rattle.std.proofs.lemmas.Bool.Decides.{Decides-ltb}
+use Rattle.std.proofs.lemmas.Bool.{and_parts, and_from, ltb-true, lt-ltb}
 use Rattle.std.proofs.lemmas.Str.Parse.{IsNumeralModel, numerals_by_value, tells_all_ascii_digits, parse_plain}
 use Rattle.std.proofs.lemmas.Fmt.{digits_decimal, digits_value-decimal, decimal-digits_value, decimal_nonempty, decimal_digit, first_decimal}
 use Rattle.step_names.specs.Grammar.{is_numeral, read_number}
-use Rattle.step_names.proofs.UnderLaws.{both_true}
-use Rattle.step_names.proofs.Parts.{both_lack, not_from}
 
 pub own : IsNumeralModel (λ ds. all_ascii_digits ds ≡ true) (digits_value 10)
 own = numerals_by_value (λ ds. all_ascii_digits ds ≡ true) tells_all_ascii_digits
@@ -20,7 +18,7 @@ own = numerals_by_value (λ ds. all_ascii_digits ds ≡ true) tells_all_ascii_di
 pub numeral_parts : (ds : List ℕ) → is_numeral ds ≡ true → (all_ascii_digits ds ≡ true) × (0 < length ds) × (get_or ds 0 0 ≡ 48 → length ds ≡ 1)
 numeral_parts [] h = cc
 numeral_parts (d ∷ ds) h =
-    let s = both_true (all_ascii_digits (d ∷ ds)) (not (d == 48) || (length ds == 0)) h in
+    let s = and_parts (all_ascii_digits (d ∷ ds)) (not (d == 48) || (length ds == 0)) h in
     (s.0, omega arith, λ e. ap suc (alone d (length ds) e s.1))
   where
     alone : (d n : ℕ) → d ≡ 48 → not (d == 48) || (n == 0) ≡ true → n ≡ 0
@@ -28,7 +26,7 @@ numeral_parts (d ∷ ds) h =
 
 pub numeral_from : (ds : List ℕ) → all_ascii_digits ds ≡ true → 0 < length ds → (get_or ds 0 0 ≡ 48 → length ds ≡ 1) → is_numeral ds ≡ true
 numeral_from [] h l k = absurd (omega arith)
-numeral_from (d ∷ ds) h l k = both_lack (all_ascii_digits (d ∷ ds)) (not (d == 48) || (length ds == 0)) h (alone (d == 48) refl)
+numeral_from (d ∷ ds) h l k = and_from (all_ascii_digits (d ∷ ds)) (not (d == 48) || (length ds == 0)) h (alone (d == 48) refl)
   where
     alone : (b : Bool) → (d == 48) ≡ b → not (d == 48) || (length ds == 0) ≡ true
     alone true e = rw (e, eq-eqb (length ds) 0 (omega (arith, k (eqb-true d 48 e))))
@@ -39,12 +37,12 @@ if_none true x h = absurd (h refl)
 if_none false x h = refl
 
 pub number_some : (ds : List ℕ) → is_numeral ds ≡ true → digits_value 10 ds < 2 ^ 32 → read_number ds ≡ Some (digits_value 10 ds)
-number_some ds h l = rw (h, (Decides-ltb (digits_value 10 ds) (2 ^ 32)).1 l)
+number_some ds h l = rw (h, lt-ltb (digits_value 10 ds) (2 ^ 32) l)
 
 pub number_none : (ds : List ℕ) → (is_numeral ds ≡ true → digits_value 10 ds < 2 ^ 32 → ⊥) → read_number ds ≡ None
 number_none ds h =
     if_none (is_numeral ds && nat_lt (digits_value 10 ds) (2 ^ 32)) (digits_value 10 ds)
-        (λ e. let s = both_true (is_numeral ds) (nat_lt (digits_value 10 ds) (2 ^ 32)) e in h s.0 ((Decides-ltb (digits_value 10 ds) (2 ^ 32)).0 s.1))
+        (λ e. let s = and_parts (is_numeral ds) (nat_lt (digits_value 10 ds) (2 ^ 32)) e in h s.0 (ltb-true (digits_value 10 ds) (2 ^ 32) s.1))
 
 if_some : (b : Bool) (x n : ℕ) → cond b (Some x) None ≡ Some n → (b ≡ true) × (x ≡ n)
 if_some true x n h = (refl, cc)
@@ -53,8 +51,8 @@ if_some false x n h = cc
 pub number_parts : (ds : List ℕ) (n : ℕ) → read_number ds ≡ Some n → (is_numeral ds ≡ true) × (digits_value 10 ds ≡ n) × (n < 2 ^ 32)
 number_parts ds n h =
     let p = if_some (is_numeral ds && nat_lt (digits_value 10 ds) (2 ^ 32)) (digits_value 10 ds) n h in
-    let s = both_true (is_numeral ds) (nat_lt (digits_value 10 ds) (2 ^ 32)) p.0 in
-    let l : digits_value 10 ds < 2 ^ 32 = (Decides-ltb (digits_value 10 ds) (2 ^ 32)).0 s.1 in
+    let s = and_parts (is_numeral ds) (nat_lt (digits_value 10 ds) (2 ^ 32)) p.0 in
+    let l : digits_value 10 ds < 2 ^ 32 = ltb-true (digits_value 10 ds) (2 ^ 32) s.1 in
     (s.0, p.1, subst (λ (m : ℕ). m < 2 ^ 32) p.1 l)
 
 -- the number's one spelling

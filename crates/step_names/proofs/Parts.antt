@@ -5,7 +5,7 @@ use Rattle.std.specs.Str.{all_ascii_digits}
 use Rattle.std.specs.Char.{is_ascii_digit}
 use Rattle.std.proofs.lemmas.List.Splits.{join_with_byte-slice_split}
 use Rattle.std.proofs.lemmas.Str.Pattern.{IsSplitOnceResult, split_parts}
-use Rattle.step_names.proofs.UnderLaws.{both_true}
+use Rattle.std.proofs.lemmas.Bool.{and_parts, and_from, not-true, ne_eqb}
 
 abbrev pub is_at : ℕ → ℕ → Bool
 is_at c b = b == c
@@ -14,16 +14,8 @@ is_at c b = b == c
 abbrev pub lacks : ℕ → List ℕ → Bool
 lacks c bs = list_all (λ b. not (b == c)) bs
 
-not_true : (b : Bool) → not b ≡ true → b ≡ false
-not_true true h = cc
-not_true false h = refl
-
-pub not_from : (r : Bool) → (r ≡ true → ⊥) → not r ≡ true
-not_from true h = absurd (h refl)
-not_from false h = refl
-
-not_at : (b c : ℕ) → (b ≢ c) → not (b == c) ≡ true
-not_at b c h = not_from (b == c) (λ e. h (eqb-true b c e))
+not_at : (b c : ℕ) → b ≢ c → not (b == c) ≡ true
+not_at b c h = rw (ne_eqb b c h)
 
 pub lacks_by_index : (c : ℕ) (bs : List ℕ) → ((i : ℕ) → i < length bs → get_or bs i 0 ≢ c) → lacks c bs ≡ true
 lacks_by_index c [] h = refl
@@ -32,14 +24,14 @@ lacks_by_index c (b ∷ bs) h = rw (not_at b c (h 0 (omega arith)), lacks_by_ind
 pub lacks_split : (c : ℕ) (bs : List ℕ) → lacks c bs ≡ true → slice_split (λ b. b == c) bs ≡ bs ∷ []
 lacks_split c [] h = refl
 lacks_split c (b ∷ bs) h =
-    let s = both_true (not (b == c)) (lacks c bs) h in
-    rw (not_true (b == c) s.0, lacks_split c bs s.1)
+    let s = and_parts (not (b == c)) (lacks c bs) h in
+    rw (not-true (b == c) s.0, lacks_split c bs s.1)
 
 pub lacks_split_at : (c : ℕ) (xs ys : List ℕ) → lacks c xs ≡ true → slice_split (λ b. b == c) (xs ++ c ∷ ys) ≡ xs ∷ slice_split (λ b. b == c) ys
 lacks_split_at c [] ys h = rw (eq-eqb c c refl)
 lacks_split_at c (x ∷ xs) ys h =
-    let s = both_true (not (x == c)) (lacks c xs) h in
-    rw (not_true (x == c) s.0, lacks_split_at c xs ys s.1)
+    let s = and_parts (not (x == c)) (lacks c xs) h in
+    rw (not-true (x == c) s.0, lacks_split_at c xs ys s.1)
 
 -- what `split_once` gives
 pub cut_parts : (c : ℕ) (bs : List ℕ) (r : Option (Bor (List ℕ) × Bor (List ℕ))) → IsSplitOnceResult c bs r → c < 128
@@ -53,7 +45,7 @@ cut_parts c bs (Some x) h low =
 pub passing_lacks : (p : ℕ → Bool) (c : ℕ) (bs : List ℕ) → p c ≡ false → list_all p bs ≡ true → lacks c bs ≡ true
 passing_lacks p c [] h k = refl
 passing_lacks p c (b ∷ bs) h k =
-    let s = both_true (p b) (list_all p bs) k in
+    let s = and_parts (p b) (list_all p bs) k in
     rw (not_at b c (λ e. let q : p b ≡ p c = ap p e in cc), passing_lacks p c bs h s.1)
 
 pub digits_pass : (bs : List ℕ) → all_ascii_digits bs ≡ list_all is_ascii_digit bs
@@ -63,12 +55,8 @@ digits_pass (b ∷ bs) = ap (λ (r : Bool). is_ascii_digit b && r) (digits_pass 
 pub digits_lack : (c : ℕ) (bs : List ℕ) → is_ascii_digit c ≡ false → all_ascii_digits bs ≡ true → lacks c bs ≡ true
 digits_lack c bs h k = passing_lacks is_ascii_digit c bs h (sym (digits_pass bs) ∙ k)
 
-pub both_lack : (a b : Bool) → a ≡ true → b ≡ true → a && b ≡ true
-both_lack true b h k = k
-both_lack false b h k = cc
-
 pub lacks-append : (c : ℕ) (xs ys : List ℕ) → lacks c xs ≡ true → lacks c ys ≡ true → lacks c (xs ++ ys) ≡ true
 lacks-append c [] ys h k = k
 lacks-append c (x ∷ xs) ys h k =
-    let s = both_true (not (x == c)) (lacks c xs) h in
-    both_lack (not (x == c)) (lacks c (xs ++ ys)) s.0 (lacks-append c xs ys s.1 k)
+    let s = and_parts (not (x == c)) (lacks c xs) h in
+    and_from (not (x == c)) (lacks c (xs ++ ys)) s.0 (lacks-append c xs ys s.1 k)

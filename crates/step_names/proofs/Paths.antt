@@ -1,5 +1,6 @@
 -- A path is read branch by branch.
 use Rattle.std.proofs.Common.{arith, rules, zero, suc, ◌<◌, ◌≤◌, ◌+◌, ◌^◌, ◌≡◌, ◌≢◌, ℕ, Bool, true, false, not, cond, List, [], ◌∷◌, ◌++◌, refl, sym, ap, ap₂, ◌∙◌, subst, length, length-append, append_assoc, nat_eq, nat_lt, nat_le, ◌==◌, eqb-true, eq-eqb, Option, Some, None}
+use Rattle.std.proofs.lemmas.Bool.{ne_eqb}
 use Rattle.std.specs.Option.{option_map, option_and_then}
 use Rattle.std.specs.List.{slice_split, onto_first}
 use Rattle.std.specs.Char.{is_ascii_digit}
@@ -8,7 +9,7 @@ use Rattle.step_names.specs.Grammar.{is_numeral, read_number, read_branch, read_
 use Rattle.step_names.proofs.Parts.{digits_lack, lacks_split}
 use Rattle.step_names.proofs.Numbers.{number_parts, numeral_parts}
 
-no_parts : (c : ℕ) (bs : List ℕ) → slice_split (λ b. b == c) bs ≡ [] → ⊥
+pub no_parts : (c : ℕ) (bs : List ℕ) → slice_split (λ b. b == c) bs ≡ [] → ⊥
 no_parts c [] h = cc
 no_parts c (b ∷ bs) h = by_test (b == c) (slice_split (λ b. b == c) bs) h
   where
@@ -48,13 +49,7 @@ pub both_none : (fork branch : List ℕ) → read_number branch ≡ None → bot
 both_none fork branch h = rw h (neither (read_number fork))
 
 pub both_some : (fork branch : List ℕ) (n i : ℕ) → read_number fork ≡ Some n → read_number branch ≡ Some i → n ≢ 0 → both_read fork branch ≡ Some (n, i)
-both_some fork branch n i h k apart = rw (h, k, not_zero n apart)
-  where
-    no : (r : Bool) → (r ≡ true → ⊥) → r ≡ false
-    no true h = absurd (h refl)
-    no false h = refl
-    not_zero : (n : ℕ) → n ≢ 0 → (n == 0) ≡ false
-    not_zero n apart = no (n == 0) (λ e. apart (eqb-true n 0 e))
+both_some fork branch n i h k apart = rw (h, k, ne_eqb n 0 apart)
 
 -- what is read of the texts, after the path read before
 abbrev pub path_from : List (ℕ × ℕ) → List (List ℕ) → Option (List (ℕ × ℕ))

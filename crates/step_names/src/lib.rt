@@ -5,6 +5,7 @@ mod grammar;
 mod path_buffer;
 mod step;
 mod thread;
+mod written;
 
 use std::alloc::{AllocError, AllocFailed};
 use std::error::Error;
