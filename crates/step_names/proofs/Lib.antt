@@ -4,3 +4,5 @@ pub mod Numbers
 pub mod Paths
 pub mod Bounds
 pub mod Steps
+pub mod Digits
+pub mod Texts

@@ -10,8 +10,8 @@ mod written;
 use std::alloc::{AllocError, AllocFailed};
 use std::error::Error;
 use std::fmt;
-pub use step::StepName;
-pub use thread::ThreadName;
+pub use step::{LONGEST_STEP, StepName};
+pub use thread::{LONGEST_THREAD, ThreadName};
 
 /// Why there is no such name.
 #[derive(Clone, Copy, Debug, PartialEq, Eq)]
