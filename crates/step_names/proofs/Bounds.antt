@@ -11,11 +11,11 @@ number_then : (o : Option ℕ) (f : ℕ → Option (ℕ × ℕ)) (p : ℕ × ℕ
 number_then None f p h = cc
 number_then (Some n) f p h = (n, refl, h)
 
-branch_then : (o : Option (ℕ × ℕ)) (f : ℕ × ℕ → Option (List (ℕ × ℕ))) (path : List (ℕ × ℕ)) → option_and_then f o ≡ Some path → (p : ℕ × ℕ) × (o ≡ Some p) × (f p ≡ Some path)
+pub branch_then : (o : Option (ℕ × ℕ)) (f : ℕ × ℕ → Option (List (ℕ × ℕ))) (path : List (ℕ × ℕ)) → option_and_then f o ≡ Some path → (p : ℕ × ℕ) × (o ≡ Some p) × (f p ≡ Some path)
 branch_then None f path h = cc
 branch_then (Some p) f path h = (p, refl, h)
 
-path_then : (o : Option (List (ℕ × ℕ))) (f : List (ℕ × ℕ) → List (ℕ × ℕ)) (path : List (ℕ × ℕ)) → option_map f o ≡ Some path → (q : List (ℕ × ℕ)) × (o ≡ Some q) × (f q ≡ path)
+pub path_then : (o : Option (List (ℕ × ℕ))) (f : List (ℕ × ℕ) → List (ℕ × ℕ)) (path : List (ℕ × ℕ)) → option_map f o ≡ Some path → (q : List (ℕ × ℕ)) × (o ≡ Some q) × (f q ≡ path)
 path_then None f path h = cc
 path_then (Some q) f path h = (q, refl, cc)
 
@@ -54,7 +54,7 @@ are_branches (text ∷ texts) path h =
     let b : is_branch s.0 ≡ true = is_branch_from (slice_split (λ b. b == 46) text) s.0 s.1 in
     subst (λ (q : List (ℕ × ℕ)). (list_all is_branch q ≡ true) × (length q ≡ suc (length texts))) t.2 (rw (b, k.0), ap suc k.1)
 
-path_if : (r : Bool) (o : Option (List (ℕ × ℕ))) (path : List (ℕ × ℕ)) → cond r o None ≡ Some path → (r ≡ true) × (o ≡ Some path)
+pub path_if : (r : Bool) (o : Option (List (ℕ × ℕ))) (path : List (ℕ × ℕ)) → cond r o None ≡ Some path → (r ≡ true) × (o ≡ Some path)
 path_if true o path h = (refl, h)
 path_if false o path h = cc
 

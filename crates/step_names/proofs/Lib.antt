@@ -6,3 +6,4 @@ pub mod Bounds
 pub mod Steps
 pub mod Digits
 pub mod Texts
+pub mod Spelling
