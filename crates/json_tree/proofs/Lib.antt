@@ -1,3 +1,4 @@
 pub mod Views
 pub mod Readings
 pub mod Texts
+pub mod RoundTrip

@@ -3,6 +3,8 @@ pub mod DataCode
 pub mod View
 pub mod Falls
 pub mod Fields
+pub mod Order
+pub mod Proper
 pub mod Written
 pub mod Reading
 pub mod Lending

@@ -2,13 +2,16 @@
 
 //! JSON values whose numbers are whole, read by `serde_json` and written in one spelling.
 mod fault;
+mod laws;
 mod nesting;
+mod order;
 mod reading;
 mod text;
 mod tree;
 mod writing;
 
 pub use fault::JsonFault;
+pub use laws::{texts_tell_apart, written_is_read_back};
 pub use nesting::depth;
 pub use reading::{from_value, read};
 pub use text::Text;

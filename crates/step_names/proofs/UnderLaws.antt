@@ -1,16 +1,13 @@
 -- The test `is_under` and the relation `IsUnder` are one.
 use Rattle.std.proofs.Common.{arith, get_or, ◌<◌, ◌≤◌, ◌≡◌, ℕ, Bool, true, false, ◌&&◌, List, [], ◌∷◌, ◌++◌, ◌↔◌, refl, sym, ap, ap₂, ◌∙◌, subst, length, take, drop, nat_eq, eqb-true, eq-eqb, IsTrue}
 use Rattle.std.specs.Bool.{Decides}
+use Rattle.std.proofs.lemmas.Bool.{and_parts}
 use Rattle.std.specs.Cmp.Lexicographic.{pointwise, bytes_decides}
 use Rattle.step_names.specs.Thread.{Thread}
 use Rattle.step_names.specs.Under.{IsUnder, is_under, goes_on_by}
 
 abbrev pub same_branch : ℕ × ℕ → ℕ × ℕ → Bool
 same_branch x y = nat_eq x.0 y.0 && nat_eq x.1 y.1
-
-pub both_true : (x y : Bool) → x && y ≡ true → (x ≡ true) × (y ≡ true)
-both_true true y h = (refl, h)
-both_true false y h = cc
 
 pub and_apart : (x y z : Bool) → x && y ≡ false → (y ≡ false → z ≡ false) → x && z ≡ false
 and_apart true y z h k = k h
@@ -21,7 +18,7 @@ and_rest true y z w h k = k h
 and_rest false y z w h k = cc
 
 pub same_branch_one : (x y : ℕ × ℕ) → same_branch x y ≡ true → x ≡ y
-same_branch_one x y h = let s = both_true (nat_eq x.0 y.0) (nat_eq x.1 y.1) h in ap₂ (λ (m : ℕ) (n : ℕ). let p : ℕ × ℕ = (m, n) in p) (eqb-true x.0 y.0 s.0) (eqb-true x.1 y.1 s.1)
+same_branch_one x y h = let s = and_parts (nat_eq x.0 y.0) (nat_eq x.1 y.1) h in ap₂ (λ (m : ℕ) (n : ℕ). let p : ℕ × ℕ = (m, n) in p) (eqb-true x.0 y.0 s.0) (eqb-true x.1 y.1 s.1)
 
 pub same_branch_itself : (x : ℕ × ℕ) → same_branch x x ≡ true
 same_branch_itself x = rw (eq-eqb x.0 x.0 refl, eq-eqb x.1 x.1 refl)
@@ -45,7 +42,7 @@ pub goes_on_to : (path above : List (ℕ × ℕ)) (fork : ℕ) → goes_on_by pa
 goes_on_to [] above fork h = cc
 goes_on_to (b ∷ path) [] fork h = (b.1, path, ap (λ (n : ℕ). let p : ℕ × ℕ = (n, b.1) in p ∷ path) (eqb-true b.0 fork h))
 goes_on_to (b ∷ path) (a ∷ above) fork h =
-    let s = both_true (same_branch b a) (goes_on_by path above fork) h in
+    let s = and_parts (same_branch b a) (goes_on_by path above fork) h in
     let k = goes_on_to path above fork s.1 in
     (k.0, k.1, ap₂ (λ (p : ℕ × ℕ) (ps : List (ℕ × ℕ)). p ∷ ps) (same_branch_one b a s.0) k.2)
 
@@ -55,7 +52,7 @@ goes_on_from (a ∷ above) fork branch rest = rw (same_branch_itself a, goes_on_
 
 pub under_Decides : (thread above : Thread) (fork : ℕ) → Decides (is_under thread above fork) (IsUnder thread above fork)
 under_Decides thread above fork = (
-  λ h. let s = both_true (pointwise nat_eq thread.exec above.exec) (goes_on_by thread.path above.path fork) h in
+  λ h. let s = and_parts (pointwise nat_eq thread.exec above.exec) (goes_on_by thread.path above.path fork) h in
       ((bytes_decides thread.exec above.exec).0 s.0, goes_on_to thread.path above.path fork s.1),
   λ u. rw ((bytes_decides thread.exec above.exec).1 u.0)
       (subst (λ (path : List (ℕ × ℕ)). goes_on_by path above.path fork ≡ true) (sym u.1.2) (goes_on_from above.path fork u.1.0 u.1.1)),

@@ -21,7 +21,7 @@ abbrev pub read_branch_parts : List (List ℕ) → Option (ℕ × ℕ)
 read_branch_parts [] = None
 read_branch_parts (fork ∷ []) = None
 read_branch_parts (fork ∷ branch ∷ []) =
-    option_and_then (λ n. if n == 0 then None else option_map (λ i. (n, i)) (read_number branch)) (read_number fork)
+    option_and_then (λ n. option_and_then (λ i. if n == 0 then None else Some (n, i)) (read_number branch)) (read_number fork)
 read_branch_parts (fork ∷ branch ∷ more ∷ parts) = None
 
 abbrev pub read_branch : List ℕ → Option (ℕ × ℕ)
@@ -32,11 +32,15 @@ abbrev pub read_branches : List (List ℕ) → Option (List (ℕ × ℕ))
 read_branches [] = Some []
 read_branches (text ∷ texts) = option_and_then (λ branch. option_map (λ path. branch ∷ path) (read_branches texts)) (read_branch text)
 
--- NAME and at most 31 branches, cut at each `/`
+-- at most 31 branches
+abbrev pub read_path : List (List ℕ) → Option (List (ℕ × ℕ))
+read_path texts = if nat_le (length texts) 31 then read_branches texts else None
+
+-- NAME and branches, cut at each `/`
 abbrev pub read_thread_parts : List (List ℕ) → Option Thread
 read_thread_parts [] = None
 read_thread_parts (exec ∷ branches) =
-    if is_name exec && nat_le (length branches) 31 then option_map (λ path. record { exec = exec; path = path }) (read_branches branches) else None
+    if is_name exec then option_map (λ path. record { exec = exec; path = path }) (read_path branches) else None
 
 abbrev pub read_thread : List ℕ → Option Thread
 read_thread text = read_thread_parts (slice_split (λ b. b == 47) text)

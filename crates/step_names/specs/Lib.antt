@@ -3,3 +3,4 @@ pub mod Written
 pub mod Grammar
 pub mod Under
 pub mod Order
+pub mod Laws

@@ -1,5 +1,5 @@
 -- A thread as contracts see it, and the bounds that each name keeps.
-use Rattle.std.specs.Prelude.{◌≡◌, ℕ, ◌+◌, ◌^◌, ◌≤◌, Bool, ◌&&◌, ◌||◌, List, [], ◌∷◌, ◌++◌, length, IsTrue, nat_lt, nat_le, ◌==◌}
+use Rattle.std.specs.Prelude.{◌≡◌, ℕ, ◌+◌, ◌^◌, ◌<◌, ◌≤◌, Bool, ◌&&◌, ◌||◌, List, [], ◌∷◌, ◌++◌, length, IsTrue, nat_lt, nat_le, ◌==◌}
 use Rattle.std.specs.Char.{is_ascii_alphanumeric}
 use Rattle.std.specs.List.{list_all}
 
@@ -26,6 +26,11 @@ pub record IsThread (thread : Thread) : Type 0 where
   pub named : IsTrue (is_name thread.exec)
   pub depth : length thread.path ≤ 31
   pub branches : IsTrue (list_all is_branch thread.path)
+
+-- what each name of a step keeps
+pub record IsStep (thread : Thread) (no : ℕ) : Type 0 where
+  pub thread_kept : IsThread thread
+  pub number : no < 2 ^ 32
 
 -- the execution's own thread
 abbrev pub execution : List ℕ → Thread

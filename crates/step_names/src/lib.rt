@@ -1,17 +1,19 @@
 //! Names of threads and of their steps.
 #![tactic(auto)]
 
+mod grammar;
 mod name_room;
 mod path_buffer;
 mod step;
 mod thread;
+mod written;
 
 use std::alloc::{AllocError, AllocFailed};
 use std::error::Error;
 use std::fmt;
 pub use name_room::NameRoom;
-pub use step::StepName;
-pub use thread::ThreadName;
+pub use step::{LONGEST_STEP, StepName};
+pub use thread::{LONGEST_THREAD, ThreadName};
 
 /// Why there is no such name.
 #[derive(Clone, Copy, Debug, PartialEq, Eq)]

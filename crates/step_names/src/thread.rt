@@ -1,4 +1,4 @@
-ghost use Rattle.std.specs.Prelude.{◌≡◌, ◌≤◌, ◌<◌, ◌↔◌, ◌⊎◌, [], ◌++◌, length, None, Some, IfOk, OnOk, OnErr, IsErrOf, IsTrue, SomeIff, string_bytes, string_len};
+ghost use Rattle.std.specs.Prelude.{◌≡◌, ◌≤◌, ◌<◌, ◌↔◌, ◌⊎◌, ◌+◌, [], ◌++◌, length, None, Some, IfOk, OnOk, OnErr, IsErrOf, IsTrue, SomeIff, string_bytes, string_len};
 ghost use Rattle.std.specs.String.{string_capacity};
 ghost use Rattle.std.specs.List.{list_all};
 ghost use Rattle.step_names.specs.Thread.{execution, child_of, is_name, is_name_byte, IsThread};
@@ -7,10 +7,15 @@ ghost use Rattle.step_names.specs.Grammar.{read_thread};
 ghost use Rattle.step_names.specs.Under.{is_under, IsUnder, goes_on_by};
 
 use crate::NameFault;
-use crate::path_buffer::{MOST_BRANCHES, PathBuffer};
+use crate::grammar::{is_name, read_parts};
+use crate::path_buffer::MOST_BRANCHES;
+use crate::written::{path_len, push_path};
 use std::alloc::{AllocError, Global};
 use std::cmp::Ordering;
 use std::marker::Model;
+
+/// The most bytes that the name of a thread is written in.
+pub const LONGEST_THREAD: usize = 746;
 
 #[derive(Debug, Drop)]
 pub struct ThreadName {
@@ -48,6 +53,18 @@ impl ThreadName {
         ThreadName { exec, path }
     }
 
+    pub fn read(alloc: Global, text: &str) -> Result<ThreadName, NameFault>
+        ensures ok { IfOk result (λ t. read_thread text.now ≡ Some t) }
+        ensures bad { IsErrOf result NameFault.BadName ↔ (read_thread text.now ≡ None) }
+    {
+        let Some((exec, path)) = read_parts(text) else {
+            return Err(NameFault::BadName);
+        };
+        let exec = String::from_str(alloc, exec)?;
+        let path = Vec::from_slice(alloc, path.as_slice())?;
+        Ok(ThreadName { exec, path })
+    }
+
     pub fn exec(&self) -> &str
         ensures exec { result.now ≡ self.now.exec }
         ensures bounds { IsThread self.now }
@@ -74,6 +91,43 @@ impl ThreadName {
         let exec = String::from_str(*self.exec.allocator(), self.exec.as_str())?;
         let path = Vec::from_slice(*self.path.allocator(), self.path.as_slice())?;
         Ok(ThreadName { exec, path })
+    }
+
+    pub fn text_len(&self) -> usize
+        ensures len { result ≡ length (thread_text self.now) }
+        ensures bound { result ≤ LONGEST_THREAD }
+    {
+        self.exec.len() + path_len(self.path.as_slice())
+    }
+
+    pub fn write_text(&self, alloc: Global) -> Result<String, AllocError>
+        ensures text { IfOk result (λ s. string_bytes s ≡ thread_text self.now) }
+        ensures bound { IfOk result (λ s. string_len s ≤ LONGEST_THREAD) }
+    {
+        let mut out = String::with_capacity(alloc, self.text_len())?;
+        self.push_to(&mut out);
+        Ok(out)
+    }
+
+    pub fn write_to(&self, out: &mut String) -> Result<(), AllocError>
+        ensures ok { OnOk result (string_bytes out.new ≡ string_bytes out.old ++ thread_text self.now) }
+        ensures full { OnErr result (string_capacity out.old < string_len out.old + length (thread_text self.now)) }
+        ensures err { OnErr result (string_bytes out.new ≡ string_bytes out.old) }
+    {
+        out.reserve(self.text_len())?;
+        self.push_to(out);
+        Ok(())
+    }
+
+    /// Puts the name at the end, in room that is there.
+    pub(crate) fn push_to(&self, out: &mut String)
+        requires { string_len out.old + length (thread_text self.now) ≤ string_capacity out.old }
+        ensures bytes { string_bytes out.new ≡ string_bytes out.old ++ thread_text self.now }
+        ensures len { string_len out.new ≡ string_len out.old + length (thread_text self.now) }
+        ensures capacity { string_capacity out.old ≤ string_capacity out.new }
+    {
+        let _ = out.push_str(self.exec.as_str());
+        push_path(out, self.path.as_slice());
     }
 
     pub fn child(&self, alloc: Global, fork: u32, branch: u32) -> Result<ThreadName, NameFault>
@@ -107,26 +161,6 @@ fn goes_on_by(path: &[(u32, u32)], above: &[(u32, u32)], fork: u32) -> bool
         Some([]) => false,
         None => false,
     }
-}
-
-/// Whether the text is a name of an execution: 1 to 64 ASCII letters, digits, `_` and `-`.
-fn is_name(text: &str) -> bool
-    ensures { result ≡ is_name text.now }
-{
-    let bytes = text.as_bytes();
-    !bytes.is_empty() && bytes.len() <= 64 && all_name_bytes(bytes)
-}
-
-fn all_name_bytes(bytes: &[u8]) -> bool
-    ensures { result ≡ list_all is_name_byte bytes.now }
-{
-    bytes.iter().all(|c| is_name_byte(*c))
-}
-
-fn is_name_byte(c: u8) -> bool
-    ensures { result ≡ is_name_byte c }
-{
-    c.is_ascii_alphanumeric() || c == b'_' || c == b'-'
 }
 
 impl PartialEq for ThreadName {

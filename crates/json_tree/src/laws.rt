@@ -1,0 +1,12 @@
+// Laws of the definitions that several calls rest on. Each is the contract of a call that does nothing.
+ghost use Rattle.json_tree.specs.Proper.{ReadsBack, TextsTellApart};
+
+/// Reading what was written gives the value back.
+pub fn written_is_read_back()
+    ensures { ReadsBack }
+{}
+
+/// Different values have different texts.
+pub fn texts_tell_apart()
+    ensures { TextsTellApart }
+{}

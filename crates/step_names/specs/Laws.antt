@@ -1,0 +1,49 @@
+-- Laws over the definitions, each the contract of a function of the crate.
+use Rattle.std.specs.Prelude.{◌≡◌, ℕ, ◌⊎◌, List, Some}
+use Rattle.step_names.specs.Thread.{Thread, IsThread, IsStep}
+use Rattle.step_names.specs.Written.{thread_text, step_text}
+use Rattle.step_names.specs.Grammar.{read_thread, read_step}
+use Rattle.step_names.specs.Under.{IsUnder}
+use Rattle.step_names.specs.declared.step.StepName.{StepName}
+
+-- what is written is read as it was
+abbrev pub ThreadReadsBack : Type 0
+ThreadReadsBack = (thread : Thread) → IsThread thread → read_thread (thread_text thread) ≡ Some thread
+
+-- what is read keeps the bounds, and has that one spelling
+abbrev pub ThreadWritesBack : Type 0
+ThreadWritesBack = (text : List ℕ) (thread : Thread) → read_thread text ≡ Some thread → IsThread thread × (thread_text thread ≡ text)
+
+-- two names with one text are one
+abbrev pub ThreadTextIsOne : Type 0
+ThreadTextIsOne = (a b : Thread) → IsThread a → IsThread b → thread_text a ≡ thread_text b → a ≡ b
+
+abbrev pub StepReadsBack : Type 0
+StepReadsBack = (step : StepName) → IsStep step.thread step.no → read_step (step_text step) ≡ Some step
+
+abbrev pub StepWritesBack : Type 0
+StepWritesBack = (text : List ℕ) (step : StepName) → read_step text ≡ Some step → IsStep step.thread step.no × (step_text step ≡ text)
+
+abbrev pub StepTextIsOne : Type 0
+StepTextIsOne = (a b : StepName) → IsStep a.thread a.no → IsStep b.thread b.no → step_text a ≡ step_text b → a ≡ b
+
+-- a thread under a fork of one that itself lies under a fork lies under that fork too
+abbrev pub UnderIsTransitive : Type 0
+UnderIsTransitive =
+    (low middle high : Thread) (fork outer : ℕ) → IsUnder low middle fork → IsUnder middle high outer → IsUnder low high outer
+
+-- a name goes through one fork of a thread above it, and so lies under no other
+abbrev pub UnderIsOne : Type 0
+UnderIsOne = (low high : Thread) (fork other : ℕ) → IsUnder low high fork → IsUnder low high other → fork ≡ other
+
+-- no thread lies under a fork of its own
+abbrev pub UnderIsBelow : Type 0
+UnderIsBelow = (thread : Thread) (fork : ℕ) → IsUnder thread thread fork → ⊥
+
+-- and of two threads each lies under no fork of the other
+abbrev pub UnderIsOneWay : Type 0
+UnderIsOneWay = (a b : Thread) (fork other : ℕ) → IsUnder a b fork → IsUnder b a other → ⊥
+
+-- of two threads above a third, one is the other or lies under it
+abbrev pub AboveIsInLine : Type 0
+AboveIsInLine = (low a b : Thread) (fork other : ℕ) → IsUnder low a fork → IsUnder low b other → (a ≡ b) ⊎ (IsUnder a b other ⊎ IsUnder b a fork)
