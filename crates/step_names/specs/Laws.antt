@@ -4,6 +4,8 @@ use Rattle.step_names.specs.Thread.{Thread, IsThread, IsStep}
 use Rattle.step_names.specs.Written.{thread_text, step_text}
 use Rattle.step_names.specs.Grammar.{read_thread, read_step}
 use Rattle.step_names.specs.Under.{IsUnder}
+use Rattle.step_names.specs.Order.{thread_cmp, step_cmp}
+use Rattle.std.specs.declared.cmp.Ordering.TheVariants.{Less, Equal}
 use Rattle.step_names.specs.declared.step.StepName.{StepName}
 
 -- what is written is read as it was
@@ -47,3 +49,14 @@ UnderIsOneWay = (a b : Thread) (fork other : ℕ) → IsUnder a b fork → IsUnd
 -- of two threads above a third, one is the other or lies under it
 abbrev pub AboveIsInLine : Type 0
 AboveIsInLine = (low a b : Thread) (fork other : ℕ) → IsUnder low a fork → IsUnder low b other → (a ≡ b) ⊎ (IsUnder a b other ⊎ IsUnder b a fork)
+
+-- the order tells all names apart
+abbrev pub ThreadOrderIsExact : Type 0
+ThreadOrderIsExact = (a b : Thread) → thread_cmp a b ≡ Equal → a ≡ b
+
+abbrev pub StepOrderIsExact : Type 0
+StepOrderIsExact = (a b : StepName) → step_cmp a b ≡ Equal → a ≡ b
+
+-- a thread comes before all that lie under its forks
+abbrev pub UnderComesLater : Type 0
+UnderComesLater = (low high : Thread) (fork : ℕ) → IsUnder low high fork → thread_cmp high low ≡ Less

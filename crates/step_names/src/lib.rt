@@ -2,6 +2,7 @@
 #![tactic(auto)]
 
 mod grammar;
+mod laws;
 mod path_buffer;
 mod step;
 mod thread;
@@ -10,6 +11,7 @@ mod written;
 use std::alloc::{AllocError, AllocFailed};
 use std::error::Error;
 use std::fmt;
+pub use laws::{forks_nest, names_in_order, step_spelling, thread_spelling};
 pub use step::{LONGEST_STEP, StepName};
 pub use thread::{LONGEST_THREAD, ThreadName};
 
