@@ -9,3 +9,4 @@ pub mod Texts
 pub mod Spelling
 pub mod UnderFacts
 pub mod OrderLaws
+pub mod Longest

@@ -1,5 +1,7 @@
 -- Laws over the definitions, each the contract of a function of the crate.
-use Rattle.std.specs.Prelude.{◌≡◌, ℕ, ◌⊎◌, List, Some}
+use Rattle.std.specs.Prelude.{◌≡◌, ℕ, ◌≤◌, ◌⊎◌, List, length, Some}
+use Rattle.step_names.specs.declared.thread.TheConstants.{LONGEST_THREAD}
+use Rattle.step_names.specs.declared.step.TheConstants.{LONGEST_STEP}
 use Rattle.step_names.specs.Thread.{Thread, IsThread, IsStep}
 use Rattle.step_names.specs.Written.{thread_text, step_text}
 use Rattle.step_names.specs.Grammar.{read_thread, read_step}
@@ -28,6 +30,20 @@ StepWritesBack = (text : List ℕ) (step : StepName) → read_step text ≡ Some
 
 abbrev pub StepTextIsOne : Type 0
 StepTextIsOne = (a b : StepName) → IsStep a.thread a.no → IsStep b.thread b.no → step_text a ≡ step_text b → a ≡ b
+
+-- no name is longer than the constants say
+abbrev pub ThreadTextIsBounded : Type 0
+ThreadTextIsBounded = (thread : Thread) → IsThread thread → length (thread_text thread) ≤ LONGEST_THREAD
+
+abbrev pub StepTextIsBounded : Type 0
+StepTextIsBounded = (step : StepName) → IsStep step.thread step.no → length (step_text step) ≤ LONGEST_STEP
+
+-- and some are as long
+abbrev pub LongestThread : Type 0
+LongestThread = (thread : Thread) × IsThread thread × (length (thread_text thread) ≡ LONGEST_THREAD)
+
+abbrev pub LongestStep : Type 0
+LongestStep = (step : StepName) × IsStep step.thread step.no × (length (step_text step) ≡ LONGEST_STEP)
 
 -- a thread under a fork of one that itself lies under a fork lies under that fork too
 abbrev pub UnderIsTransitive : Type 0

@@ -1,6 +1,6 @@
 //! Laws over the definitions of names: each function's contract is the law, and it does nothing.
 
-ghost use Rattle.step_names.specs.Laws.{ThreadReadsBack, ThreadWritesBack, ThreadTextIsOne, StepReadsBack, StepWritesBack, StepTextIsOne, UnderIsTransitive, UnderIsOne, UnderIsBelow, UnderIsOneWay, AboveIsInLine, ThreadOrderIsExact, StepOrderIsExact, UnderComesLater};
+ghost use Rattle.step_names.specs.Laws.{ThreadReadsBack, ThreadWritesBack, ThreadTextIsOne, ThreadTextIsBounded, LongestThread, StepReadsBack, StepWritesBack, StepTextIsOne, StepTextIsBounded, LongestStep, UnderIsTransitive, UnderIsOne, UnderIsBelow, UnderIsOneWay, AboveIsInLine, ThreadOrderIsExact, StepOrderIsExact, UnderComesLater};
 ghost use Rattle.std.specs.Prelude.{◌≡◌};
 ghost use Rattle.step_names.specs.Order.{thread_cmp, step_cmp};
 ghost use Rattle.step_names.specs.Thread.{Thread};
@@ -14,6 +14,8 @@ pub fn thread_spelling()
     ensures reads_back { ThreadReadsBack }
     ensures writes_back { ThreadWritesBack }
     ensures one { ThreadTextIsOne }
+    ensures bounded { ThreadTextIsBounded }
+    ensures longest { LongestThread }
 {
 }
 
@@ -22,6 +24,8 @@ pub fn step_spelling()
     ensures reads_back { StepReadsBack }
     ensures writes_back { StepWritesBack }
     ensures one { StepTextIsOne }
+    ensures bounded { StepTextIsBounded }
+    ensures longest { LongestStep }
 {
 }
 
