@@ -5,6 +5,8 @@ mod grammar;
 mod laws;
 mod path_buffer;
 mod step;
+#[cfg(test)]
+mod tests;
 mod thread;
 mod written;
 
