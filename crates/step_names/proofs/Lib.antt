@@ -7,3 +7,6 @@ pub mod Steps
 pub mod Digits
 pub mod Texts
 pub mod Spelling
+pub mod UnderFacts
+pub mod OrderLaws
+pub mod Longest

@@ -1,9 +1,13 @@
 -- Laws over the definitions, each the contract of a function of the crate.
-use Rattle.std.specs.Prelude.{◌≡◌, ℕ, ◌⊎◌, List, Some}
+use Rattle.std.specs.Prelude.{◌≡◌, ℕ, ◌≤◌, ◌⊎◌, List, length, Some}
+use Rattle.step_names.specs.declared.thread.TheConstants.{LONGEST_THREAD}
+use Rattle.step_names.specs.declared.step.TheConstants.{LONGEST_STEP}
 use Rattle.step_names.specs.Thread.{Thread, IsThread, IsStep}
 use Rattle.step_names.specs.Written.{thread_text, step_text}
 use Rattle.step_names.specs.Grammar.{read_thread, read_step}
 use Rattle.step_names.specs.Under.{IsUnder}
+use Rattle.step_names.specs.Order.{thread_cmp, step_cmp}
+use Rattle.std.specs.declared.cmp.Ordering.TheVariants.{Less, Equal}
 use Rattle.step_names.specs.declared.step.StepName.{StepName}
 
 -- what is written is read as it was
@@ -27,6 +31,20 @@ StepWritesBack = (text : List ℕ) (step : StepName) → read_step text ≡ Some
 abbrev pub StepTextIsOne : Type 0
 StepTextIsOne = (a b : StepName) → IsStep a.thread a.no → IsStep b.thread b.no → step_text a ≡ step_text b → a ≡ b
 
+-- no name is longer than the constants say
+abbrev pub ThreadTextIsBounded : Type 0
+ThreadTextIsBounded = (thread : Thread) → IsThread thread → length (thread_text thread) ≤ LONGEST_THREAD
+
+abbrev pub StepTextIsBounded : Type 0
+StepTextIsBounded = (step : StepName) → IsStep step.thread step.no → length (step_text step) ≤ LONGEST_STEP
+
+-- and some are as long
+abbrev pub LongestThread : Type 0
+LongestThread = (thread : Thread) × IsThread thread × (length (thread_text thread) ≡ LONGEST_THREAD)
+
+abbrev pub LongestStep : Type 0
+LongestStep = (step : StepName) × IsStep step.thread step.no × (length (step_text step) ≡ LONGEST_STEP)
+
 -- a thread under a fork of one that itself lies under a fork lies under that fork too
 abbrev pub UnderIsTransitive : Type 0
 UnderIsTransitive =
@@ -47,3 +65,14 @@ UnderIsOneWay = (a b : Thread) (fork other : ℕ) → IsUnder a b fork → IsUnd
 -- of two threads above a third, one is the other or lies under it
 abbrev pub AboveIsInLine : Type 0
 AboveIsInLine = (low a b : Thread) (fork other : ℕ) → IsUnder low a fork → IsUnder low b other → (a ≡ b) ⊎ (IsUnder a b other ⊎ IsUnder b a fork)
+
+-- the order tells all names apart
+abbrev pub ThreadOrderIsExact : Type 0
+ThreadOrderIsExact = (a b : Thread) → thread_cmp a b ≡ Equal → a ≡ b
+
+abbrev pub StepOrderIsExact : Type 0
+StepOrderIsExact = (a b : StepName) → step_cmp a b ≡ Equal → a ≡ b
+
+-- a thread comes before all that lie under its forks
+abbrev pub UnderComesLater : Type 0
+UnderComesLater = (low high : Thread) (fork : ℕ) → IsUnder low high fork → thread_cmp high low ≡ Less

@@ -4,3 +4,4 @@ pub mod Grammar
 pub mod Under
 pub mod Order
 pub mod Laws
+mod Rows

@@ -2,15 +2,19 @@
 #![tactic(auto)]
 
 mod grammar;
+mod laws;
 mod name_room;
 mod path_buffer;
 mod step;
+#[cfg(test)]
+mod tests;
 mod thread;
 mod written;
 
 use std::alloc::{AllocError, AllocFailed};
 use std::error::Error;
 use std::fmt;
+pub use laws::{forks_nest, names_in_order, step_spelling, thread_spelling};
 pub use name_room::NameRoom;
 pub use step::{LONGEST_STEP, StepName};
 pub use thread::{LONGEST_THREAD, ThreadName};

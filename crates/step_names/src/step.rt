@@ -1,6 +1,7 @@
 ghost use Rattle.std.specs.Prelude.{◌≡◌, ◌↔◌, ◌==◌, ◌∷◌, ◌++◌, ◌+◌, ◌<◌, ◌≤◌, length, None, Some, IfOk, OnOk, OnErr, IsErrOf, string_bytes, string_len};
 ghost use Rattle.std.specs.String.{string_capacity};
 ghost use Rattle.step_names.specs.Grammar.{read_step};
+ghost use Rattle.step_names.specs.Thread.{IsStep};
 ghost use Rattle.step_names.specs.Written.{step_text};
 
 use crate::NameFault;
@@ -38,13 +39,16 @@ impl StepName {
     pub fn text_len(&self) -> usize
         ensures len { result ≡ length (step_text self.now) }
         ensures bound { result ≤ LONGEST_STEP }
+        ensures bounds { IsStep self.now.thread self.now.no }
     {
         self.thread.text_len() + 1 + decimal_len(self.no)
     }
 
+    #[tactic(auto, using(crate::proofs::Spelling::step_reads))]
     pub fn write_text(&self, alloc: Global) -> Result<String, AllocError>
         ensures text { IfOk result (λ s. string_bytes s ≡ step_text self.now) }
         ensures bound { IfOk result (λ s. string_len s ≤ LONGEST_STEP) }
+        ensures reads_back { IfOk result (λ s. read_step (string_bytes s) ≡ Some self.now) }
     {
         let mut out = String::with_capacity(alloc, self.text_len())?;
         self.push_to(&mut out);

@@ -96,13 +96,16 @@ impl ThreadName {
     pub fn text_len(&self) -> usize
         ensures len { result ≡ length (thread_text self.now) }
         ensures bound { result ≤ LONGEST_THREAD }
+        ensures bounds { IsThread self.now }
     {
         self.exec.len() + path_len(self.path.as_slice())
     }
 
+    #[tactic(auto, using(crate::proofs::Spelling::thread_reads))]
     pub fn write_text(&self, alloc: Global) -> Result<String, AllocError>
         ensures text { IfOk result (λ s. string_bytes s ≡ thread_text self.now) }
         ensures bound { IfOk result (λ s. string_len s ≤ LONGEST_THREAD) }
+        ensures reads_back { IfOk result (λ s. read_thread (string_bytes s) ≡ Some self.now) }
     {
         let mut out = String::with_capacity(alloc, self.text_len())?;
         self.push_to(&mut out);

@@ -1,6 +1,6 @@
 //! Decimal numbers at the end of a text that has room for them.
 
-ghost use Rattle.std.specs.Prelude.{◌≡◌, ℕ, ◌+◌, ◌*◌, ◌<◌, ◌≤◌, ◌∷◌, [], ◌++◌, length, string_bytes, string_len};
+ghost use Rattle.std.specs.Prelude.{◌≡◌, ℕ, ◌+◌, ◌*◌, ◌^◌, ◌<◌, ◌≤◌, ◌∷◌, [], ◌++◌, length, string_bytes, string_len};
 ghost use Rattle.std.specs.String.{string_capacity};
 ghost use Rattle.std.specs.Fmt.{decimal};
 ghost use Rattle.std.specs.List.{flat_map};
@@ -11,6 +11,7 @@ ghost use Rattle.step_names.specs.Written.{branch_text};
 pub fn decimal_len(number: u32) -> usize
     ensures digits { result ≡ length (decimal number) }
     ensures bound { result ≤ 10 }
+    ensures fits { number < 2 ^ 32 }
 {
     let mut rest = number;
     let mut len = 1;
