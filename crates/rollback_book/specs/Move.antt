@@ -1,0 +1,104 @@
+-- How a thread moves (Amazon States Language: "States", "Transitions", "Input and Output Processing").
+use Rattle.std.specs.Prelude.{ℕ, ◌+◌, ◌==◌, List, [], ◌∷◌, Bool, Option, None, Some, is_some, option_map, option_and_then, if◌then◌else◌}
+use Rattle.json_tree.specs.declared.tree.Json.{Json}
+use Rattle.step_names.specs.Thread.{Thread}
+use Rattle.step_names.specs.declared.step.StepName.{StepName}
+use Rattle.asl_machine.specs.Definition.{Definition}
+use Rattle.asl_machine.specs.Find.{state_at}
+use Rattle.asl_machine.specs.declared.state.State.{State}
+use Rattle.asl_machine.specs.declared.state.State.TheVariants.{Pass, Succeed}
+use Rattle.asl_machine.specs.declared.state.Transition.{Transition}
+use Rattle.asl_machine.specs.declared.state.Transition.TheVariants.{Next, End}
+use Rattle.rollback_book.specs.Names.{Step, started, moved, start_name, name_of}
+use Rattle.rollback_book.specs.World.{World, set_frame}
+use Rattle.rollback_book.specs.declared.frame.Frame.{Frame}
+use Rattle.rollback_book.specs.declared.frame.Phase.{Phase}
+use Rattle.rollback_book.specs.declared.frame.Phase.TheVariants.{Ready, Parked, Done, Failed}
+use Rattle.rollback_book.specs.declared.step.Fact.{Fact}
+use Rattle.rollback_book.specs.declared.step.Kind.TheVariants.{Start, Plain}
+use Rattle.rollback_book.specs.declared.step.Readiness.{Readiness}
+use Rattle.rollback_book.specs.declared.step.Readiness.TheVariants as readiness
+
+-- ---- one state
+
+-- where a frame goes with its state's output: to the next state, or to the end
+abbrev pub go_on : Transition → Frame → Json → Frame
+go_on (Next name) f output = record { level = f.level; state = name; raw = output; retries = []; count = f.count + 1; phase = Ready }
+go_on End f output = record { level = f.level; state = f.state; raw = f.raw; retries = f.retries; count = f.count + 1; phase = Done output }
+
+-- a Pass state's result, or its input where it has none
+abbrev pub pass_output : Option Json → Json → Json
+pass_output (Some result) raw = result
+pass_output None raw = raw
+
+-- the frame after a state
+abbrev pub after_state : State → Frame → Frame
+after_state (Pass p) f = go_on p.transition f (pass_output p.result f.raw)
+after_state Succeed f = go_on End f f.raw
+
+-- ---- one move
+
+-- the state that a frame in this phase is ready to run, by the machines
+abbrev pub ready_state : (List ℕ → Option Definition) → Frame → Phase → Option State
+ready_state machines f Ready = option_and_then (λ d. state_at f.level.path f.state d) (machines f.level.machine)
+ready_state machines f (Parked n) = None
+ready_state machines f (Done output) = None
+ready_state machines f (Failed fault) = None
+
+-- a thread's moves are numbered from 1
+abbrev pub next_step : Thread → Frame → StepName
+next_step t f = record { thread = t; no = f.count + 1 }
+
+-- the world in which the thread has this frame, and the fact of its step
+abbrev pub moves_to : World → Thread → Frame → Frame → World × Fact
+moves_to w t f g = (set_frame w t (Some g), record { name = next_step t f; kind = Plain; access = None })
+
+-- a ready thread runs its state; a thread that waits, is done or failed has no move
+abbrev pub move_frame : World → Thread → Frame → Option (World × Fact)
+move_frame w t f = option_map (λ s. moves_to w t f (after_state s f)) (ready_state w.machines f f.phase)
+
+abbrev pub move : World → Thread → Option (World × Fact)
+move w t = option_and_then (move_frame w t) (w.frames t)
+
+abbrev pub readiness_of : Phase → Readiness
+readiness_of Ready = readiness.Ready
+readiness_of (Parked n) = readiness.Waiting
+readiness_of (Done output) = readiness.Done
+readiness_of (Failed fault) = readiness.Failed
+
+-- ---- one start
+
+-- the frame with which an execution of a machine starts
+abbrev pub first_frame : List ℕ → Definition → Json → Frame
+first_frame machine d input = record {
+    level = record { machine = machine; path = [] };
+    state = d.start;
+    raw = input;
+    retries = [];
+    count = 0;
+    phase = Ready;
+  }
+
+-- a start needs a known machine, and that no execution of its name is there
+abbrev pub start : World → Thread → List ℕ → Json → Option (World × Fact)
+start w exec machine input =
+    if is_some (w.frames exec)
+    then None
+    else option_map (λ d. (set_frame w exec (Some (first_frame machine d input)), record { name = start_name exec; kind = Start; access = None }))
+         (w.machines machine)
+
+-- ---- runs
+
+-- the fact is of the step with this number
+abbrev pub if_numbered : ℕ → World × Fact → Option (World × Fact)
+if_numbered number p = if p.1.name.no == number then Some p else None
+
+-- a step is taken where it is the next of its thread
+abbrev pub take_step : World → Step → Option (World × Fact)
+take_step w (started exec machine input) = start w exec machine input
+take_step w (moved name) = option_and_then (if_numbered name.no) (move w name.thread)
+
+-- the steps taken one after another: the world after them, and the fact of each; none where one of them can't be taken
+abbrev pub run : World → List Step → Option (World × List Fact)
+run w [] = Some (w, [])
+run w (s ∷ steps) = option_and_then (λ p. option_map (λ q. (q.0, p.1 ∷ q.1)) (run p.0 steps)) (take_step w s)

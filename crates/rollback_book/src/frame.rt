@@ -1,0 +1,84 @@
+// A thread's frame: where it stands, and what it has.
+ghost use Rattle.std.specs.Prelude.{◌≡◌, [], IfOk};
+
+use asl_machine::Level;
+use json_tree::{Json, Text};
+use std::alloc::{AllocError, Global};
+use std::marker::Model;
+
+/// Where an error comes from.
+#[derive(Clone, Copy, Debug, PartialEq, Eq)]
+pub enum Origin {
+    /// The state's own call of the table.
+    Call,
+    /// A branch, from which a Parallel state took it.
+    Branch,
+    Other,
+}
+
+/// An error of a state ("Errors").
+#[derive(Debug, Drop)]
+pub struct Fault {
+    pub error: Text,
+    pub cause: Text,
+    pub origin: Origin,
+}
+
+/// What a thread can do next.
+#[derive(Debug, Drop)]
+pub enum Phase {
+    /// It stands before its state.
+    Ready,
+    /// It waits for this many branches.
+    Parked(u32),
+    /// It ended with this output.
+    Done(Json),
+    /// It ended with this error.
+    Failed(Fault),
+}
+
+/// How often each retrier of the state was used at this visit. Contracts see the list of counters.
+#[derive(Debug, Drop)]
+pub struct Retries {
+    inner: Vec<u32>,
+}
+
+impl Model for Retries {
+    ghost use Rattle.std.specs.Prelude.{List, ℕ};
+
+    ghost Value = { List ℕ };
+
+    ghost view = { λ a. a.inner.items };
+}
+
+impl Retries {
+    /// The counters of a state without retriers. Takes no memory.
+    pub fn none(alloc: Global) -> Retries
+        ensures { result ≡ [] }
+    {
+        Retries {
+            inner: Vec::new(alloc),
+        }
+    }
+
+    /// Equal counters. Takes memory for each.
+    pub fn copy(&self) -> Result<Retries, AllocError>
+        ensures { IfOk result (λ r. r ≡ self.now) }
+    {
+        Ok(Retries {
+            inner: Vec::from_slice(*self.inner.allocator(), self.inner.as_slice())?,
+        })
+    }
+}
+
+/// Where a thread stands: the `States` object, the state in it, the state's raw input, how often its retriers were used,
+/// how many moves the thread made, and what it can do next.
+#[derive(Debug, Drop)]
+pub struct Frame {
+    pub level: Level,
+    pub state: Text,
+    pub raw: Json,
+    pub retries: Retries,
+    pub count: u32,
+    pub phase: Phase,
+}

@@ -1,0 +1,22 @@
+#![tactic(auto)]
+
+//! The book: executions of state machines, the commands that were accepted, and the undoing of their steps.
+mod book;
+mod depend;
+mod frame;
+mod log;
+mod making;
+mod maps;
+mod refusal;
+mod room;
+mod step;
+mod turn;
+mod undoing;
+
+pub use book::Book;
+pub use depend::depends;
+pub use frame::{Fault, Frame, Origin, Phase, Retries};
+pub use log::{Begin, Entry, KeyAttribute, KeySchema, KeyType};
+pub use refusal::{BeginFault, Refusal};
+pub use room::Room;
+pub use step::{Access, AccessMode, Fact, Kind, Moved, Readiness, Saved, StepRecord};
