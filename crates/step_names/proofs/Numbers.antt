@@ -42,7 +42,7 @@ number_some ds h l = rw (h, lt-ltb (digits_value 10 ds) (2 ^ 32) l)
 pub number_none : (ds : List ℕ) → (is_numeral ds ≡ true → digits_value 10 ds < 2 ^ 32 → ⊥) → read_number ds ≡ None
 number_none ds h =
     if_none (is_numeral ds && nat_lt (digits_value 10 ds) (2 ^ 32)) (digits_value 10 ds)
-        (λ e. let s = and_parts (is_numeral ds) (nat_lt (digits_value 10 ds) (2 ^ 32)) e in h s.0 (ltb-true (digits_value 10 ds) (2 ^ 32) s.1))
+    (λ e. let s = and_parts (is_numeral ds) (nat_lt (digits_value 10 ds) (2 ^ 32)) e in h s.0 (ltb-true (digits_value 10 ds) (2 ^ 32) s.1))
 
 if_some : (b : Bool) (x n : ℕ) → cond b (Some x) None ≡ Some n → (b ≡ true) × (x ≡ n)
 if_some true x n h = (refl, cc)

@@ -16,6 +16,7 @@ no_parts c (b ∷ bs) h = by_test (b == c) (slice_split (λ b. b == c) bs) h
     onto : (x : ℕ) (parts : List (List ℕ)) → onto_first x parts ≡ [] → ⊥
     onto x [] h = cc
     onto x (part ∷ parts) h = cc
+
     by_test : (r : Bool) (parts : List (List ℕ)) → cond r ([] ∷ parts) (onto_first b parts) ≡ [] → ⊥
     by_test true parts h = cc
     by_test false parts h = onto b parts h

@@ -82,7 +82,11 @@ pub fn read_parts(text: &str) -> Option<(&str, PathBuffer)>
     ensures { MatchOption result (read_thread text.now ≡ None) (λ p. read_thread text.now ≡ Some (record { exec = p.0.now; path = p.1 })) }
 {
     let Some((exec, branches)) = cut(text, '/') else {
-        return if is_name(text) { Some((text, PathBuffer::new())) } else { None };
+        return if is_name(text) {
+            Some((text, PathBuffer::new()))
+        } else {
+            None
+        };
     };
     let path = read_path(branches)?;
     if !is_name(exec) {

@@ -16,8 +16,7 @@ pub fn thread_spelling()
     ensures one { ThreadTextIsOne }
     ensures bounded { ThreadTextIsBounded }
     ensures longest { LongestThread }
-{
-}
+{}
 
 /// The same of a step's name.
 pub fn step_spelling()
@@ -26,8 +25,7 @@ pub fn step_spelling()
     ensures one { StepTextIsOne }
     ensures bounded { StepTextIsBounded }
     ensures longest { LongestStep }
-{
-}
+{}
 
 /// How threads lie under forks.
 pub fn forks_nest()
@@ -36,8 +34,7 @@ pub fn forks_nest()
     ensures below { UnderIsBelow }
     ensures one_way { UnderIsOneWay }
     ensures in_line { AboveIsInLine }
-{
-}
+{}
 
 /// By what names are ordered.
 pub fn names_in_order()
@@ -46,5 +43,4 @@ pub fn names_in_order()
     ensures threads_exact { ThreadOrderIsExact }
     ensures steps_exact { StepOrderIsExact }
     ensures later { UnderComesLater }
-{
-}
+{}

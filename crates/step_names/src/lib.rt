@@ -10,10 +10,10 @@ mod tests;
 mod thread;
 mod written;
 
+pub use laws::{forks_nest, names_in_order, step_spelling, thread_spelling};
 use std::alloc::{AllocError, AllocFailed};
 use std::error::Error;
 use std::fmt;
-pub use laws::{forks_nest, names_in_order, step_spelling, thread_spelling};
 pub use step::{LONGEST_STEP, StepName};
 pub use thread::{LONGEST_THREAD, ThreadName};
 

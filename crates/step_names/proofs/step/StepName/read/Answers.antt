@@ -27,6 +27,7 @@ pub returns-in-Err-clause-bad : goal.returns-in-Err-clause-bad
 returns-in-Err-clause-bad c =
     let cut = step_cut c.args.text.now c.in-Some.thread.now c.in-Some.number.now c.in-Some.ensures.parts in
     let number : read_number c.in-Some.number.now ≡ Some c.in-Some-read_number.no = sym c.read_number.ensures ∙ c.in-Some-read_number.is in
-    let none = step_none c.in-Some.thread.now c.in-Some.number.now c.in-Some-read_number.no number in
-    (λ e. let same : c.in-Err.fault ≡ BadName = cc in cut ∙ none.0 (c.in-Err.ensures.bad.0 (ap (λ f. Err f) same)),
-     λ e. let bad = c.in-Err.ensures.bad.1 (none.1 (sym cut ∙ e)) in let same : c.in-Err.fault ≡ BadName = cc in ap (λ f. Err f) same)
+    let none = step_none c.in-Some.thread.now c.in-Some.number.now c.in-Some-read_number.no number in (
+      λ e. let same : c.in-Err.fault ≡ BadName = cc in cut ∙ none.0 (c.in-Err.ensures.bad.0 (ap (λ f. Err f) same)),
+      λ e. let bad = c.in-Err.ensures.bad.1 (none.1 (sym cut ∙ e)) in let same : c.in-Err.fault ≡ BadName = cc in ap (λ f. Err f) same,
+    )
