@@ -4,6 +4,7 @@
 mod grammar;
 mod laws;
 mod path_buffer;
+mod room;
 mod step;
 #[cfg(test)]
 mod tests;
@@ -14,6 +15,7 @@ pub use laws::{forks_nest, names_in_order, step_spelling, thread_spelling};
 use std::alloc::{AllocError, AllocFailed};
 use std::error::Error;
 use std::fmt;
+pub use room::NameRoom;
 pub use step::{LONGEST_STEP, StepName};
 pub use thread::{LONGEST_THREAD, ThreadName};
 

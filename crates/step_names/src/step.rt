@@ -59,6 +59,8 @@ impl StepName {
         ensures ok { OnOk result (string_bytes out.new ≡ string_bytes out.old ++ step_text self.now) }
         ensures full { OnErr result (string_capacity out.old < string_len out.old + length (step_text self.now)) }
         ensures err { OnErr result (string_bytes out.new ≡ string_bytes out.old) }
+        ensures len { OnOk result (string_len out.new ≡ string_len out.old + length (step_text self.now)) }
+        ensures capacity { string_capacity out.old ≤ string_capacity out.new }
     {
         out.reserve(self.text_len())?;
         self.push_to(out);
@@ -69,6 +71,8 @@ impl StepName {
     fn push_to(&self, out: &mut String)
         requires { string_len out.old + length (step_text self.now) ≤ string_capacity out.old }
         ensures bytes { string_bytes out.new ≡ string_bytes out.old ++ step_text self.now }
+        ensures len { string_len out.new ≡ string_len out.old + length (step_text self.now) }
+        ensures capacity { string_capacity out.old ≤ string_capacity out.new }
     {
         self.thread.push_to(out);
         push_ascii(out, b'#');

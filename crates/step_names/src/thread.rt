@@ -14,6 +14,9 @@ use std::alloc::{AllocError, Global};
 use std::cmp::Ordering;
 use std::marker::Model;
 
+/// The most bytes that the name of an execution has.
+pub(crate) const LONGEST_EXEC: usize = 64;
+
 /// The most bytes that the name of a thread is written in.
 pub const LONGEST_THREAD: usize = 746;
 
@@ -55,6 +58,13 @@ impl ThreadName {
         let exec = String::from_str(alloc, exec)?;
         let path = Vec::from_slice(alloc, path.as_slice())?;
         Ok(ThreadName { exec, path })
+    }
+
+    pub(crate) fn from_parts(exec: String, path: Vec<(u32, u32)>) -> ThreadName
+        requires { IsThread (record { exec = string_bytes exec; path = path.items }) }
+        ensures { result ≡ record { exec = string_bytes exec; path = path.items } }
+    {
+        ThreadName { exec, path }
     }
 
     pub fn exec(&self) -> &str
@@ -108,6 +118,8 @@ impl ThreadName {
         ensures ok { OnOk result (string_bytes out.new ≡ string_bytes out.old ++ thread_text self.now) }
         ensures full { OnErr result (string_capacity out.old < string_len out.old + length (thread_text self.now)) }
         ensures err { OnErr result (string_bytes out.new ≡ string_bytes out.old) }
+        ensures len { OnOk result (string_len out.new ≡ string_len out.old + length (thread_text self.now)) }
+        ensures capacity { string_capacity out.old ≤ string_capacity out.new }
     {
         out.reserve(self.text_len())?;
         self.push_to(out);
