@@ -1,13 +1,13 @@
 -- How long a name can be.
-use Rattle.std.proofs.Common.{arith, zero, suc, ◌≡◌, ℕ, ◌+◌, ◌*◌, ◌^◌, ◌<◌, ◌≤◌, ◌⊎◌, inl, inr, true, List, [], ◌∷◌, ◌++◌, replicate, length, length-append, refl, ap, sym, ◌∙◌}
+use Rattle.std.proofs.Common.{arith, zero, suc, ◌≡◌, ℕ, ◌+◌, ◌*◌, ◌^◌, ◌<◌, ◌≤◌, inl, inr, true, List, [], ◌∷◌, replicate, length, length-append, refl, ap, ◌∙◌}
 use Rattle.std.specs.List.{flat_map, list_all}
 use Rattle.std.specs.Fmt.{decimal}
 use Rattle.std.proofs.lemmas.Bool.{and_parts, cases_lt}
 use Rattle.std.proofs.lemmas.Fmt.{digits_decimal, digits_value-decimal}
 use Rattle.std.proofs.lemmas.Str.Parse.{digits_value_short}
-use Rattle.step_names.specs.Thread.{Thread, IsThread, IsStep, is_branch}
+use Rattle.step_names.specs.Thread.{Thread, IsThread, is_branch}
 use Rattle.step_names.specs.declared.step.StepName.{StepName}
-use Rattle.step_names.specs.Written.{branch_text, thread_text, step_text}
+use Rattle.step_names.specs.Written.{branch_text, thread_text}
 use Rattle.step_names.specs.Laws.{ThreadTextIsBounded, StepTextIsBounded, LongestThread, LongestStep}
 use Rattle.step_names.proofs.Numbers.{own}
 use Rattle.step_names.proofs.Digits.{few_digits}

@@ -1,22 +1,22 @@
 -- A name's one spelling: what is written is read as it was, and what is read is written as it was.
-use Rattle.std.proofs.Common.{arith, zero, suc, ◌≡◌, ℕ, ◌+◌, ◌^◌, ◌<◌, ◌≤◌, Bool, true, false, not, cond, ◌&&◌, ◌==◌, List, [], ◌∷◌, ◌++◌, map, length, append-nil, append_assoc, refl, ap, ap₂, sym, subst, ◌∙◌, Option, Some, None, nat_le}
+use Rattle.std.proofs.Common.{arith, ◌≡◌, ℕ, ◌^◌, ◌<◌, ◌≤◌, true, false, not, ◌==◌, List, [], ◌∷◌, ◌++◌, map, length, append-nil, refl, ap, ap₂, sym, subst, ◌∙◌, Option, Some, None, nat_le}
 use Rattle.std.specs.Option.{option_map, option_and_then}
 use Rattle.std.specs.List.{flat_map, slice_split, list_all, join_with_byte}
 use Rattle.std.specs.Fmt.{decimal}
 use Rattle.std.specs.Char.{is_ascii_digit}
-use Rattle.std.proofs.lemmas.Bool.{and_parts, and_from, leb-true, le-leb, ltb-true, ne_eqb}
+use Rattle.std.proofs.lemmas.Bool.{and_parts, and_from, leb-true, le-leb, ltb-true}
 use Rattle.std.proofs.lemmas.List.{length-map}
 use Rattle.std.proofs.lemmas.List.Splits.{join_with_byte-slice_split}
 use Rattle.std.proofs.lemmas.Fmt.{digits_decimal}
 use Rattle.step_names.specs.Thread.{Thread, IsThread, IsStep, is_name, is_name_byte, is_branch}
 use Rattle.step_names.specs.declared.step.StepName.{StepName}
 use Rattle.step_names.specs.Written.{branch_text, thread_text, step_text}
-use Rattle.step_names.specs.Grammar.{read_number, read_branch, read_branch_parts, read_branches, read_path, read_thread, read_thread_parts, read_step, read_step_parts}
+use Rattle.step_names.specs.Grammar.{read_number, read_branch, read_branch_parts, read_branches, read_thread, read_thread_parts, read_step, read_step_parts}
 use Rattle.step_names.specs.Laws.{ThreadReadsBack, ThreadWritesBack, ThreadTextIsOne, StepReadsBack, StepWritesBack, StepTextIsOne}
 use Rattle.step_names.proofs.Parts.{lacks, lacks_split, lacks_split_at, lacks-append, passing_lacks, digits_lack}
 use Rattle.step_names.proofs.Numbers.{own, number_reads, number_writes, number_parts}
-use Rattle.step_names.proofs.Paths.{branch_cut, both_some, both_read, no_parts}
-use Rattle.step_names.proofs.Bounds.{branch_parts, branch_then, path_then, path_if, thread_parts, thread_bounds, read_bounds}
+use Rattle.step_names.proofs.Paths.{branch_cut, both_some}
+use Rattle.step_names.proofs.Bounds.{branch_parts, branch_then, path_then, path_if, thread_parts, read_bounds}
 use Rattle.step_names.proofs.Steps.{step_cut}
 
 -- ---- from the name to its text and back

@@ -1,5 +1,5 @@
 -- What follows from lying under a fork.
-use Rattle.std.proofs.Common.{arith, zero, suc, ◌≡◌, ℕ, ◌+◌, ◌<◌, ◌≤◌, ◌⊎◌, inl, inr, List, [], ◌∷◌, ◌++◌, length, length-append, append_assoc, append-nil, refl, ap, ap₂, sym, subst, ◌∙◌}
+use Rattle.std.proofs.Common.{arith, ◌≡◌, ℕ, ◌<◌, ◌⊎◌, inl, inr, List, [], ◌∷◌, ◌++◌, length, length-append, append_assoc, refl, ap, ap₂, sym, ◌∙◌}
 use Rattle.step_names.specs.Thread.{Thread}
 use Rattle.step_names.specs.Under.{IsUnder}
 use Rattle.step_names.specs.Laws.{UnderIsTransitive, UnderIsOne, UnderIsBelow, UnderIsOneWay, AboveIsInLine}

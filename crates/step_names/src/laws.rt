@@ -2,6 +2,7 @@
 
 ghost use Rattle.step_names.specs.Laws.{ThreadReadsBack, ThreadWritesBack, ThreadTextIsOne, ThreadTextIsBounded, LongestThread, StepReadsBack, StepWritesBack, StepTextIsOne, StepTextIsBounded, LongestStep, UnderIsTransitive, UnderIsOne, UnderIsBelow, UnderIsOneWay, AboveIsInLine, ThreadOrderIsExact, StepOrderIsExact, UnderComesLater};
 ghost use Rattle.std.specs.Prelude.{◌≡◌};
+ghost use Rattle.std.specs.Bool.{Decides};
 ghost use Rattle.step_names.specs.Order.{thread_cmp, step_cmp};
 ghost use Rattle.step_names.specs.Thread.{Thread};
 ghost use Rattle.step_names.specs.declared.step.StepName.{StepName as Step};
@@ -36,10 +37,12 @@ pub fn forks_nest()
     ensures in_line { AboveIsInLine }
 {}
 
-/// By what names are ordered.
+/// By what names are ordered, and that two names are equal where they are one.
 pub fn names_in_order()
     ensures threads { (a b : Thread) → ⟦<ThreadName as Ord>⟧.cmp a b ≡ thread_cmp a b }
     ensures steps { (a b : Step) → ⟦<StepName as Ord>⟧.cmp a b ≡ step_cmp a b }
+    ensures threads_equal { (a b : Thread) → Decides (⟦<ThreadName as PartialEq>⟧.eq a b) (a ≡ b) }
+    ensures steps_equal { (a b : Step) → Decides (⟦<StepName as PartialEq>⟧.eq a b) (a ≡ b) }
     ensures threads_exact { ThreadOrderIsExact }
     ensures steps_exact { StepOrderIsExact }
     ensures later { UnderComesLater }

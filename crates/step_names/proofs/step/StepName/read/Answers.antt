@@ -1,7 +1,7 @@
-use Rattle.std.proofs.Common.{rules, ◌≡◌, ◌∙◌, sym, ap, refl, Some, None, Err, Ok}
+use Rattle.std.proofs.Common.{◌≡◌, ◌∙◌, sym, ap, refl, Some, Err}
 use Rattle.step_names.specs.declared.NameFault.TheVariants.{BadName}
-use Rattle.step_names.specs.Grammar.{read_step, read_number, read_thread}
-use Rattle.step_names.proofs.Steps.{step_cut, step_of, no_number, step_none}
+use Rattle.step_names.specs.Grammar.{read_number, read_thread}
+use Rattle.step_names.proofs.Steps.{step_cut, no_number, step_none}
 use Rattle.step_names.proofs.step.StepName.read.Goals as goal
 
 pub returns-in_default-read_number-clause-bad : goal.returns-in_default-read_number-clause-bad
