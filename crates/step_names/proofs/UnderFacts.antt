@@ -2,7 +2,10 @@
 use Rattle.std.proofs.Common.{arith, ◌≡◌, ℕ, ◌<◌, ◌⊎◌, inl, inr, List, [], ◌∷◌, ◌++◌, length, length-append, append_assoc, refl, ap, ap₂, sym, ◌∙◌}
 use Rattle.step_names.specs.Thread.{Thread}
 use Rattle.step_names.specs.Under.{IsUnder}
-use Rattle.step_names.specs.Laws.{UnderIsTransitive, UnderIsOne, UnderIsBelow, UnderIsOneWay, AboveIsInLine}
+use Rattle.step_names.specs.Laws.{ChildIsUnder, UnderIsTransitive, UnderIsOne, UnderIsBelow, UnderIsOneWay, AboveIsInLine}
+
+pub child_under : ChildIsUnder
+child_under thread fork branch = (refl, (branch, [], refl))
 
 pub under_transitive : UnderIsTransitive
 under_transitive low middle high fork outer u v = (

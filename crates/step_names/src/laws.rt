@@ -1,6 +1,6 @@
 //! Laws over the definitions of names: each function's contract is the law, and it does nothing.
 
-ghost use Rattle.step_names.specs.Laws.{ThreadReadsBack, ThreadWritesBack, ThreadTextIsOne, ThreadTextIsBounded, LongestThread, StepReadsBack, StepWritesBack, StepTextIsOne, StepTextIsBounded, LongestStep, UnderIsTransitive, UnderIsOne, UnderIsBelow, UnderIsOneWay, AboveIsInLine, ThreadOrderIsExact, StepOrderIsExact, UnderComesLater};
+ghost use Rattle.step_names.specs.Laws.{ThreadReadsBack, ThreadWritesBack, ThreadTextIsOne, ThreadTextIsBounded, LongestThread, StepReadsBack, StepWritesBack, StepTextIsOne, StepTextIsBounded, LongestStep, ChildIsUnder, UnderIsTransitive, UnderIsOne, UnderIsBelow, UnderIsOneWay, AboveIsInLine, ThreadOrderIsExact, StepOrderIsExact, UnderComesLater};
 ghost use Rattle.std.specs.Prelude.{◌≡◌};
 ghost use Rattle.std.specs.Bool.{Decides};
 ghost use Rattle.step_names.specs.Order.{thread_cmp, step_cmp};
@@ -30,6 +30,7 @@ pub fn step_spelling()
 
 /// How threads lie under forks.
 pub fn forks_nest()
+    ensures child { ChildIsUnder }
     ensures transitive { UnderIsTransitive }
     ensures one_fork { UnderIsOne }
     ensures below { UnderIsBelow }
