@@ -3,7 +3,7 @@ ghost use Rattle.std.specs.BTreeMap.{get, IsUnchanged};
 ghost use Rattle.step_names.specs.Thread.{Thread};
 ghost use Rattle.step_names.specs.Order.{thread_cmp};
 
-use crate::{LONGEST_STEP, LONGEST_THREAD, NameFault, StepName, ThreadName};
+use crate::{LONGEST_STEP, LONGEST_THREAD, NameFault, NameRoom, StepName, ThreadName};
 use std::alloc::{AllocError, Global};
 use std::collections::BTreeMap;
 use std::process::Abort;
@@ -219,6 +219,17 @@ fn writes_the_longest(rt: HostRuntime) -> Result<(), Fail> {
     let mut out = String::with_capacity(alloc, LONGEST_STEP)?;
     name.write_to(&mut out)?;
     assert_eq!(rt; out.as_str(), text.as_str());
+    Ok(())
+}
+
+#[test]
+fn fills_room(rt: HostRuntime) -> Result<(), Fail> {
+    let alloc = rt.alloc();
+    let name = step(alloc, "E/2.0/5.1#7")?;
+    let room = NameRoom::new(alloc)?;
+    assert!(rt; room.step(&name) == name);
+    let room = NameRoom::new(alloc)?;
+    assert!(rt; room.thread(&name.thread) == name.thread);
     Ok(())
 }
 
