@@ -1,10 +1,10 @@
 -- What is read keeps the bounds.
-use Rattle.std.proofs.Common.{arith, rules, zero, suc, ◌<◌, ◌≤◌, ◌+◌, ◌^◌, ◌≡◌, ◌≢◌, ℕ, Bool, true, false, not, cond, ◌&&◌, List, [], ◌∷◌, ◌++◌, refl, sym, ap, ap₂, ◌∙◌, subst, length, nat_eq, nat_lt, nat_le, ◌==◌, eqb-true, eq-eqb, Option, Some, None, IsTrue}
+use Rattle.std.proofs.Common.{arith, zero, suc, ◌≤◌, ◌^◌, ◌≡◌, ℕ, Bool, true, false, cond, List, [], ◌∷◌, refl, sym, ap, ◌∙◌, subst, length, nat_le, ◌==◌, Option, Some, None}
 use Rattle.std.specs.Option.{option_map, option_and_then}
-use Rattle.std.specs.List.{slice_split, onto_first, list_all}
+use Rattle.std.specs.List.{slice_split, list_all}
 use Rattle.std.proofs.lemmas.Bool.{leb-true, le-leb, lt-ltb}
 use Rattle.step_names.specs.Thread.{Thread, IsThread, is_name, is_branch}
-use Rattle.step_names.specs.Grammar.{is_numeral, read_number, read_branch, read_branch_parts, read_branches, read_path, read_thread, read_thread_parts}
+use Rattle.step_names.specs.Grammar.{read_number, read_branch, read_branch_parts, read_branches, read_path, read_thread, read_thread_parts}
 use Rattle.step_names.proofs.Numbers.{number_parts}
 
 number_then : (o : Option ℕ) (f : ℕ → Option (ℕ × ℕ)) (p : ℕ × ℕ) → option_and_then f o ≡ Some p → (n : ℕ) × (o ≡ Some n) × (f n ≡ Some p)

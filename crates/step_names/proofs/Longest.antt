@@ -1,17 +1,17 @@
 -- How long a name can be.
-use Rattle.std.proofs.Common.{arith, zero, suc, ◌≡◌, ℕ, ◌+◌, ◌*◌, ◌^◌, ◌<◌, ◌≤◌, ◌⊎◌, inl, inr, true, List, [], ◌∷◌, ◌++◌, replicate, length, length-append, refl, ap, sym, ◌∙◌}
+use Rattle.std.proofs.Common.{arith, zero, suc, ◌≡◌, ℕ, ◌+◌, ◌*◌, ◌^◌, ◌<◌, ◌≤◌, inl, inr, true, List, [], ◌∷◌, replicate, length, length-append, refl, ap, ◌∙◌}
 use Rattle.std.specs.List.{flat_map, list_all}
 use Rattle.std.specs.Fmt.{decimal}
-use Rattle.std.proofs.lemmas.Bool.{and_parts, leb-true, cases_lt}
+use Rattle.std.proofs.lemmas.Bool.{and_parts, cases_lt}
 use Rattle.std.proofs.lemmas.Fmt.{digits_decimal, digits_value-decimal}
 use Rattle.std.proofs.lemmas.Str.Parse.{digits_value_short}
-use Rattle.step_names.specs.Thread.{Thread, IsThread, IsStep, is_branch}
+use Rattle.step_names.specs.Thread.{Thread, IsThread, is_branch}
 use Rattle.step_names.specs.declared.step.StepName.{StepName}
-use Rattle.step_names.specs.Written.{branch_text, thread_text, step_text}
+use Rattle.step_names.specs.Written.{branch_text, thread_text}
 use Rattle.step_names.specs.Laws.{ThreadTextIsBounded, StepTextIsBounded, LongestThread, LongestStep}
 use Rattle.step_names.proofs.Numbers.{own}
 use Rattle.step_names.proofs.Digits.{few_digits}
-use Rattle.step_names.proofs.Spelling.{is_branch_parts}
+use Rattle.step_names.proofs.Spelling.{is_branch_parts, is_name_parts}
 
 length-branch_text : (branch : ℕ × ℕ) → length (branch_text branch) ≡ 2 + length (decimal branch.0) + length (decimal branch.1)
 length-branch_text branch = omega (arith, length-append (decimal branch.0) (46 ∷ decimal branch.1))
@@ -25,8 +25,8 @@ path_text_bound (branch ∷ path) h =
 
 pub thread_text_bound : ThreadTextIsBounded
 thread_text_bound thread kept =
-    let name = and_parts _ _ (and_parts _ _ kept.named).1 in
-    omega (arith, length-append thread.exec (flat_map branch_text thread.path), leb-true (length thread.exec) 64 name.0, path_text_bound thread.path kept.branches, kept.depth)
+    let name = is_name_parts thread.exec kept.named in
+    omega (arith, length-append thread.exec (flat_map branch_text thread.path), path_text_bound thread.path kept.branches, kept.depth)
 
 pub step_text_bound : StepTextIsBounded
 step_text_bound step kept =
@@ -36,9 +36,9 @@ step_text_bound step kept =
 
 ten_digits : length (decimal 4294967295) ≡ 10
 ten_digits = elim (cases_lt (length (decimal 4294967295)) 10) [
-    | inl less ↦ absurd (short (omega arith))
-    | inr more ↦ omega (arith, few_digits 4294967295 (omega arith))
-  ]
+  | inl less ↦ absurd (short (omega arith))
+  | inr more ↦ omega (arith, few_digits 4294967295 (omega arith))
+]
   where
     short : length (decimal 4294967295) ≤ 9 → ⊥
     short h =

@@ -1,11 +1,9 @@
 -- What `parse` and `decimal` say of the numbers in a name.
-use Rattle.std.proofs.Common.{arith, rules, zero, suc, get_or, ◌<◌, ◌≤◌, ◌^◌, ◌≡◌, ◌≢◌, ℕ, Bool, true, false, not, cond, ◌&&◌, ◌||◌, List, [], ◌∷◌, ◌++◌, refl, sym, ap, ap₂, ◌∙◌, subst, length, nat_eq, nat_lt, nat_le, ◌==◌, eqb-true, eq-eqb, Option, Some, None, Result, Ok, Err, OkIff}
-use Rattle.std.specs.Bool.{Decides}
+use Rattle.std.proofs.Common.{arith, zero, suc, get_or, ◌<◌, ◌^◌, ◌≡◌, ◌≢◌, ℕ, Bool, true, false, not, cond, ◌&&◌, ◌||◌, List, [], ◌∷◌, refl, sym, ap, ◌∙◌, subst, length, nat_lt, ◌==◌, eqb-true, eq-eqb, Some, None, Result, Ok, Err}
 use Rattle.std.specs.Result.{result_ok}
 use Rattle.std.specs.Str.{all_ascii_digits}
 use Rattle.std.specs.Str.Parse.{digits_value, ParsesUnsigned}
 use Rattle.std.specs.Fmt.{decimal}
-use Rattle.std.specs.Char.{is_ascii_digit}
 use Rattle.std.proofs.lemmas.Bool.{and_parts, and_from, ltb-true, lt-ltb}
 use Rattle.std.proofs.lemmas.Str.Parse.{IsNumeralModel, numerals_by_value, tells_all_ascii_digits, parse_plain}
 use Rattle.std.proofs.lemmas.Fmt.{digits_decimal, digits_value-decimal, decimal-digits_value, decimal_nonempty, decimal_digit, first_decimal}
@@ -42,7 +40,7 @@ number_some ds h l = rw (h, lt-ltb (digits_value 10 ds) (2 ^ 32) l)
 pub number_none : (ds : List ℕ) → (is_numeral ds ≡ true → digits_value 10 ds < 2 ^ 32 → ⊥) → read_number ds ≡ None
 number_none ds h =
     if_none (is_numeral ds && nat_lt (digits_value 10 ds) (2 ^ 32)) (digits_value 10 ds)
-        (λ e. let s = and_parts (is_numeral ds) (nat_lt (digits_value 10 ds) (2 ^ 32)) e in h s.0 (ltb-true (digits_value 10 ds) (2 ^ 32) s.1))
+    (λ e. let s = and_parts (is_numeral ds) (nat_lt (digits_value 10 ds) (2 ^ 32)) e in h s.0 (ltb-true (digits_value 10 ds) (2 ^ 32) s.1))
 
 if_some : (b : Bool) (x n : ℕ) → cond b (Some x) None ≡ Some n → (b ≡ true) × (x ≡ n)
 if_some true x n h = (refl, cc)

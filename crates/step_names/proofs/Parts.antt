@@ -1,9 +1,8 @@
 -- Texts cut at a separator, and the numbers in them.
-use Rattle.std.proofs.Common.{arith, rules, suc, get_or, ◌<◌, ◌≤◌, ◌^◌, ◌≡◌, ◌≢◌, ℕ, Bool, true, false, not, cond, ◌&&◌, ◌||◌, List, [], ◌∷◌, ◌++◌, refl, sym, ap, ap₂, ◌∙◌, subst, length, nat_eq, nat_lt, ◌==◌, eqb-true, eq-eqb, MatchOption, Option, Some, None, Bor}
-use Rattle.std.specs.List.{slice_split, onto_first, list_all, join_with_byte}
+use Rattle.std.proofs.Common.{arith, suc, get_or, ◌<◌, ◌≡◌, ◌≢◌, ℕ, Bool, true, false, not, ◌&&◌, List, [], ◌∷◌, ◌++◌, refl, sym, ap, ◌∙◌, length, ◌==◌, eq-eqb, MatchOption, Option, Some, None, Bor}
+use Rattle.std.specs.List.{slice_split, list_all}
 use Rattle.std.specs.Str.{all_ascii_digits}
 use Rattle.std.specs.Char.{is_ascii_digit}
-use Rattle.std.proofs.lemmas.List.Splits.{join_with_byte-slice_split}
 use Rattle.std.proofs.lemmas.Str.Pattern.{IsSplitOnceResult, split_parts}
 use Rattle.std.proofs.lemmas.Bool.{and_parts, and_from, not-true, ne_eqb}
 

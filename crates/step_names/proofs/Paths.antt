@@ -1,11 +1,11 @@
 -- A path is read branch by branch.
-use Rattle.std.proofs.Common.{arith, rules, zero, suc, ◌<◌, ◌≤◌, ◌+◌, ◌^◌, ◌≡◌, ◌≢◌, ℕ, Bool, true, false, not, cond, List, [], ◌∷◌, ◌++◌, refl, sym, ap, ap₂, ◌∙◌, subst, length, length-append, append_assoc, nat_eq, nat_lt, nat_le, ◌==◌, eqb-true, eq-eqb, Option, Some, None}
+use Rattle.std.proofs.Common.{◌+◌, ◌≡◌, ◌≢◌, ℕ, Bool, true, false, cond, List, [], ◌∷◌, ◌++◌, refl, sym, ap, ◌∙◌, length, nat_le, ◌==◌, Option, Some, None}
 use Rattle.std.proofs.lemmas.Bool.{ne_eqb}
 use Rattle.std.specs.Option.{option_map, option_and_then}
 use Rattle.std.specs.List.{slice_split, onto_first}
 use Rattle.std.specs.Char.{is_ascii_digit}
 use Rattle.std.proofs.lemmas.List.Splits.{join_with_byte-slice_split}
-use Rattle.step_names.specs.Grammar.{is_numeral, read_number, read_branch, read_branch_parts, read_branches, read_path}
+use Rattle.step_names.specs.Grammar.{read_number, read_branch, read_branch_parts, read_branches}
 use Rattle.step_names.proofs.Parts.{digits_lack, lacks_split}
 use Rattle.step_names.proofs.Numbers.{number_parts, numeral_parts}
 
@@ -16,6 +16,7 @@ no_parts c (b ∷ bs) h = by_test (b == c) (slice_split (λ b. b == c) bs) h
     onto : (x : ℕ) (parts : List (List ℕ)) → onto_first x parts ≡ [] → ⊥
     onto x [] h = cc
     onto x (part ∷ parts) h = cc
+
     by_test : (r : Bool) (parts : List (List ℕ)) → cond r ([] ∷ parts) (onto_first b parts) ≡ [] → ⊥
     by_test true parts h = cc
     by_test false parts h = onto b parts h

@@ -1,22 +1,22 @@
 -- A name's one spelling: what is written is read as it was, and what is read is written as it was.
-use Rattle.std.proofs.Common.{arith, zero, suc, ◌≡◌, ℕ, ◌+◌, ◌^◌, ◌<◌, ◌≤◌, Bool, true, false, not, cond, ◌&&◌, ◌==◌, List, [], ◌∷◌, ◌++◌, map, length, append-nil, append_assoc, refl, ap, ap₂, sym, subst, ◌∙◌, Option, Some, None, nat_le}
+use Rattle.std.proofs.Common.{arith, ◌≡◌, ℕ, ◌^◌, ◌<◌, ◌≤◌, true, false, not, ◌==◌, List, [], ◌∷◌, ◌++◌, map, length, append-nil, refl, ap, ap₂, sym, subst, ◌∙◌, Option, Some, None, nat_le}
 use Rattle.std.specs.Option.{option_map, option_and_then}
 use Rattle.std.specs.List.{flat_map, slice_split, list_all, join_with_byte}
 use Rattle.std.specs.Fmt.{decimal}
 use Rattle.std.specs.Char.{is_ascii_digit}
-use Rattle.std.proofs.lemmas.Bool.{and_parts, and_from, leb-true, le-leb, ltb-true, ne_eqb}
+use Rattle.std.proofs.lemmas.Bool.{and_parts, and_from, leb-true, le-leb, ltb-true}
 use Rattle.std.proofs.lemmas.List.{length-map}
 use Rattle.std.proofs.lemmas.List.Splits.{join_with_byte-slice_split}
 use Rattle.std.proofs.lemmas.Fmt.{digits_decimal}
 use Rattle.step_names.specs.Thread.{Thread, IsThread, IsStep, is_name, is_name_byte, is_branch}
 use Rattle.step_names.specs.declared.step.StepName.{StepName}
 use Rattle.step_names.specs.Written.{branch_text, thread_text, step_text}
-use Rattle.step_names.specs.Grammar.{read_number, read_branch, read_branch_parts, read_branches, read_path, read_thread, read_thread_parts, read_step, read_step_parts}
+use Rattle.step_names.specs.Grammar.{read_number, read_branch, read_branch_parts, read_branches, read_thread, read_thread_parts, read_step, read_step_parts}
 use Rattle.step_names.specs.Laws.{ThreadReadsBack, ThreadWritesBack, ThreadTextIsOne, StepReadsBack, StepWritesBack, StepTextIsOne}
 use Rattle.step_names.proofs.Parts.{lacks, lacks_split, lacks_split_at, lacks-append, passing_lacks, digits_lack}
 use Rattle.step_names.proofs.Numbers.{own, number_reads, number_writes, number_parts}
-use Rattle.step_names.proofs.Paths.{branch_cut, both_some, both_read, no_parts}
-use Rattle.step_names.proofs.Bounds.{branch_parts, branch_then, path_then, path_if, thread_parts, thread_bounds, read_bounds}
+use Rattle.step_names.proofs.Paths.{branch_cut, both_some}
+use Rattle.step_names.proofs.Bounds.{branch_parts, branch_then, path_then, path_if, thread_parts, read_bounds}
 use Rattle.step_names.proofs.Steps.{step_cut}
 
 -- ---- from the name to its text and back
@@ -24,6 +24,12 @@ use Rattle.step_names.proofs.Steps.{step_cut}
 -- a branch's text after its `/`
 abbrev pub branch_body : ℕ × ℕ → List ℕ
 branch_body branch = decimal branch.0 ++ 46 ∷ decimal branch.1
+
+pub is_name_parts : (bytes : List ℕ) → is_name bytes ≡ true → (1 ≤ length bytes) × (length bytes ≤ 64) × (list_all is_name_byte bytes ≡ true)
+is_name_parts bytes h =
+    let s = and_parts _ _ h in
+    let t = and_parts _ _ s.1 in
+    (leb-true _ _ s.0, leb-true _ _ t.0, t.1)
 
 pub decimal_lacks : (c n : ℕ) → is_ascii_digit c ≡ false → n < 2 ^ 32 → lacks c (decimal n) ≡ true
 decimal_lacks c n h l = digits_lack c (decimal n) h (digits_decimal own n (omega arith))
@@ -38,7 +44,7 @@ body_lacks : (c : ℕ) (branch : ℕ × ℕ) → is_ascii_digit c ≡ false → 
 body_lacks c branch digit point h =
     let s = is_branch_parts branch h in
     lacks-append c (decimal branch.0) (46 ∷ decimal branch.1) (decimal_lacks c branch.0 digit s.1)
-        (and_from (not (46 == c)) (lacks c (decimal branch.1)) point (decimal_lacks c branch.1 digit s.2))
+    (and_from (not (46 == c)) (lacks c (decimal branch.1)) point (decimal_lacks c branch.1 digit s.2))
 
 pub split_path : (front : List ℕ) (path : List (ℕ × ℕ)) → lacks 47 front ≡ true → list_all is_branch path ≡ true
     → slice_split (λ b. b == 47) (front ++ flat_map branch_text path) ≡ front ∷ map branch_body path
@@ -62,8 +68,8 @@ branches_read (branch ∷ path) h =
 
 pub thread_reads : ThreadReadsBack
 thread_reads thread kept =
-    let name = and_parts _ _ (and_parts _ _ kept.named).1 in
-    ap read_thread_parts (split_path thread.exec thread.path (passing_lacks is_name_byte 47 thread.exec refl name.1) kept.branches)
+    let name = is_name_parts thread.exec kept.named in
+    ap read_thread_parts (split_path thread.exec thread.path (passing_lacks is_name_byte 47 thread.exec refl name.2) kept.branches)
     ∙ rw (kept.named, length-map, le-leb (length thread.path) 31 kept.depth, branches_read thread.path kept.branches)
 
 pub branch_text_lacks : (branch : ℕ × ℕ) → is_branch branch ≡ true → lacks 35 (branch_text branch) ≡ true
@@ -77,8 +83,8 @@ path_text_lacks (branch ∷ path) h =
 
 pub thread_text_lacks : (thread : Thread) → IsThread thread → lacks 35 (thread_text thread) ≡ true
 thread_text_lacks thread kept =
-    let name = and_parts _ _ (and_parts _ _ kept.named).1 in
-    lacks-append 35 thread.exec (flat_map branch_text thread.path) (passing_lacks is_name_byte 35 thread.exec refl name.1) (path_text_lacks thread.path kept.branches)
+    let name = is_name_parts thread.exec kept.named in
+    lacks-append 35 thread.exec (flat_map branch_text thread.path) (passing_lacks is_name_byte 35 thread.exec refl name.2) (path_text_lacks thread.path kept.branches)
 
 pub step_reads : StepReadsBack
 step_reads step kept =
@@ -143,7 +149,7 @@ step_parts_write text (thread ∷ number ∷ []) step e h =
     let joined : thread ++ 35 ∷ number ≡ text = rw e at (join_with_byte-slice_split 35 text) in
     let kept = thread_writes thread s.0 s.1 in
     subst (λ (name : StepName). IsStep name.thread name.no × (step_text name ≡ text)) t.2
-        (record { thread_kept = kept.0; number = (number_parts number t.0 t.1).2 }, rw (kept.1, number_writes number t.0 t.1) joined)
+    (record { thread_kept = kept.0; number = (number_parts number t.0 t.1).2 }, rw (kept.1, number_writes number t.0 t.1) joined)
 
 pub step_writes : StepWritesBack
 step_writes text step h = step_parts_write text (slice_split (λ b. b == 35) text) step refl h

@@ -1,5 +1,5 @@
 -- The text of a path, branch by branch.
-use Rattle.std.proofs.Common.{arith, zero, suc, ◌≡◌, ℕ, ◌+◌, ◌<◌, ◌≤◌, List, [], ◌∷◌, ◌++◌, length, length-append, get_or, drop, drop-cons, refl, ap, sym, ◌∙◌, add-one}
+use Rattle.std.proofs.Common.{arith, zero, suc, ◌≡◌, ℕ, ◌+◌, ◌<◌, ◌≤◌, List, [], ◌∷◌, ◌++◌, length, length-append, get_or, drop, drop-cons, refl, ap, ◌∙◌, add-one}
 use Rattle.std.specs.List.{flat_map}
 use Rattle.step_names.specs.Written.{branch_text}
 

@@ -1,14 +1,21 @@
 -- What follows from lying under a fork.
-use Rattle.std.proofs.Common.{arith, zero, suc, ◌≡◌, ℕ, ◌+◌, ◌<◌, ◌≤◌, ◌⊎◌, inl, inr, List, [], ◌∷◌, ◌++◌, length, length-append, append_assoc, append-nil, refl, ap, ap₂, sym, subst, ◌∙◌}
+use Rattle.std.proofs.Common.{arith, ◌≡◌, ℕ, ◌<◌, ◌⊎◌, inl, inr, List, [], ◌∷◌, ◌++◌, length, length-append, append_assoc, refl, ap, ap₂, sym, ◌∙◌}
 use Rattle.step_names.specs.Thread.{Thread}
 use Rattle.step_names.specs.Under.{IsUnder}
-use Rattle.step_names.specs.Laws.{UnderIsTransitive, UnderIsOne, UnderIsBelow, UnderIsOneWay, AboveIsInLine}
+use Rattle.step_names.specs.Laws.{ChildIsUnder, UnderIsTransitive, UnderIsOne, UnderIsBelow, UnderIsOneWay, AboveIsInLine}
+
+pub child_under : ChildIsUnder
+child_under thread fork branch = (refl, (branch, [], refl))
 
 pub under_transitive : UnderIsTransitive
-under_transitive low middle high fork outer u v =
-    (u.0 ∙ v.0,
-     (v.1.0, v.1.1 ++ (fork, u.1.0) ∷ u.1.1,
-      u.1.2 ∙ ap (λ (path : List (ℕ × ℕ)). path ++ (fork, u.1.0) ∷ u.1.1) v.1.2 ∙ append_assoc high.path ((outer, v.1.0) ∷ v.1.1) ((fork, u.1.0) ∷ u.1.1)))
+under_transitive low middle high fork outer u v = (
+  u.0 ∙ v.0,
+  (
+    v.1.0,
+    v.1.1 ++ (fork, u.1.0) ∷ u.1.1,
+    u.1.2 ∙ ap (λ (path : List (ℕ × ℕ)). path ++ (fork, u.1.0) ∷ u.1.1) v.1.2 ∙ append_assoc high.path ((outer, v.1.0) ∷ v.1.1) ((fork, u.1.0) ∷ u.1.1),
+  ),
+)
 
 -- two lists that go on from one front by a branch each
 next_same : (front : List (ℕ × ℕ)) (a b : ℕ × ℕ) (xs ys : List (ℕ × ℕ)) → front ++ a ∷ xs ≡ front ++ b ∷ ys → a ≡ b
@@ -38,9 +45,9 @@ lined (x ∷ ps) (y ∷ qs) a b xs ys h =
     elim (lined ps qs a b xs ys cc) [
       | inl same ↦ inl (ap₂ (λ (c : ℕ × ℕ) (cs : List (ℕ × ℕ)). c ∷ cs) e same)
       | inr under ↦ elim under [
-          | inl w ↦ inr (inl (w.0, ap₂ (λ (c : ℕ × ℕ) (cs : List (ℕ × ℕ)). c ∷ cs) e w.1))
-          | inr w ↦ inr (inr (w.0, ap₂ (λ (c : ℕ × ℕ) (cs : List (ℕ × ℕ)). c ∷ cs) (sym e) w.1))
-        ]
+        | inl w ↦ inr (inl (w.0, ap₂ (λ (c : ℕ × ℕ) (cs : List (ℕ × ℕ)). c ∷ cs) e w.1))
+        | inr w ↦ inr (inr (w.0, ap₂ (λ (c : ℕ × ℕ) (cs : List (ℕ × ℕ)). c ∷ cs) (sym e) w.1))
+      ]
     ]
 
 pub above_in_line : AboveIsInLine
@@ -49,7 +56,7 @@ above_in_line low a b fork other u v =
     elim (lined a.path b.path (fork, u.1.0) (other, v.1.0) u.1.1 v.1.1 (sym u.1.2 ∙ v.1.2)) [
       | inl same ↦ inl (ap₂ (λ (bytes : List ℕ) (path : List (ℕ × ℕ)). let t : Thread = record { exec = bytes; path = path } in t) exec same)
       | inr under ↦ elim under [
-          | inl w ↦ inr (inl (exec, (v.1.0, w.0, w.1)))
-          | inr w ↦ inr (inr (sym exec, (u.1.0, w.0, w.1)))
-        ]
+        | inl w ↦ inr (inl (exec, (v.1.0, w.0, w.1)))
+        | inr w ↦ inr (inr (sym exec, (u.1.0, w.0, w.1)))
+      ]
     ]

@@ -2,7 +2,7 @@
 use Rattle.std.specs.Prelude.{◌≡◌, ℕ, ◌≤◌, ◌⊎◌, List, length, Some}
 use Rattle.step_names.specs.declared.thread.TheConstants.{LONGEST_THREAD}
 use Rattle.step_names.specs.declared.step.TheConstants.{LONGEST_STEP}
-use Rattle.step_names.specs.Thread.{Thread, IsThread, IsStep}
+use Rattle.step_names.specs.Thread.{Thread, IsThread, IsStep, child_of}
 use Rattle.step_names.specs.Written.{thread_text, step_text}
 use Rattle.step_names.specs.Grammar.{read_thread, read_step}
 use Rattle.step_names.specs.Under.{IsUnder}
@@ -44,6 +44,10 @@ LongestThread = (thread : Thread) × IsThread thread × (length (thread_text thr
 
 abbrev pub LongestStep : Type 0
 LongestStep = (step : StepName) × IsStep step.thread step.no × (length (step_text step) ≡ LONGEST_STEP)
+
+-- a branch of a fork lies under it
+abbrev pub ChildIsUnder : Type 0
+ChildIsUnder = (thread : Thread) (fork branch : ℕ) → IsUnder (child_of thread fork branch) thread fork
 
 -- a thread under a fork of one that itself lies under a fork lies under that fork too
 abbrev pub UnderIsTransitive : Type 0

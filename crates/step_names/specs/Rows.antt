@@ -1,6 +1,5 @@
 -- The grammar at some texts.
-use Rattle.std.specs.Prelude.{◌≡◌, ℕ, [], ◌∷◌, codes, Some, None, refl}
-use Rattle.step_names.specs.Thread.{Thread}
+use Rattle.std.specs.Prelude.{◌≡◌, [], ◌∷◌, codes, Some, None, refl}
 use Rattle.step_names.specs.Grammar.{read_thread, read_step}
 
 row_execution : read_thread (codes "E") ≡ Some (record { exec = codes "E"; path = [] })

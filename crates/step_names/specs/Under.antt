@@ -1,5 +1,5 @@
 -- Which threads lie under a fork.
-use Rattle.std.specs.Prelude.{◌≡◌, ℕ, Bool, true, false, ◌&&◌, List, [], ◌∷◌, ◌++◌, ◌==◌}
+use Rattle.std.specs.Prelude.{◌≡◌, ℕ, Bool, false, ◌&&◌, List, [], ◌∷◌, ◌++◌, ◌==◌}
 use lib.Pointwise.{pointwise}
 use Rattle.step_names.specs.Thread.{Thread}
 

@@ -6,13 +6,14 @@ ghost use Rattle.step_names.specs.Thread.{is_name, is_name_byte};
 ghost use Rattle.step_names.specs.Grammar.{read_number, read_branch, read_path, read_thread};
 
 use crate::path_buffer::PathBuffer;
+use crate::thread::LONGEST_EXEC;
 
 /// Whether the text names an execution.
 pub fn is_name(text: &str) -> bool
     ensures { result ≡ is_name text.now }
 {
     let bytes = text.as_bytes();
-    !bytes.is_empty() && bytes.len() <= 64 && all_name_bytes(bytes)
+    !bytes.is_empty() && bytes.len() <= LONGEST_EXEC && all_name_bytes(bytes)
 }
 
 fn all_name_bytes(bytes: &[u8]) -> bool
@@ -82,7 +83,11 @@ pub fn read_parts(text: &str) -> Option<(&str, PathBuffer)>
     ensures { MatchOption result (read_thread text.now ≡ None) (λ p. read_thread text.now ≡ Some (record { exec = p.0.now; path = p.1 })) }
 {
     let Some((exec, branches)) = cut(text, '/') else {
-        return if is_name(text) { Some((text, PathBuffer::new())) } else { None };
+        return if is_name(text) {
+            Some((text, PathBuffer::new()))
+        } else {
+            None
+        };
     };
     let path = read_path(branches)?;
     if !is_name(exec) {

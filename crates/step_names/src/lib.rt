@@ -1,21 +1,35 @@
 //! Names of threads and of their steps.
+//!
+//! A thread is named by its execution and by the branches that lead to it: `E` is the execution's own thread,
+//! and `E/2.0/5.1` is branch 1 of the fork that step 5 of `E/2.0` made. A step is named by its thread and its
+//! number: `E/2.0#5` is the fifth step of `E/2.0`, and `E#0` is the start of `E`.
+//!
+//! ```text
+//! NAME    1 to 64 ASCII letters, digits, `_` and `-`
+//! NUM     `0`, or digits that don't begin with `0`, of a number that fits 32 bits
+//! thread  NAME, then up to 31 times `/` NUM `.` NUM, the first NUM not 0
+//! step    thread `#` NUM
+//! ```
+//!
+//! Each name has this one spelling. Threads are ordered by the execution's name, byte by byte, and then branch
+//! by branch, the shorter path first; steps by their thread and then their number.
 #![tactic(auto)]
 
 mod grammar;
 mod laws;
-mod name_room;
 mod path_buffer;
+mod room;
 mod step;
 #[cfg(test)]
 mod tests;
 mod thread;
 mod written;
 
+pub use laws::{forks_nest, names_in_order, step_spelling, thread_spelling};
+pub use room::NameRoom;
 use std::alloc::{AllocError, AllocFailed};
 use std::error::Error;
 use std::fmt;
-pub use laws::{forks_nest, names_in_order, step_spelling, thread_spelling};
-pub use name_room::NameRoom;
 pub use step::{LONGEST_STEP, StepName};
 pub use thread::{LONGEST_THREAD, ThreadName};
 

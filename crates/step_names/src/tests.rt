@@ -1,9 +1,9 @@
-ghost use Rattle.std.specs.Prelude.{◌≡◌, ◌≢◌, OnOk, OnErr, Some, None};
+ghost use Rattle.std.specs.Prelude.{◌≡◌, ◌≢◌, IfOk, OnOk, OnErr, Some};
 ghost use Rattle.std.specs.BTreeMap.{get, IsUnchanged};
 ghost use Rattle.step_names.specs.Thread.{Thread};
 ghost use Rattle.step_names.specs.Order.{thread_cmp};
 
-use crate::{LONGEST_STEP, LONGEST_THREAD, NameFault, StepName, ThreadName};
+use crate::{LONGEST_STEP, LONGEST_THREAD, NameFault, NameRoom, StepName, ThreadName};
 use std::alloc::{AllocError, Global};
 use std::collections::BTreeMap;
 use std::process::Abort;
@@ -12,8 +12,8 @@ use std::test::Fail;
 /// A map by names is one by their values.
 #[tactic(auto, using(crate::proofs::OrderLaws::thread_itself, crate::proofs::OrderLaws::thread_apart))]
 fn note(counts: &mut BTreeMap<ThreadName, u32>, name: ThreadName) -> Result<u32, AllocError>
-    ensures there { OnOk result (get thread_cmp counts.new name ≢ None) }
-    ensures others { (q : Thread) → q ≢ name → get thread_cmp counts.new q ≡ get thread_cmp counts.old q }
+    ensures there { IfOk result (λ count. get thread_cmp counts.new name ≡ Some count) }
+    ensures others { OnOk result ((q : Thread) → q ≢ name → get thread_cmp counts.new q ≡ get thread_cmp counts.old q) }
     ensures err { OnErr result (IsUnchanged counts.old counts.new) }
 {
     let count = counts.get(&name).copied().unwrap_or(0).saturating_add(1);
@@ -86,9 +86,28 @@ fn reads_threads(rt: HostRuntime) {
     assert_eq!(rt; long.len(), 64);
     thread_is(&rt, alloc, long, long, &[]);
     let bad = [
-        "", "a.b", "a b", "é", "E/0.0", "E/02.0", "E/2.00", "E/4294967296.0", "E/2.4294967296",
-        "E/", "E/2", "E/2.", "E/.0", "E/2.0/", "E//2.0", "/2.0", "E/2.0.1", "E/+2.0", "E/2.+0",
-        "E/2.a", "E#0", "E/99999999999999999999.0",
+        "",
+        "a.b",
+        "a b",
+        "é",
+        "E/0.0",
+        "E/02.0",
+        "E/2.00",
+        "E/4294967296.0",
+        "E/2.4294967296",
+        "E/",
+        "E/2",
+        "E/2.",
+        "E/.0",
+        "E/2.0/",
+        "E//2.0",
+        "/2.0",
+        "E/2.0.1",
+        "E/+2.0",
+        "E/2.+0",
+        "E/2.a",
+        "E#0",
+        "E/99999999999999999999.0",
         "abcdefghijklmnopqrstuvwxyzABCDEFGHIJKLMNOPQRSTUVWXYZ0123456789_-x",
     ];
     for text in bad {
@@ -101,10 +120,30 @@ fn reads_steps(rt: HostRuntime) {
     let alloc = rt.alloc();
     step_is(&rt, alloc, "E#0", "E", &[], 0);
     step_is(&rt, alloc, "E/2.0#10", "E", &[(2, 0)], 10);
-    step_is(&rt, alloc, "E/2.0/5.1#4294967295", "E", &[(2, 0), (5, 1)], 4294967295);
+    step_is(
+        &rt,
+        alloc,
+        "E/2.0/5.1#4294967295",
+        "E",
+        &[(2, 0), (5, 1)],
+        4294967295,
+    );
     let bad = [
-        "", "E", "E#", "#1", "E#01", "E#00", "E#4294967296", "E#1#2", "E##1", "E# 1", "E#+1",
-        "E#-1", "E/2#1", "E/0.0#1", "é#1",
+        "",
+        "E",
+        "E#",
+        "#1",
+        "E#01",
+        "E#00",
+        "E#4294967296",
+        "E#1#2",
+        "E##1",
+        "E# 1",
+        "E#+1",
+        "E#-1",
+        "E/2#1",
+        "E/0.0#1",
+        "é#1",
     ];
     for text in bad {
         no_step(&rt, alloc, text);
@@ -142,7 +181,10 @@ fn makes_names(rt: HostRuntime) -> Result<(), Fail> {
         Ok(_) => assert!(rt; false, "steps that fork are numbered from 1"),
         Err(fault) => assert_eq!(rt; fault, NameFault::BadName),
     }
-    let name = StepName { thread: child, no: 7 };
+    let name = StepName {
+        thread: child,
+        no: 7,
+    };
     assert!(rt; name.copy()? == name);
     let mut out = String::from_str(alloc, "ok ")?;
     name.write_to(&mut out)?;
@@ -159,17 +201,35 @@ fn writes_the_longest(rt: HostRuntime) -> Result<(), Fail> {
     for _ in 0..64 {
         text.push('x')?;
     }
+    let exec = text.clone()?;
     for _ in 0..31 {
         text.push_str("/4294967295.4294967295")?;
     }
     assert_eq!(rt; text.len(), LONGEST_THREAD);
-    thread_is(&rt, alloc, text.as_str(), &text.as_str()[..64], &[(4294967295, 4294967295); 31]);
+    thread_is(
+        &rt,
+        alloc,
+        text.as_str(),
+        exec.as_str(),
+        &[(4294967295, 4294967295); 31],
+    );
     text.push_str("#4294967295")?;
     assert_eq!(rt; text.len(), LONGEST_STEP);
     let name = step(alloc, text.as_str())?;
     let mut out = String::with_capacity(alloc, LONGEST_STEP)?;
     name.write_to(&mut out)?;
     assert_eq!(rt; out.as_str(), text.as_str());
+    Ok(())
+}
+
+#[test]
+fn fills_room(rt: HostRuntime) -> Result<(), Fail> {
+    let alloc = rt.alloc();
+    let name = step(alloc, "E/2.0/5.1#7")?;
+    let room = NameRoom::new(alloc)?;
+    assert!(rt; room.step(&name) == name);
+    let room = NameRoom::new(alloc)?;
+    assert!(rt; room.thread(&name.thread) == name.thread);
     Ok(())
 }
 
@@ -202,8 +262,23 @@ fn lies_under(rt: HostRuntime) -> Result<(), Fail> {
 fn orders_names(rt: HostRuntime) -> Result<(), Fail> {
     let alloc = rt.alloc();
     let rows = [
-        "-#1", "1#1", "10#1", "2#1", "E#0", "E#1", "E#2", "E#10", "E/2.0#1", "E/2.0/1.0#1",
-        "E/2.0/10.0#1", "E/2.1#1", "E/2.10#1", "E/10.0#1", "EE#0", "_#1", "e#1",
+        "-#1",
+        "1#1",
+        "10#1",
+        "2#1",
+        "E#0",
+        "E#1",
+        "E#2",
+        "E#10",
+        "E/2.0#1",
+        "E/2.0/1.0#1",
+        "E/2.0/10.0#1",
+        "E/2.1#1",
+        "E/2.10#1",
+        "E/10.0#1",
+        "EE#0",
+        "_#1",
+        "e#1",
     ];
     for (i, low) in rows.iter().enumerate() {
         for (j, high) in rows.iter().enumerate() {

@@ -14,9 +14,16 @@ use std::alloc::{AllocError, Global};
 use std::cmp::Ordering;
 use std::marker::Model;
 
-/// The most bytes that the name of a thread is written in.
+/// The most bytes that the name of an execution has.
+pub(crate) const LONGEST_EXEC: usize = 64;
+
+/// The most bytes that the name of a thread is written in: 64 of the execution's name, and 22 of each branch.
 pub const LONGEST_THREAD: usize = 746;
 
+/// The name of a thread.
+///
+/// Contracts see it as its execution's bytes and its list of branches, and so `≡` there, and `==` here, compare
+/// names and no capacities. It keeps the bounds of the grammar, so there is a longest name.
 #[derive(Debug, Drop)]
 pub struct ThreadName {
     exec: String,
@@ -35,6 +42,7 @@ impl Model for ThreadName {
 }
 
 impl ThreadName {
+    /// The execution's own thread, where the text is a NAME. Takes no memory, in time of the text's length.
     pub fn new(exec: String) -> Option<ThreadName>
         ensures { SomeIff result (IsTrue (is_name (string_bytes exec))) (execution (string_bytes exec)) }
     {
@@ -45,14 +53,12 @@ impl ThreadName {
         Some(ThreadName { exec, path })
     }
 
-    /// The thread of this name and path, which keep the bounds.
-    pub(crate) fn from_parts(exec: String, path: Vec<(u32, u32)>) -> ThreadName
-        requires { IsThread (record { exec = string_bytes exec; path = path.items }) }
-        ensures { result ≡ record { exec = string_bytes exec; path = path.items } }
-    {
-        ThreadName { exec, path }
-    }
-
+    /// Reads a name. A text that is no name is told before any memory is asked for; a name takes a block for its
+    /// execution and one for its branches, if it has any. Time in proportion to the text.
+    ///
+    /// # Errors
+    ///
+    /// `BadName` where the text is not of the grammar, and `Memory`.
     pub fn read(alloc: Global, text: &str) -> Result<ThreadName, NameFault>
         ensures ok { IfOk result (λ t. read_thread text.now ≡ Some t) }
         ensures bad { IsErrOf result NameFault.BadName ↔ (read_thread text.now ≡ None) }
@@ -65,6 +71,15 @@ impl ThreadName {
         Ok(ThreadName { exec, path })
     }
 
+    /// A name of parts that keep the bounds.
+    pub(crate) fn from_parts(exec: String, path: Vec<(u32, u32)>) -> ThreadName
+        requires { IsThread (record { exec = string_bytes exec; path = path.items }) }
+        ensures { result ≡ record { exec = string_bytes exec; path = path.items } }
+    {
+        ThreadName { exec, path }
+    }
+
+    /// The execution's name.
     pub fn exec(&self) -> &str
         ensures exec { result.now ≡ self.now.exec }
         ensures bounds { IsThread self.now }
@@ -72,6 +87,8 @@ impl ThreadName {
         self.exec.as_str()
     }
 
+    /// The branches that lead to the thread, outermost first: the number of the step that forked, from 1, and the
+    /// branch's index, from 0.
     pub fn path(&self) -> &[(u32, u32)]
         ensures path { result.now ≡ self.now.path }
         ensures bounds { IsThread self.now }
@@ -79,12 +96,15 @@ impl ThreadName {
         self.path.as_slice()
     }
 
+    /// Whether this is an execution's own thread.
     pub fn is_execution(&self) -> bool
         ensures { IsTrue result ↔ (self.now.path ≡ []) }
     {
         self.path.is_empty()
     }
 
+    /// A copy, by the allocators that this name keeps. Takes a block for the execution and one for the branches, if
+    /// there are any.
     pub fn copy(&self) -> Result<ThreadName, AllocError>
         ensures { IfOk result (λ t. t ≡ self.now) }
     {
@@ -93,6 +113,7 @@ impl ThreadName {
         Ok(ThreadName { exec, path })
     }
 
+    /// The length of the written name, in bytes. Takes no memory, in time of the name's digits.
     pub fn text_len(&self) -> usize
         ensures len { result ≡ length (thread_text self.now) }
         ensures bound { result ≤ LONGEST_THREAD }
@@ -101,6 +122,7 @@ impl ThreadName {
         self.exec.len() + path_len(self.path.as_slice())
     }
 
+    /// The name's one spelling. Takes one block, of its length.
     #[tactic(auto, using(crate::proofs::Spelling::thread_reads))]
     pub fn write_text(&self, alloc: Global) -> Result<String, AllocError>
         ensures text { IfOk result (λ s. string_bytes s ≡ thread_text self.now) }
@@ -112,10 +134,14 @@ impl ThreadName {
         Ok(out)
     }
 
+    /// Puts the name's one spelling at the end of a text. Takes memory only where the text has no room for it, and
+    /// so none where [`LONGEST_THREAD`] more bytes were reserved. A refusal leaves the text as it was.
     pub fn write_to(&self, out: &mut String) -> Result<(), AllocError>
         ensures ok { OnOk result (string_bytes out.new ≡ string_bytes out.old ++ thread_text self.now) }
         ensures full { OnErr result (string_capacity out.old < string_len out.old + length (thread_text self.now)) }
         ensures err { OnErr result (string_bytes out.new ≡ string_bytes out.old) }
+        ensures len { OnOk result (string_len out.new ≡ string_len out.old + length (thread_text self.now)) }
+        ensures capacity { string_capacity out.old ≤ string_capacity out.new }
     {
         out.reserve(self.text_len())?;
         self.push_to(out);
@@ -133,6 +159,13 @@ impl ThreadName {
         push_path(out, self.path.as_slice());
     }
 
+    /// The name of a branch of the fork that step `fork` of this thread made. Takes a block for the execution and one
+    /// for the branches.
+    ///
+    /// # Errors
+    ///
+    /// `BadName` where the number is 0 or there are 31 branches already, which is told before any memory is asked
+    /// for, and `Memory`.
     pub fn child(&self, alloc: Global, fork: u32, branch: u32) -> Result<ThreadName, NameFault>
         ensures ok { IfOk result (λ t. t ≡ child_of self.now fork branch) }
         ensures bad { IsErrOf result NameFault.BadName ↔ ((fork ≡ 0) ⊎ (length self.now.path ≡ 31)) }
@@ -147,6 +180,8 @@ impl ThreadName {
         Ok(ThreadName { exec, path })
     }
 
+    /// Whether this thread lies under the fork that step `fork` of the other made, at any depth. Takes no memory, in
+    /// time of the shorter name.
     pub fn is_under(&self, thread: &ThreadName, fork: u32) -> bool
         ensures test { result ≡ is_under self.now thread.now fork }
         ensures under { IsTrue result ↔ IsUnder self.now thread.now fork }

@@ -1,4 +1,4 @@
-use Rattle.std.proofs.Common.{arith, rules, ◌≡◌, ◌≢◌, get_or, sym, ◌∙◌}
+use Rattle.std.proofs.Common.{rules, ◌≢◌, get_or, ◌∙◌}
 use Rattle.step_names.proofs.Numbers.{number_parsed}
 use Rattle.step_names.proofs.grammar.read_number.Goals as goal
 

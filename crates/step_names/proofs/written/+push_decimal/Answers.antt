@@ -1,4 +1,4 @@
-use Rattle.std.proofs.Common.{arith, ap, ◌∙◌, string_bytes, ◌++◌, ◌∷◌, [], ◌+◌, ◌%◌, List, ℕ}
+use Rattle.std.proofs.Common.{arith, ap, ◌∙◌, string_bytes}
 use Rattle.step_names.proofs.Digits.{after_front, after_none}
 use Rattle.step_names.proofs.written.+push_decimal.Goals as goal
 use Rattle.step_names.proofs.written.+push_decimal.Goals.{then-number-ge10, else-number-ge10}
