@@ -11,7 +11,7 @@ mod tree;
 mod writing;
 
 pub use fault::JsonFault;
-pub use laws::{texts_tell_apart, written_is_read_back};
+pub use laws::{equality_is_of_values, texts_tell_apart, written_is_read_back};
 pub use nesting::depth;
 pub use reading::{from_value, read};
 pub use text::Text;

@@ -1,5 +1,6 @@
 // The values, and the lists and fields that hold them.
-ghost use Rattle.std.specs.Prelude.{◌≡◌, ◌↔◌, ◌<◌, ◌^◌, ◌++◌, ◌∷◌, [], length, map, option_map, IsTrue, IfOk, IfErr, OnOk, OnErr, slice_get, slice_set, string_bytes};
+ghost use Rattle.std.specs.Prelude.{◌≡◌, ◌↔◌, ◌<◌, ◌++◌, ◌∷◌, [], length, Some, None, option_map, IsTrue, IfOk, IfErr, OnOk, OnErr, slice_get, slice_set, string_bytes};
+ghost use Rattle.json_tree.specs.Data.{has_room};
 ghost use Rattle.json_tree.specs.Fields.{get_field, with_field, without_field, IsInNameOrder};
 ghost use Rattle.json_tree.specs.View.{data_of, list_of, fields_of};
 
@@ -82,7 +83,8 @@ impl Json {
     /// An equal value. Takes memory for each text, list and field.
     #[cycle(copy)]
     pub fn copy(&self) -> Result<Json, AllocError>
-        ensures { IfOk result (λ j. j ≡ self.now) }
+        ensures ok { IfOk result (λ j. j ≡ self.now) }
+        ensures err { OnErr result (IsTrue (has_room (data_of self.now))) }
     {
         match self {
             Json::Null => Ok(Json::Null),
@@ -260,6 +262,21 @@ impl JsonFields {
         ensures absent { OnErr result (get_field (string_bytes name) self.old ≡ None) }
     {
         self.inner.insert(name, value)
+    }
+
+    /// Puts a value in the place of another at a name, which is handed out. Where there is no such name, the value is
+    /// handed back. Takes no memory.
+    pub fn replace(&mut self, name: &str, value: Json) -> Result<Json, Json>
+        ensures ok { IfOk result (λ old. get_field name.now self.old ≡ Some (data_of old)) }
+        ensures after { OnOk result (self.new ≡ with_field name.now (data_of value) self.old) }
+        ensures absent { OnErr result (get_field name.now self.old ≡ None) }
+        ensures err { OnErr result (self.new ≡ self.old) }
+        ensures value_returned { IfErr result (λ v. v ≡ value) }
+    {
+        match self.get_mut(name) {
+            Some(slot) => Ok(mem::replace(slot, value)),
+            None => Err(value),
+        }
     }
 
     /// Takes a field out.
