@@ -6,6 +6,8 @@ mod laws;
 mod nesting;
 mod order;
 mod reading;
+#[cfg(test)]
+mod tests;
 mod text;
 mod tree;
 mod writing;
