@@ -111,10 +111,10 @@ impl JsonList {
     }
 
     /// The same values, in the memory that they have.
-    pub fn from_vec(inner: Vec<Json>) -> JsonList
-        ensures { result ≡ list_of inner.items }
+    pub fn from_vec(items: Vec<Json>) -> JsonList
+        ensures { result ≡ list_of items.items }
     {
-        JsonList { inner }
+        JsonList { inner: items }
     }
 
     /// The same values, in the memory that they have.
@@ -134,13 +134,13 @@ impl JsonList {
     pub fn len(&self) -> usize
         ensures { result ≡ length self.now }
     {
-        self.inner.len()
+        self.as_slice().len()
     }
 
     pub fn is_empty(&self) -> bool
         ensures { IsTrue result ↔ (self.now ≡ []) }
     {
-        self.inner.is_empty()
+        self.as_slice().is_empty()
     }
 
     pub fn get(&self, index: usize) -> Option<&Json>
@@ -179,7 +179,7 @@ impl JsonList {
     pub fn copy(&self) -> Result<JsonList, AllocError>
         ensures { IfOk result (λ j. j ≡ self.now) }
     {
-        let mut inner = Vec::with_capacity(*self.inner.allocator(), self.inner.len())?;
+        let mut inner = Vec::with_capacity(*self.inner.allocator(), self.len())?;
         for item in &self.inner {
             inner.push(item.copy()?)?;
         }
@@ -201,10 +201,10 @@ impl JsonFields {
     }
 
     /// The same fields, in the memory that they have.
-    pub fn from_map(inner: BTreeMap<String, Json>) -> JsonFields
-        ensures { result ≡ fields_of inner.entries }
+    pub fn from_map(entries: BTreeMap<String, Json>) -> JsonFields
+        ensures { result ≡ fields_of entries.entries }
     {
-        JsonFields { inner }
+        JsonFields { inner: entries }
     }
 
     /// The same fields, in the memory that they have.
@@ -292,8 +292,9 @@ impl JsonFields {
     pub fn copy(&self) -> Result<JsonFields, AllocError>
         ensures { IfOk result (λ j. j ≡ self.now) }
     {
-        let mut inner = BTreeMap::emptied(&self.inner)?;
-        for (name, value) in self.inner.iter() {
+        let entries = &self.inner;
+        let mut inner = BTreeMap::emptied(entries)?;
+        for (name, value) in entries.iter() {
             let name = name.clone()?;
             drop(inner.insert(name, value.copy()?)?);
         }
