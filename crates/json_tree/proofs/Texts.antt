@@ -18,20 +18,20 @@ same_byte : (x : ℕ) → escape_byte x ≡ escaped x
 unfolding escape_byte
 same_byte x =
     elim (cases_eq x 34) [
-    | inl is ↦ rw is
-    | inr a ↦ elim (cases_eq x 92) [
       | inl is ↦ rw is
-      | inr b ↦ elim (cases_eq x 8) [
+      | inr a ↦ elim (cases_eq x 92) [
         | inl is ↦ rw is
-        | inr c ↦ elim (cases_eq x 9) [
+        | inr b ↦ elim (cases_eq x 8) [
           | inl is ↦ rw is
-          | inr d ↦ elim (cases_eq x 10) [
+          | inr c ↦ elim (cases_eq x 9) [
             | inl is ↦ rw is
-            | inr e ↦ elim (cases_eq x 12) [
+            | inr d ↦ elim (cases_eq x 10) [
               | inl is ↦ rw is
-              | inr f ↦ elim (cases_eq x 13) [
+              | inr e ↦ elim (cases_eq x 12) [
                 | inl is ↦ rw is
-                | inr g ↦ plain_byte x a b c d e f g
+                | inr f ↦ elim (cases_eq x 13) [
+                  | inl is ↦ rw is
+                  | inr g ↦ plain_byte x a b c d e f g
                 ]
               ]
             ]
