@@ -3,6 +3,7 @@ pub mod DataCode
 pub mod View
 pub mod Falls
 pub mod Fields
+pub mod Equality
 pub mod Order
 pub mod Proper
 pub mod Written

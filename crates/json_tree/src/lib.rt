@@ -6,12 +6,14 @@ mod laws;
 mod nesting;
 mod order;
 mod reading;
+#[cfg(test)]
+mod tests;
 mod text;
 mod tree;
 mod writing;
 
 pub use fault::JsonFault;
-pub use laws::{texts_tell_apart, written_is_read_back};
+pub use laws::{equality_is_of_values, texts_tell_apart, written_is_read_back};
 pub use nesting::depth;
 pub use reading::{from_value, read};
 pub use text::Text;

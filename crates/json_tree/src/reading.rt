@@ -1,14 +1,15 @@
 // From text, or from a value of `serde_json`, to a value whose numbers are whole.
-ghost use Rattle.std.specs.Prelude.{◌≡◌, ◌<◌, ◌≤◌, length, IsTrue, IsSome, IfOk, None, Some};
+ghost use Rattle.std.specs.Prelude.{◌≡◌, ◌<◌, ◌≤◌, length, IsTrue, IsSome, IfOk, IfErr, None, Some};
 ghost use Rattle.json_tree.specs.Data.{depth, items_of, members_of};
 ghost use Rattle.json_tree.specs.View.{data_of};
 ghost use Rattle.json_tree.specs.Reading.{source_of, read_json, whole_of, whole_items, whole_members, holds_memory};
-ghost use Rattle.serde_json.specs.View.{view, items_view, members_view};
+ghost use Rattle.serde_json.specs.View.{view, number_view, items_view, members_view};
+ghost use Rattle.serde_json.specs.Data.{number as data_number};
 
 use crate::fault::JsonFault;
 use crate::text::Text;
 use crate::tree::{Json, JsonFields, JsonList};
-use serde_json::{Map, Value};
+use serde_json::{Map, Number, Value};
 use std::alloc::Global;
 use std::collections::BTreeMap;
 
@@ -32,7 +33,8 @@ pub fn read(alloc: Global, bytes: &[u8]) -> Result<Json, JsonFault>
     }
 }
 
-/// The value of the same shape. Takes memory for each text, list and field.
+/// The value of the same shape as one of `serde_json`, which is copied. Takes memory for each text, list and field; null,
+/// booleans and numbers take none.
 #[cycle(from_value)]
 pub fn from_value(alloc: Global, value: &Value) -> Result<Json, JsonFault>
     ensures ok { IfOk result (λ j. whole_of (view value.now) ≡ Some (data_of j)) }
@@ -43,13 +45,21 @@ pub fn from_value(alloc: Global, value: &Value) -> Result<Json, JsonFault>
     match value {
         Value::Null => Ok(Json::Null),
         Value::Bool(b) => Ok(Json::Bool(*b)),
-        Value::Number(number) => match number.as_i64() {
-            Some(n) => Ok(Json::Whole(n)),
-            None => Err(JsonFault::NotWhole),
-        },
+        Value::Number(number) => whole_number(number),
         Value::String(text) => Ok(Json::Text(Text::new(alloc, text.as_str())?)),
         Value::Array(items) => Ok(Json::List(from_items(alloc, items)?)),
         Value::Object(members) => Ok(Json::Fields(from_members(alloc, members)?)),
+    }
+}
+
+fn whole_number(number: &Number) -> Result<Json, JsonFault>
+    ensures ok { IfOk result (λ j. whole_of (data_number (number_view number.now)) ≡ Some (data_of j)) }
+    ensures err { IfErr result (λ e. (e ≡ JsonFault.NotWhole)
+        × (whole_of (data_number (number_view number.now)) ≡ None)) }
+{
+    match number.as_i64() {
+        Some(n) => Ok(Json::Whole(n)),
+        None => Err(JsonFault::NotWhole),
     }
 }
 
@@ -92,10 +102,7 @@ fn take_value(alloc: Global, value: Value) -> Result<Json, JsonFault>
     match value {
         Value::Null => Ok(Json::Null),
         Value::Bool(b) => Ok(Json::Bool(b)),
-        Value::Number(number) => match number.as_i64() {
-            Some(n) => Ok(Json::Whole(n)),
-            None => Err(JsonFault::NotWhole),
-        },
+        Value::Number(number) => whole_number(&number),
         Value::String(text) => Ok(Json::Text(Text::from_string(text))),
         Value::Array(items) => Ok(Json::List(take_items(alloc, items)?)),
         Value::Object(members) => Ok(Json::Fields(take_members(alloc, members)?)),

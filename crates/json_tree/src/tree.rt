@@ -1,5 +1,6 @@
 // The values, and the lists and fields that hold them.
-ghost use Rattle.std.specs.Prelude.{◌≡◌, ◌↔◌, ◌<◌, ◌^◌, ◌++◌, ◌∷◌, [], length, map, option_map, IsTrue, IfOk, IfErr, OnOk, OnErr, slice_get, slice_set, string_bytes};
+ghost use Rattle.std.specs.Prelude.{◌≡◌, ◌↔◌, ◌<◌, ◌++◌, ◌∷◌, [], length, Some, None, option_map, IsTrue, IfOk, IfErr, OnOk, OnErr, slice_get, slice_set, string_bytes};
+ghost use Rattle.json_tree.specs.Data.{has_room};
 ghost use Rattle.json_tree.specs.Fields.{get_field, with_field, without_field, IsInNameOrder};
 ghost use Rattle.json_tree.specs.View.{data_of, list_of, fields_of};
 
@@ -18,9 +19,11 @@ use std::mem;
 pub enum Json {
     Null,
     Bool(bool),
+    /// A number with no point and no exponent, of 64 bits with a sign.
     Whole(i64),
     Text(Text),
     List(JsonList),
+    /// An object.
     Fields(JsonFields),
 }
 
@@ -79,10 +82,11 @@ impl Model for JsonFields {
 }
 
 impl Json {
-    /// An equal value. Takes memory for each text, list and field.
+    /// An equal value. Takes memory for each text, list and field; null, booleans and numbers take none.
     #[cycle(copy)]
     pub fn copy(&self) -> Result<Json, AllocError>
-        ensures { IfOk result (λ j. j ≡ self.now) }
+        ensures ok { IfOk result (λ j. j ≡ self.now) }
+        ensures err { OnErr result (IsTrue (has_room (data_of self.now))) }
     {
         match self {
             Json::Null => Ok(Json::Null),
@@ -109,10 +113,10 @@ impl JsonList {
     }
 
     /// The same values, in the memory that they have.
-    pub fn from_vec(inner: Vec<Json>) -> JsonList
-        ensures { result ≡ list_of inner.items }
+    pub fn from_vec(items: Vec<Json>) -> JsonList
+        ensures { result ≡ list_of items.items }
     {
-        JsonList { inner }
+        JsonList { inner: items }
     }
 
     /// The same values, in the memory that they have.
@@ -123,30 +127,35 @@ impl JsonList {
         inner
     }
 
+    /// The values in order, lent.
     pub fn as_slice(&self) -> &[Json]
         ensures { list_of result.now ≡ self.now }
     {
         self.inner.as_slice()
     }
 
+    /// How many values the list has, told at once.
     pub fn len(&self) -> usize
         ensures { result ≡ length self.now }
     {
-        self.inner.len()
+        self.as_slice().len()
     }
 
+    /// Whether the list has no value.
     pub fn is_empty(&self) -> bool
         ensures { IsTrue result ↔ (self.now ≡ []) }
     {
-        self.inner.is_empty()
+        self.as_slice().is_empty()
     }
 
+    /// The value at an index from 0, in one step. Takes no memory.
     pub fn get(&self, index: usize) -> Option<&Json>
         ensures { option_map (λ j. data_of j.now) result ≡ slice_get self.now index }
     {
         self.inner.get(index)
     }
 
+    /// The same, to be written: what is left there stands in the list.
     pub fn get_mut(&mut self, index: usize) -> Option<&mut Json>
         ensures* writes_back { sem 𝓛 (LendsItem self.entry index result) }
         ensures value { option_map (λ j. data_of j.now) result ≡ slice_get self.old index }
@@ -154,7 +163,7 @@ impl JsonList {
         self.inner.get_mut(index)
     }
 
-    /// Puts a value at the end. The error has the value.
+    /// Puts a value at the end, on average in one step: the memory grows as a `Vec`'s does. The error has the value.
     pub fn push(&mut self, value: Json) -> Result<(), AllocFailed<Json>>
         ensures ok { OnOk result (self.new ≡ self.old ++ data_of value ∷ []) }
         ensures err { OnErr result (self.new ≡ self.old) }
@@ -163,7 +172,7 @@ impl JsonList {
         self.inner.push(value)
     }
 
-    /// Puts a value in the place of another, which is handed out.
+    /// Puts a value in the place of another, which is handed out. One step, and no memory.
     pub fn replace(&mut self, index: usize, value: Json) -> Json
         requires { index < length self.old }
         ensures value { slice_get self.old index ≡ Some (data_of result) }
@@ -172,12 +181,12 @@ impl JsonList {
         mem::replace(&mut self.inner[index], value)
     }
 
-    #[cycle(copy)]
     /// An equal list. Takes memory for the list, and for each value as `Json::copy` does.
+    #[cycle(copy)]
     pub fn copy(&self) -> Result<JsonList, AllocError>
         ensures { IfOk result (λ j. j ≡ self.now) }
     {
-        let mut inner = Vec::with_capacity(*self.inner.allocator(), self.inner.len())?;
+        let mut inner = Vec::with_capacity(*self.inner.allocator(), self.len())?;
         for item in &self.inner {
             inner.push(item.copy()?)?;
         }
@@ -199,10 +208,10 @@ impl JsonFields {
     }
 
     /// The same fields, in the memory that they have.
-    pub fn from_map(inner: BTreeMap<String, Json>) -> JsonFields
-        ensures { result ≡ fields_of inner.entries }
+    pub fn from_map(entries: BTreeMap<String, Json>) -> JsonFields
+        ensures { result ≡ fields_of entries.entries }
     {
-        JsonFields { inner }
+        JsonFields { inner: entries }
     }
 
     /// The same fields, in the memory that they have.
@@ -213,6 +222,7 @@ impl JsonFields {
         inner
     }
 
+    /// How many fields there are, told at once.
     pub fn len(&self) -> usize
         ensures value { result ≡ length self.now }
         ensures ordered { IsInNameOrder self.now }
@@ -220,13 +230,14 @@ impl JsonFields {
         self.inner.len()
     }
 
+    /// Whether there is no field.
     pub fn is_empty(&self) -> bool
         ensures { IsTrue result ↔ (self.now ≡ []) }
     {
         self.inner.is_empty()
     }
 
-    /// The fields in the order of their names' bytes.
+    /// The fields in the order of their names' bytes, lent.
     pub fn iter(&self) -> Iter<'_, String, Json>
         ensures fields { fields_of result ≡ self.now }
         ensures ordered { IsInNameOrder self.now }
@@ -234,12 +245,15 @@ impl JsonFields {
         self.inner.iter()
     }
 
+    /// The value of a name. Compares it with as many names as the logarithm of their number, times a constant, and takes
+    /// no memory, as all look-ups here.
     pub fn get(&self, name: &str) -> Option<&Json>
         ensures { option_map (λ j. data_of j.now) result ≡ get_field name.now self.now }
     {
         self.inner.get(name)
     }
 
+    /// The same, to be written: what is left there stands at the name.
     pub fn get_mut(&mut self, name: &str) -> Option<&mut Json>
         ensures* writes_back { sem 𝓛 (LendsField self.entry name.now result) }
         ensures value { option_map (λ j. data_of j.now) result ≡ get_field name.now self.old }
@@ -247,7 +261,8 @@ impl JsonFields {
         self.inner.get_mut(name)
     }
 
-    /// Puts a value at a name, and hands out the value that stood there. The error has the name and the value.
+    /// Puts a value at a name, and hands out the value that stood there. Memory is taken for a new name alone, and the
+    /// error has the name and the value.
     pub fn insert(
         &mut self,
         name: String,
@@ -262,7 +277,22 @@ impl JsonFields {
         self.inner.insert(name, value)
     }
 
-    /// Takes a field out.
+    /// Puts a value in the place of another at a name, which is handed out. Where there is no such name, the value is
+    /// handed back. Takes no memory.
+    pub fn replace(&mut self, name: &str, value: Json) -> Result<Json, Json>
+        ensures ok { IfOk result (λ old. get_field name.now self.old ≡ Some (data_of old)) }
+        ensures after { OnOk result (self.new ≡ with_field name.now (data_of value) self.old) }
+        ensures absent { OnErr result (get_field name.now self.old ≡ None) }
+        ensures err { OnErr result (self.new ≡ self.old) }
+        ensures value_returned { IfErr result (λ v. v ≡ value) }
+    {
+        match self.get_mut(name) {
+            Some(slot) => Ok(mem::replace(slot, value)),
+            None => Err(value),
+        }
+    }
+
+    /// Takes a field out, if there is one of this name. Takes no memory.
     pub fn remove(&mut self, name: &str) -> Option<Json>
         ensures value { option_map data_of result ≡ get_field name.now self.old }
         ensures after { self.new ≡ without_field name.now self.old }
@@ -270,13 +300,14 @@ impl JsonFields {
         self.inner.remove(name)
     }
 
+    /// Equal fields. Takes memory for each name, and for each value as `Json::copy` does.
     #[cycle(copy)]
-    /// Equal fields. Takes memory for each field.
     pub fn copy(&self) -> Result<JsonFields, AllocError>
         ensures { IfOk result (λ j. j ≡ self.now) }
     {
-        let mut inner = BTreeMap::emptied(&self.inner)?;
-        for (name, value) in self.inner.iter() {
+        let entries = &self.inner;
+        let mut inner = BTreeMap::emptied(entries)?;
+        for (name, value) in entries.iter() {
             let name = name.clone()?;
             drop(inner.insert(name, value.copy()?)?);
         }
