@@ -40,10 +40,10 @@ fn later_refusal(step: &StepName, fact: &Fact, later: &[StepRecord], spare: Name
         (find (depends_directly fact.now) (map (λ r. r.fact) later.now)) ≡ Err result }
 {
     match first_dependent(fact, later) {
-        Some(dependent) => Refusal::HasDependents(spare.copy_of(&dependent.fact.name)),
+        Some(dependent) => Refusal::HasDependents(spare.step(&dependent.fact.name)),
         None => {
             let last = &later[later.len() - 1];
-            Refusal::NotLast(spare.copy_of(&last.fact.name))
+            Refusal::NotLast(spare.step(&last.fact.name))
         }
     }
 }
