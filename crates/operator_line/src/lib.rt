@@ -1,0 +1,14 @@
+#![tactic(auto)]
+
+//! The operators' language: lines in, replies out.
+mod command;
+mod line;
+mod reply;
+mod serving;
+mod session;
+mod words;
+
+pub use command::{Command, CommandFault, Execution};
+pub use line::{Line, LineBuffer};
+pub use serving::{ServeFault, serve};
+pub use session::Session;

@@ -1,0 +1,40 @@
+// The words of a line.
+
+/// NAME: 1 to 64 ASCII letters, digits, `_` and `-`.
+pub fn is_name(word: &str) -> bool {
+    let bytes = word.as_bytes();
+    !bytes.is_empty() && bytes.len() <= 64 && bytes.iter().all(|b| is_name_byte(*b))
+}
+
+/// NAME2: 1 to 255 of these and `.`.
+pub fn is_table_name(word: &str) -> bool {
+    let bytes = word.as_bytes();
+    !bytes.is_empty()
+        && bytes.len() <= 255
+        && bytes.iter().all(|b| is_name_byte(*b) || *b == b'.')
+}
+
+fn is_name_byte(byte: u8) -> bool {
+    byte.is_ascii_alphanumeric() || byte == b'_' || byte == b'-'
+}
+
+/// The first word, and what comes after the space behind it.
+pub fn cut(text: &str) -> Option<(&str, &str)> {
+    text.split_once(' ')
+}
+
+/// The first word, and what comes after the space behind it, if there is one.
+pub fn first_word(text: &str) -> (&str, Option<&str>) {
+    match text.split_once(' ') {
+        Some((word, rest)) => (word, Some(rest)),
+        None => (text, None),
+    }
+}
+
+/// A key's name and type, where a word has the form K:TYPE. K is one or more characters but `:` and doesn't begin with
+/// `[`, TYPE is `S` or `N`.
+pub fn key_parts(word: &str) -> Option<(&str, &str)> {
+    let (name, kind) = word.split_once(':')?;
+    let is_key = !name.is_empty() && !name.starts_with('[') && (kind == "S" || kind == "N");
+    if is_key { Some((name, kind)) } else { None }
+}
