@@ -6,6 +6,8 @@ mod line;
 mod reply;
 mod serving;
 mod session;
+#[cfg(test)]
+mod tests;
 mod words;
 
 pub use command::{Command, CommandFault, Execution};
