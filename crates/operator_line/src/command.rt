@@ -94,11 +94,7 @@ impl<'a> Command<'a> {
 }
 
 /// The command whose first word this is, from the rest of its line.
-fn read_words<'a>(
-    alloc: Global,
-    word: &str,
-    rest: &'a str,
-) -> Result<Command<'a>, CommandFault> {
+fn read_words<'a>(alloc: Global, word: &str, rest: &'a str) -> Result<Command<'a>, CommandFault> {
     match word {
         "table" => read_table(alloc, rest),
         "define" => read_define(alloc, rest),

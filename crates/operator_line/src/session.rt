@@ -11,9 +11,13 @@ use std::alloc::{AllocError, Global};
 use step_names::{StepName, ThreadName};
 
 const BAD_LINE: u32 = 20;
+
 const NO_TABLE: u32 = 21;
+
 const TABLE_TAKEN: u32 = 22;
+
 const BAD_BEGIN: u32 = 23;
+
 const BAD_JSON: u32 = 25;
 
 /// What a refused growth is answered, from no memory.

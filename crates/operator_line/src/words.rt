@@ -9,9 +9,7 @@ pub fn is_name(word: &str) -> bool {
 /// NAME2: 1 to 255 of these and `.`.
 pub fn is_table_name(word: &str) -> bool {
     let bytes = word.as_bytes();
-    !bytes.is_empty()
-        && bytes.len() <= 255
-        && bytes.iter().all(|b| is_name_byte(*b) || *b == b'.')
+    !bytes.is_empty() && bytes.len() <= 255 && bytes.iter().all(|b| is_name_byte(*b) || *b == b'.')
 }
 
 fn is_name_byte(byte: u8) -> bool {

@@ -28,7 +28,13 @@ fn main(rt: HostRuntime) -> ExitCode {
             let _ = writer.flush();
             status
         }
-        Err(_) => run(alloc, Mode::Memory, &mut rt.stdin(), &mut rt.stdout(), &mut faults),
+        Err(_) => run(
+            alloc,
+            Mode::Memory,
+            &mut rt.stdin(),
+            &mut rt.stdout(),
+            &mut faults,
+        ),
     };
     ExitCode::from(status)
 }

@@ -3,7 +3,8 @@ use clap::Command;
 use clap::error::ErrorKind;
 use std::alloc::Global;
 
-const ABOUT: &str = "Runs executions of state machines, and takes their steps back: a command a line.";
+const ABOUT: &str =
+    "Runs executions of state machines, and takes their steps back: a command a line.";
 
 /// What the words of the command line ask for.
 #[derive(Debug, Drop)]

@@ -33,7 +33,11 @@ fn empty_input(rt: HostRuntime) -> Result<(), Fail> {
 
 #[test]
 fn words_are_refused(rt: HostRuntime) -> Result<(), Fail> {
-    for words in [["serve"].as_slice(), ["-x"].as_slice(), ["--journal", "f"].as_slice()] {
+    for words in [
+        ["serve"].as_slice(),
+        ["-x"].as_slice(),
+        ["--journal", "f"].as_slice(),
+    ] {
         let (status, output, faults) = run_words(rt.alloc(), words, b"items\n")?;
         assert_eq!(rt; status, 2);
         assert!(rt; output.is_empty());
@@ -56,7 +60,13 @@ fn help_is_shown(rt: HostRuntime) -> Result<(), Fail> {
 #[test]
 fn memory_is_told(rt: HostRuntime) -> Result<(), Fail> {
     let mut faults = Vec::new(rt.alloc());
-    let status = run(rt.alloc(), Mode::Memory, &mut b"".as_slice(), &mut Vec::new(rt.alloc()), &mut faults);
+    let status = run(
+        rt.alloc(),
+        Mode::Memory,
+        &mut b"".as_slice(),
+        &mut Vec::new(rt.alloc()),
+        &mut faults,
+    );
     assert_eq!(rt; status, 4);
     assert_eq!(rt; faults.as_slice(), b"rollback: memory\n".as_slice());
     Ok(())
