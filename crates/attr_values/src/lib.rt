@@ -1,0 +1,8 @@
+//! Attribute values, items and keys of a table, as the DynamoDB API writes them in JSON.
+#![tactic(auto)]
+
+mod fault;
+mod number;
+
+pub use fault::ItemFault;
+pub use number::Number;
