@@ -1,0 +1,9 @@
+pub mod Data
+pub mod DataCode
+pub mod View
+pub mod Falls
+pub mod Fields
+pub mod Written
+pub mod Reading
+pub mod Lending
+pub mod Tokens

@@ -1,0 +1,41 @@
+// How deep a value nests.
+ghost use Rattle.std.specs.Prelude.{◌≡◌, ◌^◌, ◌-◌, min};
+ghost use Rattle.json_tree.specs.Data.{depth as nesting, list_depth, fields_depth};
+ghost use Rattle.json_tree.specs.View.{data_of};
+
+use crate::tree::{Json, JsonFields, JsonList};
+
+/// How deep lists and fields nest: 0 for what is neither, and at most 4,294,967,295. Takes no memory, and a look at each
+/// value inside.
+#[cycle(depth)]
+pub fn depth(json: &Json) -> u32
+    ensures { result ≡ min (nesting (data_of json.now)) (2 ^ 32 - 1) }
+{
+    match json {
+        Json::Null | Json::Bool(_) | Json::Whole(_) | Json::Text(_) => 0,
+        Json::List(list) => depth_of_list(list).saturating_add(1),
+        Json::Fields(fields) => depth_of_fields(fields).saturating_add(1),
+    }
+}
+
+#[cycle(depth)]
+fn depth_of_list(list: &JsonList) -> u32
+    ensures { result ≡ min (list_depth list.now) (2 ^ 32 - 1) }
+{
+    let mut deepest = 0u32;
+    for item in &list.inner {
+        deepest = deepest.max(depth(item));
+    }
+    deepest
+}
+
+#[cycle(depth)]
+fn depth_of_fields(fields: &JsonFields) -> u32
+    ensures { result ≡ min (fields_depth fields.now) (2 ^ 32 - 1) }
+{
+    let mut deepest = 0u32;
+    for (_name, value) in &fields.inner {
+        deepest = deepest.max(depth(value));
+    }
+    deepest
+}

@@ -1,0 +1,84 @@
+// From text, or from a value of `serde_json`, to a value whose numbers are whole.
+ghost use Rattle.std.specs.Prelude.{◌≡◌, ◌<◌, ◌≤◌, length, IsTrue, IsSome, IfOk, None, Some};
+ghost use Rattle.json_tree.specs.Data.{depth, items_of, members_of};
+ghost use Rattle.json_tree.specs.View.{data_of};
+ghost use Rattle.json_tree.specs.Reading.{source_of, read_json, whole_of, whole_items, whole_members, holds_memory};
+ghost use Rattle.serde_json.specs.View.{view, items_view, members_view};
+
+use crate::fault::JsonFault;
+use crate::text::Text;
+use crate::tree::{Json, JsonFields, JsonList};
+use serde_json::{Map, Value};
+use std::alloc::Global;
+use std::collections::BTreeMap;
+
+/// Reads one value (RFC 8259), with white space round it. Of fields with one name the last is read. Takes memory for
+/// `serde_json`'s value of the text, which it goes through once, and for the value.
+pub fn read(alloc: Global, bytes: &[u8]) -> Result<Json, JsonFault>
+    ensures ok { IfOk result (λ j. read_json bytes.now ≡ Some (data_of j)) }
+    ensures nests { IfOk result (λ j. depth (data_of j) ≤ 127) }
+    ensures not_json { result ≡ Err JsonFault.NotJson → source_of bytes.now ≡ None }
+    ensures not_whole { result ≡ Err JsonFault.NotWhole
+        → IsSome (source_of bytes.now) × (read_json bytes.now ≡ None) }
+    ensures memory { result ≡ Err JsonFault.Memory → 0 < length bytes.now }
+{
+    match Value::from_slice(alloc, bytes) {
+        Ok(value) => from_value(alloc, &value),
+        Err(e) => if e.is_memory() {
+            Err(JsonFault::Memory)
+        } else {
+            Err(JsonFault::NotJson)
+        },
+    }
+}
+
+/// The value of the same shape. Takes memory for each text, list and field.
+#[cycle(from_value)]
+pub fn from_value(alloc: Global, value: &Value) -> Result<Json, JsonFault>
+    ensures ok { IfOk result (λ j. whole_of (view value.now) ≡ Some (data_of j)) }
+    ensures not_json { result ≡ Err JsonFault.NotJson → ⊥ }
+    ensures not_whole { result ≡ Err JsonFault.NotWhole → whole_of (view value.now) ≡ None }
+    ensures memory { result ≡ Err JsonFault.Memory → IsTrue (holds_memory (view value.now)) }
+{
+    match value {
+        Value::Null => Ok(Json::Null),
+        Value::Bool(b) => Ok(Json::Bool(*b)),
+        Value::Number(number) => match number.as_i64() {
+            Some(n) => Ok(Json::Whole(n)),
+            None => Err(JsonFault::NotWhole),
+        },
+        Value::String(text) => Ok(Json::Text(Text::new(alloc, text.as_str())?)),
+        Value::Array(items) => Ok(Json::List(from_items(alloc, items)?)),
+        Value::Object(members) => Ok(Json::Fields(from_members(alloc, members)?)),
+    }
+}
+
+#[cycle(from_value)]
+fn from_items(alloc: Global, items: &Vec<Value>) -> Result<JsonList, JsonFault>
+    ensures ok { IfOk result (λ l. whole_items (items_view items.now.items) ≡ Some (items_of l)) }
+    ensures not_json { result ≡ Err JsonFault.NotJson → ⊥ }
+    ensures not_whole { result ≡ Err JsonFault.NotWhole
+        → whole_items (items_view items.now.items) ≡ None }
+{
+    let mut inner = Vec::with_capacity(alloc, items.len())?;
+    for item in items {
+        inner.push(from_value(alloc, item)?)?;
+    }
+    Ok(JsonList::from_vec(inner))
+}
+
+#[cycle(from_value)]
+fn from_members(alloc: Global, members: &Map<String, Value>) -> Result<JsonFields, JsonFault>
+    ensures ok { IfOk result
+        (λ m. whole_members (members_view members.now.entries) ≡ Some (members_of m)) }
+    ensures not_json { result ≡ Err JsonFault.NotJson → ⊥ }
+    ensures not_whole { result ≡ Err JsonFault.NotWhole
+        → whole_members (members_view members.now.entries) ≡ None }
+{
+    let mut inner = BTreeMap::new(alloc);
+    for (key, member) in members.iter() {
+        let name = key.clone()?;
+        drop(inner.insert(name, from_value(alloc, member)?)?);
+    }
+    Ok(JsonFields::from_map(inner))
+}

@@ -1,0 +1,67 @@
+// From a value to its text.
+ghost use Rattle.std.specs.Prelude.{◌≡◌, ◌++◌, IfOk, OnOk, string_bytes};
+ghost use Rattle.json_tree.specs.Data.{items_of, members_of};
+ghost use Rattle.json_tree.specs.View.{data_of};
+ghost use Rattle.json_tree.specs.Written.{text_of};
+ghost use Rattle.json_tree.specs.Tokens.{tokens_of, items_tokens, members_tokens};
+
+use crate::tree::{Json, JsonFields, JsonList};
+use json::Writer;
+use std::alloc::{AllocError, Global};
+
+const FIRST_ROOM: usize = 128;
+
+/// The one text of a value: compact (RFC 8259), fields in the order of their names' bytes, and only those bytes escaped
+/// that have to be. Takes memory for the text alone, which it reads in one pass over the value.
+pub fn write_text(alloc: Global, json: &Json) -> Result<String, AllocError>
+    ensures { IfOk result (λ s. string_bytes s ≡ text_of (data_of json.now)) }
+{
+    let mut out = Writer::new(Vec::with_capacity(alloc, FIRST_ROOM)?);
+    write(json, &mut out)?;
+    let bytes = out.into_inner();
+    Ok(unsafe { String::from_utf8_unchecked(bytes) })
+}
+
+#[cycle(write)]
+fn write(json: &Json, out: &mut Writer) -> Result<(), AllocError>
+    ensures ok { OnOk result (out.new.tokens ≡ out.old.tokens ++ tokens_of (data_of json.now)) }
+    ensures before { out.new.before ≡ out.old.before }
+{
+    match json {
+        Json::Null => out.null(),
+        Json::Bool(b) => out.boolean(*b),
+        Json::Whole(n) => out.i64(*n),
+        Json::Text(text) => out.string(text.as_str()),
+        Json::List(list) => {
+            out.begin_array()?;
+            write_list(list, out)
+        }
+        Json::Fields(fields) => {
+            out.begin_object()?;
+            write_fields(fields, out)
+        }
+    }
+}
+
+#[cycle(write)]
+fn write_list(list: &JsonList, out: &mut Writer) -> Result<(), AllocError>
+    ensures ok { OnOk result (out.new.tokens ≡ out.old.tokens ++ items_tokens (items_of list.now)) }
+    ensures before { out.new.before ≡ out.old.before }
+{
+    for item in &list.inner {
+        write(item, out)?;
+    }
+    out.end_array()
+}
+
+#[cycle(write)]
+fn write_fields(fields: &JsonFields, out: &mut Writer) -> Result<(), AllocError>
+    ensures ok { OnOk result (out.new.tokens ≡ out.old.tokens ++ members_tokens (members_of fields.now)) }
+    ensures before { out.new.before ≡ out.old.before }
+{
+    for (name, value) in &fields.inner {
+        out.key(name.as_str())?;
+        write(value, out)?;
+    }
+    out.end_object()
+}
