@@ -1,7 +1,7 @@
 -- The text of a number: `-?digits(.digits)?`.
-use Rattle.std.specs.Prelude.{ℕ, zero, suc, ◌+◌, ◌/◌, ◌%◌, ◌^◌, ℤ, pos, negsuc, neg_ℤ, unsigned_abs, Bool, true, false, ◌&&◌, ◌||◌, ◌==◌, not, nat_lt, nat_le, if◌then◌else◌, Option, None, Some, List, [], ◌∷◌, ◌++◌, length, decimal}
+use Rattle.std.specs.Prelude.{◌≡◌, ◌≢◌, ◌⊎◌, ℕ, zero, suc, ◌+◌, ◌/◌, ◌%◌, ◌^◌, ℤ, pos, negsuc, neg_ℤ, unsigned_abs, Bool, true, false, ◌&&◌, ◌||◌, ◌==◌, not, nat_lt, nat_le, if◌then◌else◌, Option, None, Some, List, [], ◌∷◌, ◌++◌, length, decimal}
 use Rattle.std.specs.Char.{is_ascii_digit}
-use Rattle.std.specs.List.{list_all, list_any, before_first, after_first}
+use Rattle.std.specs.List.{list_all, position_or_len, before_first, after_first}
 use Rattle.std.specs.Str.Parse.{digits_value}
 use Rattle.attr_values.specs.Decimal.{Decimal}
 
@@ -12,9 +12,12 @@ is_digits ds = nat_lt 0 (length ds) && list_all is_ascii_digit ds
 abbrev pub is_point : ℕ → Bool
 is_point c = c == 46
 
+abbrev pub has_point : List ℕ → Bool
+has_point text = nat_lt (position_or_len is_point text) (length text)
+
 -- digits, and perhaps a point and digits after it
 abbrev pub is_unsigned : List ℕ → Bool
-is_unsigned text = is_digits (before_first is_point text) && (not (list_any is_point text) || is_digits (after_first is_point text))
+is_unsigned text = is_digits (before_first is_point text) && (not (has_point text) || is_digits (after_first is_point text))
 
 -- n over ten to the places, without the zeros at the end of its fraction
 abbrev pub shortened : ℕ → ℕ → ℕ × ℕ
@@ -65,3 +68,14 @@ sign_text (negsuc n) = 45 ∷ []
 -- the spelling of a number
 abbrev pub number_text : Decimal → List ℕ
 number_text d = sign_text d.coefficient ++ (decimal (unsigned_abs d.coefficient / 10 ^ d.places) ++ fraction_text d.places (unsigned_abs d.coefficient))
+
+-- For private clauses: the digits end in no zero, and a text is a numeral with these digits before and after its point
+abbrev pub IsShort : List ℕ → Type 0
+IsShort ds = (ds ≡ []) ⊎ (start : List ℕ) × (d : ℕ) × (ds ≡ start ++ d ∷ []) × (d ≢ 48)
+
+pub record SplitsAtPoint (text whole fraction : List ℕ) : Type 0 where
+  pub numeral : is_unsigned text ≡ true
+  pub before : whole ≡ before_first is_point text
+  pub after : fraction ≡ after_first is_point text
+  pub whole_digits : list_all is_ascii_digit whole ≡ true
+  pub fraction_digits : list_all is_ascii_digit fraction ≡ true

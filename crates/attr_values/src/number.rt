@@ -1,11 +1,22 @@
 //! Decimal numbers, their text and their order.
 
-ghost use Rattle.std.specs.Prelude.{◌≡◌, ◌*◌, ◌/◌, ◌%◌, ◌^◌};
+ghost use Rattle.std.specs.Prelude.{◌≡◌, ◌*◌, ◌/◌, ◌%◌, ◌^◌, ◌<◌, ◌++◌, ℕ, true, false, replicate, IsTrue, MatchOption};
+ghost use Rattle.std.specs.Char.{is_ascii_digit};
+ghost use Rattle.std.specs.List.{list_all, position};
+ghost use Rattle.std.specs.Option.{SomeIff, ok_or};
+ghost use Rattle.std.specs.Str.Parse.{digits_value_after};
 ghost use Rattle.std.specs.Ordering.{nat_cmp};
 ghost use Rattle.attr_values.specs.Decimal.{IsNormal, value_cmp};
+ghost use Rattle.attr_values.specs.Numeral as numeral;
+ghost use Rattle.attr_values.specs.Numeral.{is_point, is_unsigned, read_number, IsShort, SplitsAtPoint};
 
+use crate::fault::ItemFault;
 use std::cmp::Ordering;
 use std::marker::Model;
+
+const LIMIT: u128 = 100_000_000_000_000_000_000_000_000_000_000_000_000;
+
+const MOST_PLACES: usize = 100;
 
 /// A decimal number: the coefficient divided by ten to the places, with at most 38 digits and 100 places.
 /// Each number has one form: its fraction ends in no zero, and zero has no sign.
@@ -25,6 +36,108 @@ impl Model for Number {
     ghost invariant = { λ n. IsNormal (record { coefficient = n.coefficient; places = n.places }) };
 
     ghost inverse = { λ d. record { coefficient = d.coefficient; places = d.places } };
+}
+
+impl Number {
+    /// Reads `-?digits(.digits)?`, in one pass and with no memory. `BadNumber` for any other text, and for a number past
+    /// the bounds.
+    pub fn read(text: &str) -> Result<Number, ItemFault>
+        ensures { result ≡ ok_or (read_number text.now) ItemFault.BadNumber }
+    {
+        let number = match text.as_bytes() {
+            [b'-', digits @ ..] => read_unsigned(true, digits),
+            digits => read_unsigned(false, digits),
+        };
+        number.ok_or(ItemFault::BadNumber)
+    }
+}
+
+fn all_digits(bytes: &[u8]) -> bool
+    ensures { result ≡ list_all is_ascii_digit bytes.now }
+{
+    bytes.iter().all(|b| b.is_ascii_digit())
+}
+
+fn is_digits(bytes: &[u8]) -> bool
+    ensures { result ≡ numeral.is_digits bytes.now }
+{
+    !bytes.is_empty() && all_digits(bytes)
+}
+
+fn find_point(text: &[u8]) -> Option<usize>
+    ensures { result ≡ position is_point text.now }
+{
+    text.iter().position(|b| *b == b'.')
+}
+
+/// The digits before and after the point.
+fn split_at_point(text: &[u8]) -> Option<(&[u8], &[u8])>
+    ensures { MatchOption result (is_unsigned text.now ≡ false) (λ r. SplitsAtPoint text.now r.0.now r.1.now) }
+{
+    let Some(at) = find_point(text) else {
+        return if is_digits(text) { Some((text, &[])) } else { None };
+    };
+    let (whole, fraction) = (&text[..at], &text[at + 1..]);
+    if is_digits(whole) && is_digits(fraction) { Some((whole, fraction)) } else { None }
+}
+
+/// The number that the digits write after those of `start`, if it has at most 38 digits.
+fn digits_value(start: u128, digits: &[u8]) -> Option<u128>
+    requires small { start < 10 ^ 38 }
+    requires digits { IsTrue (list_all is_ascii_digit digits.now) }
+    ensures { SomeIff result (digits_value_after 10 start digits.now < 10 ^ 38) (digits_value_after 10 start digits.now) }
+{
+    let mut value = start;
+    for digit in digits {
+        if value >= LIMIT / 10 {
+            return None;
+        }
+        value = value * 10 + u128::from(*digit - b'0');
+    }
+    Some(value)
+}
+
+/// The number that the digits of both write, if it has at most 38 digits.
+fn digits_value_of_both(whole: &[u8], fraction: &[u8]) -> Option<u128>
+    requires whole { IsTrue (list_all is_ascii_digit whole.now) }
+    requires fraction { IsTrue (list_all is_ascii_digit fraction.now) }
+    ensures { SomeIff result (digits_value_after 10 0 (whole.now ++ fraction.now) < 10 ^ 38) (digits_value_after 10 0 (whole.now ++ fraction.now)) }
+{
+    digits_value(digits_value(0, whole)?, fraction)
+}
+
+/// The digits without the zeros at their end.
+fn without_last_zeros(digits: &[u8]) -> &[u8]
+    ensures { (k : ℕ) × (digits.now ≡ result.now ++ replicate k 48) × IsShort result.now }
+{
+    let mut kept = digits;
+    while let [rest @ .., b'0'] = kept {
+        kept = rest;
+    }
+    kept
+}
+
+fn with_sign(negative: bool, magnitude: u128) -> i128
+    requires { magnitude < 10 ^ 38 }
+    ensures { result ≡ numeral.with_sign negative magnitude }
+{
+    let magnitude = magnitude as i128;
+    if negative { -magnitude } else { magnitude }
+}
+
+fn read_unsigned(negative: bool, digits: &[u8]) -> Option<Number>
+    ensures { result ≡ numeral.read_unsigned negative digits.now }
+{
+    let (whole, fraction) = split_at_point(digits)?;
+    let fraction = without_last_zeros(fraction);
+    if fraction.len() > MOST_PLACES {
+        return None;
+    }
+    let magnitude = digits_value_of_both(whole, fraction)?;
+    Some(Number {
+        coefficient: with_sign(negative, magnitude),
+        places: fraction.len() as u8,
+    })
 }
 
 impl PartialOrd for Number {
