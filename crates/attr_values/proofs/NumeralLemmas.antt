@@ -1,17 +1,20 @@
 -- The digits of a number's text.
 use Rattle.std.proofs.Common.{◌≡◌, ◌≢◌, ℕ, zero, suc, ◌+◌, ◌-◌, ◌*◌, ◌/◌, ◌%◌, ◌^◌, ◌<◌, ◌≤◌, List, [], ◌∷◌, ◌++◌, length, take, drop, get_or, replicate, refl, sym, ◌∙◌, ap, ap₂, subst, inl, inr, arith, length-append, append-nil, drop-cons, add-one, append_assoc}
-use Rattle.std.proofs.lemmas.List.{take_all, take_more}
-use Rattle.std.specs.Str.Parse.{digits_value_after, digits_value}
-use Rattle.std.specs.Prelude.{Bool, true, false, ◌&&◌, ◌==◌, nat_lt, nat_le, if◌then◌else◌, Option, Some, None, ◌⊎◌, unsigned_abs}
+use Rattle.std.proofs.lemmas.List.{take_all, take_more, drop_all}
+use Rattle.std.proofs.Math.Seq.{take-append_seam, drop-append-add}
+use Rattle.std.specs.Str.Parse.{digits_value_after, digits_value, AllDigits}
+use Rattle.std.specs.Prelude.{Bool, true, false, ◌&&◌, ◌==◌, nat_lt, nat_le, if◌then◌else◌, Option, Some, None, ◌⊎◌, unsigned_abs, ℤ, pos, negsuc}
 use Rattle.std.specs.Char.{digit_value, is_ascii_digit}
-use Rattle.std.specs.List.{list_all, before_first, after_first}
+use Rattle.std.specs.List.{list_all, position_or_len, before_first, after_first}
 use Rattle.std.proofs.lemmas.List.Folds.{list_all-append}
 use Rattle.std.proofs.lemmas.Bool.Decides.{nat_tests}
 use Rattle.std.proofs.lemmas.Int.Digits.{digits_value_push}
-use Rattle.std.proofs.Math.Nat.{add-mul-mod_self_right, mul-mod_left}
-use Rattle.std.proofs.lemmas.Nat.{div-mul-add, mod-mul-add}
+use Rattle.std.proofs.lemmas.Fmt.{decimal_is_IsNumeral_wide}
+use Rattle.std.specs.Fmt.{decimal}
+use Rattle.std.proofs.Math.Nat.{mul-mod_left, mod-lt, div-one, div-div-eq-div-mul, pow-succ', div-le_self}
+use Rattle.std.proofs.lemmas.Nat.{div-add-mod', mod-mul-add}
 use Rattle.attr_values.specs.Decimal.{Decimal, IsNormal}
-use Rattle.attr_values.specs.Numeral.{is_point, is_unsigned, shortened, magnitude, bounded, with_sign, decimal_of, read_unsigned, IsShort, SplitsAtPoint}
+use Rattle.attr_values.specs.Numeral.{is_point, is_unsigned, shortened, magnitude, bounded, with_sign, decimal_of, read_unsigned, read_number, last_digits, fraction_text, number_text, IsShort, SplitsAtPoint}
 
 digits_value_grows : (n : ℕ) (ds : List ℕ) → n ≤ digits_value_after 10 n ds
 digits_value_grows n [] = omega arith
@@ -121,3 +124,107 @@ normal_decimal negative n p h l e = record {
     places = l;
     shortest = λ above. rw magnitude_of_sign (λ z. let f = e above in omega arith);
   }
+
+-- ---- what is written
+
+written_digit : (n : ℕ) → digit_value (48 + n % 10) ≡ n % 10
+written_digit n = let h = mod-lt n {m = 10} (omega arith) in grind (arith, nat_tests)
+
+last_digits_value : (p n : ℕ) → digits_value_after 10 (n / 10 ^ p) (last_digits p n) ≡ n
+last_digits_value zero n = div-one n
+last_digits_value (suc p) n =
+    let quotient : n / 10 ^ suc p ≡ n / 10 / 10 ^ p = ap (λ m. n / m) (pow-succ' 10 p) ∙ sym (div-div-eq-div-mul n 10 (10 ^ p)) in
+    let digit : digit_value (48 + n % 10) ≡ n % 10 = written_digit n in
+    digits_value_after-append (n / 10 ^ suc p) (last_digits p (n / 10)) ((48 + n % 10) ∷ [])
+    ∙ ap₂ (λ m d. m * 10 + d) (ap (λ q. digits_value_after 10 q (last_digits p (n / 10))) quotient ∙ last_digits_value p (n / 10)) digit
+    ∙ div-add-mod' n 10
+
+is_digit_char : (n : ℕ) → is_ascii_digit (48 + n % 10) ≡ true
+is_digit_char n = let h = mod-lt n {m = 10} (omega arith) in grind (arith, nat_tests)
+
+last_digits_are_digits : (p n : ℕ) → list_all is_ascii_digit (last_digits p n) ≡ true
+last_digits_are_digits zero n = refl
+last_digits_are_digits (suc p) n = list_all-append is_ascii_digit (last_digits p (n / 10)) ((48 + n % 10) ∷ []) ∙ rw (last_digits_are_digits p (n / 10), is_digit_char n) refl
+
+length-last_digits : (p n : ℕ) → length (last_digits p n) ≡ p
+length-last_digits zero n = refl
+length-last_digits (suc p) n = simp length-append (omega (arith, length-last_digits p (n / 10)))
+
+digit_is_ascii : (c : ℕ) → digit_value c < 10 → is_ascii_digit c ≡ true
+digit_is_ascii c h = grind (arith, nat_tests)
+
+numeral_digits : (ds : List ℕ) → AllDigits 10 ds → list_all is_ascii_digit ds ≡ true
+numeral_digits [] h = refl
+numeral_digits (d ∷ ds) h = rw (digit_is_ascii d h.0) (numeral_digits ds h.1)
+
+digit_is_no_point : (d : ℕ) → is_ascii_digit d ≡ true → is_point d ≡ false
+digit_is_no_point d h = grind (arith, nat_tests)
+
+-- where the point stands after some digits
+point_after : (ds rest : List ℕ) → list_all is_ascii_digit ds ≡ true → position_or_len is_point (ds ++ rest) ≡ length ds + position_or_len is_point rest
+point_after [] rest h = omega arith
+point_after (d ∷ ds) rest h =
+    let both = both_true (is_ascii_digit d) (list_all is_ascii_digit ds) h in
+    rw (digit_is_no_point d both.0) (omega (arith, point_after ds rest both.1))
+
+-- a text of digits, and one with a point and digits after it, as they are read
+whole_parts : (ds : List ℕ) → list_all is_ascii_digit ds ≡ true → 0 < length ds → (is_unsigned ds ≡ true) × (before_first is_point ds ≡ ds) × (after_first is_point ds ≡ [])
+whole_parts ds h some =
+    let at : position_or_len is_point ds ≡ length ds = ap (position_or_len is_point) (sym (append-nil ds)) ∙ point_after ds [] h ∙ omega arith in
+    let before : before_first is_point ds ≡ ds = rw at (take_all (length ds) ds (omega arith)) in
+    let after : after_first is_point ds ≡ [] = rw at (drop_all (length ds + 1) ds (omega arith)) in
+    (rw (before, at, h) (grind (arith, nat_tests)), before, after)
+
+point_parts : (ds f : List ℕ) → list_all is_ascii_digit ds ≡ true → 0 < length ds → list_all is_ascii_digit f ≡ true → 0 < length f
+    → (is_unsigned (ds ++ 46 ∷ f) ≡ true) × (before_first is_point (ds ++ 46 ∷ f) ≡ ds) × (after_first is_point (ds ++ 46 ∷ f) ≡ f)
+point_parts ds f h some g more =
+    let at : position_or_len is_point (ds ++ 46 ∷ f) ≡ length ds = point_after ds (46 ∷ f) h ∙ omega arith in
+    let before : before_first is_point (ds ++ 46 ∷ f) ≡ ds = rw at (take-append_seam ds (46 ∷ f)) in
+    let after : after_first is_point (ds ++ 46 ∷ f) ≡ f = rw at (drop-append-add ds (46 ∷ f) 1) in
+    (rw (before, after, h, g) (grind (arith, nat_tests)), before, after)
+
+whole_number_digits : (n : ℕ) → n < 10 ^ 38 → (list_all is_ascii_digit (decimal n) ≡ true) × (0 < length (decimal n)) × (digits_value 10 (decimal n) ≡ n)
+whole_number_digits n h =
+    let is = decimal_is_IsNumeral_wide n (omega arith) in
+    (numeral_digits (decimal n) is.0.1, is.0.0, is.1)
+
+quotient_small : (m p : ℕ) → m < 10 ^ 38 → m / 10 ^ p < 10 ^ 38
+quotient_small m p h = omega (arith, div-le_self m (10 ^ p))
+
+unsigned_reads : (negative : Bool) (m p : ℕ) → m < 10 ^ 38 → p ≤ 100 → (0 < p → m % 10 ≢ 0)
+    → read_unsigned negative (decimal (m / 10 ^ p) ++ fraction_text p m) ≡ Some (decimal_of negative (m, p))
+unsigned_reads negative m zero h l e =
+    let whole = whole_number_digits (m / 10 ^ 0) (quotient_small m 0 h) in
+    let parts = whole_parts (decimal (m / 10 ^ 0)) whole.0 whole.1 in
+    let value : magnitude (decimal (m / 10 ^ 0)) ≡ (m, 0) =
+        ap₂ (λ (w f : List ℕ). shortened (digits_value 10 (w ++ f)) (length f)) parts.1 parts.2
+        ∙ ap (λ n. let k : ℕ × ℕ = (n, 0) in k) (ap (digits_value 10) (append-nil (decimal (m / 10 ^ 0))) ∙ whole.2 ∙ div-one m) in
+    rw append-nil (rw parts.0 (ap (bounded negative) value ∙ bounded_some negative m 0 h l))
+unsigned_reads negative m (suc p) h l e =
+    let whole = whole_number_digits (m / 10 ^ suc p) (quotient_small m (suc p) h) in
+    let digits = last_digits (suc p) m in
+    let count : length digits ≡ suc p = length-last_digits (suc p) m in
+    let parts = point_parts (decimal (m / 10 ^ suc p)) digits whole.0 whole.1 (last_digits_are_digits (suc p) m) (omega arith) in
+    let value : digits_value 10 (decimal (m / 10 ^ suc p) ++ digits) ≡ m =
+        digits_value_after-append 0 (decimal (m / 10 ^ suc p)) digits ∙ ap (λ n. digits_value_after 10 n digits) whole.2 ∙ last_digits_value (suc p) m in
+    let some : 0 < m % 10 = let f = e (omega arith) in omega arith in
+    let is : magnitude (decimal (m / 10 ^ suc p) ++ 46 ∷ digits) ≡ (m, suc p) =
+        ap₂ (λ (w f : List ℕ). shortened (digits_value 10 (w ++ f)) (length f)) parts.1 parts.2 ∙ ap₂ shortened value count ∙ shortened_digit m p some in
+    rw parts.0 (ap (bounded negative) is ∙ bounded_some negative m (suc p) h l)
+
+first_is_digit : (ds rest : List ℕ) → list_all is_ascii_digit ds ≡ true → 0 < length ds → read_number (ds ++ rest) ≡ read_unsigned false (ds ++ rest)
+first_is_digit [] rest h some = absurd (omega arith)
+first_is_digit (d ∷ ds) rest h some =
+    let digit : is_ascii_digit d ≡ true = (both_true (is_ascii_digit d) (list_all is_ascii_digit ds) h).0 in
+    let no_minus : (d == 45) ≡ false = grind (arith, nat_tests) in
+    rw no_minus
+
+signed_reads : (z : ℤ) (p : ℕ) → IsNormal (record { coefficient = z; places = p }) → read_number (number_text (record { coefficient = z; places = p })) ≡ Some (record { coefficient = z; places = p })
+signed_reads (pos n) p h =
+    let whole = whole_number_digits (n / 10 ^ p) (quotient_small n p h.digits) in
+    first_is_digit (decimal (n / 10 ^ p)) (fraction_text p n) whole.0 whole.1 ∙ unsigned_reads false n p h.digits h.places h.shortest
+signed_reads (negsuc n) p h = unsigned_reads true (suc n) p h.digits h.places h.shortest
+
+-- what is written is read to the same number
+pub reads_back : (d : Decimal) → IsNormal d → read_number (number_text d) ≡ Some d
+reads_back d h = signed_reads d.coefficient d.places h

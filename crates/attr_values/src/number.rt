@@ -1,6 +1,6 @@
 //! Decimal numbers, their text and their order.
 
-ghost use Rattle.std.specs.Prelude.{◌≡◌, ◌*◌, ◌/◌, ◌%◌, ◌^◌, ◌<◌, ◌++◌, ℕ, true, false, replicate, IsTrue, MatchOption};
+ghost use Rattle.std.specs.Prelude.{◌≡◌, ◌*◌, ◌/◌, ◌%◌, ◌^◌, ◌<◌, ◌++◌, ℕ, true, false, replicate, IsTrue, MatchOption, IfOk, OnOk, Some, string_bytes};
 ghost use Rattle.std.specs.Char.{is_ascii_digit};
 ghost use Rattle.std.specs.List.{list_all, position};
 ghost use Rattle.std.specs.Option.{SomeIff, ok_or};
@@ -8,15 +8,20 @@ ghost use Rattle.std.specs.Str.Parse.{digits_value_after};
 ghost use Rattle.std.specs.Ordering.{nat_cmp};
 ghost use Rattle.attr_values.specs.Decimal.{IsNormal, value_cmp};
 ghost use Rattle.attr_values.specs.Numeral as numeral;
-ghost use Rattle.attr_values.specs.Numeral.{is_point, is_unsigned, read_number, IsShort, SplitsAtPoint};
+ghost use Rattle.attr_values.specs.Numeral.{is_point, is_unsigned, read_number, number_text, last_digits, IsShort, SplitsAtPoint};
 
 use crate::fault::ItemFault;
+use itoa::Buffer;
+use std::alloc::{AllocError, Global};
 use std::cmp::Ordering;
 use std::marker::Model;
 
 const LIMIT: u128 = 100_000_000_000_000_000_000_000_000_000_000_000_000;
 
 const MOST_PLACES: usize = 100;
+
+// A sign, a zero, a point and the digits of a fraction, or a sign, a point and 38 digits.
+const LONGEST_TEXT: usize = 103;
 
 /// A decimal number: the coefficient divided by ten to the places, with at most 38 digits and 100 places.
 /// Each number has one form: its fraction ends in no zero, and zero has no sign.
@@ -50,6 +55,44 @@ impl Number {
         };
         number.ok_or(ItemFault::BadNumber)
     }
+
+    /// The one spelling of the number: `-` below zero, the digits of its whole part, and the point and the digits of the
+    /// fraction where there are any. Takes memory for the text, at most 102 bytes.
+    pub fn write_text(&self, alloc: Global) -> Result<String, AllocError>
+        ensures text { IfOk result (λ s. string_bytes s ≡ number_text self.now) }
+        ensures reads_back { IfOk result (λ s. read_number (string_bytes s) ≡ Some self.now) }
+    {
+        spell(self, alloc)
+    }
+}
+
+fn spell(number: &Number, alloc: Global) -> Result<String, AllocError>
+    ensures text { IfOk result (λ s. string_bytes s ≡ number_text number.now) }
+    ensures normal { IsNormal number.now }
+{
+    let magnitude = number.coefficient.unsigned_abs();
+    let (whole, _fraction) = split(magnitude, number.places);
+    let mut text = String::with_capacity(alloc, LONGEST_TEXT)?;
+    if number.coefficient < 0 {
+        text.push('-')?;
+    }
+    text.push_str(Buffer::new().format(whole))?;
+    if number.places > 0 {
+        text.push('.')?;
+        push_last_digits(magnitude, number.places, &mut text)?;
+    }
+    Ok(text)
+}
+
+/// Puts the last `count` digits of `n` at the end of a text.
+fn push_last_digits(n: u128, count: u8, text: &mut String) -> Result<(), AllocError>
+    ensures { OnOk result (string_bytes text.new ≡ string_bytes text.old ++ last_digits count n) }
+{
+    if count == 0 {
+        return Ok(());
+    }
+    push_last_digits(n / 10, count - 1, text)?;
+    text.push((b'0' + (n % 10) as u8) as char)
 }
 
 fn all_digits(bytes: &[u8]) -> bool
