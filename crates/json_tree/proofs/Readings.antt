@@ -1,10 +1,20 @@
 -- Values of `serde_json`, one after another.
-use Rattle.std.proofs.Common.{◌≡◌, ℕ, List, [], ◌∷◌, ◌++◌, Option, Some, None, option_map, String, Global, Less, string_bytes, string_cmp, map, refl, sym, ap, ◌∙◌}
+use Rattle.std.proofs.Common.{◌≡◌, ℕ, suc, ◌+◌, ◌<◌, ◌≤◌, max, ℤ, List, [], ◌∷◌, ◌++◌, length, get_or, drop, Option, Some, None, option_map, String, Global, Less, string_bytes, string_cmp, map, refl, sym, ap, subst, ◌∙◌, append_assoc, add-one, drop-cons}
+use Rattle.std.proofs.lemmas.List.{map-append, drop_all}
+use Rattle.std.specs.BTreeMap.{insert_entry}
 use Rattle.std.specs.List.{AllByRecursion}
 use Rattle.std.specs.List.Sorted.{IsStrictlySortedBy}
 use Rattle.std.specs.Map.{keys_of}
-use Rattle.json_tree.specs.Data.{Data, Items, no_items, item, Members, no_members, member, items_of, members_of}
+use Rattle.std.specs.Prelude.{option_and_then}
+use Rattle.json_tree.specs.Data.{Data, null, boolean, whole, text, list, fields, Items, no_items, item, Members, no_members, member, items_of, members_of, depth, items_depth, members_depth}
 use Rattle.json_tree.specs.Fields.{text_cmp}
+use Rattle.json_tree.specs.Reading.{whole_of, whole_items, whole_members}
+use Rattle.json_tree.specs.View.{data_of, list_of, fields_of}
+use Rattle.json_tree.specs.declared.tree.Json.{Json}
+use Rattle.json_tree.proofs.Views.{Entry, insert_field, keys_of-append}
+use Rattle.serde_json.specs.Data as source
+use Rattle.serde_json.specs.Find.{as_i64}
+use Rattle.serde_json.specs.View.{view, items_view, members_view}
 use Rattle.serde_json.specs.declared.value.Value.{Value}
 
 -- the values ds, and then the others
@@ -53,3 +63,90 @@ pub source_order : (es : List (String Global × Value)) → IsStrictlySortedBy s
 unfolding IsStrictlySortedBy
 source_order [] h = tt
 source_order (e ∷ es) h = (below_names e.0 es h.0, source_order es h.1)
+
+pub items_step : (from : List Value) (i : ℕ) (x : Value) (done done' : List Json) (v : Json) (all : Option Items) → x ≡ get_or from i x → i < length from → whole_of (view x) ≡ Some (data_of v)
+    → done' ≡ done ++ v ∷ [] → all ≡ option_map (items_before (list_of done)) (whole_items (items_view (drop i from)))
+    → all ≡ option_map (items_before (list_of done')) (whole_items (items_view (drop (i + 1) from)))
+items_step from i x done done' v all is within reads grown before =
+    let rest = drop (i + 1) from in
+    let left : drop i from ≡ x ∷ rest = drop-cons from i x within ∙ rw (← is, add-one) in
+    let read : whole_items (items_view (x ∷ rest)) ≡ option_map (item (data_of v)) (whole_items (items_view rest)) = rw reads in
+    let made : list_of done ++ data_of v ∷ [] ≡ list_of done' = sym (ap list_of grown ∙ map-append data_of done (v ∷ [])) in
+    before ∙ ap (λ vs. option_map (items_before (list_of done)) (whole_items (items_view vs))) left ∙ ap (option_map (items_before (list_of done))) read ∙ items_push (list_of done) (data_of v) (whole_items (items_view rest))
+    ∙ ap (λ ds. option_map (items_before ds) (whole_items (items_view rest))) made
+
+pub items_end : (from : List Value) (i : ℕ) (done : List Json) (all : Option Items) → length from ≤ i → all ≡ option_map (items_before (list_of done)) (whole_items (items_view (drop i from)))
+    → all ≡ Some (items_of (list_of done))
+items_end from i done all past before =
+    let left : drop i from ≡ [] = drop_all i from past in
+    before ∙ ap (λ vs. option_map (items_before (list_of done)) (whole_items (items_view vs))) left ∙ ap Some (items_before-no_items (list_of done))
+
+abbrev pub IsReadSoFar : List Entry → List (String Global × Value) → Option Members → Type 0
+IsReadSoFar es from all =
+    IsStrictlySortedBy text_cmp (keys_of (fields_of es) ++ source_names from) × (all ≡ option_map (members_before (fields_of es)) (whole_members (members_view from)))
+
+one : {A : Type 0} (r : Option A) → r ≡ option_map (λ x. x) r
+one None = refl
+one (Some x) = refl
+
+pub members_start : (from all : List (String Global × Value)) (es : List Entry) → es ≡ [] → from ≡ all → IsStrictlySortedBy string_cmp (keys_of all) → IsReadSoFar es from (whole_members (members_view all))
+members_start from all es none is sorted = rw (none, is) (source_order all sorted, one (whole_members (members_view all)))
+
+pub members_step : (from rest : List (String Global × Value)) (key : String Global) (value : Value) (es ns : List Entry) (k : String Global) (v : Json) (all : Option Members) → from ≡ (key, value) ∷ rest
+    → string_bytes k ≡ string_bytes key → whole_of (view value) ≡ Some (data_of v) → ns ≡ insert_entry string_cmp es k v → IsReadSoFar es from all → IsReadSoFar ns rest all
+members_step from rest key value es ns k v all is named reads made before =
+    let sorted : IsStrictlySortedBy text_cmp (keys_of (fields_of es) ++ string_bytes k ∷ source_names rest) = rw named (rw is at before.0) in
+    let fields : fields_of ns ≡ fields_of es ++ (string_bytes k, data_of v) ∷ [] = ap fields_of made ∙ insert_field es k v (source_names rest) sorted in
+    let read : whole_members (members_view ((key, value) ∷ rest)) ≡ option_map (member (string_bytes k) (data_of v)) (whole_members (members_view rest)) = rw (reads, named) in
+    let names : keys_of (fields_of ns) ≡ keys_of (fields_of es) ++ string_bytes k ∷ [] = ap keys_of fields ∙ keys_of-append (fields_of es) _ in (
+      subst (IsStrictlySortedBy text_cmp) (sym (ap (λ ks. ks ++ source_names rest) names ∙ append_assoc (keys_of (fields_of es)) (string_bytes k ∷ []) (source_names rest))) sorted,
+      before.1 ∙ ap (λ es'. option_map (members_before (fields_of es)) (whole_members (members_view es'))) is ∙ ap (option_map (members_before (fields_of es))) read
+          ∙ members_push (fields_of es) (string_bytes k) (data_of v) (whole_members (members_view rest)) ∙ ap (λ ms. option_map (members_before ms) (whole_members (members_view rest))) (sym fields),
+    )
+
+pub members_end : (from : List (String Global × Value)) (es : List Entry) (all : Option Members) → from ≡ [] → IsReadSoFar es from all → all ≡ Some (members_of (fields_of es))
+members_end from es all none before =
+    before.1 ∙ ap (λ vs. option_map (members_before (fields_of es)) (whole_members (members_view vs))) none ∙ ap Some (members_before-no_members (fields_of es))
+
+-- ---- the value nests as deep as its source
+
+number_depth : (n : Option ℤ) (d : Data) → option_map whole n ≡ Some d → depth d ≡ 0
+number_depth None d is = cc is
+number_depth (Some z) d is = let e : d ≡ whole z = cc is in rw e
+
+list_depth_at : (r : Option Items) (n : ℕ) (d : Data) → ((e : Items) → r ≡ Some e → items_depth e ≡ n) → option_map list r ≡ Some d → depth d ≡ suc n
+list_depth_at None n d h is = cc is
+list_depth_at (Some e) n d h is = let same : d ≡ list e = cc is in rw (same, h e refl)
+
+fields_depth_at : (r : Option Members) (n : ℕ) (d : Data) → ((e : Members) → r ≡ Some e → members_depth e ≡ n) → option_map fields r ≡ Some d → depth d ≡ suc n
+fields_depth_at None n d h is = cc is
+fields_depth_at (Some e) n d h is = let same : d ≡ fields e = cc is in rw (same, h e refl)
+
+item_depth_at : (first : Option Data) (rest : Option Items) (m n : ℕ) (ds : Items) → ((d : Data) → first ≡ Some d → depth d ≡ m) → ((es : Items) → rest ≡ Some es → items_depth es ≡ n)
+    → option_and_then (λ e. option_map (item e) rest) first ≡ Some ds → items_depth ds ≡ max m n
+item_depth_at None rest m n ds f g is = cc is
+item_depth_at (Some d) None m n ds f g is = cc is
+item_depth_at (Some d) (Some es) m n ds f g is = let same : ds ≡ item d es = cc is in rw (same, f d refl, g es refl)
+
+member_depth_at : (k : List ℕ) (first : Option Data) (rest : Option Members) (m n : ℕ) (ds : Members) → ((d : Data) → first ≡ Some d → depth d ≡ m) → ((es : Members) → rest ≡ Some es → members_depth es ≡ n)
+    → option_and_then (λ e. option_map (member k e) rest) first ≡ Some ds → members_depth ds ≡ max m n
+member_depth_at k None rest m n ds f g is = cc is
+member_depth_at k (Some d) None m n ds f g is = cc is
+member_depth_at k (Some d) (Some es) m n ds f g is = let same : ds ≡ member k d es = cc is in rw (same, f d refl, g es refl)
+
+mutual
+  pub depth-whole_of : (s : source.Data) (d : Data) → whole_of s ≡ Some d → depth d ≡ source.depth s
+  depth-whole_of source.null d is = let e : d ≡ null = cc is in rw e
+  depth-whole_of (source.boolean b) d is = let e : d ≡ boolean b = cc is in rw e
+  depth-whole_of (source.number n) d is = number_depth (as_i64 n) d is
+  depth-whole_of (source.string s) d is = let e : d ≡ text s = cc is in rw e
+  depth-whole_of (source.array ds) d is = list_depth_at (whole_items ds) (source.items_depth ds) d (depth-whole_items ds) is
+  depth-whole_of (source.object ms) d is = fields_depth_at (whole_members ms) (source.members_depth ms) d (depth-whole_members ms) is
+
+  depth-whole_items : (ss : source.Items) (ds : Items) → whole_items ss ≡ Some ds → items_depth ds ≡ source.items_depth ss
+  depth-whole_items source.no_items ds is = let e : ds ≡ no_items = cc is in rw e
+  depth-whole_items (source.item s ss) ds is = item_depth_at (whole_of s) (whole_items ss) (source.depth s) (source.items_depth ss) ds (depth-whole_of s) (depth-whole_items ss) is
+
+  depth-whole_members : (ss : source.Members) (ms : Members) → whole_members ss ≡ Some ms → members_depth ms ≡ source.members_depth ss
+  depth-whole_members source.no_members ms is = let e : ms ≡ no_members = cc is in rw e
+  depth-whole_members (source.member k s ss) ms is = member_depth_at k (whole_of s) (whole_members ss) (source.depth s) (source.members_depth ss) ms (depth-whole_of s) (depth-whole_members ss) is

@@ -1,17 +1,17 @@
 -- The entries of a map beside the fields that they stand for.
-use Rattle.std.proofs.Common.{◌≡◌, ℕ, List, [], ◌∷◌, ◌++◌, Option, Some, None, option_map, String, Global, Ordering, Less, Equal, Greater, string_bytes, string_cmp, map, is_eq, cond, Bool, true, false, refl, sym, ap, ◌∙◌, subst}
+use Rattle.std.specs.Option.{option_copied_mut}
+use Rattle.std.proofs.Common.{◌≡◌, ℕ, List, [], ◌∷◌, ◌++◌, Option, Some, None, MutBor, OnSome, option_map, String, Global, Ordering, Less, Equal, Greater, string_bytes, string_cmp, map, is_eq, cond, Bool, true, false, refl, sym, ap, ◌∙◌, subst, append_assoc}
 use Rattle.std.proofs.lemmas.Cmp.{nat_list_cmp_total}
 use Rattle.std.proofs.lemmas.Map.{lookup-none}
 use Rattle.std.proofs.lemmas.Map.Entries.{none_below_head}
 use Rattle.std.specs.BTreeMap.{insert_entry, is_at}
-use Rattle.std.specs.Cmp.Lexicographic.{slice_cmp}
 use Rattle.std.specs.List.{AllByRecursion}
 use Rattle.std.specs.List.Sorted.{IsStrictlySortedBy}
 use Rattle.std.specs.Map.{keys_of, lookup, set_value, remove_entry}
-use Rattle.std.specs.Ordering.{match_ordering, ordering_reverse, nat_cmp}
+use Rattle.std.specs.Ordering.{match_ordering, ordering_reverse}
 use Rattle.json_tree.specs.Data.{Data}
 use Rattle.json_tree.specs.Fields.{text_cmp, IsInNameOrder, get_field, with_field, without_field}
-use Rattle.json_tree.specs.View.{data_of, list_of, field_of, fields_of}
+use Rattle.json_tree.specs.View.{data_of, fields_of}
 use Rattle.json_tree.specs.declared.tree.Json.{Json}
 
 abbrev pub Entry : Type 0
@@ -113,3 +113,22 @@ insert_last (m ∷ ms) k d later h = last_at k d m ms (below_last m.0 (keys_of m
 pub insert_field : (es : List Entry) (k : String Global) (v : Json) (later : List (List ℕ)) → IsStrictlySortedBy text_cmp (keys_of (fields_of es) ++ string_bytes k ∷ later)
     → fields_of (insert_entry string_cmp es k v) ≡ fields_of es ++ (string_bytes k, data_of v) ∷ []
 insert_field es k v later h = fields_of-insert_entry es k v ∙ insert_last (fields_of es) (string_bytes k) (data_of v) later h
+
+pub keys_of-append : (ms ns : List (List ℕ × Data)) → keys_of (ms ++ ns) ≡ keys_of ms ++ keys_of ns
+keys_of-append [] ns = refl
+keys_of-append (m ∷ ms) ns = ap (λ ks. m.0 ∷ ks) (keys_of-append ms ns)
+
+-- the next field of those that are copied goes last
+pub insert_next : (es : List Entry) (k : String Global) (v : Json) (name : List ℕ) (d : Data) (later all : List (List ℕ × Data)) → string_bytes k ≡ name → data_of v ≡ d → IsInNameOrder all
+    → fields_of es ++ (name, d) ∷ later ≡ all → fields_of (insert_entry string_cmp es k v) ++ later ≡ all
+insert_next es k v name d later all same_name same_data sorted is =
+    let sorted_here : IsInNameOrder (fields_of es ++ (string_bytes k, data_of v) ∷ later) = rw (same_name, same_data, is) sorted in
+    let names : IsStrictlySortedBy text_cmp (keys_of (fields_of es) ++ string_bytes k ∷ keys_of later) = subst (IsStrictlySortedBy text_cmp) (keys_of-append (fields_of es) _) sorted_here in
+    rw (insert_field es k v (keys_of later) names, append_assoc, same_name, same_data) is
+
+-- what a write through a lent value leaves
+pub written : (r : Option (MutBor Json)) (es ns : List Entry) (name : List ℕ) (v : Json) (ms : List (List ℕ × Data)) → option_copied_mut r ≡ lookup (is_at (at_key name)) es
+    → IsStrictlySortedBy string_cmp (keys_of es) → ns ≡ set_value (is_at (at_key name)) es v → fields_of es ≡ ms → OnSome r (fields_of ns ≡ with_field name (data_of v) ms)
+written None es ns name v ms value sorted is view = tt
+written (Some x) es ns name v ms value sorted is view =
+    ap fields_of is ∙ fields_of-written name es x.now v sorted (sym value) ∙ ap (with_field name (data_of v)) view

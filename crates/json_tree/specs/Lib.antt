@@ -3,6 +3,7 @@ pub mod DataCode
 pub mod View
 pub mod Falls
 pub mod Fields
+pub mod Order
 pub mod Written
 pub mod Reading
 pub mod Lending

@@ -1,15 +1,16 @@
 #![tactic(auto)]
 
 //! JSON values whose numbers are whole, read by `serde_json` and written in one spelling.
-mod nesting;
 mod fault;
+mod nesting;
+mod order;
 mod reading;
 mod text;
 mod tree;
 mod writing;
 
-pub use nesting::depth;
 pub use fault::JsonFault;
+pub use nesting::depth;
 pub use reading::{from_value, read};
 pub use text::Text;
 pub use tree::{Json, JsonFields, JsonList};

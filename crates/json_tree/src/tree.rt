@@ -248,7 +248,11 @@ impl JsonFields {
     }
 
     /// Puts a value at a name, and hands out the value that stood there. The error has the name and the value.
-    pub fn insert(&mut self, name: String, value: Json) -> Result<Option<Json>, AllocFailed<(String, Json)>>
+    pub fn insert(
+        &mut self,
+        name: String,
+        value: Json,
+    ) -> Result<Option<Json>, AllocFailed<(String, Json)>>
         ensures ok { OnOk result (self.new ≡ with_field (string_bytes name) (data_of value) self.old) }
         ensures replaced { IfOk result (λ r. option_map data_of r ≡ get_field (string_bytes name) self.old) }
         ensures err { OnErr result (self.new ≡ self.old) }
@@ -272,7 +276,7 @@ impl JsonFields {
         ensures { IfOk result (λ j. j ≡ self.now) }
     {
         let mut inner = BTreeMap::emptied(&self.inner)?;
-        for (name, value) in &self.inner {
+        for (name, value) in self.inner.iter() {
             let name = name.clone()?;
             drop(inner.insert(name, value.copy()?)?);
         }

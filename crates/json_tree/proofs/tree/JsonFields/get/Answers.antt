@@ -1,12 +1,13 @@
-use Rattle.std.proofs.Common.{◌≡◌, ℕ, List, Option, Bor, option_map, refl, ap, ◌∙◌}
+use Rattle.std.proofs.Common.{◌≡◌, Option, Some, None, Bor, option_map, refl, ap, ◌∙◌}
 use Rattle.json_tree.specs.Fields.{get_field}
 use Rattle.json_tree.specs.View.{data_of}
 use Rattle.json_tree.specs.declared.tree.Json.{Json}
-use Rattle.json_tree.proofs.Views.{Entry, data_of-lookup}
+use Rattle.json_tree.proofs.Views.{data_of-lookup}
 use Rattle.json_tree.proofs.tree.JsonFields.get.Goals as goal
 
 behind : (r : Option (Bor Json)) → option_map (λ j. data_of j.now) r ≡ option_map data_of (option_map (λ j. j.now) r)
-behind r = search
+behind None = refl
+behind (Some x) = refl
 
 pub returns : goal.returns
 returns c =

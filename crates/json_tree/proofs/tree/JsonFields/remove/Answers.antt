@@ -1,4 +1,4 @@
-use Rattle.std.proofs.Common.{◌≡◌, ap, ◌∙◌, option_map}
+use Rattle.std.proofs.Common.{ap, ◌∙◌, option_map}
 use Rattle.json_tree.specs.Fields.{get_field, without_field}
 use Rattle.json_tree.specs.View.{data_of, fields_of}
 use Rattle.json_tree.proofs.Views.{fields_of-remove_entry, data_of-lookup}

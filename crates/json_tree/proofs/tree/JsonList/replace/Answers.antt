@@ -1,4 +1,4 @@
-use Rattle.std.proofs.Common.{◌≡◌, ap, ◌∙◌, slice_set}
+use Rattle.std.proofs.Common.{ap, ◌∙◌, slice_set}
 use Rattle.std.proofs.lemmas.List.{map-set}
 use Rattle.json_tree.specs.View.{data_of}
 use Rattle.json_tree.proofs.tree.JsonList.replace.Goals as goal
