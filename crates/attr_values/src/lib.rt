@@ -3,6 +3,8 @@
 
 mod fault;
 mod number;
+mod value;
 
 pub use fault::ItemFault;
 pub use number::Number;
+pub use value::{NumberSet, TextSet, Value, ValueList, ValueMap};
