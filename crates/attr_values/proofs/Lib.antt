@@ -1,2 +1,4 @@
 pub mod NumberLemmas
 pub mod NumeralLemmas
+pub mod Entries
+pub mod ReadingLemmas

@@ -5,3 +5,5 @@ pub mod Datum
 pub mod DatumCode
 pub mod View
 pub mod Falls
+pub mod Faults
+pub mod Reading

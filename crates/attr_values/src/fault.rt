@@ -1,5 +1,7 @@
 //! Why a value, an item or a key is refused.
 
+use std::alloc::{AllocError, AllocFailed};
+
 /// Why a value, an item or a key is refused.
 #[derive(Clone, Copy, Debug, PartialEq, Eq)]
 pub enum ItemFault {
@@ -15,4 +17,26 @@ pub enum ItemFault {
     EmptyKey,
     /// A growth was refused.
     Memory,
+}
+
+impl From<AllocError> for ItemFault {
+    ghost use Rattle.std.specs.Prelude.{◌≡◌};
+    ghost use Rattle.attr_values.specs.declared.fault.ItemFault.TheVariants.{Memory};
+
+    ghost from_gives = { λ _ e. e ≡ Memory };
+
+    fn from(_refused: AllocError) -> ItemFault {
+        ItemFault::Memory
+    }
+}
+
+impl<T: Drop> From<AllocFailed<T>> for ItemFault {
+    ghost use Rattle.std.specs.Prelude.{◌≡◌};
+    ghost use Rattle.attr_values.specs.declared.fault.ItemFault.TheVariants.{Memory};
+
+    ghost from_gives = { λ _ e. e ≡ Memory };
+
+    fn from(_refused: AllocFailed<T>) -> ItemFault {
+        ItemFault::Memory
+    }
 }
