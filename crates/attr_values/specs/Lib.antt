@@ -7,3 +7,4 @@ pub mod View
 pub mod Falls
 pub mod Faults
 pub mod Reading
+pub mod Writing

@@ -5,8 +5,10 @@ mod fault;
 mod number;
 mod reading;
 mod value;
+mod writing;
 
 pub use fault::ItemFault;
 pub use number::Number;
 pub use reading::{MOST_LEVELS, read_value};
+pub use writing::write_value;
 pub use value::{NumberSet, TextSet, Value, ValueList, ValueMap};
