@@ -2,6 +2,7 @@
 use Rattle.std.proofs.Common.{◌≡◌, ◌≢◌, ℕ, zero, suc, ◌+◌, ◌-◌, ◌*◌, ◌/◌, ◌%◌, ◌^◌, ◌<◌, ◌≤◌, List, [], ◌∷◌, ◌++◌, length, take, drop, get_or, replicate, refl, sym, ◌∙◌, ap, ap₂, subst, inl, inr, arith, length-append, append-nil, drop-cons, add-one, append_assoc}
 use Rattle.std.proofs.lemmas.List.{take_all, take_more, drop_all}
 use Rattle.std.proofs.Math.Seq.{take-append_seam, drop-append-add}
+use borrow.Author.Tests.{ltb-true, leb-true, eq-eqb}
 use Rattle.std.specs.Str.Parse.{digits_value_after, digits_value, AllDigits}
 use Rattle.std.specs.Prelude.{Bool, true, false, ◌&&◌, ◌==◌, nat_lt, nat_le, if◌then◌else◌, Option, Some, None, ◌⊎◌, unsigned_abs, ℤ, pos, negsuc}
 use Rattle.std.specs.Char.{digit_value, is_ascii_digit}
@@ -14,7 +15,7 @@ use Rattle.std.specs.Fmt.{decimal}
 use Rattle.std.proofs.Math.Nat.{mul-mod_left, mod-lt, div-one, div-div-eq-div-mul, pow-succ', div-le_self}
 use Rattle.std.proofs.lemmas.Nat.{div-add-mod', mod-mul-add}
 use Rattle.attr_values.specs.Decimal.{Decimal, IsNormal}
-use Rattle.attr_values.specs.Numeral.{is_point, is_unsigned, shortened, magnitude, bounded, with_sign, decimal_of, read_unsigned, read_number, last_digits, fraction_text, number_text, IsShort, SplitsAtPoint}
+use Rattle.attr_values.specs.Numeral.{is_point, is_unsigned, shortened, magnitude, in_bounds, bounded, with_sign, decimal_of, read_unsigned, read_number, last_digits, fraction_text, number_text, IsShort, SplitsAtPoint}
 
 digits_value_grows : (n : ℕ) (ds : List ℕ) → n ≤ digits_value_after 10 n ds
 digits_value_grows n [] = omega arith
@@ -228,3 +229,37 @@ signed_reads (negsuc n) p h = unsigned_reads true (suc n) p h.digits h.places h.
 -- what is written is read to the same number
 pub reads_back : (d : Decimal) → IsNormal d → read_number (number_text d) ≡ Some d
 reads_back d h = signed_reads d.coefficient d.places h
+
+-- ---- what is read is in normal form
+
+by_bool : {G : Type 0} (b : Bool) → (b ≡ true → G) → (b ≡ false → G) → G
+by_bool true f g = f refl
+by_bool false f g = g refl
+
+shortened_end_at : (n p : ℕ) (m : ℕ × ℕ) (zero_last : Bool) → (n % 10 == 0) ≡ zero_last → (0 < m.1 → m.0 % 10 ≢ 0) → (0 < (if zero_last then m else (n, suc p)).1 → (if zero_last then m else (n, suc p)).0 % 10 ≢ 0)
+shortened_end_at n p m true e h = h
+shortened_end_at n p m false e h = λ above z. let f : (n % 10 == 0) ≡ true = eq-eqb (n % 10) 0 z in let g : true ≡ false = sym f ∙ e in cc g
+
+shortened_end : (n p : ℕ) → 0 < (shortened n p).1 → (shortened n p).0 % 10 ≢ 0
+shortened_end n zero = λ above. absurd (omega arith)
+shortened_end n (suc p) = shortened_end_at n p (shortened (n / 10) p) (n % 10 == 0) refl (shortened_end (n / 10) p)
+
+bounded_normal : (negative : Bool) (m : ℕ × ℕ) (d : Decimal) → (0 < m.1 → m.0 % 10 ≢ 0) → bounded negative m ≡ Some d → IsNormal d
+bounded_normal negative m d h is = by_bool (in_bounds m)
+    (λ yes.
+        let e : Some (decimal_of negative m) ≡ Some d = rw yes at is in
+        let same : decimal_of negative m ≡ d = cc e in
+        let both = both_true (nat_lt m.0 (10 ^ 38)) (nat_le m.1 100) yes in
+        subst IsNormal same (normal_decimal negative m.0 m.1 (ltb-true m.0 (10 ^ 38) both.0) (leb-true m.1 100 both.1) (λ above. let f = h above in omega arith)))
+    (λ no. let e : None ≡ Some d = rw no at is in cc e)
+
+unsigned_normal : (negative : Bool) (text : List ℕ) (d : Decimal) → read_unsigned negative text ≡ Some d → IsNormal d
+unsigned_normal negative text d is = by_bool (is_unsigned text)
+    (λ yes. let e : bounded negative (magnitude text) ≡ Some d = rw yes at is in bounded_normal negative (magnitude text) d (shortened_end (digits_value 10 (before_first is_point text ++ after_first is_point text)) (length (after_first is_point text))) e)
+    (λ no. let e : None ≡ Some d = rw no at is in cc e)
+
+pub read_normal : (text : List ℕ) (d : Decimal) → read_number text ≡ Some d → IsNormal d
+read_normal [] d is = cc is
+read_normal (c ∷ text) d is = by_bool (c == 45)
+    (λ yes. let e : read_unsigned true text ≡ Some d = rw yes at is in unsigned_normal true text d e)
+    (λ no. let e : read_unsigned false (c ∷ text) ≡ Some d = rw no at is in unsigned_normal false (c ∷ text) d e)

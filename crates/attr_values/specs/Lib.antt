@@ -8,3 +8,4 @@ pub mod Falls
 pub mod Faults
 pub mod Reading
 pub mod Writing
+pub mod Proper
