@@ -1,13 +1,14 @@
 -- Entries in the order of their names' bytes.
-use Rattle.std.proofs.Common.{◌≡◌, ℕ, List, [], ◌∷◌, ◌++◌, String, Global, Ordering, Less, Equal, Greater, string_bytes, string_cmp, map, refl, sym, ap, ◌∙◌, subst}
+use Rattle.std.proofs.Common.{◌≡◌, ℕ, List, [], ◌∷◌, ◌++◌, String, Global, Ordering, Less, Equal, Greater, string_bytes, string_cmp, map, is_eq, cond, Bool, true, false, Option, Some, None, option_map, refl, sym, ap, ◌∙◌, subst}
 use Rattle.std.proofs.lemmas.Cmp.{nat_list_cmp_total}
-use Rattle.std.specs.BTreeMap.{insert_entry}
+use Rattle.std.specs.BTreeMap.{insert_entry, is_at}
 use Rattle.std.specs.List.{AllByRecursion}
 use Rattle.std.specs.List.Sorted.{IsStrictlySortedBy}
-use Rattle.std.specs.Map.{keys_of}
+use Rattle.std.specs.Map.{keys_of, lookup}
 use Rattle.std.specs.Ordering.{match_ordering, ordering_reverse}
 use Rattle.json_tree.specs.Fields.{text_cmp}
 use Rattle.attr_values.specs.Datum.{Datum}
+use Rattle.attr_values.specs.Item.{get_attribute}
 use Rattle.attr_values.specs.View.{datum_of, entries_of}
 use Rattle.attr_values.specs.declared.value.Value.{Value}
 
@@ -55,3 +56,15 @@ insert_value es k v later h = entries_of-insert_entry es k v ∙ insert_last (en
 pub keys_of-append : {A : Type 0} (ms : List (List ℕ × A)) (m : List ℕ × A) → keys_of (ms ++ m ∷ []) ≡ keys_of ms ++ m.0 ∷ []
 keys_of-append [] m = refl
 keys_of-append (n ∷ ms) m = ap (λ ks. n.0 ∷ ks) (keys_of-append ms m)
+
+-- how a text compares to a key
+abbrev pub at_key : List ℕ → String Global → Ordering
+at_key name k = text_cmp name (string_bytes k)
+
+datum_of-cond : (b : Bool) (v : Value) (rest : Option Value) → option_map datum_of (cond b (Some v) rest) ≡ cond b (Some (datum_of v)) (option_map datum_of rest)
+datum_of-cond true v rest = refl
+datum_of-cond false v rest = refl
+
+pub datum_of-lookup : (name : List ℕ) (es : List Entry) → option_map datum_of (lookup (is_at (at_key name)) es) ≡ get_attribute name (entries_of es)
+datum_of-lookup name [] = refl
+datum_of-lookup name (e ∷ es) = datum_of-cond (is_eq (at_key name e.0)) e.1 _ ∙ rw (datum_of-lookup name es)

@@ -1,5 +1,5 @@
 -- What is read so far, and then the rest.
-use Rattle.std.proofs.Common.{◌≡◌, ℕ, zero, suc, ◌+◌, ◌-◌, ◌<◌, ◌≤◌, List, [], ◌∷◌, ◌++◌, length, get_or, drop, Result, Ok, Err, Some, None, ◌≢◌, ◌⊎◌, String, Global, string_bytes, string_cmp, refl, sym, ap, subst, ◌∙◌, inl, inr, arith, append_assoc, add-one, sub-one, drop-cons}
+use Rattle.std.proofs.Common.{◌≡◌, ℕ, zero, suc, ◌+◌, ◌-◌, ◌<◌, ◌≤◌, List, [], ◌∷◌, ◌++◌, length, get_or, drop, Result, Ok, Err, Some, None, ◌≢◌, ◌⊎◌, String, Global, string_bytes, string_cmp, refl, sym, ap, subst, ◌∙◌, inl, inr, arith, append_assoc, append-nil, add-one, sub-one, drop-cons}
 use Rattle.std.proofs.lemmas.List.{map-append, drop_all}
 use Rattle.std.specs.BTreeMap.{insert_entry}
 use Rattle.std.specs.List.Sorted.{IsStrictlySortedBy}
@@ -102,6 +102,10 @@ attribute_step levels from rest key value es ns k v all is named reads made befo
 pub attributes_end : (levels : ℕ) (from : List (String Global × Json)) (es : List Entry) (all : Result Attributes ItemFault) → from ≡ [] → IsReadSoFar levels es from all → all ≡ Ok (attributes_of (entries_of es))
 attributes_end levels from es all none before =
     before.1 ∙ ap (λ js. result_map (attributes_before (entries_of es)) (spec.read_attributes levels (members_of (fields_of js)))) none ∙ ap Ok (attributes_before-none (entries_of es))
+
+pub attributes_ordered : (levels : ℕ) (from : List (String Global × Json)) (es : List Entry) (all : Result Attributes ItemFault) → from ≡ [] → IsReadSoFar levels es from all → IsStrictlySortedBy text_cmp (keys_of (entries_of es))
+attributes_ordered levels from es all none before =
+    subst (IsStrictlySortedBy text_cmp) (ap (λ js. keys_of (entries_of es) ++ keys_of (fields_of js)) none ∙ append-nil (keys_of (entries_of es))) before.0
 
 -- ---- lists and maps, one level down
 

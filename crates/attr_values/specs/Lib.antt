@@ -9,3 +9,4 @@ pub mod Faults
 pub mod Reading
 pub mod Writing
 pub mod Proper
+pub mod Item

@@ -68,3 +68,8 @@ abbrev mutual
   pub read_attributes : ℕ → json.Members → Result Attributes ItemFault
   read_attributes levels json.no_members = Ok no_attributes
   read_attributes levels (json.member k d ms) = result_and_then (λ e. result_map (attribute k e) (read_attributes levels ms)) (read_datum levels d)
+
+-- an item: attributes, whose values nest at most 32 deep
+abbrev pub read_item : json.Data → Result Attributes ItemFault
+read_item (json.fields ms) = read_attributes 32 ms
+read_item _ = Err BadValue

@@ -3,7 +3,7 @@ use Rattle.std.specs.Prelude.{ℕ, Bool, true, List, [], ◌∷◌, map, codes}
 use Rattle.json_tree.specs.Data as json
 use Rattle.attr_values.specs.Decimal.{Decimal}
 use Rattle.attr_values.specs.Numeral.{number_text}
-use Rattle.attr_values.specs.Datum.{Datum, text, number, boolean, null, list, document, texts, numbers, Elements, no_elements, element, Attributes, no_attributes, attribute}
+use Rattle.attr_values.specs.Datum.{Datum, text, number, boolean, null, list, document, texts, numbers, Elements, no_elements, element, Attributes, no_attributes, attribute, attributes_of}
 
 abbrev pub one_field : List ℕ → json.Data → json.Data
 one_field name d = json.fields (json.member name d json.no_members)
@@ -35,3 +35,6 @@ json_entry m = (m.0, json_of m.1)
 
 abbrev pub json_entries : List (List ℕ × Datum) → List (List ℕ × json.Data)
 json_entries = map json_entry
+
+abbrev pub item_json : List (List ℕ × Datum) → json.Data
+item_json ms = json.fields (json_members (attributes_of ms))

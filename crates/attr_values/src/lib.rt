@@ -2,12 +2,14 @@
 #![tactic(auto)]
 
 mod fault;
+mod item;
 mod number;
 mod reading;
 mod value;
 mod writing;
 
 pub use fault::ItemFault;
+pub use item::{Item, read_item, write_item};
 pub use number::Number;
 pub use reading::{MOST_LEVELS, read_value};
 pub use writing::write_value;

@@ -1,7 +1,10 @@
 //! From JSON to values.
 
-ghost use Rattle.std.specs.Prelude.{◌≡◌, ◌≢◌, ◌∷◌, [], Some, MatchOption, length};
+ghost use Rattle.std.specs.Prelude.{◌≡◌, ◌≢◌, ◌∷◌, [], Some, MatchOption, IfOk, length};
+ghost use Rattle.std.specs.List.Sorted.{IsStrictlySortedBy};
+ghost use Rattle.std.specs.Map.{keys_of};
 ghost use Rattle.json_tree.specs.Data.{items_of, members_of};
+ghost use Rattle.json_tree.specs.Fields.{text_cmp};
 ghost use Rattle.json_tree.specs.View.{data_of};
 ghost use Rattle.attr_values.specs.Datum.{elements_of, attributes_of};
 ghost use Rattle.attr_values.specs.Faults.{Answers};
@@ -189,8 +192,9 @@ fn read_elements(alloc: Global, list: &JsonList, levels: u8) -> Result<ValueList
 }
 
 #[cycle(read)]
-fn read_attributes(alloc: Global, fields: &JsonFields, levels: u8) -> Result<ValueMap, ItemFault>
-    ensures { Answers attributes_of (spec.read_attributes levels (members_of fields.now)) result }
+pub(crate) fn read_attributes(alloc: Global, fields: &JsonFields, levels: u8) -> Result<ValueMap, ItemFault>
+    ensures read { Answers attributes_of (spec.read_attributes levels (members_of fields.now)) result }
+    ensures ordered { IfOk result (λ m. IsStrictlySortedBy text_cmp (keys_of m)) }
 {
     let mut inner = BTreeMap::new(alloc);
     for (name, json) in fields.iter() {

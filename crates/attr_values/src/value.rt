@@ -1,7 +1,8 @@
 //! Attribute values, and the lists, maps and sets that hold them.
 
-ghost use Rattle.std.specs.Prelude.{◌≡◌, IfOk};
-ghost use Rattle.attr_values.specs.View.{datum_of, list_of, entries_of};
+ghost use Rattle.std.specs.Prelude.{◌≡◌, ◌↔◌, [], length, option_map, IsTrue, IfOk};
+ghost use Rattle.attr_values.specs.Item.{get_attribute};
+ghost use Rattle.attr_values.specs.View.{datum_of};
 
 use crate::number::Number;
 use json_tree::Text;
@@ -76,6 +77,27 @@ impl Model for ValueMap {
     ghost use Rattle.attr_values.specs.Falls.{entries_fall};
 
     ghost size_decreases = { λ a h. entries_fall a.inner.entries };
+}
+
+impl ValueMap {
+    pub fn len(&self) -> usize
+        ensures { result ≡ length self.now }
+    {
+        self.inner.len()
+    }
+
+    pub fn is_empty(&self) -> bool
+        ensures { IsTrue result ↔ (self.now ≡ []) }
+    {
+        self.inner.is_empty()
+    }
+
+    /// The value of a name. Takes time by the logarithm of the number of attributes.
+    pub fn get(&self, name: &str) -> Option<&Value>
+        ensures { option_map (λ v. datum_of v.now) result ≡ get_attribute name.now self.now }
+    {
+        self.inner.get(name)
+    }
 }
 
 /// Texts without repeats, in the order of their bytes.

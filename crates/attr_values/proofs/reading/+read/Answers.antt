@@ -5,7 +5,7 @@ use Rattle.attr_values.specs.Datum.{list, document}
 use Rattle.attr_values.specs.Faults.{result_map}
 use Rattle.attr_values.specs.Reading as spec
 use Rattle.attr_values.specs.declared.reading.Kind.TheVariants.{L, M}
-use Rattle.attr_values.proofs.ReadingLemmas.{element_step, elements_end, attributes_start, attribute_step, attributes_end, read_datum-field, read_datum-other, read_kind-none, read_kind-list, read_kind-map, mapped_fault}
+use Rattle.attr_values.proofs.ReadingLemmas.{element_step, elements_end, attributes_start, attribute_step, attributes_end, attributes_ordered, read_datum-field, read_datum-other, read_kind-none, read_kind-list, read_kind-map, mapped_fault}
 use Rattle.attr_values.proofs.reading.+read.Goals as goal
 
 pub read_attributes-loop-name-init : goal.read_attributes-loop-name-init
@@ -19,10 +19,15 @@ read_attributes-loop-name-preserved t c =
     attribute_step c.args.levels l.name-iterator c.next.new.self c.in-Some.name.now c.in-Some.json.now l.inner.entries c.insert.new.self.entries c.in_ok-clone.field-0 c.in_ok-value.value _
     c.in-Some.ensures.steps c.in_ok-clone.ensures.cases c.in_ok-value.ensures c.in_ok-insert.ensures.entries l.invariant
 
-pub read_attributes-returns : goal.read_attributes-returns
-read_attributes-returns t c =
+pub read_attributes-returns-clause-read : goal.read_attributes-returns-clause-read
+read_attributes-returns-clause-read t c =
     let l = c.loop-name in
     attributes_end c.args.levels l.name-iterator l.inner.entries _ c.in-None.ensures.steps.0 l.invariant
+
+pub read_attributes-returns-clause-ordered : goal.read_attributes-returns-clause-ordered
+read_attributes-returns-clause-ordered t c =
+    let l = c.loop-name in
+    attributes_ordered c.args.levels l.name-iterator l.inner.entries _ c.in-None.ensures.steps.0 l.invariant
 
 pub read_elements-loop-json-preserved : goal.read_elements-loop-json-preserved
 read_elements-loop-json-preserved t c =
@@ -60,9 +65,9 @@ read_list-returns-in-Err t c =
 pub read_map-returns-in-Ok : goal.read_map-returns-in-Ok
 read_map-returns-in-Ok t c =
     ap (λ j. spec.read_kind (Some M) c.args.levels (data_of j)) c.in-Fields.is ∙ read_kind-map c.args.levels (members_of c.in-Fields.fields) c.if-levels-gt0.true
-    ∙ ap (result_map document) c.in-Ok.ensures
+    ∙ ap (result_map document) c.in-Ok.ensures.read
 
 pub read_map-returns-in-Err : goal.read_map-returns-in-Err
 read_map-returns-in-Err t c =
     mapped_fault document (spec.read_attributes (c.args.levels - 1) (members_of c.in-Fields.fields)) _ c.in-Err.fault
-    (ap (λ j. spec.read_kind (Some M) c.args.levels (data_of j)) c.in-Fields.is ∙ read_kind-map c.args.levels (members_of c.in-Fields.fields) c.if-levels-gt0.true) c.in-Err.ensures
+    (ap (λ j. spec.read_kind (Some M) c.args.levels (data_of j)) c.in-Fields.is ∙ read_kind-map c.args.levels (members_of c.in-Fields.fields) c.if-levels-gt0.true) c.in-Err.ensures.read
