@@ -10,3 +10,5 @@ pub mod Reading
 pub mod Writing
 pub mod Proper
 pub mod Item
+pub mod Key
+pub mod KeyOrder

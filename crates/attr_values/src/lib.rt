@@ -3,6 +3,9 @@
 
 mod fault;
 mod item;
+mod key;
+mod key_order;
+mod keying;
 mod number;
 mod reading;
 mod value;
@@ -10,6 +13,8 @@ mod writing;
 
 pub use fault::ItemFault;
 pub use item::{Item, read_item, write_item};
+pub use key::{Key, KeyAttribute, KeyPart, KeySchema, KeyText, KeyType};
+pub use keying::key_of;
 pub use number::Number;
 pub use reading::{MOST_LEVELS, read_value};
 pub use writing::write_value;
