@@ -64,22 +64,28 @@ unfolding IsStrictlySortedBy
 source_order [] h = tt
 source_order (e ∷ es) h = (below_names e.0 es h.0, source_order es h.1)
 
-pub items_step : (from : List Value) (i : ℕ) (x : Value) (done done' : List Json) (v : Json) (all : Option Items) → x ≡ get_or from i x → i < length from → whole_of (view x) ≡ Some (data_of v)
-    → done' ≡ done ++ v ∷ [] → all ≡ option_map (items_before (list_of done)) (whole_items (items_view (drop i from)))
-    → all ≡ option_map (items_before (list_of done')) (whole_items (items_view (drop (i + 1) from)))
-items_step from i x done done' v all is within reads grown before =
-    let rest = drop (i + 1) from in
-    let left : drop i from ≡ x ∷ rest = drop-cons from i x within ∙ rw (← is, add-one) in
+pub items_next : (from rest : List Value) (x : Value) (done done' : List Json) (v : Json) (all : Option Items) → from ≡ x ∷ rest → whole_of (view x) ≡ Some (data_of v) → done' ≡ done ++ v ∷ []
+    → all ≡ option_map (items_before (list_of done)) (whole_items (items_view from)) → all ≡ option_map (items_before (list_of done')) (whole_items (items_view rest))
+items_next from rest x done done' v all left reads grown before =
     let read : whole_items (items_view (x ∷ rest)) ≡ option_map (item (data_of v)) (whole_items (items_view rest)) = rw reads in
     let made : list_of done ++ data_of v ∷ [] ≡ list_of done' = sym (ap list_of grown ∙ map-append data_of done (v ∷ [])) in
     before ∙ ap (λ vs. option_map (items_before (list_of done)) (whole_items (items_view vs))) left ∙ ap (option_map (items_before (list_of done))) read ∙ items_push (list_of done) (data_of v) (whole_items (items_view rest))
     ∙ ap (λ ds. option_map (items_before ds) (whole_items (items_view rest))) made
 
+pub items_last : (from : List Value) (done : List Json) (all : Option Items) → from ≡ [] → all ≡ option_map (items_before (list_of done)) (whole_items (items_view from)) → all ≡ Some (items_of (list_of done))
+items_last from done all left before =
+    before ∙ ap (λ vs. option_map (items_before (list_of done)) (whole_items (items_view vs))) left ∙ ap Some (items_before-no_items (list_of done))
+
+pub items_step : (from : List Value) (i : ℕ) (x : Value) (done done' : List Json) (v : Json) (all : Option Items) → x ≡ get_or from i x → i < length from → whole_of (view x) ≡ Some (data_of v)
+    → done' ≡ done ++ v ∷ [] → all ≡ option_map (items_before (list_of done)) (whole_items (items_view (drop i from)))
+    → all ≡ option_map (items_before (list_of done')) (whole_items (items_view (drop (i + 1) from)))
+items_step from i x done done' v all is within reads grown before =
+    let left : drop i from ≡ x ∷ drop (i + 1) from = drop-cons from i x within ∙ rw (← is, add-one) in
+    items_next (drop i from) (drop (i + 1) from) x done done' v all left reads grown before
+
 pub items_end : (from : List Value) (i : ℕ) (done : List Json) (all : Option Items) → length from ≤ i → all ≡ option_map (items_before (list_of done)) (whole_items (items_view (drop i from)))
     → all ≡ Some (items_of (list_of done))
-items_end from i done all past before =
-    let left : drop i from ≡ [] = drop_all i from past in
-    before ∙ ap (λ vs. option_map (items_before (list_of done)) (whole_items (items_view vs))) left ∙ ap Some (items_before-no_items (list_of done))
+items_end from i done all past before = items_last (drop i from) done all (drop_all i from past) before
 
 abbrev pub IsReadSoFar : List Entry → List (String Global × Value) → Option Members → Type 0
 IsReadSoFar es from all =

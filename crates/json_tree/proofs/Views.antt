@@ -9,7 +9,8 @@ use Rattle.std.specs.List.{AllByRecursion}
 use Rattle.std.specs.List.Sorted.{IsStrictlySortedBy}
 use Rattle.std.specs.Map.{keys_of, lookup, set_value, remove_entry}
 use Rattle.std.specs.Ordering.{match_ordering, ordering_reverse}
-use Rattle.json_tree.specs.Data.{Data}
+use Rattle.json_tree.specs.Data.{Data, members_of}
+use Rattle.json_tree.specs.Proper.{names}
 use Rattle.json_tree.specs.Fields.{text_cmp, IsInNameOrder, get_field, with_field, without_field}
 use Rattle.json_tree.specs.View.{data_of, fields_of}
 use Rattle.json_tree.specs.declared.tree.Json.{Json}
@@ -132,3 +133,7 @@ pub written : (r : Option (MutBor Json)) (es ns : List Entry) (name : List ℕ) 
 written None es ns name v ms value sorted is view = tt
 written (Some x) es ns name v ms value sorted is view =
     ap fields_of is ∙ fields_of-written name es x.now v sorted (sym value) ∙ ap (with_field name (data_of v)) view
+
+pub names-members_of : (ms : List (List ℕ × Data)) → names (members_of ms) ≡ keys_of ms
+names-members_of [] = refl
+names-members_of (m ∷ ms) = ap (λ ks. m.0 ∷ ks) (names-members_of ms)

@@ -1,6 +1,6 @@
 -- A JSON value as contracts see it (RFC 8259, section 3): every number is whole, a text is its bytes of UTF-8,
 -- and fields stand in a list of names and values.
-use Rattle.std.specs.Prelude.{ℕ, suc, max, ℤ, List, [], ◌∷◌, Bool}
+use Rattle.std.specs.Prelude.{ℕ, suc, max, ℤ, List, [], ◌∷◌, Bool, true, false}
 
 mutual
   pub data Data : Type 0 where
@@ -52,3 +52,12 @@ list_depth ds = items_depth (items_of ds)
 
 abbrev pub fields_depth : List (List ℕ × Data) → ℕ
 fields_depth ms = members_depth (members_of ms)
+
+-- whether a value is a text, a list or fields, which take memory
+abbrev pub has_room : Data → Bool
+has_room null = false
+has_room (boolean b) = false
+has_room (whole z) = false
+has_room (text s) = true
+has_room (list ds) = true
+has_room (fields ms) = true

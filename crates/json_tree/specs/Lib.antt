@@ -3,7 +3,9 @@ pub mod DataCode
 pub mod View
 pub mod Falls
 pub mod Fields
+pub mod Equality
 pub mod Order
+pub mod Proper
 pub mod Written
 pub mod Reading
 pub mod Lending

@@ -72,12 +72,12 @@ mutual
   members_flip (member k d ms) no_members = refl
   members_flip (member k d ms) (member l e ns) = then_flip _ _ _ _ (nat_list_cmp_total.antisymm k l) (then_flip _ _ _ _ (data_flip d e) (members_flip ms ns))
 
-first_equal : (a b : Ordering) → ordering_then a b ≡ Equal → a ≡ Equal
+pub first_equal : (a b : Ordering) → ordering_then a b ≡ Equal → a ≡ Equal
 first_equal Less b h = h
 first_equal Equal b h = refl
 first_equal Greater b h = h
 
-second_equal : (a b : Ordering) → ordering_then a b ≡ Equal → b ≡ Equal
+pub second_equal : (a b : Ordering) → ordering_then a b ≡ Equal → b ≡ Equal
 second_equal Less b h = cc h
 second_equal Equal b h = h
 second_equal Greater b h = cc h

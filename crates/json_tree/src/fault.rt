@@ -33,6 +33,6 @@ impl<T: Drop> From<AllocFailed<T>> for JsonFault {
     ghost from_gives = { λ _ e. e ≡ Memory };
 
     fn from(_refused: AllocFailed<T>) -> JsonFault {
-        JsonFault::Memory
+        JsonFault::from(AllocError)
     }
 }

@@ -2,14 +2,18 @@
 
 //! JSON values whose numbers are whole, read by `serde_json` and written in one spelling.
 mod fault;
+mod laws;
 mod nesting;
 mod order;
 mod reading;
+#[cfg(test)]
+mod tests;
 mod text;
 mod tree;
 mod writing;
 
 pub use fault::JsonFault;
+pub use laws::{equality_is_of_values, texts_tell_apart, written_is_read_back};
 pub use nesting::depth;
 pub use reading::{from_value, read};
 pub use text::Text;

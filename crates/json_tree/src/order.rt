@@ -18,7 +18,7 @@ impl PartialEq for Json {
     ghost laws = { partial_equiv_from_equiv (eq_by_cmp_equiv (on_total data_of data_cmp_total)) };
 
     fn eq(&self, other: &Json) -> bool {
-        compare(self, other).is_eq()
+        self.cmp(other).is_eq()
     }
 }
 
@@ -42,7 +42,7 @@ impl PartialOrd for Json {
     ghost laws = { partial_order_from_agreeing_total (on data_of data_cmp) (on_total data_of data_cmp_total) (λ _ _. refl) (λ _ _. refl) };
 
     fn partial_cmp(&self, other: &Json) -> Option<Ordering> {
-        Some(compare(self, other))
+        Some(self.cmp(other))
     }
 }
 

@@ -1,19 +1,20 @@
 // From text, or from a value of `serde_json`, to a value whose numbers are whole.
-ghost use Rattle.std.specs.Prelude.{◌≡◌, ◌<◌, ◌≤◌, length, IsTrue, IsSome, IfOk, None, Some};
+ghost use Rattle.std.specs.Prelude.{◌≡◌, ◌<◌, ◌≤◌, length, IsTrue, IsSome, IfOk, IfErr, None, Some};
 ghost use Rattle.json_tree.specs.Data.{depth, items_of, members_of};
 ghost use Rattle.json_tree.specs.View.{data_of};
 ghost use Rattle.json_tree.specs.Reading.{source_of, read_json, whole_of, whole_items, whole_members, holds_memory};
-ghost use Rattle.serde_json.specs.View.{view, items_view, members_view};
+ghost use Rattle.serde_json.specs.View.{view, number_view, items_view, members_view};
+ghost use Rattle.serde_json.specs.Data.{number as data_number};
 
 use crate::fault::JsonFault;
 use crate::text::Text;
 use crate::tree::{Json, JsonFields, JsonList};
-use serde_json::{Map, Value};
+use serde_json::{Map, Number, Value};
 use std::alloc::Global;
 use std::collections::BTreeMap;
 
 /// Reads one value (RFC 8259), with white space round it. Of fields with one name the last is read. Takes memory for
-/// `serde_json`'s value of the text, which it goes through once, and for the value.
+/// `serde_json`'s value of the text, which it goes through once, and for lists and fields; texts are moved.
 pub fn read(alloc: Global, bytes: &[u8]) -> Result<Json, JsonFault>
     ensures ok { IfOk result (λ j. read_json bytes.now ≡ Some (data_of j)) }
     ensures nests { IfOk result (λ j. depth (data_of j) ≤ 127) }
@@ -23,7 +24,7 @@ pub fn read(alloc: Global, bytes: &[u8]) -> Result<Json, JsonFault>
     ensures memory { result ≡ Err JsonFault.Memory → 0 < length bytes.now }
 {
     match Value::from_slice(alloc, bytes) {
-        Ok(value) => from_value(alloc, &value),
+        Ok(value) => take_value(alloc, value),
         Err(e) => if e.is_memory() {
             Err(JsonFault::Memory)
         } else {
@@ -43,13 +44,21 @@ pub fn from_value(alloc: Global, value: &Value) -> Result<Json, JsonFault>
     match value {
         Value::Null => Ok(Json::Null),
         Value::Bool(b) => Ok(Json::Bool(*b)),
-        Value::Number(number) => match number.as_i64() {
-            Some(n) => Ok(Json::Whole(n)),
-            None => Err(JsonFault::NotWhole),
-        },
+        Value::Number(number) => whole_number(number),
         Value::String(text) => Ok(Json::Text(Text::new(alloc, text.as_str())?)),
         Value::Array(items) => Ok(Json::List(from_items(alloc, items)?)),
         Value::Object(members) => Ok(Json::Fields(from_members(alloc, members)?)),
+    }
+}
+
+fn whole_number(number: &Number) -> Result<Json, JsonFault>
+    ensures ok { IfOk result (λ j. whole_of (data_number (number_view number.now)) ≡ Some (data_of j)) }
+    ensures err { IfErr result (λ e. (e ≡ JsonFault.NotWhole)
+        × (whole_of (data_number (number_view number.now)) ≡ None)) }
+{
+    match number.as_i64() {
+        Some(n) => Ok(Json::Whole(n)),
+        None => Err(JsonFault::NotWhole),
     }
 }
 
@@ -79,6 +88,50 @@ fn from_members(alloc: Global, members: &Map<String, Value>) -> Result<JsonField
     for (key, member) in members.iter() {
         let name = key.clone()?;
         drop(inner.insert(name, from_value(alloc, member)?)?);
+    }
+    Ok(JsonFields::from_map(inner))
+}
+
+#[cycle(take_value)]
+fn take_value(alloc: Global, value: Value) -> Result<Json, JsonFault>
+    ensures ok { IfOk result (λ j. whole_of (view value) ≡ Some (data_of j)) }
+    ensures not_json { result ≡ Err JsonFault.NotJson → ⊥ }
+    ensures not_whole { result ≡ Err JsonFault.NotWhole → whole_of (view value) ≡ None }
+{
+    match value {
+        Value::Null => Ok(Json::Null),
+        Value::Bool(b) => Ok(Json::Bool(b)),
+        Value::Number(number) => whole_number(&number),
+        Value::String(text) => Ok(Json::Text(Text::from_string(text))),
+        Value::Array(items) => Ok(Json::List(take_items(alloc, items)?)),
+        Value::Object(members) => Ok(Json::Fields(take_members(alloc, members)?)),
+    }
+}
+
+#[cycle(take_value)]
+fn take_items(alloc: Global, items: Vec<Value>) -> Result<JsonList, JsonFault>
+    ensures ok { IfOk result (λ l. whole_items (items_view items.items) ≡ Some (items_of l)) }
+    ensures not_json { result ≡ Err JsonFault.NotJson → ⊥ }
+    ensures not_whole { result ≡ Err JsonFault.NotWhole → whole_items (items_view items.items) ≡ None }
+{
+    let mut inner = Vec::with_capacity(alloc, items.len())?;
+    for item in items {
+        inner.push(take_value(alloc, item)?)?;
+    }
+    Ok(JsonList::from_vec(inner))
+}
+
+#[cycle(take_value)]
+fn take_members(alloc: Global, members: Map<String, Value>) -> Result<JsonFields, JsonFault>
+    ensures ok { IfOk result
+        (λ m. whole_members (members_view members.entries) ≡ Some (members_of m)) }
+    ensures not_json { result ≡ Err JsonFault.NotJson → ⊥ }
+    ensures not_whole { result ≡ Err JsonFault.NotWhole
+        → whole_members (members_view members.entries) ≡ None }
+{
+    let mut inner = BTreeMap::new(alloc);
+    for (name, member) in members {
+        drop(inner.insert(name, take_value(alloc, member)?)?);
     }
     Ok(JsonFields::from_map(inner))
 }

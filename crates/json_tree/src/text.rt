@@ -30,10 +30,10 @@ impl Text {
     }
 
     /// The same bytes, in the memory that they have.
-    pub fn from_string(inner: String) -> Text
-        ensures { result ≡ string_bytes inner }
+    pub fn from_string(string: String) -> Text
+        ensures { result ≡ string_bytes string }
     {
-        Text { inner }
+        Text { inner: string }
     }
 
     /// The same bytes, in the memory that they have.

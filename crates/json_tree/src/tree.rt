@@ -1,5 +1,6 @@
 // The values, and the lists and fields that hold them.
-ghost use Rattle.std.specs.Prelude.{◌≡◌, ◌↔◌, ◌<◌, ◌^◌, ◌++◌, ◌∷◌, [], length, map, option_map, IsTrue, IfOk, IfErr, OnOk, OnErr, slice_get, slice_set, string_bytes};
+ghost use Rattle.std.specs.Prelude.{◌≡◌, ◌↔◌, ◌<◌, ◌++◌, ◌∷◌, [], length, Some, None, option_map, IsTrue, IfOk, IfErr, OnOk, OnErr, slice_get, slice_set, string_bytes};
+ghost use Rattle.json_tree.specs.Data.{has_room};
 ghost use Rattle.json_tree.specs.Fields.{get_field, with_field, without_field, IsInNameOrder};
 ghost use Rattle.json_tree.specs.View.{data_of, list_of, fields_of};
 
@@ -82,7 +83,8 @@ impl Json {
     /// An equal value. Takes memory for each text, list and field.
     #[cycle(copy)]
     pub fn copy(&self) -> Result<Json, AllocError>
-        ensures { IfOk result (λ j. j ≡ self.now) }
+        ensures ok { IfOk result (λ j. j ≡ self.now) }
+        ensures err { OnErr result (IsTrue (has_room (data_of self.now))) }
     {
         match self {
             Json::Null => Ok(Json::Null),
@@ -109,10 +111,10 @@ impl JsonList {
     }
 
     /// The same values, in the memory that they have.
-    pub fn from_vec(inner: Vec<Json>) -> JsonList
-        ensures { result ≡ list_of inner.items }
+    pub fn from_vec(items: Vec<Json>) -> JsonList
+        ensures { result ≡ list_of items.items }
     {
-        JsonList { inner }
+        JsonList { inner: items }
     }
 
     /// The same values, in the memory that they have.
@@ -132,13 +134,13 @@ impl JsonList {
     pub fn len(&self) -> usize
         ensures { result ≡ length self.now }
     {
-        self.inner.len()
+        self.as_slice().len()
     }
 
     pub fn is_empty(&self) -> bool
         ensures { IsTrue result ↔ (self.now ≡ []) }
     {
-        self.inner.is_empty()
+        self.as_slice().is_empty()
     }
 
     pub fn get(&self, index: usize) -> Option<&Json>
@@ -177,7 +179,7 @@ impl JsonList {
     pub fn copy(&self) -> Result<JsonList, AllocError>
         ensures { IfOk result (λ j. j ≡ self.now) }
     {
-        let mut inner = Vec::with_capacity(*self.inner.allocator(), self.inner.len())?;
+        let mut inner = Vec::with_capacity(*self.inner.allocator(), self.len())?;
         for item in &self.inner {
             inner.push(item.copy()?)?;
         }
@@ -199,10 +201,10 @@ impl JsonFields {
     }
 
     /// The same fields, in the memory that they have.
-    pub fn from_map(inner: BTreeMap<String, Json>) -> JsonFields
-        ensures { result ≡ fields_of inner.entries }
+    pub fn from_map(entries: BTreeMap<String, Json>) -> JsonFields
+        ensures { result ≡ fields_of entries.entries }
     {
-        JsonFields { inner }
+        JsonFields { inner: entries }
     }
 
     /// The same fields, in the memory that they have.
@@ -262,6 +264,21 @@ impl JsonFields {
         self.inner.insert(name, value)
     }
 
+    /// Puts a value in the place of another at a name, which is handed out. Where there is no such name, the value is
+    /// handed back. Takes no memory.
+    pub fn replace(&mut self, name: &str, value: Json) -> Result<Json, Json>
+        ensures ok { IfOk result (λ old. get_field name.now self.old ≡ Some (data_of old)) }
+        ensures after { OnOk result (self.new ≡ with_field name.now (data_of value) self.old) }
+        ensures absent { OnErr result (get_field name.now self.old ≡ None) }
+        ensures err { OnErr result (self.new ≡ self.old) }
+        ensures value_returned { IfErr result (λ v. v ≡ value) }
+    {
+        match self.get_mut(name) {
+            Some(slot) => Ok(mem::replace(slot, value)),
+            None => Err(value),
+        }
+    }
+
     /// Takes a field out.
     pub fn remove(&mut self, name: &str) -> Option<Json>
         ensures value { option_map data_of result ≡ get_field name.now self.old }
@@ -275,8 +292,9 @@ impl JsonFields {
     pub fn copy(&self) -> Result<JsonFields, AllocError>
         ensures { IfOk result (λ j. j ≡ self.now) }
     {
-        let mut inner = BTreeMap::emptied(&self.inner)?;
-        for (name, value) in self.inner.iter() {
+        let entries = &self.inner;
+        let mut inner = BTreeMap::emptied(entries)?;
+        for (name, value) in entries.iter() {
             let name = name.clone()?;
             drop(inner.insert(name, value.copy()?)?);
         }

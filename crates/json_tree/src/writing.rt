@@ -1,6 +1,8 @@
 // From a value to its text.
-ghost use Rattle.std.specs.Prelude.{◌≡◌, ◌++◌, IfOk, OnOk, string_bytes};
-ghost use Rattle.json_tree.specs.Data.{items_of, members_of};
+ghost use Rattle.std.specs.Prelude.{◌≡◌, ◌≤◌, ◌++◌, Some, IfOk, OnOk, string_bytes};
+ghost use Rattle.json_tree.specs.Data.{items_of, members_of, depth, fields as data_fields};
+ghost use Rattle.json_tree.specs.Proper.{IsProper, ItemsAreProper};
+ghost use Rattle.json_tree.specs.Reading.{read_json};
 ghost use Rattle.json_tree.specs.View.{data_of};
 ghost use Rattle.json_tree.specs.Written.{text_of};
 ghost use Rattle.json_tree.specs.Tokens.{tokens_of, items_tokens, members_tokens};
@@ -14,7 +16,10 @@ const FIRST_ROOM: usize = 128;
 /// The one text of a value: compact (RFC 8259), fields in the order of their names' bytes, and only those bytes escaped
 /// that have to be. Takes memory for the text alone, which it reads in one pass over the value.
 pub fn write_text(alloc: Global, json: &Json) -> Result<String, AllocError>
-    ensures { IfOk result (λ s. string_bytes s ≡ text_of (data_of json.now)) }
+    ensures text { IfOk result (λ s. string_bytes s ≡ text_of (data_of json.now)) }
+    ensures proper { OnOk result (IsProper (data_of json.now)) }
+    ensures reads_back { IfOk result (λ s. depth (data_of json.now) ≤ 127
+        → read_json (string_bytes s) ≡ Some (data_of json.now)) }
 {
     let mut out = Writer::new(Vec::with_capacity(alloc, FIRST_ROOM)?);
     write(json, &mut out)?;
@@ -25,6 +30,7 @@ pub fn write_text(alloc: Global, json: &Json) -> Result<String, AllocError>
 #[cycle(write)]
 fn write(json: &Json, out: &mut Writer) -> Result<(), AllocError>
     ensures ok { OnOk result (out.new.tokens ≡ out.old.tokens ++ tokens_of (data_of json.now)) }
+    ensures proper { OnOk result (IsProper (data_of json.now)) }
     ensures before { out.new.before ≡ out.old.before }
 {
     match json {
@@ -46,6 +52,7 @@ fn write(json: &Json, out: &mut Writer) -> Result<(), AllocError>
 #[cycle(write)]
 fn write_list(list: &JsonList, out: &mut Writer) -> Result<(), AllocError>
     ensures ok { OnOk result (out.new.tokens ≡ out.old.tokens ++ items_tokens (items_of list.now)) }
+    ensures proper { OnOk result (ItemsAreProper (items_of list.now)) }
     ensures before { out.new.before ≡ out.old.before }
 {
     for item in &list.inner {
@@ -57,9 +64,10 @@ fn write_list(list: &JsonList, out: &mut Writer) -> Result<(), AllocError>
 #[cycle(write)]
 fn write_fields(fields: &JsonFields, out: &mut Writer) -> Result<(), AllocError>
     ensures ok { OnOk result (out.new.tokens ≡ out.old.tokens ++ members_tokens (members_of fields.now)) }
+    ensures proper { OnOk result (IsProper (data_fields (members_of fields.now))) }
     ensures before { out.new.before ≡ out.old.before }
 {
-    for (name, value) in &fields.inner {
+    for (name, value) in fields.inner.iter() {
         out.key(name.as_str())?;
         write(value, out)?;
     }

@@ -21,5 +21,5 @@ JsonFields::copy-loop-name-preserved t c =
     let all : fields_of l.inner.entries ++ (string_bytes e.0, data_of e.1) ∷ fields_of left ≡ c.args.self.now = ap (λ es. fields_of l.inner.entries ++ fields_of es) (sym next) ∙ l.invariant.1 in (
       l.invariant.0,
       ap (λ es. fields_of es ++ fields_of left) c.in_ok-insert.ensures.entries
-          ∙ insert_next l.inner.entries c.in_ok-name.name c.in_ok-copy.field-0 (string_bytes e.0) (data_of e.1) (fields_of left) c.args.self.now c.in_ok-name.ensures.cases (ap data_of c.in_ok-copy.ensures) l.invariant.0 all,
+          ∙ insert_next l.inner.entries c.in_ok-name.name c.in_ok-copy.field-0 (string_bytes e.0) (data_of e.1) (fields_of left) c.args.self.now c.in_ok-name.ensures.cases (ap data_of c.in_ok-copy.ensures.ok) l.invariant.0 all,
     )
