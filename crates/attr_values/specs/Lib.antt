@@ -9,6 +9,7 @@ pub mod Faults
 pub mod Reading
 pub mod Writing
 pub mod Proper
+pub mod Order
 pub mod Item
 pub mod Key
 pub mod KeyOrder
