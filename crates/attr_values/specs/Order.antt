@@ -164,32 +164,32 @@ mutual
   datum_rises (numbers ks) (numbers ls) (numbers ns) h g = number_lists_total.trans ks ls ns h g
   datum_rises (text x) (number y) null h g = refl
   datum_rises (text x) (boolean y) null h g = refl
-  datum_rises (text x) null (text z) h g = cc g
-  datum_rises (text x) (list y) null h g = cc g
-  datum_rises (text x) (document y) null h g = cc g
-  datum_rises (text x) (texts y) null h g = cc g
-  datum_rises (text x) (numbers y) null h g = cc g
+  datum_rises (text x) null (text z) h g = cc
+  datum_rises (text x) (list y) null h g = cc
+  datum_rises (text x) (document y) null h g = cc
+  datum_rises (text x) (texts y) null h g = cc
+  datum_rises (text x) (numbers y) null h g = cc
   datum_rises (number x) (boolean y) null h g = refl
-  datum_rises (number x) null (text z) h g = cc g
-  datum_rises (number x) (list y) null h g = cc g
-  datum_rises (number x) (document y) null h g = cc g
-  datum_rises (number x) (texts y) null h g = cc g
-  datum_rises (number x) (numbers y) null h g = cc g
-  datum_rises (boolean x) null (text z) h g = cc g
-  datum_rises (boolean x) (list y) null h g = cc g
-  datum_rises (boolean x) (document y) null h g = cc g
-  datum_rises (boolean x) (texts y) null h g = cc g
-  datum_rises (boolean x) (numbers y) null h g = cc g
-  datum_rises null (list y) null h g = cc g
-  datum_rises null (document y) null h g = cc g
-  datum_rises null (texts y) null h g = cc g
-  datum_rises null (numbers y) null h g = cc g
-  datum_rises (list x) (document y) null h g = cc g
-  datum_rises (list x) (texts y) null h g = cc g
-  datum_rises (list x) (numbers y) null h g = cc g
-  datum_rises (document x) (texts y) null h g = cc g
-  datum_rises (document x) (numbers y) null h g = cc g
-  datum_rises (texts x) (numbers y) null h g = cc g
+  datum_rises (number x) null (text z) h g = cc
+  datum_rises (number x) (list y) null h g = cc
+  datum_rises (number x) (document y) null h g = cc
+  datum_rises (number x) (texts y) null h g = cc
+  datum_rises (number x) (numbers y) null h g = cc
+  datum_rises (boolean x) null (text z) h g = cc
+  datum_rises (boolean x) (list y) null h g = cc
+  datum_rises (boolean x) (document y) null h g = cc
+  datum_rises (boolean x) (texts y) null h g = cc
+  datum_rises (boolean x) (numbers y) null h g = cc
+  datum_rises null (list y) null h g = cc
+  datum_rises null (document y) null h g = cc
+  datum_rises null (texts y) null h g = cc
+  datum_rises null (numbers y) null h g = cc
+  datum_rises (list x) (document y) null h g = cc
+  datum_rises (list x) (texts y) null h g = cc
+  datum_rises (list x) (numbers y) null h g = cc
+  datum_rises (document x) (texts y) null h g = cc
+  datum_rises (document x) (numbers y) null h g = cc
+  datum_rises (texts x) (numbers y) null h g = cc
   datum_rises _ _ _ h g = cc
 
   elements_rise : (x y z : Elements) → elements_cmp x y ≡ Less → elements_cmp y z ≡ Less → elements_cmp x z ≡ Less
@@ -213,3 +213,6 @@ mutual
 
 pub datum_cmp_total : IsTotalOrder datum_cmp
 datum_cmp_total = record { antisymm = datum_flip; trans = datum_rises; congr = datum_alike }
+
+pub attributes_cmp_total : IsTotalOrder attributes_cmp
+attributes_cmp_total = record { antisymm = attributes_flip; trans = attributes_rise; congr = attributes_alike }

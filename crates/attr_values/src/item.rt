@@ -11,11 +11,13 @@ ghost use Rattle.attr_values.specs.View.{datum_of};
 ghost use Rattle.attr_values.specs.Writing.{item_json};
 
 use crate::fault::ItemFault;
+use crate::order::compare_maps;
 use crate::reading::{MOST_LEVELS, read_attributes};
 use crate::value::{Value, ValueMap};
 use crate::writing::write_map;
 use json_tree::Json;
 use std::alloc::{AllocError, Global};
+use std::cmp::Ordering;
 use std::marker::Model;
 
 /// An item (PutItem of the DynamoDB API): attributes, each name once and in the order of the names' bytes.
@@ -64,6 +66,65 @@ impl Item {
         ensures { result ≡ is_some (get_attribute name.now self.now) }
     {
         self.get(name).is_some()
+    }
+}
+
+impl PartialEq for Item {
+    ghost use Rattle.std.specs.Cmp.{eq_by_cmp_equiv, on_total, partial_equiv_from_equiv};
+    ghost use Rattle.std.specs.Ordering.{eq_by_cmp, on};
+    ghost use Rattle.attr_values.specs.Datum.{attributes_of};
+    ghost use Rattle.attr_values.specs.Order.{attributes_cmp, attributes_cmp_total};
+
+    ghost eq = { eq_by_cmp (on attributes_of attributes_cmp) };
+
+    ghost laws = { partial_equiv_from_equiv (eq_by_cmp_equiv (on_total attributes_of attributes_cmp_total)) };
+
+    fn eq(&self, other: &Item) -> bool {
+        self.cmp(other).is_eq()
+    }
+}
+
+impl Eq for Item {
+    ghost use Rattle.std.specs.Cmp.{eq_by_cmp_equiv, on_total};
+    ghost use Rattle.attr_values.specs.Datum.{attributes_of};
+    ghost use Rattle.attr_values.specs.Order.{attributes_cmp_total};
+
+    ghost laws = { eq_by_cmp_equiv (on_total attributes_of attributes_cmp_total) };
+}
+
+impl PartialOrd for Item {
+    ghost use Rattle.std.specs.Cmp.{on_total, partial_order_from_agreeing_total};
+    ghost use Rattle.std.specs.Ordering.{as_partial_cmp, on};
+    ghost use Rattle.std.specs.Prelude.{refl};
+    ghost use Rattle.attr_values.specs.Datum.{attributes_of};
+    ghost use Rattle.attr_values.specs.Order.{attributes_cmp, attributes_cmp_total};
+
+    ghost partial_cmp = { as_partial_cmp (on attributes_of attributes_cmp) };
+
+    ghost laws = { partial_order_from_agreeing_total (on attributes_of attributes_cmp) (on_total attributes_of attributes_cmp_total) (λ _ _. refl) (λ _ _. refl) };
+
+    fn partial_cmp(&self, other: &Item) -> Option<Ordering> {
+        Some(self.cmp(other))
+    }
+}
+
+impl Ord for Item {
+    ghost use Rattle.std.specs.Cmp.{on_total};
+    ghost use Rattle.std.specs.Ordering.{on};
+    ghost use Rattle.std.specs.Prelude.{refl};
+    ghost use Rattle.attr_values.specs.Datum.{attributes_of};
+    ghost use Rattle.attr_values.specs.Order.{attributes_cmp, attributes_cmp_total};
+
+    ghost cmp = { on attributes_of attributes_cmp };
+
+    ghost total = { on_total attributes_of attributes_cmp_total };
+
+    ghost matches_partial_cmp = { λ _ _. refl };
+
+    ghost matches_eq = { λ _ _. refl };
+
+    fn cmp(&self, other: &Item) -> Ordering {
+        compare_maps(&self.attributes, &other.attributes)
     }
 }
 

@@ -7,6 +7,7 @@ mod key;
 mod key_order;
 mod keying;
 mod number;
+mod order;
 mod reading;
 mod value;
 mod writing;
