@@ -20,7 +20,7 @@ entries_of-match_ordering Less a b c = refl
 entries_of-match_ordering Equal a b c = refl
 entries_of-match_ordering Greater a b c = refl
 
-entries_of-insert_entry : (es : List Entry) (k : String Global) (v : Value) → entries_of (insert_entry string_cmp es k v) ≡ insert_entry text_cmp (entries_of es) (string_bytes k) (datum_of v)
+pub entries_of-insert_entry : (es : List Entry) (k : String Global) (v : Value) → entries_of (insert_entry string_cmp es k v) ≡ insert_entry text_cmp (entries_of es) (string_bytes k) (datum_of v)
 entries_of-insert_entry [] k v = refl
 entries_of-insert_entry (e ∷ es) k v = entries_of-match_ordering (string_cmp k e.0) _ _ _ ∙ rw (entries_of-insert_entry es k v)
 

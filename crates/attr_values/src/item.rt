@@ -62,6 +62,15 @@ impl Item {
         self.attributes.get(name)
     }
 
+    /// An equal item. Takes memory for each attribute.
+    pub fn copy(&self) -> Result<Item, AllocError>
+        ensures { IfOk result (λ i. i ≡ self.now) }
+    {
+        Ok(Item {
+            attributes: self.attributes.copy()?,
+        })
+    }
+
     pub fn contains(&self, name: &str) -> bool
         ensures { result ≡ is_some (get_attribute name.now self.now) }
     {

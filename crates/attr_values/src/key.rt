@@ -1,10 +1,11 @@
 //! Keys of items, and which attributes they are.
 
-ghost use Rattle.std.specs.Prelude.{◌≡◌, ◌↔◌, [], IsNone, IfSome};
+ghost use Rattle.std.specs.Prelude.{◌≡◌, ◌↔◌, [], IsNone, IfSome, IfOk};
 
 use crate::key_order::{compare_keys, compare_parts};
 use crate::number::Number;
 use json_tree::Text;
+use std::alloc::AllocError;
 use std::cmp::Ordering;
 use std::hash::{Hash, Hasher};
 use std::marker::Model;
@@ -78,6 +79,43 @@ impl KeyText {
         ensures { result.now ≡ self.now }
     {
         self.inner.as_str()
+    }
+}
+
+impl KeyText {
+    /// An equal text. Takes memory for its bytes.
+    pub fn copy(&self) -> Result<KeyText, AllocError>
+        ensures { IfOk result (λ t. t ≡ self.now) }
+    {
+        Ok(KeyText {
+            inner: self.inner.copy()?,
+        })
+    }
+}
+
+impl KeyPart {
+    /// An equal part. Takes memory for a text.
+    pub fn copy(&self) -> Result<KeyPart, AllocError>
+        ensures { IfOk result (λ p. p ≡ self.now) }
+    {
+        match self {
+            KeyPart::S(text) => Ok(KeyPart::S(text.copy()?)),
+            KeyPart::N(number) => Ok(KeyPart::N(*number)),
+        }
+    }
+}
+
+impl Key {
+    /// An equal key. Takes memory for its texts.
+    pub fn copy(&self) -> Result<Key, AllocError>
+        ensures { IfOk result (λ k. k ≡ self.now) }
+    {
+        let partition = self.partition.copy()?;
+        let sort = match &self.sort {
+            Some(part) => Some(part.copy()?),
+            None => None,
+        };
+        Ok(Key { partition, sort })
     }
 }
 

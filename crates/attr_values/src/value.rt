@@ -2,12 +2,17 @@
 
 ghost use Rattle.std.specs.Prelude.{◌≡◌, ◌↔◌, [], length, option_map, IsTrue, IfOk};
 ghost use Rattle.attr_values.specs.Item.{get_attribute};
-ghost use Rattle.attr_values.specs.View.{datum_of};
+ghost use Rattle.attr_values.specs.View.{datum_of, list_of};
+ghost use Rattle.std.specs.BTreeMap.{is_at};
+ghost use Rattle.std.specs.List.{list_any};
+ghost use Rattle.json_tree.specs.Fields.{text_cmp};
+ghost use Rattle.attr_values.specs.Decimal.{decimal_cmp};
 
 use crate::number::Number;
 use json_tree::Text;
 use std::alloc::{AllocError, Global};
 use std::collections::{BTreeMap, BTreeSet};
+use std::default::Emptied;
 use std::marker::Model;
 
 /// An attribute value (AttributeValue of the DynamoDB API), under the API's names of its types.
@@ -79,7 +84,59 @@ impl Model for ValueMap {
     ghost size_decreases = { λ a h. entries_fall a.inner.entries };
 }
 
+impl Value {
+    /// An equal value. Takes memory for each text, list, map and set.
+    #[cycle(copy)]
+    pub fn copy(&self) -> Result<Value, AllocError>
+        ensures { IfOk result (λ v. v ≡ self.now) }
+    {
+        match self {
+            Value::S(text) => Ok(Value::S(text.copy()?)),
+            Value::N(number) => Ok(Value::N(*number)),
+            Value::Bool(b) => Ok(Value::Bool(*b)),
+            Value::Null => Ok(Value::Null),
+            Value::L(list) => Ok(Value::L(list.copy()?)),
+            Value::M(map) => Ok(Value::M(map.copy()?)),
+            Value::Ss(set) => Ok(Value::Ss(set.copy()?)),
+            Value::Ns(set) => Ok(Value::Ns(set.copy()?)),
+        }
+    }
+}
+
+impl ValueList {
+    pub fn as_slice(&self) -> &[Value]
+        ensures { list_of result.now ≡ self.now }
+    {
+        self.inner.as_slice()
+    }
+
+    /// An equal list. Takes memory for the list, and for each value as `Value::copy` does.
+    #[cycle(copy)]
+    pub fn copy(&self) -> Result<ValueList, AllocError>
+        ensures { IfOk result (λ l. l ≡ self.now) }
+    {
+        let mut inner = Vec::with_capacity(*self.inner.allocator(), self.inner.len())?;
+        for value in &self.inner {
+            inner.push(value.copy()?)?;
+        }
+        Ok(ValueList { inner })
+    }
+}
+
 impl ValueMap {
+    /// Equal attributes. Takes memory for each of them.
+    #[cycle(copy)]
+    pub fn copy(&self) -> Result<ValueMap, AllocError>
+        ensures { IfOk result (λ m. m ≡ self.now) }
+    {
+        let mut inner = BTreeMap::emptied(&self.inner)?;
+        for (name, value) in self.inner.iter() {
+            let name = name.clone()?;
+            drop(inner.insert(name, value.copy()?)?);
+        }
+        Ok(ValueMap { inner })
+    }
+
     pub fn len(&self) -> usize
         ensures { result ≡ length self.now }
     {
@@ -114,6 +171,31 @@ impl Model for TextSet {
     ghost view = { λ a. a.inner.keys };
 }
 
+impl TextSet {
+    pub fn len(&self) -> usize
+        ensures { result ≡ length self.now }
+    {
+        self.inner.len()
+    }
+
+    pub fn contains(&self, text: &Text) -> bool
+        ensures { result ≡ list_any (is_at (text_cmp text.now)) self.now }
+    {
+        self.inner.contains(text)
+    }
+
+    /// An equal set. Takes memory for each text.
+    pub fn copy(&self) -> Result<TextSet, AllocError>
+        ensures { IfOk result (λ s. s ≡ self.now) }
+    {
+        let mut inner = BTreeSet::emptied(&self.inner)?;
+        for text in self.inner.iter() {
+            inner.insert(text.copy()?)?;
+        }
+        Ok(TextSet { inner })
+    }
+}
+
 /// Numbers without repeats, in their order.
 #[derive(Debug, Drop)]
 pub struct NumberSet {
@@ -127,4 +209,29 @@ impl Model for NumberSet {
     ghost Value = { List Decimal };
 
     ghost view = { λ a. a.inner.keys };
+}
+
+impl NumberSet {
+    pub fn len(&self) -> usize
+        ensures { result ≡ length self.now }
+    {
+        self.inner.len()
+    }
+
+    pub fn contains(&self, number: Number) -> bool
+        ensures { result ≡ list_any (is_at (decimal_cmp number)) self.now }
+    {
+        self.inner.contains(&number)
+    }
+
+    /// An equal set. Takes memory for the set.
+    pub fn copy(&self) -> Result<NumberSet, AllocError>
+        ensures { IfOk result (λ s. s ≡ self.now) }
+    {
+        let mut inner = BTreeSet::emptied(&self.inner)?;
+        for number in self.inner.iter() {
+            inner.insert(*number)?;
+        }
+        Ok(NumberSet { inner })
+    }
 }
