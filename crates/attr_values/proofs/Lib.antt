@@ -5,3 +5,5 @@ pub mod Sets
 pub mod ReadingLemmas
 pub mod WritingLemmas
 pub mod ProperLemmas
+pub mod Same
+pub mod LawLemmas

@@ -232,7 +232,7 @@ reads_back d h = signed_reads d.coefficient d.places h
 
 -- ---- what is read is in normal form
 
-by_bool : {G : Type 0} (b : Bool) → (b ≡ true → G) → (b ≡ false → G) → G
+pub by_bool : {G : Type 0} (b : Bool) → (b ≡ true → G) → (b ≡ false → G) → G
 by_bool true f g = f refl
 by_bool false f g = g refl
 

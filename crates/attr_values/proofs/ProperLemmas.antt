@@ -1,6 +1,6 @@
 -- What is read is proper, and what is proper and written is read to the same value.
 use Rattle.std.proofs.Common.{◌≡◌, ◌≢◌, ℕ, zero, suc, List, [], ◌∷◌, ◌++◌, map, Bool, true, false, Option, Some, None, Result, Ok, Err, refl, sym, ap, ap₂, subst, ◌∙◌, append_assoc, append-nil}
-use Rattle.std.specs.Prelude.{if◌then◌else◌}
+use Rattle.std.specs.Prelude.{if◌then◌else◌, IfOk}
 use Rattle.std.specs.BTreeMap.{is_at}
 use Rattle.std.specs.BTreeSet.{insert_key}
 use Rattle.std.specs.Cmp.{IsTotalOrder}
@@ -17,7 +17,9 @@ use Rattle.json_tree.specs.Fields.{text_cmp}
 use Rattle.attr_values.specs.Datum.{Datum, text, number, boolean, null, list, document, texts, numbers, Elements, no_elements, element, Attributes, no_attributes, attribute}
 use Rattle.attr_values.specs.Decimal.{Decimal, IsNormal, decimal_cmp}
 use Rattle.attr_values.specs.DecimalOrder.{decimal_cmp_total}
-use Rattle.attr_values.specs.Faults.{result_map, result_and_then}
+use Rattle.attr_values.specs.Faults.{result_map, result_and_then, Answers}
+use Rattle.attr_values.specs.View.{datum_of}
+use Rattle.attr_values.specs.declared.value.Value.{Value}
 use Rattle.attr_values.specs.Numeral.{read_number, number_text}
 use Rattle.attr_values.specs.Proper.{IsTextSet, IsNumberSet, IsProper, AreProper, AreProperAttributes}
 use Rattle.attr_values.specs.Reading as spec
@@ -124,6 +126,10 @@ mutual
       let first = ok_then (λ e. result_map (attribute k e) (spec.read_attributes levels js)) (spec.read_datum levels j) ms is in
       let rest = ok_map (attribute k first.0) (spec.read_attributes levels js) ms first.2 in
       subst (AreProperAttributes levels) rest.2 (datum_is_proper levels j first.0 first.1, attributes_are_proper levels js rest.0 rest.1)
+
+pub kept_from_answers : (j : json.Data) (r : Result Value ItemFault) → Answers datum_of (spec.read_datum 32 j) r → IfOk r (λ v. IsProper 32 (datum_of v))
+kept_from_answers j (Ok v) h = datum_is_proper 32 j (datum_of v) h
+kept_from_answers j (Err e) h = tt
 
 -- ---- what is written is read back
 

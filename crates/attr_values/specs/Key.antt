@@ -1,5 +1,5 @@
 -- Keys: one attribute or two, each a text that is not empty or a number; their order, and the key of an item.
-use Rattle.std.specs.Prelude.{ℕ, List, [], ◌∷◌, ◌++◌, Option, Some, None, Result, Ok, Err}
+use Rattle.std.specs.Prelude.{ℕ, List, [], ◌∷◌, ◌++◌, Option, Some, None, Result, Ok, Err, Bool, true, false, ◌||◌}
 use Rattle.std.specs.Hash as fed
 use Rattle.std.specs.Option.{option_cmp}
 use Rattle.std.specs.Ordering.{ordering_then}
@@ -57,3 +57,15 @@ sort_of (Some a) item = result_map Some (part_of a item)
 -- the key of an item: its partition, and then its sort attribute, where the keys have one
 abbrev pub key_of : KeySchema → List (List ℕ × Datum) → Result Key ItemFault
 key_of schema item = result_and_then (λ p. result_map (λ s. record { partition = p; sort = s }) (sort_of schema.sort item)) (part_of schema.partition item)
+
+-- whether a key has a text: only then is memory taken to make it
+abbrev pub is_text : KeyType → Bool
+is_text TextType = true
+is_text NumberType = false
+
+abbrev pub sort_is_text : Option KeyAttribute → Bool
+sort_is_text None = false
+sort_is_text (Some a) = is_text a.kind
+
+abbrev pub has_text : KeySchema → Bool
+has_text schema = is_text schema.partition.kind || sort_is_text schema.sort

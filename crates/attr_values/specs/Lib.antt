@@ -13,3 +13,4 @@ pub mod Order
 pub mod Item
 pub mod Key
 pub mod KeyOrder
+pub mod Laws

@@ -73,3 +73,20 @@ abbrev mutual
 abbrev pub read_item : json.Data → Result Attributes ItemFault
 read_item (json.fields ms) = read_attributes 32 ms
 read_item _ = Err BadValue
+
+-- whether to read this takes memory: only where it does may it be refused
+abbrev pub kind_takes_memory : Option Kind → json.Data → Bool
+kind_takes_memory (Some S) (json.text s) = true
+kind_takes_memory (Some L) (json.list ds) = true
+kind_takes_memory (Some M) (json.fields ms) = true
+kind_takes_memory (Some Ss) (json.list ds) = true
+kind_takes_memory (Some Ns) (json.list ds) = true
+kind_takes_memory _ _ = false
+
+abbrev pub takes_memory : json.Data → Bool
+takes_memory (json.fields (json.member name d json.no_members)) = kind_takes_memory (kind_of name) d
+takes_memory _ = false
+
+abbrev pub is_object : json.Data → Bool
+is_object (json.fields ms) = true
+is_object _ = false

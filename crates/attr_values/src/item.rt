@@ -1,6 +1,6 @@
 //! Items.
 
-ghost use Rattle.std.specs.Prelude.{◌≡◌, ◌↔◌, [], Ok, length, option_map, IsTrue, IfOk, is_some};
+ghost use Rattle.std.specs.Prelude.{◌≡◌, ◌↔◌, [], Ok, Err, length, option_map, IsTrue, IfOk, is_some};
 ghost use Rattle.json_tree.specs.View.{data_of};
 ghost use Rattle.attr_values.specs.Datum.{attributes_of};
 ghost use Rattle.attr_values.specs.Faults.{Answers};
@@ -141,6 +141,7 @@ impl Ord for Item {
 pub fn read_item(alloc: Global, json: &Json) -> Result<Item, ItemFault>
     ensures read { Answers attributes_of (spec.read_item (data_of json.now)) result }
     ensures kept { IfOk result IsItem }
+    ensures memory { result ≡ Err ItemFault.Memory → IsTrue (spec.is_object (data_of json.now)) }
 {
     let Json::Fields(fields) = json else {
         return Err(ItemFault::BadValue);

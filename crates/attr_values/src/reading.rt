@@ -1,6 +1,6 @@
 //! From JSON to values.
 
-ghost use Rattle.std.specs.Prelude.{◌≡◌, ◌≢◌, ◌∷◌, [], Some, MatchOption, IfOk, length};
+ghost use Rattle.std.specs.Prelude.{◌≡◌, ◌≢◌, ◌∷◌, [], Some, Err, IsTrue, MatchOption, IfOk, length};
 ghost use Rattle.std.specs.List.Sorted.{IsStrictlySortedBy};
 ghost use Rattle.std.specs.Map.{keys_of};
 ghost use Rattle.json_tree.specs.Data.{items_of, members_of};
@@ -8,6 +8,7 @@ ghost use Rattle.json_tree.specs.Fields.{text_cmp};
 ghost use Rattle.json_tree.specs.View.{data_of};
 ghost use Rattle.attr_values.specs.Datum.{elements_of, attributes_of};
 ghost use Rattle.attr_values.specs.Faults.{Answers};
+ghost use Rattle.attr_values.specs.Proper.{IsProper};
 ghost use Rattle.attr_values.specs.Reading as spec;
 ghost use Rattle.attr_values.specs.View.{datum_of};
 
@@ -36,7 +37,9 @@ enum Kind {
 
 /// Reads a value: an object with one field, named for its type. Takes memory for each text, list, map and set.
 pub fn read_value(alloc: Global, json: &Json) -> Result<Value, ItemFault>
-    ensures { Answers datum_of (spec.read_datum 32 (data_of json.now)) result }
+    ensures read { Answers datum_of (spec.read_datum 32 (data_of json.now)) result }
+    ensures kept { IfOk result (λ v. IsProper 32 (datum_of v)) }
+    ensures memory { result ≡ Err ItemFault.Memory → IsTrue (spec.takes_memory (data_of json.now)) }
 {
     read_within(alloc, json, MOST_LEVELS)
 }
@@ -70,7 +73,8 @@ fn only_field(fields: &JsonFields) -> Option<(&str, &Json)>
 
 #[cycle(read)]
 fn read_within(alloc: Global, json: &Json, levels: u8) -> Result<Value, ItemFault>
-    ensures { Answers datum_of (spec.read_datum levels (data_of json.now)) result }
+    ensures read { Answers datum_of (spec.read_datum levels (data_of json.now)) result }
+    ensures memory { result ≡ Err ItemFault.Memory → IsTrue (spec.takes_memory (data_of json.now)) }
 {
     let Json::Fields(fields) = json else {
         return Err(ItemFault::BadValue);
@@ -86,7 +90,8 @@ fn read_within(alloc: Global, json: &Json, levels: u8) -> Result<Value, ItemFaul
 
 #[cycle(read)]
 fn read_kind(alloc: Global, kind: Kind, json: &Json, levels: u8) -> Result<Value, ItemFault>
-    ensures { Answers datum_of (spec.read_kind (Some kind) levels (data_of json.now)) result }
+    ensures read { Answers datum_of (spec.read_kind (Some kind) levels (data_of json.now)) result }
+    ensures memory { result ≡ Err ItemFault.Memory → IsTrue (spec.kind_takes_memory (Some kind) (data_of json.now)) }
 {
     match kind {
         Kind::S => read_text(json),
@@ -101,7 +106,8 @@ fn read_kind(alloc: Global, kind: Kind, json: &Json, levels: u8) -> Result<Value
 }
 
 fn read_text(json: &Json) -> Result<Value, ItemFault>
-    ensures { Answers datum_of (spec.read_kind (Some Kind.S) 0 (data_of json.now)) result }
+    ensures read { Answers datum_of (spec.read_kind (Some Kind.S) 0 (data_of json.now)) result }
+    ensures memory { result ≡ Err ItemFault.Memory → IsTrue (spec.kind_takes_memory (Some Kind.S) (data_of json.now)) }
 {
     match json {
         Json::Text(text) => Ok(Value::S(text.copy()?)),
@@ -110,7 +116,8 @@ fn read_text(json: &Json) -> Result<Value, ItemFault>
 }
 
 fn read_number(json: &Json) -> Result<Value, ItemFault>
-    ensures { Answers datum_of (spec.read_kind (Some Kind.N) 0 (data_of json.now)) result }
+    ensures read { Answers datum_of (spec.read_kind (Some Kind.N) 0 (data_of json.now)) result }
+    ensures memory { result ≡ Err ItemFault.Memory → IsTrue (spec.kind_takes_memory (Some Kind.N) (data_of json.now)) }
 {
     match json {
         Json::Text(text) => Ok(Value::N(Number::read(text.as_str())?)),
@@ -119,7 +126,8 @@ fn read_number(json: &Json) -> Result<Value, ItemFault>
 }
 
 fn read_bool(json: &Json) -> Result<Value, ItemFault>
-    ensures { Answers datum_of (spec.read_kind (Some Kind.Bool) 0 (data_of json.now)) result }
+    ensures read { Answers datum_of (spec.read_kind (Some Kind.Bool) 0 (data_of json.now)) result }
+    ensures memory { result ≡ Err ItemFault.Memory → IsTrue (spec.kind_takes_memory (Some Kind.Bool) (data_of json.now)) }
 {
     match json {
         Json::Bool(b) => Ok(Value::Bool(*b)),
@@ -128,7 +136,8 @@ fn read_bool(json: &Json) -> Result<Value, ItemFault>
 }
 
 fn read_null(json: &Json) -> Result<Value, ItemFault>
-    ensures { Answers datum_of (spec.read_kind (Some Kind.Null) 0 (data_of json.now)) result }
+    ensures read { Answers datum_of (spec.read_kind (Some Kind.Null) 0 (data_of json.now)) result }
+    ensures memory { result ≡ Err ItemFault.Memory → IsTrue (spec.kind_takes_memory (Some Kind.Null) (data_of json.now)) }
 {
     match json {
         Json::Bool(true) => Ok(Value::Null),
@@ -138,7 +147,8 @@ fn read_null(json: &Json) -> Result<Value, ItemFault>
 
 #[cycle(read)]
 fn read_list(alloc: Global, json: &Json, levels: u8) -> Result<Value, ItemFault>
-    ensures { Answers datum_of (spec.read_kind (Some Kind.L) levels (data_of json.now)) result }
+    ensures read { Answers datum_of (spec.read_kind (Some Kind.L) levels (data_of json.now)) result }
+    ensures memory { result ≡ Err ItemFault.Memory → IsTrue (spec.kind_takes_memory (Some Kind.L) (data_of json.now)) }
 {
     match json {
         Json::List(list) if levels > 0 => match read_elements(alloc, list, levels - 1) {
@@ -151,7 +161,8 @@ fn read_list(alloc: Global, json: &Json, levels: u8) -> Result<Value, ItemFault>
 
 #[cycle(read)]
 fn read_map(alloc: Global, json: &Json, levels: u8) -> Result<Value, ItemFault>
-    ensures { Answers datum_of (spec.read_kind (Some Kind.M) levels (data_of json.now)) result }
+    ensures read { Answers datum_of (spec.read_kind (Some Kind.M) levels (data_of json.now)) result }
+    ensures memory { result ≡ Err ItemFault.Memory → IsTrue (spec.kind_takes_memory (Some Kind.M) (data_of json.now)) }
 {
     match json {
         Json::Fields(fields) if levels > 0 => match read_attributes(alloc, fields, levels - 1) {
@@ -163,7 +174,8 @@ fn read_map(alloc: Global, json: &Json, levels: u8) -> Result<Value, ItemFault>
 }
 
 fn read_text_set(alloc: Global, json: &Json) -> Result<Value, ItemFault>
-    ensures { Answers datum_of (spec.read_kind (Some Kind.Ss) 0 (data_of json.now)) result }
+    ensures read { Answers datum_of (spec.read_kind (Some Kind.Ss) 0 (data_of json.now)) result }
+    ensures memory { result ≡ Err ItemFault.Memory → IsTrue (spec.kind_takes_memory (Some Kind.Ss) (data_of json.now)) }
 {
     match json {
         Json::List(list) if !list.is_empty() => Ok(Value::Ss(read_texts(alloc, list)?)),
@@ -172,7 +184,8 @@ fn read_text_set(alloc: Global, json: &Json) -> Result<Value, ItemFault>
 }
 
 fn read_number_set(alloc: Global, json: &Json) -> Result<Value, ItemFault>
-    ensures { Answers datum_of (spec.read_kind (Some Kind.Ns) 0 (data_of json.now)) result }
+    ensures read { Answers datum_of (spec.read_kind (Some Kind.Ns) 0 (data_of json.now)) result }
+    ensures memory { result ≡ Err ItemFault.Memory → IsTrue (spec.kind_takes_memory (Some Kind.Ns) (data_of json.now)) }
 {
     match json {
         Json::List(list) if !list.is_empty() => Ok(Value::Ns(read_numbers(alloc, list)?)),
