@@ -4,3 +4,4 @@ pub mod Texts
 pub mod RoundTrip
 pub mod Depths
 pub mod Same
+mod Rows

@@ -12,7 +12,7 @@ use Rattle.std.specs.Prelude.{option_and_then, FitsSigned, codes}
 use Rattle.std.specs.Str.{is_utf8}
 use Rattle.json.specs.Json as json
 use Rattle.json.specs.Lex.{tokens}
-use Rattle.json.specs.Print.{print, quoted}
+use Rattle.json.specs.Print.{print}
 use Rattle.json.specs.Token.{Token}
 use Rattle.json.specs.Tree as tree
 use Rattle.json.proofs.Printed.Decimals.{IsNumber-signed_decimal}
@@ -29,8 +29,8 @@ use Rattle.json_tree.specs.Fields.{text_cmp}
 use Rattle.json_tree.specs.Proper.{names, IsProper, ItemsAreProper, MembersAreProper}
 use Rattle.json_tree.specs.Reading.{source_of, read_json, whole_of, whole_items, whole_members}
 use Rattle.json_tree.specs.Tokens.{tokens_of, items_tokens, members_tokens}
-use Rattle.json_tree.specs.Written.{comma_if, text_of, items_text, members_text}
-use Rattle.json_tree.proofs.Texts.{print-tokens_of}
+use Rattle.json_tree.specs.Written.{comma_if, quoted, text_of, items_text, members_text}
+use Rattle.json_tree.proofs.Texts.{print-tokens_of, quoted_same}
 
 -- ---- the value as the grammar's, and as `serde_json`'s
 
@@ -206,8 +206,8 @@ mutual
 
 -- ---- the text is UTF-8
 
-abbrev one_utf8 : (x : ℕ) → Type 0
-one_utf8 x = IsUtf8 (x ∷ [])
+quoted_utf8 : (s : List ℕ) → IsUtf8 s → IsUtf8 (quoted s)
+quoted_utf8 s h = subst IsUtf8 (quoted_same s) (IsUtf8-quoted s h)
 
 front : (x : ℕ) (xs : List ℕ) → IsUtf8 (x ∷ []) → IsUtf8 xs → IsUtf8 (x ∷ xs)
 front x xs h k = IsUtf8-append (x ∷ []) xs h k
@@ -222,7 +222,7 @@ mutual
   text_utf8 (boolean true) h = IsUtf8-are_ascii (codes "true") refl
   text_utf8 (boolean false) h = IsUtf8-are_ascii (codes "false") refl
   text_utf8 (whole z) h = IsUtf8-from_ascii (signed_decimal z) (IsAscii-signed z h.sfits)
-  text_utf8 (text s) h = IsUtf8-quoted s h
+  text_utf8 (text s) h = quoted_utf8 s h
   text_utf8 (list ds) h = front 91 _ (IsUtf8-are_ascii (91 ∷ []) refl) (items_utf8 false ds h)
   text_utf8 (fields ms) h = front 123 _ (IsUtf8-are_ascii (123 ∷ []) refl) (members_utf8 false ms h.1)
 
@@ -236,7 +236,7 @@ mutual
   members_utf8 false no_members h = IsUtf8-are_ascii (125 ∷ []) refl
   members_utf8 later (member k d ms) h =
       let value = IsUtf8-append (text_of d) _ (text_utf8 d h.1) (members_utf8 true ms h.2) in
-      IsUtf8-append (comma_if later) _ (comma_utf8 later) (IsUtf8-append (quoted k) _ (IsUtf8-quoted k h.0) (front 58 _ (IsUtf8-are_ascii (58 ∷ []) refl) value))
+      IsUtf8-append (comma_if later) _ (comma_utf8 later) (IsUtf8-append (quoted k) _ (quoted_utf8 k h.0) (front 58 _ (IsUtf8-are_ascii (58 ∷ []) refl) value))
 
 -- ---- the round trip
 

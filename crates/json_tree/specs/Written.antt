@@ -1,12 +1,28 @@
 -- The one text that is written for a value: RFC 8259 with no space, and the shortest escapes.
-use Rattle.std.specs.Prelude.{ℕ, List, [], ◌∷◌, ◌++◌, Bool, true, false, if◌then◌else◌, codes}
+use Rattle.std.specs.Prelude.{ℕ, ◌/◌, ◌%◌, ◌==◌, List, [], ◌∷◌, ◌++◌, Bool, true, false, if◌then◌else◌, nat_lt, flat_map, codes}
+use Rattle.std.specs.Char.{digit_char}
 use Rattle.std.specs.Fmt.{signed_decimal}
-use Rattle.json.specs.Print.{quoted}
 use Rattle.json_tree.specs.Data.{Data, null, boolean, whole, text, list, fields, Items, no_items, item, Members, no_members, member}
 
 -- a comma, where something stands before
 abbrev pub comma_if : Bool → List ℕ
 comma_if later = if later then 44 ∷ [] else []
+
+-- what stands within quotes for a byte (section 7): a backslash before a quote and a backslash, a letter for five control
+-- characters, two lower case hexadecimal digits for the others, and each other byte for itself
+abbrev pub escaped : ℕ → List ℕ
+escaped x =
+    if x == 34 then codes "\\\"" else
+    (if x == 92 then codes "\\\\" else
+    (if x == 8 then codes "\\b" else
+    (if x == 9 then codes "\\t" else
+    (if x == 10 then codes "\\n" else
+    (if x == 12 then codes "\\f" else
+    (if x == 13 then codes "\\r" else
+    (if nat_lt x 32 then codes "\\u00" ++ digit_char (x / 16) ∷ digit_char (x % 16) ∷ [] else x ∷ [])))))))
+
+abbrev pub quoted : List ℕ → List ℕ
+quoted s = 34 ∷ (flat_map escaped s ++ 34 ∷ [])
 
 abbrev mutual
   pub text_of : Data → List ℕ

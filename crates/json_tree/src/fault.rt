@@ -4,13 +4,14 @@ use thiserror::Error;
 /// Why no JSON value was read.
 #[derive(Clone, Copy, Debug, Drop, PartialEq, Eq, Error)]
 pub enum JsonFault {
-    /// The bytes are no JSON text (RFC 8259), are not UTF-8, nest deeper than 127 levels, or hold a number that no
-    /// double comes near.
+    /// The bytes are no JSON text (RFC 8259), are not UTF-8, nest deeper than 127 levels, or hold a number too large
+    /// for a double.
     #[error("not JSON")]
     NotJson,
     /// Some number is not an integer of 64 bits with a sign.
     #[error("a number is not whole")]
     NotWhole,
+    /// An allocation was refused.
     #[error("out of memory")]
     Memory,
 }

@@ -5,8 +5,8 @@ ghost use Rattle.json_tree.specs.View.{data_of};
 
 use crate::tree::{Json, JsonFields, JsonList};
 
-/// How deep lists and fields nest: 0 for what is neither, and at most 4,294,967,295. Takes no memory, and a look at each
-/// value inside.
+/// How deep lists and fields nest: 0 for what is neither, and 4,294,967,295 for that depth and every greater one. Takes no
+/// memory, and looks at each value inside once.
 #[cycle(depth)]
 pub fn depth(json: &Json) -> u32
     ensures { result ≡ min (nesting (data_of json.now)) (2 ^ 32 - 1) }

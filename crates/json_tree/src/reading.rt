@@ -33,7 +33,8 @@ pub fn read(alloc: Global, bytes: &[u8]) -> Result<Json, JsonFault>
     }
 }
 
-/// The value of the same shape. Takes memory for each text, list and field.
+/// The value of the same shape as one of `serde_json`, which is copied. Takes memory for each text, list and field; null,
+/// booleans and numbers take none.
 #[cycle(from_value)]
 pub fn from_value(alloc: Global, value: &Value) -> Result<Json, JsonFault>
     ensures ok { IfOk result (λ j. whole_of (view value.now) ≡ Some (data_of j)) }

@@ -44,6 +44,7 @@ impl Text {
         inner
     }
 
+    /// The text, lent.
     pub fn as_str(&self) -> &str
         ensures { result.now ≡ self.now }
     {

@@ -19,9 +19,11 @@ use std::mem;
 pub enum Json {
     Null,
     Bool(bool),
+    /// A number with no point and no exponent, of 64 bits with a sign.
     Whole(i64),
     Text(Text),
     List(JsonList),
+    /// An object.
     Fields(JsonFields),
 }
 
@@ -80,7 +82,7 @@ impl Model for JsonFields {
 }
 
 impl Json {
-    /// An equal value. Takes memory for each text, list and field.
+    /// An equal value. Takes memory for each text, list and field; null, booleans and numbers take none.
     #[cycle(copy)]
     pub fn copy(&self) -> Result<Json, AllocError>
         ensures ok { IfOk result (λ j. j ≡ self.now) }
@@ -125,30 +127,35 @@ impl JsonList {
         inner
     }
 
+    /// The values in order, lent.
     pub fn as_slice(&self) -> &[Json]
         ensures { list_of result.now ≡ self.now }
     {
         self.inner.as_slice()
     }
 
+    /// How many values the list has, told at once.
     pub fn len(&self) -> usize
         ensures { result ≡ length self.now }
     {
         self.as_slice().len()
     }
 
+    /// Whether the list has no value.
     pub fn is_empty(&self) -> bool
         ensures { IsTrue result ↔ (self.now ≡ []) }
     {
         self.as_slice().is_empty()
     }
 
+    /// The value at an index from 0, in one step. Takes no memory.
     pub fn get(&self, index: usize) -> Option<&Json>
         ensures { option_map (λ j. data_of j.now) result ≡ slice_get self.now index }
     {
         self.inner.get(index)
     }
 
+    /// The same, to be written: what is left there stands in the list.
     pub fn get_mut(&mut self, index: usize) -> Option<&mut Json>
         ensures* writes_back { sem 𝓛 (LendsItem self.entry index result) }
         ensures value { option_map (λ j. data_of j.now) result ≡ slice_get self.old index }
@@ -156,7 +163,7 @@ impl JsonList {
         self.inner.get_mut(index)
     }
 
-    /// Puts a value at the end. The error has the value.
+    /// Puts a value at the end, on average in one step: the memory grows as a `Vec`'s does. The error has the value.
     pub fn push(&mut self, value: Json) -> Result<(), AllocFailed<Json>>
         ensures ok { OnOk result (self.new ≡ self.old ++ data_of value ∷ []) }
         ensures err { OnErr result (self.new ≡ self.old) }
@@ -165,7 +172,7 @@ impl JsonList {
         self.inner.push(value)
     }
 
-    /// Puts a value in the place of another, which is handed out.
+    /// Puts a value in the place of another, which is handed out. One step, and no memory.
     pub fn replace(&mut self, index: usize, value: Json) -> Json
         requires { index < length self.old }
         ensures value { slice_get self.old index ≡ Some (data_of result) }
@@ -174,8 +181,8 @@ impl JsonList {
         mem::replace(&mut self.inner[index], value)
     }
 
-    #[cycle(copy)]
     /// An equal list. Takes memory for the list, and for each value as `Json::copy` does.
+    #[cycle(copy)]
     pub fn copy(&self) -> Result<JsonList, AllocError>
         ensures { IfOk result (λ j. j ≡ self.now) }
     {
@@ -215,6 +222,7 @@ impl JsonFields {
         inner
     }
 
+    /// How many fields there are, told at once.
     pub fn len(&self) -> usize
         ensures value { result ≡ length self.now }
         ensures ordered { IsInNameOrder self.now }
@@ -222,13 +230,14 @@ impl JsonFields {
         self.inner.len()
     }
 
+    /// Whether there is no field.
     pub fn is_empty(&self) -> bool
         ensures { IsTrue result ↔ (self.now ≡ []) }
     {
         self.inner.is_empty()
     }
 
-    /// The fields in the order of their names' bytes.
+    /// The fields in the order of their names' bytes, lent.
     pub fn iter(&self) -> Iter<'_, String, Json>
         ensures fields { fields_of result ≡ self.now }
         ensures ordered { IsInNameOrder self.now }
@@ -236,12 +245,15 @@ impl JsonFields {
         self.inner.iter()
     }
 
+    /// The value of a name. Compares it with as many names as the logarithm of their number, times a constant, and takes
+    /// no memory, as all look-ups here.
     pub fn get(&self, name: &str) -> Option<&Json>
         ensures { option_map (λ j. data_of j.now) result ≡ get_field name.now self.now }
     {
         self.inner.get(name)
     }
 
+    /// The same, to be written: what is left there stands at the name.
     pub fn get_mut(&mut self, name: &str) -> Option<&mut Json>
         ensures* writes_back { sem 𝓛 (LendsField self.entry name.now result) }
         ensures value { option_map (λ j. data_of j.now) result ≡ get_field name.now self.old }
@@ -249,7 +261,8 @@ impl JsonFields {
         self.inner.get_mut(name)
     }
 
-    /// Puts a value at a name, and hands out the value that stood there. The error has the name and the value.
+    /// Puts a value at a name, and hands out the value that stood there. Memory is taken for a new name alone, and the
+    /// error has the name and the value.
     pub fn insert(
         &mut self,
         name: String,
@@ -279,7 +292,7 @@ impl JsonFields {
         }
     }
 
-    /// Takes a field out.
+    /// Takes a field out, if there is one of this name. Takes no memory.
     pub fn remove(&mut self, name: &str) -> Option<Json>
         ensures value { option_map data_of result ≡ get_field name.now self.old }
         ensures after { self.new ≡ without_field name.now self.old }
@@ -287,8 +300,8 @@ impl JsonFields {
         self.inner.remove(name)
     }
 
+    /// Equal fields. Takes memory for each name, and for each value as `Json::copy` does.
     #[cycle(copy)]
-    /// Equal fields. Takes memory for each field.
     pub fn copy(&self) -> Result<JsonFields, AllocError>
         ensures { IfOk result (λ j. j ≡ self.now) }
     {
