@@ -27,7 +27,7 @@ whole_then_rest Greater r n q rest w k e l h i = omega (arith, mul-le-mul_right 
 pub nat_cmp-quotient : (n w k : ℕ) → 0 < k → ordering_then (nat_cmp (n / k) w) (nat_cmp (n % k) 0) ≡ nat_cmp n (w * k)
 nat_cmp-quotient n w k h =
     nat_cmp_is n (w * k) _ (whole_then_rest (nat_cmp (n / k) w) (nat_cmp (n % k) 0) n (n / k) (n % k) w k (sym (div-add-mod' n k)) (mod-lt n h)
-        (ranked (n / k) w _ refl) (ranked (n % k) 0 _ refl))
+    (ranked (n / k) w _ refl) (ranked (n % k) 0 _ refl))
 
 nat_ranks : (o : Ordering) (a b k : ℕ) → 0 < k → MatchOrdering o (a < b) (a ≡ b) (b < a) → MatchOrdering o (a * k < b * k) (a * k ≡ b * k) (b * k < a * k)
 nat_ranks Less a b k p h = omega (arith, mul-le-mul_right {m = suc a} {n = b} k h)
@@ -105,9 +105,9 @@ ends_in_zero m n p k e =
 same_places : (m n p q : ℕ) → m * 10 ^ q ≡ n * 10 ^ p → (0 < p → m % 10 ≢ 0) → (0 < q → n % 10 ≢ 0) → p ≡ q
 same_places m n p q e f g =
     by_order p q
-        (λ h. let k : q ≡ p + suc (q - p - 1) = omega arith in absurd (g (omega arith) (ends_in_zero m n p (q - p - 1) (ap (λ x. m * 10 ^ x) (sym k) ∙ e))))
-        (λ h. h)
-        (λ h. let k : p ≡ q + suc (p - q - 1) = omega arith in absurd (f (omega arith) (ends_in_zero n m q (p - q - 1) (ap (λ x. n * 10 ^ x) (sym k) ∙ sym e))))
+    (λ h. let k : q ≡ p + suc (q - p - 1) = omega arith in absurd (g (omega arith) (ends_in_zero m n p (q - p - 1) (ap (λ x. m * 10 ^ x) (sym k) ∙ e))))
+    (λ h. h)
+    (λ h. let k : p ≡ q + suc (p - q - 1) = omega arith in absurd (f (omega arith) (ends_in_zero n m q (p - q - 1) (ap (λ x. n * 10 ^ x) (sym k) ∙ sym e))))
 
 then_nothing : (o : Ordering) (p q : ℕ) → (o ≡ Equal → p ≡ q) → ordering_then o (nat_cmp p q) ≡ o
 then_nothing Less p q f = refl

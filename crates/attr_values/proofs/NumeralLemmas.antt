@@ -54,7 +54,7 @@ shortened_zeros w f zero = rw append-nil refl
 shortened_zeros w f (suc k) =
     let same : f ++ 48 ∷ replicate k 48 ≡ (f ++ 48 ∷ []) ++ replicate k 48 = sym (append_assoc f (48 ∷ []) (replicate k 48)) in
     let value : digits_value 10 (w ++ (f ++ 48 ∷ [])) ≡ digits_value 10 (w ++ f) * 10 =
-        ap (digits_value 10) (sym (append_assoc w f (48 ∷ []))) ∙ digits_value_push 10 (w ++ f) 48 ∙ omega arith in
+    ap (digits_value 10) (sym (append_assoc w f (48 ∷ []))) ∙ digits_value_push 10 (w ++ f) 48 ∙ omega arith in
     let count : length (f ++ 48 ∷ []) ≡ suc (length f) = simp length-append (omega arith) in
     ap (λ ds. shortened (digits_value 10 (w ++ ds)) (length ds)) same ∙ shortened_zeros w (f ++ 48 ∷ []) k
     ∙ ap₂ shortened value count ∙ shortened_zero (digits_value 10 (w ++ f)) (length f)
@@ -66,7 +66,7 @@ shortened_digit n p h = grind (arith, nat_tests)
 last_digit_of : (w start : List ℕ) (d : ℕ) → digit_value d < 10 → digits_value 10 (w ++ (start ++ d ∷ [])) % 10 ≡ digit_value d
 last_digit_of w start d h =
     let value : digits_value 10 (w ++ (start ++ d ∷ [])) ≡ digits_value 10 (w ++ start) * 10 + digit_value d =
-        ap (digits_value 10) (sym (append_assoc w start (d ∷ []))) ∙ digits_value_push 10 (w ++ start) d in
+    ap (digits_value 10) (sym (append_assoc w start (d ∷ []))) ∙ digits_value_push 10 (w ++ start) d in
     ap (λ n. n % 10) value ∙ mod-mul-add (digits_value 10 (w ++ start)) 10 (digit_value d) h
 
 both_true : (x y : Bool) → (x && y) ≡ true → (x ≡ true) × (y ≡ true)
@@ -99,8 +99,8 @@ read_is negative text w g f k s e short =
     let digits : list_all is_ascii_digit f ≡ true = prefix_digits f (replicate k 48) (ap (list_all is_ascii_digit) (sym e) ∙ s.fraction_digits) in
     let ends : 0 < length f → 0 < digits_value 10 (w ++ f) % 10 = short_digit w f short digits in
     let is : magnitude text ≡ (digits_value 10 (w ++ f), length f) =
-        ap₂ (λ (v g : List ℕ). shortened (digits_value 10 (v ++ g)) (length g)) (sym s.before) (sym s.after ∙ e)
-        ∙ shortened_zeros w f k ∙ shortened_short (digits_value 10 (w ++ f)) f ends in
+    ap₂ (λ (v g : List ℕ). shortened (digits_value 10 (v ++ g)) (length g)) (sym s.before) (sym s.after ∙ e)
+    ∙ shortened_zeros w f k ∙ shortened_short (digits_value 10 (w ++ f)) f ends in
     (digits, ends, rw s.numeral (ap (bounded negative) is))
 
 pub bounded_none : (negative : Bool) (n p : ℕ) → (10 ^ 38 ≤ n) ⊎ (100 < p) → bounded negative (n, p) ≡ None
@@ -121,10 +121,10 @@ magnitude_of_sign false n = refl
 -- what is read is in normal form
 pub normal_decimal : (negative : Bool) (n p : ℕ) → n < 10 ^ 38 → p ≤ 100 → (0 < p → 0 < n % 10) → IsNormal (decimal_of negative (n, p))
 normal_decimal negative n p h l e = record {
-    digits = rw magnitude_of_sign h;
-    places = l;
-    shortest = λ above. rw magnitude_of_sign (λ z. let f = e above in omega arith);
-  }
+  digits = rw magnitude_of_sign h;
+  places = l;
+  shortest = λ above. rw magnitude_of_sign (λ z. let f = e above in omega arith);
+}
 
 -- ---- what is written
 
@@ -198,8 +198,8 @@ unsigned_reads negative m zero h l e =
     let whole = whole_number_digits (m / 10 ^ 0) (quotient_small m 0 h) in
     let parts = whole_parts (decimal (m / 10 ^ 0)) whole.0 whole.1 in
     let value : magnitude (decimal (m / 10 ^ 0)) ≡ (m, 0) =
-        ap₂ (λ (w f : List ℕ). shortened (digits_value 10 (w ++ f)) (length f)) parts.1 parts.2
-        ∙ ap (λ n. let k : ℕ × ℕ = (n, 0) in k) (ap (digits_value 10) (append-nil (decimal (m / 10 ^ 0))) ∙ whole.2 ∙ div-one m) in
+    ap₂ (λ (w f : List ℕ). shortened (digits_value 10 (w ++ f)) (length f)) parts.1 parts.2
+    ∙ ap (λ n. let k : ℕ × ℕ = (n, 0) in k) (ap (digits_value 10) (append-nil (decimal (m / 10 ^ 0))) ∙ whole.2 ∙ div-one m) in
     rw append-nil (rw parts.0 (ap (bounded negative) value ∙ bounded_some negative m 0 h l))
 unsigned_reads negative m (suc p) h l e =
     let whole = whole_number_digits (m / 10 ^ suc p) (quotient_small m (suc p) h) in
@@ -207,10 +207,10 @@ unsigned_reads negative m (suc p) h l e =
     let count : length digits ≡ suc p = length-last_digits (suc p) m in
     let parts = point_parts (decimal (m / 10 ^ suc p)) digits whole.0 whole.1 (last_digits_are_digits (suc p) m) (omega arith) in
     let value : digits_value 10 (decimal (m / 10 ^ suc p) ++ digits) ≡ m =
-        digits_value_after-append 0 (decimal (m / 10 ^ suc p)) digits ∙ ap (λ n. digits_value_after 10 n digits) whole.2 ∙ last_digits_value (suc p) m in
+    digits_value_after-append 0 (decimal (m / 10 ^ suc p)) digits ∙ ap (λ n. digits_value_after 10 n digits) whole.2 ∙ last_digits_value (suc p) m in
     let some : 0 < m % 10 = let f = e (omega arith) in omega arith in
     let is : magnitude (decimal (m / 10 ^ suc p) ++ 46 ∷ digits) ≡ (m, suc p) =
-        ap₂ (λ (w f : List ℕ). shortened (digits_value 10 (w ++ f)) (length f)) parts.1 parts.2 ∙ ap₂ shortened value count ∙ shortened_digit m p some in
+    ap₂ (λ (w f : List ℕ). shortened (digits_value 10 (w ++ f)) (length f)) parts.1 parts.2 ∙ ap₂ shortened value count ∙ shortened_digit m p some in
     rw parts.0 (ap (bounded negative) is ∙ bounded_some negative m (suc p) h l)
 
 first_is_digit : (ds rest : List ℕ) → list_all is_ascii_digit ds ≡ true → 0 < length ds → read_number (ds ++ rest) ≡ read_unsigned false (ds ++ rest)
@@ -247,10 +247,10 @@ shortened_end n (suc p) = shortened_end_at n p (shortened (n / 10) p) (n % 10 ==
 bounded_normal : (negative : Bool) (m : ℕ × ℕ) (d : Decimal) → (0 < m.1 → m.0 % 10 ≢ 0) → bounded negative m ≡ Some d → IsNormal d
 bounded_normal negative m d h is = by_bool (in_bounds m)
     (λ yes.
-        let e : Some (decimal_of negative m) ≡ Some d = rw yes at is in
-        let same : decimal_of negative m ≡ d = cc e in
-        let both = both_true (nat_lt m.0 (10 ^ 38)) (nat_le m.1 100) yes in
-        subst IsNormal same (normal_decimal negative m.0 m.1 (ltb-true m.0 (10 ^ 38) both.0) (leb-true m.1 100 both.1) (λ above. let f = h above in omega arith)))
+    let e : Some (decimal_of negative m) ≡ Some d = rw yes at is in
+    let same : decimal_of negative m ≡ d = cc e in
+    let both = both_true (nat_lt m.0 (10 ^ 38)) (nat_le m.1 100) yes in
+    subst IsNormal same (normal_decimal negative m.0 m.1 (ltb-true m.0 (10 ^ 38) both.0) (leb-true m.1 100 both.1) (λ above. let f = h above in omega arith)))
     (λ no. let e : None ≡ Some d = rw no at is in cc e)
 
 unsigned_normal : (negative : Bool) (text : List ℕ) (d : Decimal) → read_unsigned negative text ≡ Some d → IsNormal d

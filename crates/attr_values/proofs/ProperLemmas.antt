@@ -76,7 +76,7 @@ some_numbers set json.no_items ns s all is = let e : set ≡ ns = cc is in (subs
 some_numbers set (json.item (json.text t) ds) ns s all is =
     let one = ok_then (λ n. if list_any (is_at (decimal_cmp n)) set then Err BadValue else spec.read_numbers (insert_key decimal_cmp set n) ds) (spec.read_number_text t) ns is in
     let later = some_numbers (insert_key decimal_cmp set one.0) ds ns (sorted_insert decimal_cmp_total one.0 set s) (all_insert decimal_cmp_total IsNormal one.0 set (number_is_normal t one.0 one.1) all)
-        (if_ok (list_any (is_at (decimal_cmp one.0)) set) _ ns one.2) in
+    (if_ok (list_any (is_at (decimal_cmp one.0)) set) _ ns one.2) in
     (later.0, later.1, λ _. later.2 (some_insert decimal_cmp set one.0))
 some_numbers set (json.item _ ds) ns s all is = cc is
 

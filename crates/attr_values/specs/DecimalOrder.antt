@@ -64,24 +64,24 @@ at_one : (a b c : Decimal) → (value_cmp a b ≡ int_cmp (a.coefficient *ℤ po
     × (value_cmp a c ≡ int_cmp (a.coefficient *ℤ pos (10 ^ b.places * 10 ^ c.places)) (c.coefficient *ℤ pos (10 ^ a.places * 10 ^ b.places)))
 at_one a b c =
     let bc : value_cmp b c ≡ int_cmp (b.coefficient *ℤ pos (10 ^ a.places * 10 ^ c.places)) (c.coefficient *ℤ pos (10 ^ a.places * 10 ^ b.places)) =
-        at_three b c a.places ∙ ap (λ z. int_cmp z (c.coefficient *ℤ pos (10 ^ b.places * 10 ^ a.places))) (turned b.coefficient (10 ^ c.places) (10 ^ a.places))
-        ∙ ap (int_cmp (b.coefficient *ℤ pos (10 ^ a.places * 10 ^ c.places))) (turned c.coefficient (10 ^ b.places) (10 ^ a.places)) in
+    at_three b c a.places ∙ ap (λ z. int_cmp z (c.coefficient *ℤ pos (10 ^ b.places * 10 ^ a.places))) (turned b.coefficient (10 ^ c.places) (10 ^ a.places))
+    ∙ ap (int_cmp (b.coefficient *ℤ pos (10 ^ a.places * 10 ^ c.places))) (turned c.coefficient (10 ^ b.places) (10 ^ a.places)) in
     let ac : value_cmp a c ≡ int_cmp (a.coefficient *ℤ pos (10 ^ b.places * 10 ^ c.places)) (c.coefficient *ℤ pos (10 ^ a.places * 10 ^ b.places)) =
-        at_three a c b.places ∙ ap (λ z. int_cmp z (c.coefficient *ℤ pos (10 ^ a.places * 10 ^ b.places))) (turned a.coefficient (10 ^ c.places) (10 ^ b.places)) in
+    at_three a c b.places ∙ ap (λ z. int_cmp z (c.coefficient *ℤ pos (10 ^ a.places * 10 ^ b.places))) (turned a.coefficient (10 ^ c.places) (10 ^ b.places)) in
     (at_three a b c.places, bc, ac)
 
 value_cmp_total : IsTotalOrder value_cmp
 value_cmp_total = record {
-    antisymm = λ a b. int_cmp_total.antisymm (a.coefficient *ℤ pos (10 ^ b.places)) (b.coefficient *ℤ pos (10 ^ a.places));
-    trans = λ a b c h k.
-        let e = at_one a b c in
-        e.2 ∙ int_cmp_total.trans (a.coefficient *ℤ pos (10 ^ b.places * 10 ^ c.places)) (b.coefficient *ℤ pos (10 ^ a.places * 10 ^ c.places))
-            (c.coefficient *ℤ pos (10 ^ a.places * 10 ^ b.places)) (sym e.0 ∙ h) (sym e.1 ∙ k);
-    congr = λ a b c h.
-        let e = at_one a b c in
-        e.2 ∙ int_cmp_total.congr (a.coefficient *ℤ pos (10 ^ b.places * 10 ^ c.places)) (b.coefficient *ℤ pos (10 ^ a.places * 10 ^ c.places))
-            (c.coefficient *ℤ pos (10 ^ a.places * 10 ^ b.places)) (sym e.0 ∙ h) ∙ sym e.1;
-  }
+  antisymm = λ a b. int_cmp_total.antisymm (a.coefficient *ℤ pos (10 ^ b.places)) (b.coefficient *ℤ pos (10 ^ a.places));
+  trans = λ a b c h k.
+      let e = at_one a b c in
+      e.2 ∙ int_cmp_total.trans (a.coefficient *ℤ pos (10 ^ b.places * 10 ^ c.places)) (b.coefficient *ℤ pos (10 ^ a.places * 10 ^ c.places))
+      (c.coefficient *ℤ pos (10 ^ a.places * 10 ^ b.places)) (sym e.0 ∙ h) (sym e.1 ∙ k);
+  congr = λ a b c h.
+      let e = at_one a b c in
+      e.2 ∙ int_cmp_total.congr (a.coefficient *ℤ pos (10 ^ b.places * 10 ^ c.places)) (b.coefficient *ℤ pos (10 ^ a.places * 10 ^ c.places))
+      (c.coefficient *ℤ pos (10 ^ a.places * 10 ^ b.places)) (sym e.0 ∙ h) ∙ sym e.1;
+}
 
 pub decimal_cmp_total : IsTotalOrder decimal_cmp
 decimal_cmp_total = then_total value_cmp_total (on_total (λ (d : Decimal). d.places) nat_cmp_total)
@@ -130,7 +130,7 @@ same_fields : (a b : Decimal) → (int_eq a.coefficient b.coefficient && a.place
 same_fields a b h =
     let both = both_true _ _ h in
     ap₂ (λ (c : ℤ) (p : ℕ). let d : Decimal = record { coefficient = c; places = p } in d)
-        (int_cmp_equal a.coefficient b.coefficient (is_equal _ both.0)) (eqb-true a.places b.places both.1)
+    (int_cmp_equal a.coefficient b.coefficient (is_equal _ both.0)) (eqb-true a.places b.places both.1)
 
 -- `==` and the order tell apart the same pairs
 pub decimal_tied : (a b : Decimal) → (int_eq a.coefficient b.coefficient && a.places == b.places) ≡ is_eq (decimal_cmp a b)

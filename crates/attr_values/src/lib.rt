@@ -10,6 +10,8 @@ mod laws;
 mod number;
 mod order;
 mod reading;
+#[cfg(test)]
+mod tests;
 mod value;
 mod writing;
 
@@ -17,8 +19,11 @@ pub use fault::ItemFault;
 pub use item::{Item, read_item, write_item};
 pub use key::{Key, KeyAttribute, KeyPart, KeySchema, KeyText, KeyType};
 pub use keying::key_of;
-pub use laws::{equality_is_of_values, keys_have_one_form, numbers_are_read, numbers_have_one_form, numbers_read_back, written_is_read_back};
+pub use laws::{
+    equality_is_of_values, keys_have_one_form, numbers_are_read, numbers_have_one_form,
+    numbers_read_back, written_is_read_back,
+};
 pub use number::Number;
 pub use reading::{MOST_LEVELS, read_value};
-pub use writing::write_value;
 pub use value::{NumberSet, TextSet, Value, ValueList, ValueMap};
+pub use writing::write_value;

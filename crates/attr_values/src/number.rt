@@ -118,10 +118,18 @@ fn split_at_point(text: &[u8]) -> Option<(&[u8], &[u8])>
     ensures { MatchOption result (is_unsigned text.now ≡ false) (λ r. SplitsAtPoint text.now r.0.now r.1.now) }
 {
     let Some(at) = find_point(text) else {
-        return if is_digits(text) { Some((text, &[])) } else { None };
+        return if is_digits(text) {
+            Some((text, &[]))
+        } else {
+            None
+        };
     };
     let (whole, fraction) = (&text[..at], &text[at + 1..]);
-    if is_digits(whole) && is_digits(fraction) { Some((whole, fraction)) } else { None }
+    if is_digits(whole) && is_digits(fraction) {
+        Some((whole, fraction))
+    } else {
+        None
+    }
 }
 
 /// The number that the digits write after those of `start`, if it has at most 38 digits.
@@ -249,7 +257,12 @@ fn compare_values(a: &Number, b: &Number) -> Ordering
     ensures order { result ≡ value_cmp a.now b.now }
     ensures normal { IsNormal a.now × IsNormal b.now }
 {
-    let order = compare_magnitudes(a.coefficient.unsigned_abs(), a.places, b.coefficient.unsigned_abs(), b.places);
+    let order = compare_magnitudes(
+        a.coefficient.unsigned_abs(),
+        a.places,
+        b.coefficient.unsigned_abs(),
+        b.places,
+    );
     match (a.coefficient < 0, b.coefficient < 0) {
         (false, false) => order,
         (true, true) => order.reverse(),

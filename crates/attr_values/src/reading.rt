@@ -205,7 +205,11 @@ fn read_elements(alloc: Global, list: &JsonList, levels: u8) -> Result<ValueList
 }
 
 #[cycle(read)]
-pub(crate) fn read_attributes(alloc: Global, fields: &JsonFields, levels: u8) -> Result<ValueMap, ItemFault>
+pub(crate) fn read_attributes(
+    alloc: Global,
+    fields: &JsonFields,
+    levels: u8,
+) -> Result<ValueMap, ItemFault>
     ensures read { Answers attributes_of (spec.read_attributes levels (members_of fields.now)) result }
     ensures ordered { IfOk result (λ m. IsStrictlySortedBy text_cmp (keys_of m)) }
 {

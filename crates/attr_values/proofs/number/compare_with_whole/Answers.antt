@@ -7,5 +7,5 @@ pub returns : goal.returns
 returns c =
     c.then.ensures
     ∙ ap₂ ordering_then (c.cmp.ensures ∙ ap (λ (r : ℕ × ℕ). nat_cmp r.0 c.args.whole) c.split-quotient.ensures)
-        (c.cmp-2.ensures ∙ ap (λ (r : ℕ × ℕ). nat_cmp r.1 0) c.split-quotient.ensures)
+    (c.cmp-2.ensures ∙ ap (λ (r : ℕ × ℕ). nat_cmp r.1 0) c.split-quotient.ensures)
     ∙ nat_cmp-quotient c.args.n c.args.whole (10 ^ c.args.places) (ten_above_zero c.args.places)

@@ -38,7 +38,7 @@ invariant_of-result c =
     let places : length kept ≤ 100 = omega arith in
     let ends : 0 < length kept → 0 < c.in_ok-magnitude.magnitude % 10 = λ some. rw value (is.1 some) in
     rw (to_z-of_z w128 c.with_sign.result fits, c.with_sign.ensures)
-        (normal_decimal c.args.negative c.in_ok-magnitude.magnitude (length kept) (rw value c.in_ok-magnitude.ensures.0) places ends)
+    (normal_decimal c.args.negative c.in_ok-magnitude.magnitude (length kept) (rw value c.in_ok-magnitude.ensures.0) places ends)
 
 pub returns : goal.returns
 returns c =
@@ -48,6 +48,6 @@ returns c =
     let fits : FitsSigned w128 c.with_sign.result = search rules in
     let places : length kept ≤ 100 = omega arith in
     let coefficient : to_z w128 (of_z w128 c.with_sign.result) ≡ with_sign c.args.negative (digits_value 10 (c.in_ok-whole.whole.now ++ kept)) =
-        to_z-of_z w128 c.with_sign.result fits ∙ c.with_sign.ensures ∙ ap (with_sign c.args.negative) c.in_ok-magnitude.ensures.1 in
+    to_z-of_z w128 c.with_sign.result fits ∙ c.with_sign.ensures ∙ ap (with_sign c.args.negative) c.in_ok-magnitude.ensures.1 in
     ap (λ (z : ℤ). let d : Decimal = record { coefficient = z; places = length kept } in Some d) coefficient
     ∙ sym (is.2 ∙ bounded_some c.args.negative (digits_value 10 (c.in_ok-whole.whole.now ++ kept)) (length kept) c.in_ok-magnitude.ensures.0 places)

@@ -45,13 +45,13 @@ read_within-returns-in_default-only_field-clause-read t c =
 pub read_within-returns-in-Some-kind_of-clause-read : goal.read_within-returns-in-Some-kind_of-clause-read
 read_within-returns-in-Some-kind_of-clause-read t c =
     let is = ap (λ j. spec.read_datum c.args.levels (data_of j)) c.in-Fields.is ∙ read_datum-field c.args.levels c.in-Some.name.now (data_of c.in-Some.value.now) c.in-Fields.fields c.in-Some.ensures
-        ∙ ap (λ k. spec.read_kind k c.args.levels (data_of c.in-Some.value.now)) (sym c.in-Some-kind_of.ensures) in
+    ∙ ap (λ k. spec.read_kind k c.args.levels (data_of c.in-Some.value.now)) (sym c.in-Some-kind_of.ensures) in
     rw is c.read_kind.ensures.read
 
 pub read_within-returns-in-None-clause-read : goal.read_within-returns-in-None-clause-read
 read_within-returns-in-None-clause-read t c =
     inr (ap (λ j. spec.read_datum c.args.levels (data_of j)) c.in-Fields.is ∙ read_datum-field c.args.levels c.in-Some.name.now (data_of c.in-Some.value.now) c.in-Fields.fields c.in-Some.ensures
-        ∙ ap (λ k. spec.read_kind k c.args.levels (data_of c.in-Some.value.now)) (sym c.in-None.ensures) ∙ read_kind-none c.args.levels (data_of c.in-Some.value.now))
+    ∙ ap (λ k. spec.read_kind k c.args.levels (data_of c.in-Some.value.now)) (sym c.in-None.ensures) ∙ read_kind-none c.args.levels (data_of c.in-Some.value.now))
 
 pub read_list-returns-in-Ok-clause-read : goal.read_list-returns-in-Ok-clause-read
 read_list-returns-in-Ok-clause-read t c =

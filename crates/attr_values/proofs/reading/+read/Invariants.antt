@@ -19,7 +19,7 @@ abbrev pub invariant-read_attributes-loop-name : goal.invariant-read_attributes-
 invariant-read_attributes-loop-name l =
     IsStrictlySortedBy text_cmp (keys_of (entries_of l.inner.entries) ++ keys_of (fields_of l.name-iterator))
     × (spec.read_attributes l.levels (members_of l.fields)
-      ≡ result_map (attributes_before (entries_of l.inner.entries)) (spec.read_attributes l.levels (members_of (fields_of l.name-iterator))))
+    ≡ result_map (attributes_before (entries_of l.inner.entries)) (spec.read_attributes l.levels (members_of (fields_of l.name-iterator))))
 
 abbrev pub decreases-read_within : goal.decreases-read_within
 decreases-read_within l = 4 * l.levels + 2

@@ -22,8 +22,8 @@ ValueMap::copy-loop-name-preserved t c =
     let rest = entries_of c.next.new.self in
     let before = ap (λ es. entries_of l.inner.entries ++ entries_of es) (sym c.in-Some.ensures.steps) ∙ l.invariant.1 in
     let put : entries_of c.insert.new.self.entries ≡ insert_entry text_cmp (entries_of l.inner.entries) (string_bytes c.in-Some.name.now) (datum_of c.in-Some.value.now) =
-        ap entries_of c.in_ok-insert.ensures.entries ∙ entries_of-insert_entry l.inner.entries c.in_ok-name.name c.in_ok-copy.field-0
-        ∙ ap₂ (λ k d. insert_entry text_cmp (entries_of l.inner.entries) k d) c.in_ok-name.ensures.cases (ap datum_of c.in_ok-copy.ensures) in (
+    ap entries_of c.in_ok-insert.ensures.entries ∙ entries_of-insert_entry l.inner.entries c.in_ok-name.name c.in_ok-copy.field-0
+    ∙ ap₂ (λ k d. insert_entry text_cmp (entries_of l.inner.entries) k d) c.in_ok-name.ensures.cases (ap datum_of c.in_ok-copy.ensures) in (
       l.invariant.0,
       ap (λ es. es ++ rest) put ∙ field_step (entries_of l.inner.entries) (string_bytes c.in-Some.name.now) (datum_of c.in-Some.value.now) rest c.args.self.now l.invariant.0 before,
     )

@@ -11,5 +11,5 @@ loop-text-preserved c =
     let before = ap (λ ss. l.inner.keys ++ ss) (sym c.in-Some.ensures.steps) ∙ l.invariant.1 in (
       l.invariant.0,
       ap (λ ss. ss ++ c.next.new.self) (c.in_ok-insert.ensures.keys ∙ ap (insert_key text_cmp l.inner.keys) c.in_ok-copy.ensures)
-      ∙ set_step nat_list_cmp_total l.inner.keys c.in-Some.text.now c.next.new.self c.args.self.now l.invariant.0 before,
+          ∙ set_step nat_list_cmp_total l.inner.keys c.in-Some.text.now c.next.new.self c.args.self.now l.invariant.0 before,
     )
