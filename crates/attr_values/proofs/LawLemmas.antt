@@ -23,7 +23,7 @@ use Rattle.attr_values.specs.Proper.{IsProper, AreProperAttributes, IsItem}
 use Rattle.attr_values.specs.declared.fault.ItemFault.{ItemFault}
 use Rattle.attr_values.specs.declared.key.Key.{Key}
 use Rattle.attr_values.specs.declared.key.KeyAttribute.{KeyAttribute}
-use Rattle.attr_values.specs.declared.key.KeyPart.{KeyPart}
+use Rattle.attr_values.specs.declared.key_part.KeyPart.{KeyPart}
 use Rattle.attr_values.specs.declared.key.KeySchema.{KeySchema}
 use Rattle.attr_values.proofs.NumberLemmas.{value_cmp_equal, decimal_cmp-value_cmp}
 use Rattle.attr_values.proofs.NumeralLemmas.{magnitude_of_sign, read_normal, reads_back, by_bool}

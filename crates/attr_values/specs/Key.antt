@@ -14,8 +14,8 @@ use Rattle.attr_values.specs.declared.fault.ItemFault.{ItemFault}
 use Rattle.attr_values.specs.declared.fault.ItemFault.TheVariants.{NoKey, KeyType as WrongType, EmptyKey}
 use Rattle.attr_values.specs.declared.key.Key.{Key}
 use Rattle.attr_values.specs.declared.key.KeyAttribute.{KeyAttribute}
-use Rattle.attr_values.specs.declared.key.KeyPart.{KeyPart}
-use Rattle.attr_values.specs.declared.key.KeyPart.TheVariants.{S, N}
+use Rattle.attr_values.specs.declared.key_part.KeyPart.{KeyPart}
+use Rattle.attr_values.specs.declared.key_part.KeyPart.TheVariants.{S, N}
 use Rattle.attr_values.specs.declared.key.KeySchema.{KeySchema}
 use Rattle.attr_values.specs.declared.key.KeyType.{KeyType}
 use Rattle.attr_values.specs.declared.key.KeyType.TheVariants.{S as TextType, N as NumberType}

@@ -13,8 +13,8 @@ use Rattle.attr_values.specs.Decimal.{decimal_cmp}
 use Rattle.attr_values.specs.DecimalOrder.{decimal_cmp_total, decimal_cmp_equal}
 use Rattle.attr_values.specs.Key.{part_cmp, key_cmp, part_input, key_input}
 use Rattle.attr_values.specs.declared.key.Key.{Key}
-use Rattle.attr_values.specs.declared.key.KeyPart.{KeyPart}
-use Rattle.attr_values.specs.declared.key.KeyPart.TheVariants.{S, N}
+use Rattle.attr_values.specs.declared.key_part.KeyPart.{KeyPart}
+use Rattle.attr_values.specs.declared.key_part.KeyPart.TheVariants.{S, N}
 
 part_flip : (a b : KeyPart) → part_cmp a b ≡ ordering_reverse (part_cmp b a)
 part_flip (S s) (S t) = nat_list_cmp_total.antisymm s t

@@ -44,6 +44,6 @@ impl<T: Drop> From<AllocFailed<T>> for ItemFault {
     ghost from_gives = { λ _ e. e ≡ Memory };
 
     fn from(_refused: AllocFailed<T>) -> ItemFault {
-        ItemFault::Memory
+        ItemFault::from(AllocError)
     }
 }

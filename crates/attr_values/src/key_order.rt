@@ -3,7 +3,8 @@
 ghost use Rattle.std.specs.Prelude.{◌≡◌};
 ghost use Rattle.attr_values.specs.Key.{part_cmp, key_cmp};
 
-use crate::key::{Key, KeyPart};
+use crate::key::Key;
+use crate::key_part::KeyPart;
 use std::cmp::Ordering;
 
 pub(crate) fn compare_parts(a: &KeyPart, b: &KeyPart) -> Ordering

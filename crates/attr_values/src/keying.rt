@@ -7,7 +7,8 @@ ghost use Rattle.attr_values.specs.View.{datum_of};
 
 use crate::fault::ItemFault;
 use crate::item::Item;
-use crate::key::{Key, KeyAttribute, KeyPart, KeySchema, KeyText, KeyType};
+use crate::key::{Key, KeyAttribute, KeySchema, KeyType};
+use crate::key_part::{KeyPart, KeyText};
 use crate::value::Value;
 
 /// The key of an item: its partition is looked at first, and then its sort attribute. `NoKey` where the item lacks one of

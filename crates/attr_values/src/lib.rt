@@ -5,6 +5,7 @@ mod fault;
 mod item;
 mod key;
 mod key_order;
+mod key_part;
 mod keying;
 mod laws;
 mod number;
@@ -17,7 +18,8 @@ mod writing;
 
 pub use fault::ItemFault;
 pub use item::{Item, read_item, write_item};
-pub use key::{Key, KeyAttribute, KeyPart, KeySchema, KeyText, KeyType};
+pub use key::{Key, KeyAttribute, KeySchema, KeyType};
+pub use key_part::{KeyPart, KeyText};
 pub use keying::key_of;
 pub use laws::{
     equality_is_of_values, keys_have_one_form, numbers_are_read, numbers_have_one_form,

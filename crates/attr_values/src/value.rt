@@ -3,10 +3,6 @@
 ghost use Rattle.std.specs.Prelude.{◌≡◌, ◌↔◌, [], length, option_map, IsTrue, IfOk};
 ghost use Rattle.attr_values.specs.Item.{get_attribute};
 ghost use Rattle.attr_values.specs.View.{datum_of, list_of};
-ghost use Rattle.std.specs.BTreeMap.{is_at};
-ghost use Rattle.std.specs.List.{list_any};
-ghost use Rattle.json_tree.specs.Fields.{text_cmp};
-ghost use Rattle.attr_values.specs.Decimal.{decimal_cmp};
 
 use crate::number::Number;
 use json_tree::Text;
@@ -172,18 +168,6 @@ impl Model for TextSet {
 }
 
 impl TextSet {
-    pub fn len(&self) -> usize
-        ensures { result ≡ length self.now }
-    {
-        self.inner.len()
-    }
-
-    pub fn contains(&self, text: &Text) -> bool
-        ensures { result ≡ list_any (is_at (text_cmp text.now)) self.now }
-    {
-        self.inner.contains(text)
-    }
-
     /// An equal set. Takes memory for each text.
     pub fn copy(&self) -> Result<TextSet, AllocError>
         ensures { IfOk result (λ s. s ≡ self.now) }
@@ -212,18 +196,6 @@ impl Model for NumberSet {
 }
 
 impl NumberSet {
-    pub fn len(&self) -> usize
-        ensures { result ≡ length self.now }
-    {
-        self.inner.len()
-    }
-
-    pub fn contains(&self, number: Number) -> bool
-        ensures { result ≡ list_any (is_at (decimal_cmp number)) self.now }
-    {
-        self.inner.contains(&number)
-    }
-
     /// An equal set. Takes memory for the set.
     pub fn copy(&self) -> Result<NumberSet, AllocError>
         ensures { IfOk result (λ s. s ≡ self.now) }

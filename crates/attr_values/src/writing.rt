@@ -68,19 +68,19 @@ pub(crate) fn write_map(alloc: Global, map: &ValueMap) -> Result<JsonFields, All
 fn write_texts(alloc: Global, set: &TextSet) -> Result<JsonList, AllocError>
     ensures { IfOk result (λ js. js ≡ list_map json.text set.now) }
 {
-    let mut values = Vec::with_capacity(alloc, set.inner.len())?;
+    let mut texts = Vec::with_capacity(alloc, set.inner.len())?;
     for text in &set.inner {
-        values.push(Json::Text(text.copy()?))?;
+        texts.push(Json::Text(text.copy()?))?;
     }
-    Ok(JsonList::from_vec(values))
+    Ok(JsonList::from_vec(texts))
 }
 
 fn write_numbers(alloc: Global, set: &NumberSet) -> Result<JsonList, AllocError>
     ensures { IfOk result (λ js. js ≡ list_map number_json set.now) }
 {
-    let mut values = Vec::with_capacity(alloc, set.inner.len())?;
+    let mut numbers = Vec::with_capacity(alloc, set.inner.len())?;
     for number in &set.inner {
-        values.push(write_number(alloc, number)?)?;
+        numbers.push(write_number(alloc, number)?)?;
     }
-    Ok(JsonList::from_vec(values))
+    Ok(JsonList::from_vec(numbers))
 }
