@@ -1,5 +1,5 @@
 -- Entries in the order of their names' bytes.
-use Rattle.std.proofs.Common.{◌≡◌, ℕ, List, [], ◌∷◌, ◌++◌, String, Global, Ordering, Less, Equal, Greater, string_bytes, string_cmp, map, is_eq, cond, Bool, true, false, Option, Some, None, option_map, refl, sym, ap, ◌∙◌, subst}
+use Rattle.std.proofs.Common.{◌≡◌, ℕ, List, [], ◌∷◌, ◌++◌, String, Global, Ordering, Less, Equal, Greater, string_bytes, string_cmp, is_eq, cond, Bool, true, false, Option, Some, option_map, refl, ap, ◌∙◌}
 use Rattle.std.proofs.lemmas.Cmp.{nat_list_cmp_total}
 use Rattle.std.specs.BTreeMap.{insert_entry, is_at}
 use Rattle.std.specs.List.{AllByRecursion}
@@ -7,7 +7,6 @@ use Rattle.std.specs.List.Sorted.{IsStrictlySortedBy}
 use Rattle.std.specs.Map.{keys_of, lookup}
 use Rattle.std.specs.Ordering.{match_ordering, ordering_reverse}
 use Rattle.json_tree.specs.Fields.{text_cmp}
-use Rattle.attr_values.specs.Datum.{Datum}
 use Rattle.attr_values.specs.Item.{get_attribute}
 use Rattle.attr_values.specs.View.{datum_of, entries_of}
 use Rattle.attr_values.specs.declared.value.Value.{Value}

@@ -1,9 +1,7 @@
 -- The laws.
-use Rattle.std.proofs.Common.{◌≡◌, ◌≢◌, ℕ, zero, suc, ◌+◌, ◌*◌, ◌/◌, ◌%◌, ◌^◌, ◌<◌, ◌++◌, List, [], ◌∷◌, length, Bool, true, false, Ordering, Equal, Option, Some, None, Result, Ok, Err, ◌==◌, refl, sym, ap, ap₂, subst, ◌∙◌, arith}
+use Rattle.std.proofs.Common.{◌≡◌, ℕ, zero, suc, ◌*◌, ◌/◌, ◌%◌, ◌^◌, ◌++◌, List, [], ◌∷◌, length, Bool, true, false, Equal, Option, Some, None, ◌==◌, refl, sym, ap, ap₂, subst, ◌∙◌, arith}
 use Rattle.std.specs.Prelude.{if◌then◌else◌, unsigned_abs}
-use Rattle.std.specs.BTreeMap.{is_at}
 use Rattle.std.specs.List.{before_first, after_first}
-use Rattle.std.specs.Map.{lookup}
 use Rattle.std.specs.Ordering.{ordering_then, nat_cmp, is_eq}
 use Rattle.std.specs.Str.Parse.{digits_value}
 use Rattle.std.proofs.lemmas.Cmp.{nat_cmp_total, tied_itself}
@@ -11,23 +9,19 @@ use Rattle.std.proofs.lemmas.Nat.{div-add-mod'}
 use Rattle.std.proofs.Math.Nat.{mul_assoc, mul_comm, pow-suc}
 use borrow.Author.Tests.{eqb-true}
 use Rattle.json_tree.specs.Fields.{text_cmp}
-use Rattle.attr_values.specs.Datum.{Datum, text, number, boolean, null, list, document, texts, numbers, attributes_of}
-use Rattle.attr_values.specs.Decimal.{Decimal, IsNormal, value_cmp, decimal_cmp}
+use Rattle.attr_values.specs.Datum.{Datum, text, number, attributes_of}
+use Rattle.attr_values.specs.Decimal.{Decimal, IsNormal, value_cmp}
 use Rattle.attr_values.specs.DecimalOrder.{decimal_cmp_equal}
-use Rattle.attr_values.specs.Faults.{result_map, result_and_then}
+use Rattle.attr_values.specs.Faults.{result_map}
 use Rattle.attr_values.specs.Item.{get_attribute}
-use Rattle.attr_values.specs.Key.{part_of, part_from, sort_of, key_of}
-use Rattle.attr_values.specs.Laws.{ReadsTheNumber, NumberReadsBack, OneFormANumber, OneNumberASpelling, ValueReadsBack, ItemReadsBack, EqualityIsOfValues, OneKeyAValue, SameByValue, BothSame, AgreeAt, AgreeAtSort, without_sign, written_digits, written_places}
-use Rattle.attr_values.specs.Numeral.{is_point, is_unsigned, in_bounds, shortened, magnitude, bounded, decimal_of, with_sign, read_unsigned, read_number}
+use Rattle.attr_values.specs.Key.{part_of, part_from, sort_of}
+use Rattle.attr_values.specs.Laws.{ReadsTheNumber, OneFormANumber, OneNumberASpelling, ItemReadsBack, EqualityIsOfValues, OneKeyAValue, SameByValue, BothSame, AgreeAt, AgreeAtSort, written_digits, written_places}
+use Rattle.attr_values.specs.Numeral.{is_point, is_unsigned, in_bounds, shortened, magnitude, bounded, decimal_of, read_unsigned, read_number}
 use Rattle.attr_values.specs.Proper.{IsProper, AreProperAttributes, IsItem}
-use Rattle.attr_values.specs.declared.fault.ItemFault.{ItemFault}
-use Rattle.attr_values.specs.declared.key.Key.{Key}
 use Rattle.attr_values.specs.declared.key.KeyAttribute.{KeyAttribute}
-use Rattle.attr_values.specs.declared.key_part.KeyPart.{KeyPart}
-use Rattle.attr_values.specs.declared.key.KeySchema.{KeySchema}
 use Rattle.attr_values.proofs.NumberLemmas.{value_cmp_equal, decimal_cmp-value_cmp}
-use Rattle.attr_values.proofs.NumeralLemmas.{magnitude_of_sign, read_normal, reads_back, by_bool}
-use Rattle.attr_values.proofs.ProperLemmas.{datum_reads_back, attributes_read_back}
+use Rattle.attr_values.proofs.NumeralLemmas.{magnitude_of_sign, read_normal, by_bool}
+use Rattle.attr_values.proofs.ProperLemmas.{attributes_read_back}
 use Rattle.attr_values.proofs.Same.{value_eq_both, item_eq_both, key_eq_both}
 
 -- what is left of the fraction is the same number

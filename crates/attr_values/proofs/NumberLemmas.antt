@@ -1,5 +1,5 @@
 -- The order of decimal numbers by quotients, remainders and signs, and their normal form.
-use Rattle.std.proofs.Common.{◌≡◌, ◌≢◌, ℕ, zero, suc, ◌+◌, ◌-◌, ◌*◌, ◌/◌, ◌%◌, ◌^◌, ◌<◌, ◌≤◌, ◌⊎◌, refl, sym, ◌∙◌, ap, ap₂, subst, arith, inl, inr}
+use Rattle.std.proofs.Common.{◌≡◌, ◌≢◌, ℕ, suc, ◌+◌, ◌-◌, ◌*◌, ◌/◌, ◌%◌, ◌^◌, ◌<◌, ◌≤◌, refl, sym, ◌∙◌, ap, subst, arith}
 use Rattle.std.specs.Prelude.{ℤ, pos, negsuc, neg_ℤ, ◌*ℤ◌, ◌<ℤ◌, ◌≤ℤ◌, unsigned_abs}
 use Rattle.std.specs.declared.cmp.Ordering.{Ordering}
 use Rattle.std.specs.declared.cmp.Ordering.TheVariants.{Less, Equal, Greater}
@@ -7,10 +7,9 @@ use Rattle.std.specs.Ordering.{MatchOrdering, nat_cmp, int_cmp, ordering_then, o
 use Rattle.std.specs.Cmp.{ranked, int_ranked, nat_cmp_is, int_cmp_is, nat_cmp_total, tied_itself}
 use Rattle.std.proofs.lemmas.Cmp.{by_ranked}
 use Rattle.std.proofs.lemmas.Int.{ints, unsigned_abs-mul}
-use Rattle.std.proofs.Math.Nat.{mul_assoc, mul_comm, one-le-pow, pow-suc, mul-le-mul_right, mul-mod_left, div-add-mod, mod-lt, eq_of_mul-eq-mul_right}
+use Rattle.std.proofs.Math.Nat.{mul_assoc, mul_comm, one-le-pow, pow-suc, mul-le-mul_right, mul-mod_left, mod-lt, eq_of_mul-eq-mul_right}
 use Rattle.std.proofs.lemmas.Nat.{pow-add, div-add-mod'}
 use Rattle.attr_values.specs.Decimal.{Decimal, IsNormal, value_cmp, decimal_cmp}
-use Rattle.attr_values.specs.DecimalOrder.{int_cmp-scaled}
 
 pub ten_above_zero : (p : ℕ) → 0 < 10 ^ p
 ten_above_zero p = one-le-pow p 10 (omega arith)

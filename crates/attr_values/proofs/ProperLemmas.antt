@@ -1,9 +1,8 @@
 -- What is read is proper, and what is proper and written is read to the same value.
-use Rattle.std.proofs.Common.{◌≡◌, ◌≢◌, ℕ, zero, suc, List, [], ◌∷◌, ◌++◌, map, Bool, true, false, Option, Some, None, Result, Ok, Err, refl, sym, ap, ap₂, subst, ◌∙◌, append_assoc, append-nil}
+use Rattle.std.proofs.Common.{◌≡◌, ◌≢◌, ℕ, zero, suc, List, [], ◌∷◌, ◌++◌, map, Bool, true, false, Option, Some, None, Result, Ok, Err, refl, sym, ap, subst, ◌∙◌, append_assoc, append-nil}
 use Rattle.std.specs.Prelude.{if◌then◌else◌, IfOk}
 use Rattle.std.specs.BTreeMap.{is_at}
 use Rattle.std.specs.BTreeSet.{insert_key}
-use Rattle.std.specs.Cmp.{IsTotalOrder}
 use Rattle.std.specs.List.{AllByRecursion, list_any}
 use Rattle.std.specs.List.Sorted.{IsStrictlySortedBy}
 use Rattle.std.specs.Option.{ok_or}
@@ -20,7 +19,7 @@ use Rattle.attr_values.specs.DecimalOrder.{decimal_cmp_total}
 use Rattle.attr_values.specs.Faults.{result_map, result_and_then, Answers}
 use Rattle.attr_values.specs.View.{datum_of}
 use Rattle.attr_values.specs.declared.value.Value.{Value}
-use Rattle.attr_values.specs.Numeral.{read_number, number_text}
+use Rattle.attr_values.specs.Numeral.{read_number}
 use Rattle.attr_values.specs.Proper.{IsTextSet, IsNumberSet, IsProper, AreProper, AreProperAttributes}
 use Rattle.attr_values.specs.Reading as spec
 use Rattle.attr_values.specs.Writing.{json_of, json_items, json_members, number_json}

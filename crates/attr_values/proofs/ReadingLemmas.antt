@@ -10,7 +10,7 @@ use Rattle.json_tree.specs.Fields.{text_cmp, IsInNameOrder}
 use Rattle.json_tree.specs.View.{data_of, list_of as json_list_of, fields_of}
 use Rattle.json_tree.specs.declared.tree.Json.{Json}
 use Rattle.attr_values.specs.Datum.{Datum, list, document, texts, numbers, Elements, no_elements, element, Attributes, no_attributes, attribute, elements_of, attributes_of}
-use Rattle.attr_values.specs.Faults.{result_map, result_and_then}
+use Rattle.attr_values.specs.Faults.{result_map}
 use Rattle.attr_values.specs.Reading as spec
 use Rattle.attr_values.specs.View.{datum_of, list_of, entries_of}
 use Rattle.attr_values.specs.declared.fault.ItemFault.{ItemFault}

@@ -1,8 +1,8 @@
 -- Equality is that of the values.
-use Rattle.std.proofs.Common.{◌≡◌, ◌↔◌, ℕ, List, [], ◌∷◌, true, false, Equal, is_eq, refl, sym, ap, ◌∙◌, subst}
+use Rattle.std.proofs.Common.{◌≡◌, ◌↔◌, ℕ, List, [], ◌∷◌, true, false, Equal, is_eq, refl, ap, subst}
 use Rattle.std.specs.Cmp.{tied_itself, Equal-is}
 use Rattle.std.specs.FinMap.{nat_cmp-IsAntisymmetric, slice_cmp-IsAntisymmetric}
-use Rattle.std.specs.Ordering.{eq_by_cmp, on, ordering_then}
+use Rattle.std.specs.Ordering.{eq_by_cmp, on}
 use Rattle.json_tree.specs.Fields.{text_cmp}
 use Rattle.attr_values.specs.Datum.{Datum, text, number, boolean, null, list, document, texts, numbers, Elements, no_elements, element, Attributes, no_attributes, attribute, elements_of, attributes_of}
 use Rattle.attr_values.specs.Decimal.{Decimal}

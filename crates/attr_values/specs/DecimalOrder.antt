@@ -1,12 +1,11 @@
 -- The order of decimal numbers is total, and tells apart any two that differ.
-use Rattle.std.specs.Prelude.{◌≡◌, ◌≢◌, ℕ, zero, suc, ◌+◌, ◌*◌, ◌^◌, ◌<◌, ℤ, pos, negsuc, neg_ℤ, ◌*ℤ◌, ◌<ℤ◌, Bool, true, false, ◌&&◌, ◌==◌, refl}
+use Rattle.std.specs.Prelude.{◌≡◌, ℕ, zero, suc, ◌*◌, ◌^◌, ◌<◌, ℤ, pos, negsuc, neg_ℤ, ◌*ℤ◌, ◌<ℤ◌, Bool, true, false, ◌&&◌, ◌==◌, refl}
 use Rattle.std.specs.declared.cmp.Ordering.{Ordering}
 use Rattle.std.specs.declared.cmp.Ordering.TheVariants.{Less, Equal, Greater}
-use Rattle.std.specs.Ordering.{MatchOrdering, nat_cmp, int_cmp, int_eq, is_eq, ordering_then, ordering_reverse}
+use Rattle.std.specs.Ordering.{MatchOrdering, nat_cmp, int_cmp, int_eq, is_eq, ordering_then}
 use Rattle.std.specs.Cmp.{IsTotalOrder, ranked, int_ranks, int_cmp_is, int_cmp_total, nat_cmp_total, then_total, on_total, tied_itself, int_eq_equiv, nat_eq_equiv}
 use Rattle.std.proofs.Common.{arith, sym, ◌∙◌, ap, ap₂, subst, eqb-true}
 use Rattle.std.proofs.lemmas.Int.{ints}
-use Rattle.std.proofs.lemmas.Nat.{pow-add}
 use Rattle.std.proofs.Math.Nat.{mul_assoc, mul_comm, one-le-pow, mul-lt-mul_of_pos_right, mul-le-mul_right}
 use Rattle.attr_values.specs.Decimal.{Decimal, value_cmp, decimal_cmp}
 

@@ -1,6 +1,6 @@
 -- What a list or some attributes hold nests less deep than they do.
 use denote.Param.Weighed.{most}
-use Rattle.std.specs.Prelude.{ℕ, ◌≤◌, max, List, [], ◌∷◌, map, String}
+use Rattle.std.specs.Prelude.{◌≤◌, max, List, [], ◌∷◌, map, String}
 use Rattle.std.specs.declared.alloc.Global.{Global}
 use Rattle.std.proofs.Common.{arith}
 use Rattle.attr_values.specs.Datum.{depth, list_depth, entries_depth}

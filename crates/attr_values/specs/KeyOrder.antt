@@ -1,5 +1,5 @@
 -- The order of keys is total, and tells apart any two that differ.
-use Rattle.std.specs.Prelude.{◌≡◌, ℕ, List, Bool, true, Option, Some, None, refl}
+use Rattle.std.specs.Prelude.{◌≡◌, ℕ, List, true, Option, Some, None, refl}
 use Rattle.std.specs.Cmp.{IsTotalOrder, on_total, then_total}
 use Rattle.std.specs.Cmp.Lexicographic.{nat_list_cmp_total, options_total}
 use Rattle.std.specs.FinMap.{nat_cmp-IsAntisymmetric, slice_cmp-IsAntisymmetric}
@@ -9,7 +9,6 @@ use Rattle.std.specs.declared.cmp.Ordering.{Ordering}
 use Rattle.std.specs.declared.cmp.Ordering.TheVariants.{Less, Equal, Greater}
 use Rattle.std.proofs.Common.{ap, ap₂}
 use Rattle.json_tree.specs.Fields.{text_cmp}
-use Rattle.attr_values.specs.Decimal.{decimal_cmp}
 use Rattle.attr_values.specs.DecimalOrder.{decimal_cmp_total, decimal_cmp_equal}
 use Rattle.attr_values.specs.Key.{part_cmp, key_cmp, part_input, key_input}
 use Rattle.attr_values.specs.declared.key.Key.{Key}

@@ -1,10 +1,10 @@
 -- What holds of values, items and keys over several calls.
-use Rattle.std.specs.Prelude.{◌≡◌, ◌↔◌, ℕ, ◌*◌, ◌^◌, ◌++◌, unsigned_abs, Bool, true, false, List, [], ◌∷◌, length, Option, Some, None, Result, Ok, ◌==◌, if◌then◌else◌}
+use Rattle.std.specs.Prelude.{◌≡◌, ◌↔◌, ℕ, ◌*◌, ◌^◌, ◌++◌, unsigned_abs, true, List, [], ◌∷◌, length, Option, Some, None, Ok, ◌==◌, if◌then◌else◌}
 use Rattle.std.specs.List.{before_first, after_first}
 use Rattle.std.specs.Ordering.{eq_by_cmp, on}
 use Rattle.std.specs.declared.cmp.Ordering.TheVariants.{Equal}
 use Rattle.std.specs.Str.Parse.{digits_value}
-use Rattle.attr_values.specs.Datum.{Datum, text, number, boolean, null, list, document, texts, numbers, attributes_of}
+use Rattle.attr_values.specs.Datum.{Datum, text, number, attributes_of}
 use Rattle.attr_values.specs.Decimal.{Decimal, IsNormal, value_cmp, decimal_cmp}
 use Rattle.attr_values.specs.Item.{get_attribute}
 use Rattle.attr_values.specs.Key.{key_cmp, key_of}

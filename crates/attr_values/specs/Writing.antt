@@ -1,5 +1,5 @@
 -- The one JSON value that is written for a value: an object with one field, named for its type.
-use Rattle.std.specs.Prelude.{ℕ, Bool, true, List, [], ◌∷◌, map, codes}
+use Rattle.std.specs.Prelude.{ℕ, true, List, map, codes}
 use Rattle.json_tree.specs.Data as json
 use Rattle.attr_values.specs.Decimal.{Decimal}
 use Rattle.attr_values.specs.Numeral.{number_text}

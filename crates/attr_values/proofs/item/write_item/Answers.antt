@@ -1,7 +1,6 @@
-use Rattle.std.proofs.Common.{◌≡◌, Ok, ap, subst, ◌∙◌}
+use Rattle.std.proofs.Common.{Ok, ap, ◌∙◌}
 use Rattle.json_tree.specs.Data.{fields, members_of}
 use Rattle.attr_values.specs.Datum.{attributes_of}
-use Rattle.attr_values.specs.Proper.{IsItem}
 use Rattle.attr_values.specs.Reading as spec
 use Rattle.attr_values.specs.Writing.{json_members}
 use Rattle.attr_values.proofs.ProperLemmas.{attributes_read_back}

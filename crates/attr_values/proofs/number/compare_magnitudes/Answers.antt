@@ -1,4 +1,4 @@
-use Rattle.std.proofs.Common.{◌∙◌, ap, ◌≤◌, arith}
+use Rattle.std.proofs.Common.{◌∙◌, ap, arith}
 use Rattle.std.specs.Ordering.{ordering_reverse}
 use Rattle.attr_values.proofs.NumberLemmas.{nat_cmp-more_places, nat_cmp-fewer_places}
 use Rattle.attr_values.proofs.number.compare_magnitudes.Goals as goal

@@ -1,6 +1,3 @@
-use Rattle.std.proofs.Common.{arith, ◌++◌, ◌<◌, ◌^◌, ℕ}
-use Rattle.std.specs.Option.{SomeIff}
-use Rattle.std.specs.Str.Parse.{digits_value_after}
 use Rattle.attr_values.proofs.NumeralLemmas.{both_large, digits_value_after-append}
 use Rattle.attr_values.proofs.number.digits_value_of_both.Goals as goal
 

@@ -1,4 +1,4 @@
-use Rattle.std.proofs.Common.{ap, ◌∙◌, sym, ◌-◌, inr, Some, Ok}
+use Rattle.std.proofs.Common.{ap, ◌∙◌, sym, ◌-◌, inr, Some}
 use Rattle.json_tree.specs.Data.{items_of, members_of}
 use Rattle.json_tree.specs.View.{data_of, fields_of}
 use Rattle.attr_values.specs.Datum.{list, document}

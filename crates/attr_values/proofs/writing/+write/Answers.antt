@@ -1,11 +1,10 @@
-use Rattle.std.proofs.Common.{◌≡◌, ◌++◌, ◌∷◌, ap, ap₂, sym, subst, ◌∙◌, IfOk, string_bytes, ℕ, List}
+use Rattle.std.proofs.Common.{◌≡◌, ◌++◌, ◌∷◌, ap, ap₂, sym, subst, ◌∙◌, string_bytes}
 use Rattle.std.specs.List.Sorted.{IsStrictlySortedBy}
 use Rattle.std.specs.Map.{keys_of}
 use Rattle.std.proofs.lemmas.Result.{IfOk-weaker}
 use Rattle.json_tree.specs.Data as json
 use Rattle.json_tree.specs.Data.{items_of, members_of}
 use Rattle.json_tree.specs.Fields.{text_cmp, with_field}
-use Rattle.json_tree.specs.View.{data_of}
 use Rattle.attr_values.specs.View.{datum_of, entries_of}
 use Rattle.attr_values.specs.Writing.{json_of, json_entries, one_field}
 use Rattle.attr_values.proofs.Entries.{name_order}

@@ -1,5 +1,4 @@
 use Rattle.std.proofs.Common.{◌∙◌, ap}
-use Rattle.std.specs.Prelude.{string_bytes}
 use Rattle.std.proofs.lemmas.Result.{IfOk-weaker}
 use Rattle.attr_values.specs.Numeral.{read_number}
 use Rattle.attr_values.proofs.NumeralLemmas.{reads_back}
