@@ -1,0 +1,73 @@
+use Rattle.std.proofs.Common.{ap, ◌∙◌, sym, ◌-◌, inr, Some}
+use Rattle.json_tree.specs.Data.{items_of, members_of}
+use Rattle.json_tree.specs.View.{data_of, fields_of}
+use Rattle.attr_values.specs.Datum.{list, document}
+use Rattle.attr_values.specs.Faults.{result_map}
+use Rattle.attr_values.specs.Reading as spec
+use Rattle.attr_values.specs.declared.reading.Kind.TheVariants.{L, M}
+use Rattle.attr_values.proofs.ReadingLemmas.{element_step, elements_end, attributes_start, attribute_step, attributes_end, attributes_ordered, read_datum-field, read_datum-other, read_kind-none, read_kind-list, read_kind-map, mapped_fault}
+use Rattle.attr_values.proofs.reading.+read.Goals as goal
+
+pub read_attributes-loop-name-init : goal.read_attributes-loop-name-init
+read_attributes-loop-name-init t c =
+    let from = c.into_iter-name-iterator.ensures.into_iter_gives in
+    attributes_start c.args.levels c.into_iter-name-iterator.result c.args.fields.now c.new-inner.result.entries c.new-inner.ensures.empty (ap fields_of from ∙ c.iter-name-items.ensures.fields) c.iter-name-items.ensures.ordered
+
+pub read_attributes-loop-name-preserved : goal.read_attributes-loop-name-preserved
+read_attributes-loop-name-preserved t c =
+    let l = c.loop-name in
+    attribute_step c.args.levels l.name-iterator c.next.new.self c.in-Some.name.now c.in-Some.json.now l.inner.entries c.insert.new.self.entries c.in_ok-clone.field-0 c.in_ok-value.value _
+    c.in-Some.ensures.steps c.in_ok-clone.ensures.cases c.in_ok-value.ensures.read c.in_ok-insert.ensures.entries l.invariant
+
+pub read_attributes-returns-clause-read : goal.read_attributes-returns-clause-read
+read_attributes-returns-clause-read t c =
+    let l = c.loop-name in
+    attributes_end c.args.levels l.name-iterator l.inner.entries _ c.in-None.ensures.steps.0 l.invariant
+
+pub read_attributes-returns-clause-ordered : goal.read_attributes-returns-clause-ordered
+read_attributes-returns-clause-ordered t c =
+    let l = c.loop-name in
+    attributes_ordered c.args.levels l.name-iterator l.inner.entries _ c.in-None.ensures.steps.0 l.invariant
+
+pub read_elements-loop-json-preserved : goal.read_elements-loop-json-preserved
+read_elements-loop-json-preserved t c =
+    let l = c.loop-json in
+    element_step c.args.levels c.as_slice-json-items.result.now l.json-index c.json-item.result l.inner.items c.push.new.self.items c.in_ok-read_within.field-0 _ c.json-item.is c.loop-json-test.true
+    c.in_ok-read_within.ensures.read c.in_ok-push.ensures.items l.invariant
+
+pub read_elements-returns : goal.read_elements-returns
+read_elements-returns t c = elements_end c.args.levels c.as_slice-json-items.result.now c.loop-json.json-index c.loop-json.inner.items _ c.loop-json-test.false c.loop-json.invariant
+
+pub read_within-returns-in_default-only_field-clause-read : goal.read_within-returns-in_default-only_field-clause-read
+read_within-returns-in_default-only_field-clause-read t c =
+    inr (ap (λ j. spec.read_datum c.args.levels (data_of j)) c.in-Fields.is ∙ read_datum-other c.args.levels c.in-Fields.fields c.in_default-only_field.ensures)
+
+pub read_within-returns-in-Some-kind_of-clause-read : goal.read_within-returns-in-Some-kind_of-clause-read
+read_within-returns-in-Some-kind_of-clause-read t c =
+    let is = ap (λ j. spec.read_datum c.args.levels (data_of j)) c.in-Fields.is ∙ read_datum-field c.args.levels c.in-Some.name.now (data_of c.in-Some.value.now) c.in-Fields.fields c.in-Some.ensures
+    ∙ ap (λ k. spec.read_kind k c.args.levels (data_of c.in-Some.value.now)) (sym c.in-Some-kind_of.ensures) in
+    rw is c.read_kind.ensures.read
+
+pub read_within-returns-in-None-clause-read : goal.read_within-returns-in-None-clause-read
+read_within-returns-in-None-clause-read t c =
+    inr (ap (λ j. spec.read_datum c.args.levels (data_of j)) c.in-Fields.is ∙ read_datum-field c.args.levels c.in-Some.name.now (data_of c.in-Some.value.now) c.in-Fields.fields c.in-Some.ensures
+    ∙ ap (λ k. spec.read_kind k c.args.levels (data_of c.in-Some.value.now)) (sym c.in-None.ensures) ∙ read_kind-none c.args.levels (data_of c.in-Some.value.now))
+
+pub read_list-returns-in-Ok-clause-read : goal.read_list-returns-in-Ok-clause-read
+read_list-returns-in-Ok-clause-read t c =
+    ap (λ j. spec.read_kind (Some L) c.args.levels (data_of j)) c.in-List.is ∙ read_kind-list c.args.levels (items_of c.in-List.list) c.if-levels-gt0.true ∙ ap (result_map list) c.in-Ok.ensures
+
+pub read_list-returns-in-Err-clause-read : goal.read_list-returns-in-Err-clause-read
+read_list-returns-in-Err-clause-read t c =
+    mapped_fault list (spec.read_elements (c.args.levels - 1) (items_of c.in-List.list)) _ c.in-Err.fault
+    (ap (λ j. spec.read_kind (Some L) c.args.levels (data_of j)) c.in-List.is ∙ read_kind-list c.args.levels (items_of c.in-List.list) c.if-levels-gt0.true) c.in-Err.ensures
+
+pub read_map-returns-in-Ok-clause-read : goal.read_map-returns-in-Ok-clause-read
+read_map-returns-in-Ok-clause-read t c =
+    ap (λ j. spec.read_kind (Some M) c.args.levels (data_of j)) c.in-Fields.is ∙ read_kind-map c.args.levels (members_of c.in-Fields.fields) c.if-levels-gt0.true
+    ∙ ap (result_map document) c.in-Ok.ensures.read
+
+pub read_map-returns-in-Err-clause-read : goal.read_map-returns-in-Err-clause-read
+read_map-returns-in-Err-clause-read t c =
+    mapped_fault document (spec.read_attributes (c.args.levels - 1) (members_of c.in-Fields.fields)) _ c.in-Err.fault
+    (ap (λ j. spec.read_kind (Some M) c.args.levels (data_of j)) c.in-Fields.is ∙ read_kind-map c.args.levels (members_of c.in-Fields.fields) c.if-levels-gt0.true) c.in-Err.ensures.read

@@ -1,0 +1,16 @@
+pub mod Decimal
+pub mod DecimalOrder
+pub mod Numeral
+pub mod Datum
+pub mod DatumCode
+pub mod View
+pub mod Falls
+pub mod Faults
+pub mod Reading
+pub mod Writing
+pub mod Proper
+pub mod Order
+pub mod Item
+pub mod Key
+pub mod KeyOrder
+pub mod Laws

@@ -1,0 +1,25 @@
+-- The datum that a `Value` stands for.
+use Rattle.std.specs.Prelude.{ℕ, List, map, String, string_bytes}
+use Rattle.std.specs.declared.alloc.Global.{Global}
+use Rattle.attr_values.specs.Datum.{Datum, text, number, boolean, null, list, document, texts, numbers, elements_of, attributes_of}
+use Rattle.attr_values.specs.declared.value.Value.{Value}
+use Rattle.attr_values.specs.declared.value.Value.TheVariants.{S, N, Bool, Null, L, M, Ss, Ns}
+
+abbrev pub datum_of : Value → Datum
+datum_of (S s) = text s
+datum_of (N n) = number n
+datum_of (Bool b) = boolean b
+datum_of Null = null
+datum_of (L ds) = list (elements_of ds)
+datum_of (M ms) = document (attributes_of ms)
+datum_of (Ss ss) = texts ss
+datum_of (Ns ns) = numbers ns
+
+abbrev pub list_of : List Value → List Datum
+list_of = map datum_of
+
+abbrev pub entry_of : String Global × Value → List ℕ × Datum
+entry_of m = (string_bytes m.0, datum_of m.1)
+
+abbrev pub entries_of : List (String Global × Value) → List (List ℕ × Datum)
+entries_of = map entry_of

@@ -1,0 +1,161 @@
+//! Items.
+
+ghost use Rattle.std.specs.Prelude.{◌≡◌, ◌↔◌, [], Ok, Err, length, option_map, IsTrue, IfOk, is_some};
+ghost use Rattle.json_tree.specs.View.{data_of};
+ghost use Rattle.attr_values.specs.Datum.{attributes_of};
+ghost use Rattle.attr_values.specs.Faults.{Answers};
+ghost use Rattle.attr_values.specs.Item.{get_attribute};
+ghost use Rattle.attr_values.specs.Proper.{IsItem};
+ghost use Rattle.attr_values.specs.Reading as spec;
+ghost use Rattle.attr_values.specs.View.{datum_of};
+ghost use Rattle.attr_values.specs.Writing.{item_json};
+
+use crate::fault::ItemFault;
+use crate::order::compare_maps;
+use crate::reading::{MOST_LEVELS, read_attributes};
+use crate::value::{Value, ValueMap};
+use crate::writing::write_map;
+use json_tree::Json;
+use std::alloc::{AllocError, Global};
+use std::cmp::Ordering;
+use std::marker::Model;
+
+/// An item (PutItem of the DynamoDB API): attributes, each name once and in the order of the names' bytes.
+/// Contracts see a list of pairs. Items are made by `read_item` alone, so what `IsItem` says holds of each.
+#[derive(Debug, Drop)]
+pub struct Item {
+    attributes: ValueMap,
+}
+
+impl Model for Item {
+    ghost use Rattle.std.specs.Prelude.{List, ℕ};
+    ghost use Rattle.attr_values.specs.Datum.{Datum};
+    ghost use Rattle.attr_values.specs.DatumCode.{entries_code};
+    ghost use Rattle.attr_values.specs.Proper.{IsItem};
+
+    ghost Value = { List (List ℕ × Datum) };
+
+    ghost coded = { entries_code };
+
+    ghost view = { λ a. a.attributes };
+
+    ghost invariant = { λ a. IsItem a.attributes };
+}
+
+impl Item {
+    pub fn len(&self) -> usize
+        ensures { result ≡ length self.now }
+    {
+        self.attributes.len()
+    }
+
+    pub fn is_empty(&self) -> bool
+        ensures { IsTrue result ↔ (self.now ≡ []) }
+    {
+        self.attributes.is_empty()
+    }
+
+    /// The value of a name. Takes time by the logarithm of the number of attributes.
+    pub fn get(&self, name: &str) -> Option<&Value>
+        ensures { option_map (λ v. datum_of v.now) result ≡ get_attribute name.now self.now }
+    {
+        self.attributes.get(name)
+    }
+
+    /// An equal item. Takes memory for each attribute.
+    pub fn copy(&self) -> Result<Item, AllocError>
+        ensures { IfOk result (λ i. i ≡ self.now) }
+    {
+        Ok(Item {
+            attributes: self.attributes.copy()?,
+        })
+    }
+
+    pub fn contains(&self, name: &str) -> bool
+        ensures { result ≡ is_some (get_attribute name.now self.now) }
+    {
+        self.get(name).is_some()
+    }
+}
+
+impl PartialEq for Item {
+    ghost use Rattle.std.specs.Cmp.{eq_by_cmp_equiv, on_total, partial_equiv_from_equiv};
+    ghost use Rattle.std.specs.Ordering.{eq_by_cmp, on};
+    ghost use Rattle.attr_values.specs.Datum.{attributes_of};
+    ghost use Rattle.attr_values.specs.Order.{attributes_cmp, attributes_cmp_total};
+
+    ghost eq = { eq_by_cmp (on attributes_of attributes_cmp) };
+
+    ghost laws = { partial_equiv_from_equiv (eq_by_cmp_equiv (on_total attributes_of attributes_cmp_total)) };
+
+    fn eq(&self, other: &Item) -> bool {
+        self.cmp(other).is_eq()
+    }
+}
+
+impl Eq for Item {
+    ghost use Rattle.std.specs.Cmp.{eq_by_cmp_equiv, on_total};
+    ghost use Rattle.attr_values.specs.Datum.{attributes_of};
+    ghost use Rattle.attr_values.specs.Order.{attributes_cmp_total};
+
+    ghost laws = { eq_by_cmp_equiv (on_total attributes_of attributes_cmp_total) };
+}
+
+impl PartialOrd for Item {
+    ghost use Rattle.std.specs.Cmp.{on_total, partial_order_from_agreeing_total};
+    ghost use Rattle.std.specs.Ordering.{as_partial_cmp, on};
+    ghost use Rattle.std.specs.Prelude.{refl};
+    ghost use Rattle.attr_values.specs.Datum.{attributes_of};
+    ghost use Rattle.attr_values.specs.Order.{attributes_cmp, attributes_cmp_total};
+
+    ghost partial_cmp = { as_partial_cmp (on attributes_of attributes_cmp) };
+
+    ghost laws = { partial_order_from_agreeing_total (on attributes_of attributes_cmp) (on_total attributes_of attributes_cmp_total) (λ _ _. refl) (λ _ _. refl) };
+
+    fn partial_cmp(&self, other: &Item) -> Option<Ordering> {
+        Some(self.cmp(other))
+    }
+}
+
+impl Ord for Item {
+    ghost use Rattle.std.specs.Cmp.{on_total};
+    ghost use Rattle.std.specs.Ordering.{on};
+    ghost use Rattle.std.specs.Prelude.{refl};
+    ghost use Rattle.attr_values.specs.Datum.{attributes_of};
+    ghost use Rattle.attr_values.specs.Order.{attributes_cmp, attributes_cmp_total};
+
+    ghost cmp = { on attributes_of attributes_cmp };
+
+    ghost total = { on_total attributes_of attributes_cmp_total };
+
+    ghost matches_partial_cmp = { λ _ _. refl };
+
+    ghost matches_eq = { λ _ _. refl };
+
+    fn cmp(&self, other: &Item) -> Ordering {
+        compare_maps(&self.attributes, &other.attributes)
+    }
+}
+
+/// Reads an item: an object whose fields are attributes. Takes memory for each name, text, list, map and set.
+pub fn read_item(alloc: Global, json: &Json) -> Result<Item, ItemFault>
+    ensures read { Answers attributes_of (spec.read_item (data_of json.now)) result }
+    ensures kept { IfOk result IsItem }
+    ensures memory { result ≡ Err ItemFault.Memory → IsTrue (spec.is_object (data_of json.now)) }
+{
+    let Json::Fields(fields) = json else {
+        return Err(ItemFault::BadValue);
+    };
+    match read_attributes(alloc, fields, MOST_LEVELS) {
+        Ok(attributes) => Ok(Item { attributes }),
+        Err(fault) => Err(fault),
+    }
+}
+
+/// Writes an item as an object, its attributes in the order of their names' bytes. Takes memory for each name and value.
+pub fn write_item(alloc: Global, item: &Item) -> Result<Json, AllocError>
+    ensures json { IfOk result (λ j. data_of j ≡ item_json item.now) }
+    ensures reads_back { IfOk result (λ j. spec.read_item (data_of j) ≡ Ok (attributes_of item.now)) }
+{
+    Ok(Json::Fields(write_map(alloc, &item.attributes)?))
+}
