@@ -1,7 +1,9 @@
 // Lines, put together from the pieces in which they come.
-ghost use Rattle.std.specs.Prelude.{◌≡◌, ◌≤◌, vec_len};
+ghost use Rattle.std.specs.Prelude.{◌≡◌, [], Some, OnOk, OnErr, option_map};
+ghost use Rattle.operator_line.specs.Lines.{grown, within_limit, without_return, ended_line, last_line, bytes_of};
 
 use std::alloc::{AllocError, Global};
+use std::marker::Model;
 
 /// The most bytes of a line without its end.
 pub const LONGEST_LINE: usize = 1_048_576;
@@ -18,12 +20,23 @@ pub enum Line<'a> {
 pub struct LineBuffer {
     bytes: Vec<u8>,
     is_too_long: bool,
-    ghost fits: { vec_len bytes ≤ 1048577 },
+}
+
+impl Model for LineBuffer {
+    ghost use Rattle.std.specs.Prelude.{ℕ, ◌≤◌, List, Option, None, Some, if◌then◌else◌, length};
+
+    ghost Value = { Option (List ℕ) };
+
+    ghost view = { λ a. if a.is_too_long then None else Some a.bytes.items };
+
+    ghost invariant = { λ a. length a.bytes.items ≤ 1048577 };
 }
 
 impl LineBuffer {
     /// Nothing yet. Takes no memory.
-    pub fn new(alloc: Global) -> LineBuffer {
+    pub fn new(alloc: Global) -> LineBuffer
+        ensures { result ≡ Some [] }
+    {
         LineBuffer {
             bytes: Vec::new(alloc),
             is_too_long: false,
@@ -31,7 +44,10 @@ impl LineBuffer {
     }
 
     /// Adds bytes of the line. Takes memory for them, and none for a line that is too long.
-    pub fn add(&mut self, bytes: &[u8]) -> Result<(), AllocError> {
+    pub fn add(&mut self, bytes: &[u8]) -> Result<(), AllocError>
+        ensures ok { OnOk result (self.new ≡ grown bytes.now self.old) }
+        ensures err { OnErr result (self.new ≡ self.old) }
+    {
         if self.is_too_long {
             return Ok(());
         }
@@ -45,18 +61,19 @@ impl LineBuffer {
     }
 
     /// The line that a line feed ends: one carriage return before it is dropped.
-    pub fn ended(&self) -> Line<'_> {
+    pub fn ended(&self) -> Line<'_>
+        ensures { bytes_of result ≡ ended_line self.now }
+    {
         if self.is_too_long {
             return Line::TooLong;
         }
-        match self.bytes.as_slice() {
-            [line @ .., b'\r'] => within_limit(line),
-            line => within_limit(line),
-        }
+        within_limit(without_return(self.bytes.as_slice()))
     }
 
     /// The line that the end of the input ends, if anything came of it.
-    pub fn last(&self) -> Option<Line<'_>> {
+    pub fn last(&self) -> Option<Line<'_>>
+        ensures { option_map bytes_of result ≡ last_line self.now }
+    {
         if self.is_too_long {
             Some(Line::TooLong)
         } else if self.bytes.is_empty() {
@@ -67,13 +84,27 @@ impl LineBuffer {
     }
 
     /// Begins the next line.
-    pub fn clear(&mut self) {
+    pub fn clear(&mut self)
+        ensures { self.new ≡ Some [] }
+    {
         self.bytes.clear();
         self.is_too_long = false;
     }
 }
 
-fn within_limit(line: &[u8]) -> Line<'_> {
+/// The bytes without one carriage return at their end.
+fn without_return(bytes: &[u8]) -> &[u8]
+    ensures { result.now ≡ without_return bytes.now }
+{
+    match bytes.strip_suffix(b"\r".as_slice()) {
+        Some(front) => front,
+        None => bytes,
+    }
+}
+
+fn within_limit(line: &[u8]) -> Line<'_>
+    ensures { bytes_of result ≡ within_limit line.now }
+{
     if line.len() <= LONGEST_LINE {
         Line::Whole(line)
     } else {
