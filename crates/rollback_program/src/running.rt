@@ -1,4 +1,7 @@
 // Running in a mode, over any streams.
+ghost use Rattle.std.specs.Prelude.{◌≡◌, ◌⊎◌};
+ghost use Rattle.rollback_program.specs.Status.{IsStatus};
+
 use crate::mode::Mode;
 use operator_line::{ServeFault, Session, serve};
 use std::alloc::Global;
@@ -20,7 +23,9 @@ pub fn run<R: Read, W: Write, E: Write>(
     reader: &mut R,
     writer: &mut W,
     faults: &mut E,
-) -> u8 {
+) -> u8
+    ensures { IsStatus mode result }
+{
     match mode {
         Mode::Serve => serve_streams(alloc, reader, writer, faults),
         Mode::Help(text) => match writer.write_all(text.as_bytes()) {
@@ -40,7 +45,9 @@ fn serve_streams<R: Read, W: Write, E: Write>(
     reader: &mut R,
     writer: &mut W,
     faults: &mut E,
-) -> u8 {
+) -> u8
+    ensures { (result ≡ 0) ⊎ (result ≡ 4) }
+{
     let mut session = Session::new(alloc);
     match serve(alloc, reader, writer, &mut session) {
         Ok(()) => ENDED,
@@ -51,7 +58,9 @@ fn serve_streams<R: Read, W: Write, E: Write>(
 }
 
 /// Tells a fault. Where even that can't be written, the status alone tells it.
-fn fail<E: Write>(faults: &mut E, text: &[u8]) -> u8 {
+fn fail<E: Write>(faults: &mut E, text: &[u8]) -> u8
+    ensures { result ≡ 4 }
+{
     let _ = faults.write_all(text);
     FAILED
 }
