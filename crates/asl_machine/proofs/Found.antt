@@ -1,6 +1,6 @@
 -- What holds of each entry of a list holds of the one that a look-up finds.
-use Rattle.std.proofs.Common.{ℕ, List, [], ◌∷◌, Bool, true, false, cond}
-use Rattle.std.specs.Prelude.{IfSome, None, Some}
+use Rattle.std.proofs.Common.{List, [], ◌∷◌, Bool, true, false, cond}
+use Rattle.std.specs.Prelude.{IfSome, Some}
 use Rattle.std.specs.List.{AllByRecursion}
 use Rattle.std.specs.Map.{lookup}
 

@@ -1,2 +1,5 @@
 pub mod Definition
 pub mod Find
+pub mod Fields
+pub mod Refusal
+pub mod Reading

@@ -1,4 +1,6 @@
 // Which fields an object of a definition may have.
+ghost use Rattle.std.specs.Prelude.{◌≡◌};
+ghost use Rattle.asl_machine.specs.Fields.{standing, is_left_out_anywhere};
 
 /// What a field's name is, where it stands.
 #[derive(Clone, Copy, Debug, PartialEq, Eq)]
@@ -85,7 +87,9 @@ const COMPARISONS_LEFT_OUT: [&str; 23] = [
 ];
 
 /// What a field of this name is in an object at this place ("State Machine Structure", "State Types").
-pub fn standing_of(place: Place, name: &str) -> Standing {
+pub fn standing_of(place: Place, name: &str) -> Standing
+    ensures { result ≡ standing place name.now }
+{
     let (known, left_out) = match place {
         Place::Top => (TOP.as_slice(), [].as_slice()),
         Place::Pass => (PASS.as_slice(), PASS_LEFT_OUT.as_slice()),
@@ -101,6 +105,8 @@ pub fn standing_of(place: Place, name: &str) -> Standing {
 }
 
 /// Whether the language has a field of this name that is left out wherever it stands.
-fn is_left_out(name: &str) -> bool {
+fn is_left_out(name: &str) -> bool
+    ensures { result ≡ is_left_out_anywhere name.now }
+{
     LEFT_OUT.contains(&name) || COMPARISONS_LEFT_OUT.contains(&name)
 }

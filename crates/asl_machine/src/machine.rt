@@ -1,7 +1,12 @@
 // A machine: its states by name, and where it starts.
-ghost use Rattle.std.specs.Prelude.{◌≡◌, option_copied, [], IfOk, IfSome, IfNone, None};
+ghost use Rattle.std.specs.Prelude.{◌≡◌, option_copied, [], IfOk, IfErr, OnOk, OnErr, IfSome, IfNone, None, true, false};
+ghost use Rattle.std.specs.BTreeMap.{insert_entry};
+ghost use Rattle.std.specs.Cmp.Lexicographic.{slice_cmp};
+ghost use Rattle.std.specs.Ordering.{nat_cmp};
 ghost use Rattle.asl_machine.specs.Definition.{state_of, IsComplete, StaysInside};
 ghost use Rattle.asl_machine.specs.Find.{state_at};
+ghost use Rattle.asl_machine.specs.Reading.{is_complete, stays_inside};
+ghost use Rattle.asl_machine.specs.Refusal.{Refuses};
 
 use crate::fault::MachineFault;
 use crate::level::LevelPath;
@@ -20,7 +25,6 @@ pub struct States {
 impl Model for States {
     ghost use Rattle.std.specs.Prelude.{List, ℕ};
     ghost use Rattle.asl_machine.specs.declared.state.State.{State};
-
     ghost use Rattle.asl_machine.specs.contracts.state.State as state;
     ghost use Rattle.std.specs.Coded.{codes};
 
@@ -41,7 +45,10 @@ impl States {
     }
 
     /// Adds a state, or replaces the one of its name.
-    pub fn insert(&mut self, name: Text, state: State) -> Result<(), AllocError> {
+    pub fn insert(&mut self, name: Text, state: State) -> Result<(), AllocError>
+        ensures ok { OnOk result (self.new ≡ insert_entry (slice_cmp nat_cmp) self.old name state) }
+        ensures err { OnErr result (self.new ≡ self.old) }
+    {
         drop(self.inner.insert(name, state)?);
         Ok(())
     }
@@ -80,6 +87,8 @@ impl Machine {
     /// a name that isn't.
     pub fn new(alloc: Global, start: Text, states: States) -> Result<Machine, MachineFault>
         ensures ok { IfOk result (λ m. m ≡ record { start = start; states = states }) }
+        ensures complete { OnOk result (is_complete start states ≡ true) }
+        ensures refused { IfErr result (λ e. Refuses e (is_complete start states ≡ false)) }
     {
         if states.get(&start).is_none() {
             return Err(MachineFault::NoTarget(start));
@@ -116,6 +125,8 @@ impl Machine {
 /// The name of a state that this one leads to and that isn't there.
 fn missing_target<'a>(states: &States, state: &'a State) -> Option<&'a Text>
     ensures inside { IfNone result (StaysInside states.now state.now) }
+    ensures stays { IfNone result (stays_inside states.now state.now ≡ true) }
+    ensures leaves { IfSome result (λ name. stays_inside states.now state.now ≡ false) }
     ensures missing { IfSome result (λ name. state_of name.now states.now ≡ None) }
 {
     let next = match state {

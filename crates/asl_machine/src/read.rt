@@ -1,5 +1,10 @@
 // Reading a definition.
-ghost use Rattle.std.specs.Prelude.{◌≡◌, IfOk};
+ghost use Rattle.std.specs.Prelude.{◌≡◌, IfOk, IfErr, OnOk, [], Some, None, true, false, codes};
+ghost use Rattle.serde_json.specs.Find.{get, as_str, as_object};
+ghost use Rattle.serde_json.specs.View.{view, members_view};
+ghost use Rattle.asl_machine.specs.Fields.{all_known, speaks_json_path};
+ghost use Rattle.asl_machine.specs.Reading.{definition_of, states_read, state_read, pass_of, result_of, transition_of, is_end};
+ghost use Rattle.asl_machine.specs.Refusal.{Refuses};
 
 use crate::fault::MachineFault;
 use crate::fields::{Place, Standing, standing_of};
@@ -14,15 +19,18 @@ impl Machine {
     /// names of its states and for the results of its Pass states.
     ///
     /// Where a definition has several faults, which of them is answered is left open.
-    pub fn read(alloc: Global, definition: &Value) -> Result<Machine, MachineFault> {
+    pub fn read(alloc: Global, definition: &Value) -> Result<Machine, MachineFault>
+        ensures ok { IfOk result (λ m. definition_of (view definition.now) ≡ Some m) }
+        ensures refused { IfErr result (λ e. Refuses e (definition_of (view definition.now) ≡ None)) }
+    {
         let Some(fields) = definition.as_object() else {
             return Err(MachineFault::Missing(Text::new(alloc, "StartAt")?));
         };
         check_names(alloc, Place::Top, fields)?;
-        check_query_language(alloc, fields)?;
-        let start = required(alloc, fields, "StartAt")?;
+        check_query_language(alloc, definition)?;
+        let start = required(alloc, definition, "StartAt")?;
         let start = text_of(alloc, start, "StartAt")?;
-        let states = required(alloc, fields, "States")?;
+        let states = required(alloc, definition, "States")?;
         let Some(states) = states.as_object() else {
             return Err(MachineFault::BadField(Text::new(alloc, "States")?));
         };
@@ -32,19 +40,21 @@ impl Machine {
 }
 
 /// The value of a required field.
-fn required<'a>(
-    alloc: Global,
-    fields: &'a Map<String, Value>,
-    name: &str,
-) -> Result<&'a Value, MachineFault> {
-    match fields.get(name) {
+fn required<'a>(alloc: Global, object: &'a Value, name: &str) -> Result<&'a Value, MachineFault>
+    ensures ok { IfOk result (λ v. get name.now (view object.now) ≡ Some (view v.now)) }
+    ensures refused { IfErr result (λ e. Refuses e (get name.now (view object.now) ≡ None)) }
+{
+    match object.get(name) {
         Some(value) => Ok(value),
         None => Err(MachineFault::Missing(Text::new(alloc, name)?)),
     }
 }
 
 /// A copy of the text that a field of this name has.
-fn text_of(alloc: Global, value: &Value, name: &str) -> Result<Text, MachineFault> {
+fn text_of(alloc: Global, value: &Value, name: &str) -> Result<Text, MachineFault>
+    ensures ok { IfOk result (λ text. as_str (view value.now) ≡ Some text) }
+    ensures refused { IfErr result (λ e. Refuses e (as_str (view value.now) ≡ None)) }
+{
     match value.as_str() {
         Some(text) => Ok(Text::new(alloc, text)?),
         None => Err(MachineFault::BadField(Text::new(alloc, name)?)),
@@ -52,11 +62,11 @@ fn text_of(alloc: Global, value: &Value, name: &str) -> Result<Text, MachineFaul
 }
 
 /// Refuses a field that may not stand here.
-fn check_names(
-    alloc: Global,
-    place: Place,
-    fields: &Map<String, Value>,
-) -> Result<(), MachineFault> {
+fn check_names(alloc: Global, place: Place, fields: &Map<String, Value>) -> Result<(), MachineFault>
+    ensures ok { OnOk result (all_known place (members_view fields.now.entries) ≡ true) }
+    ensures refused { IfErr result
+        (λ e. Refuses e (all_known place (members_view fields.now.entries) ≡ false)) }
+{
     for (name, _value) in fields {
         match standing_of(place, name.as_str()) {
             Standing::Known => {}
@@ -72,18 +82,30 @@ fn check_names(
 }
 
 /// Only JSONPath is read. JSONata is left out.
-fn check_query_language(alloc: Global, fields: &Map<String, Value>) -> Result<(), MachineFault> {
-    let Some(value) = fields.get("QueryLanguage") else {
+fn check_query_language(alloc: Global, object: &Value) -> Result<(), MachineFault>
+    ensures ok { OnOk result (speaks_json_path (view object.now) ≡ true) }
+    ensures refused { IfErr result (λ e. Refuses e (speaks_json_path (view object.now) ≡ false)) }
+{
+    let Some(value) = object.get("QueryLanguage") else {
         return Ok(());
     };
-    match value.as_str() {
-        Some("JSONPath") => Ok(()),
-        Some("JSONata") => Err(MachineFault::Unsupported(Text::new(alloc, "QueryLanguage")?)),
-        _ => Err(MachineFault::BadField(Text::new(alloc, "QueryLanguage")?)),
+    let Some(language) = value.as_str() else {
+        return Err(MachineFault::BadField(Text::new(alloc, "QueryLanguage")?));
+    };
+    if language == "JSONPath" {
+        Ok(())
+    } else if language == "JSONata" {
+        Err(MachineFault::Unsupported(Text::new(alloc, "QueryLanguage")?))
+    } else {
+        Err(MachineFault::BadField(Text::new(alloc, "QueryLanguage")?))
     }
 }
 
-fn read_states(alloc: Global, states: &Map<String, Value>) -> Result<States, MachineFault> {
+fn read_states(alloc: Global, states: &Map<String, Value>) -> Result<States, MachineFault>
+    ensures ok { IfOk result (λ read. states_read [] (members_view states.now.entries) ≡ Some read) }
+    ensures refused { IfErr result
+        (λ e. Refuses e (states_read [] (members_view states.now.entries) ≡ None)) }
+{
     let mut read = States::new(alloc);
     for (name, value) in states {
         let state = read_state(alloc, name.as_str(), value)?;
@@ -93,63 +115,96 @@ fn read_states(alloc: Global, states: &Map<String, Value>) -> Result<States, Mac
     Ok(read)
 }
 
-fn read_state(alloc: Global, name: &str, value: &Value) -> Result<State, MachineFault> {
+fn read_state(alloc: Global, name: &str, value: &Value) -> Result<State, MachineFault>
+    ensures ok { IfOk result (λ state. state_read (view value.now) ≡ Some state) }
+    ensures refused { IfErr result (λ e. Refuses e (state_read (view value.now) ≡ None)) }
+{
     let Some(fields) = value.as_object() else {
         return Err(MachineFault::BadField(Text::new(alloc, "States")?));
     };
-    let kind = required(alloc, fields, "Type")?;
-    match kind.as_str() {
-        Some("Pass") => Ok(State::Pass(read_pass(alloc, name, fields)?)),
-        Some("Succeed") => {
-            check_names(alloc, Place::Succeed, fields)?;
-            check_query_language(alloc, fields)?;
-            Ok(State::Succeed)
-        }
-        Some("Task" | "Choice" | "Wait" | "Fail" | "Parallel" | "Map") => {
-            Err(MachineFault::Unsupported(Text::new(alloc, "Type")?))
-        }
-        _ => Err(MachineFault::BadField(Text::new(alloc, "Type")?)),
+    let kind = required(alloc, value, "Type")?;
+    let Some(kind) = kind.as_str() else {
+        return Err(MachineFault::BadField(Text::new(alloc, "Type")?));
+    };
+    if kind == "Pass" {
+        Ok(State::Pass(read_pass(alloc, name, value, fields)?))
+    } else if kind == "Succeed" {
+        check_names(alloc, Place::Succeed, fields)?;
+        check_query_language(alloc, value)?;
+        Ok(State::Succeed)
+    } else if is_other_kind(kind) {
+        Err(MachineFault::Unsupported(Text::new(alloc, "Type")?))
+    } else {
+        Err(MachineFault::BadField(Text::new(alloc, "Type")?))
     }
 }
 
+/// Whether the language has a state of this type that is left out.
+fn is_other_kind(kind: &str) -> bool {
+    ["Task", "Choice", "Wait", "Fail", "Parallel", "Map"]
+        .as_slice()
+        .contains(&kind)
+}
+
+/// The Pass state of an object, whose fields are `fields` too.
 fn read_pass(
     alloc: Global,
     name: &str,
+    object: &Value,
     fields: &Map<String, Value>,
-) -> Result<Pass, MachineFault> {
+) -> Result<Pass, MachineFault>
+    requires { as_object (view object.now) ≡ Some (members_view fields.now.entries) }
+    ensures ok { IfOk result (λ pass. pass_of (view object.now) ≡ Some pass) }
+    ensures refused { IfErr result (λ e. Refuses e (pass_of (view object.now) ≡ None)) }
+{
     check_names(alloc, Place::Pass, fields)?;
-    check_query_language(alloc, fields)?;
-    let transition = read_transition(alloc, name, fields)?;
-    let result = match fields.get("Result") {
-        Some(value) => Some(read_result(alloc, value)?),
-        None => None,
-    };
+    check_query_language(alloc, object)?;
+    let transition = read_transition(alloc, name, object)?;
+    let result = read_result(alloc, object)?;
     Ok(Pass { result, transition })
 }
 
-fn read_result(alloc: Global, value: &Value) -> Result<Json, MachineFault> {
+/// The `Result` of a Pass state, if it has one.
+fn read_result(alloc: Global, object: &Value) -> Result<Option<Json>, MachineFault>
+    ensures ok { IfOk result (λ r. result_of (get (codes "Result") (view object.now)) ≡ Some r) }
+    ensures refused { IfErr result
+        (λ e. Refuses e (result_of (get (codes "Result") (view object.now)) ≡ None)) }
+{
+    let Some(value) = object.get("Result") else {
+        return Ok(None);
+    };
     match from_value(alloc, value) {
-        Ok(json) => Ok(json),
+        Ok(json) => Ok(Some(json)),
         Err(JsonFault::Memory) => Err(MachineFault::Memory),
         Err(_) => Err(MachineFault::BadField(Text::new(alloc, "Result")?)),
     }
 }
 
 /// Where the state of this name goes: it has exactly one of `Next` and `End: true`, `End: false` being none.
-fn read_transition(
-    alloc: Global,
-    name: &str,
-    fields: &Map<String, Value>,
-) -> Result<Transition, MachineFault> {
-    let is_end = match fields.get("End") {
-        None => false,
-        Some(Value::Bool(end)) => *end,
-        Some(_) => return Err(MachineFault::BadField(Text::new(alloc, "End")?)),
-    };
-    match fields.get("Next") {
-        None if is_end => Ok(Transition::End),
+fn read_transition(alloc: Global, name: &str, object: &Value) -> Result<Transition, MachineFault>
+    ensures ok { IfOk result (λ transition. transition_of (view object.now) ≡ Some transition) }
+    ensures refused { IfErr result (λ e. Refuses e (transition_of (view object.now) ≡ None)) }
+{
+    let ends = read_end(alloc, object)?;
+    match object.get("Next") {
+        None if ends => Ok(Transition::End),
         None => Err(MachineFault::Missing(Text::new(alloc, "Next")?)),
-        Some(_) if is_end => Err(MachineFault::NextAndEnd(Text::new(alloc, name)?)),
+        Some(_) if ends => Err(MachineFault::NextAndEnd(Text::new(alloc, name)?)),
         Some(next) => Ok(Transition::Next(text_of(alloc, next, "Next")?)),
+    }
+}
+
+/// Whether `End: true` stands.
+fn read_end(alloc: Global, object: &Value) -> Result<bool, MachineFault>
+    ensures ok { IfOk result (λ ends. is_end (get (codes "End") (view object.now)) ≡ Some ends) }
+    ensures refused { IfErr result
+        (λ e. Refuses e (is_end (get (codes "End") (view object.now)) ≡ None)) }
+{
+    let Some(end) = object.get("End") else {
+        return Ok(false);
+    };
+    match end.as_bool() {
+        Some(ends) => Ok(ends),
+        None => Err(MachineFault::BadField(Text::new(alloc, "End")?)),
     }
 }

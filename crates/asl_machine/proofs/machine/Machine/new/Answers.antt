@@ -1,6 +1,5 @@
-use Rattle.std.proofs.Common.{rules, ◌≡◌, List, [], ◌∷◌}
-use Rattle.std.specs.List.{AllByRecursion}
-use Rattle.asl_machine.specs.Definition.{IsComplete, StaysInside}
+use Rattle.std.proofs.Common.{rules, ◌≡◌, []}
+use Rattle.asl_machine.specs.Definition.{StaysInside}
 use Rattle.asl_machine.proofs.Found.{lookup_all}
 use Rattle.asl_machine.proofs.machine.Machine.new.Goals as goal
 
@@ -9,5 +8,5 @@ invariant_of-result c =
     let none_left : c.loop-name._name-iterator ≡ [] = search rules in
     record {
       starts = search rules;
-      stays = λ name. lookup_all _ (StaysInside c.args.states) c.args.states (c.loop-name.invariant (rw none_left tt));
+      stays = λ name. lookup_all _ (StaysInside c.args.states) c.args.states (c.loop-name.invariant.0 (rw none_left tt));
     }

@@ -1,0 +1,65 @@
+-- Which fields an object of a definition may have ("State Machine Structure", "State Types").
+use Rattle.std.specs.List.{list_any}
+use Rattle.std.specs.Prelude.{ℕ, ◌==◌, List, [], ◌∷◌, Bool, true, false, ◌&&◌, ◌||◌, if◌then◌else◌, Option, Some, None, codes}
+use lib.Pointwise.{pointwise}
+use Rattle.serde_json.specs.Data.{Data, Members, no_members, member}
+use Rattle.serde_json.specs.Find.{get, as_str, as_object}
+use Rattle.asl_machine.specs.declared.fields.TheConstants.{LEFT_OUT, COMPARISONS_LEFT_OUT}
+use Rattle.asl_machine.specs.declared.fields.Standing.{Standing}
+use Rattle.asl_machine.specs.declared.fields.Standing.TheVariants.{Known, Unsupported, Unknown}
+use Rattle.asl_machine.specs.declared.fields.Place.{Place}
+use Rattle.asl_machine.specs.declared.fields.Place.TheVariants.{Top, Pass, Succeed}
+
+-- whether two texts have the same bytes
+abbrev pub is_text : List ℕ → List ℕ → Bool
+is_text = pointwise ◌==◌
+
+-- the names of the fields that are read, or are stepped over unread
+abbrev pub names_at : Place → List (List ℕ)
+names_at Top = codes "StartAt" ∷ codes "States" ∷ codes "Comment" ∷ codes "Version" ∷ codes "TimeoutSeconds" ∷ codes "QueryLanguage" ∷ []
+names_at Pass = codes "Type" ∷ codes "Comment" ∷ codes "QueryLanguage" ∷ codes "Result" ∷ codes "Next" ∷ codes "End" ∷ []
+names_at Succeed = codes "Type" ∷ codes "Comment" ∷ codes "QueryLanguage" ∷ []
+
+abbrev pub is_known : Place → List ℕ → Bool
+is_known place name = list_any (λ known. is_text known name) (names_at place)
+
+-- the names of fields that the language has in this object, and that are left out
+abbrev pub names_left_out_at : Place → List (List ℕ)
+names_left_out_at Top = []
+names_left_out_at Pass = codes "InputPath" ∷ codes "Parameters" ∷ codes "ResultPath" ∷ codes "OutputPath" ∷ []
+names_left_out_at Succeed = codes "InputPath" ∷ codes "OutputPath" ∷ []
+
+-- the language has a field of this name, or a comparison of a Choice rule, that is left out wherever it stands
+abbrev pub is_left_out_anywhere : List ℕ → Bool
+is_left_out_anywhere name = list_any (λ left_out. is_text left_out.now name) LEFT_OUT || list_any (λ left_out. is_text left_out.now name) COMPARISONS_LEFT_OUT
+
+abbrev pub is_left_out : Place → List ℕ → Bool
+is_left_out place name = list_any (λ left_out. is_text left_out name) (names_left_out_at place) || is_left_out_anywhere name
+
+abbrev pub standing : Place → List ℕ → Standing
+standing place name = if is_known place name then Known else (if is_left_out place name then Unsupported else Unknown)
+
+-- each member has a name that may stand here
+abbrev pub all_known : Place → Members → Bool
+all_known place no_members = true
+all_known place (member name d ms) = is_known place name && all_known place ms
+
+abbrev pub known_in : Place → Option Members → Bool
+known_in place None = false
+known_in place (Some ms) = all_known place ms
+
+-- an object each of whose members has a name that may stand here
+abbrev pub has_known_fields : Place → Data → Bool
+has_known_fields place d = known_in place (as_object d)
+
+abbrev pub names_json_path : Option (List ℕ) → Bool
+names_json_path None = false
+names_json_path (Some language) = is_text language (codes "JSONPath")
+
+-- a query language that is named is JSONPath
+abbrev pub is_json_path : Option Data → Bool
+is_json_path None = true
+is_json_path (Some d) = names_json_path (as_str d)
+
+abbrev pub speaks_json_path : Data → Bool
+speaks_json_path d = is_json_path (get (codes "QueryLanguage") d)
