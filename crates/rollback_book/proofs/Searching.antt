@@ -6,6 +6,7 @@ use Rattle.std.proofs.Math.Seq.{drop-cons}
 use Rattle.std.proofs.lemmas.Bool.{eqb-true, eqb-false}
 use Rattle.std.proofs.lemmas.List.{take_rest}
 use Rattle.std.proofs.lemmas.Option.{slice_get_read}
+use Rattle.asl_machine.specs.Definition.{Definition}
 use Rattle.step_names.specs.declared.step.StepName.{StepName}
 use Rattle.rollback_book.specs.Names.{is_same_step}
 use Rattle.rollback_book.specs.Answers.{last_name, last_answer, from_step, found_answer, free_answer, IsReadRefusal, IsDefineRefusal}
@@ -63,15 +64,15 @@ from_here name rs i r within at same =
 
 -- ---- refusals of a definition
 
-pub read_is_define : (log : List Entry) (name : List ℕ) (e : Refusal) → machine_of name log ≡ None → IsReadRefusal e → IsDefineRefusal log name e
-read_is_define log name (BadMachine fault) free h = free
-read_is_define log name Memory free h = free
-read_is_define log name MachineTaken free h = absurd h
-read_is_define log name Full free h = absurd h
-read_is_define log name NoMachine free h = absurd h
-read_is_define log name ExecTaken free h = absurd h
-read_is_define log name NoThread free h = absurd h
-read_is_define log name (NotReady readiness) free h = absurd h
-read_is_define log name NoStep free h = absurd h
-read_is_define log name (HasDependents step) free h = absurd h
-read_is_define log name (NotLast step) free h = absurd h
+pub read_is_define : (log : List Entry) (name : List ℕ) (read : Option Definition) (e : Refusal) → machine_of name log ≡ None → IsReadRefusal read e → IsDefineRefusal log name read e
+read_is_define log name read (BadMachine fault) free h = (free, h)
+read_is_define log name read Memory free h = free
+read_is_define log name read MachineTaken free h = absurd h
+read_is_define log name read Full free h = absurd h
+read_is_define log name read NoMachine free h = absurd h
+read_is_define log name read ExecTaken free h = absurd h
+read_is_define log name read NoThread free h = absurd h
+read_is_define log name read (NotReady readiness) free h = absurd h
+read_is_define log name read NoStep free h = absurd h
+read_is_define log name read (HasDependents step) free h = absurd h
+read_is_define log name read (NotLast step) free h = absurd h

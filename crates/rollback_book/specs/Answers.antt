@@ -1,6 +1,7 @@
 -- What a command is answered, memory apart: each refusal exactly where it stands, in the order in which they are tested.
 use Rattle.std.specs.Prelude.{◌≡◌, ℕ, ◌+◌, ◌||◌, List, [], ◌∷◌, length, Bool, false, Option, None, Some, Result, Ok, Err, is_some, IsSome, IsTrue, ◌⊎◌, option_map, nat_le, nat_lt, if◌then◌else◌}
 use Rattle.std.specs.List.{find}
+use Rattle.asl_machine.specs.Definition.{Definition}
 use Rattle.step_names.specs.Thread.{Thread}
 use Rattle.step_names.specs.declared.step.StepName.{StepName}
 use Rattle.rollback_book.specs.Names.{start_name, is_same_step}
@@ -33,33 +34,33 @@ is_full_for_define log = nat_le 1000000 (length log + length (remaining log))
 
 -- ---- define
 
--- a definition is refused where its name is taken, where it is faulty, where there is no room, or for memory
-abbrev pub IsDefineRefusal : List Entry → List ℕ → Refusal → Type 0
-IsDefineRefusal log name MachineTaken = IsSome (machine_of name log)
-IsDefineRefusal log name (BadMachine fault) = machine_of name log ≡ None
-IsDefineRefusal log name Full = (machine_of name log ≡ None) × IsTrue (is_full_for_define log)
-IsDefineRefusal log name Memory = machine_of name log ≡ None
-IsDefineRefusal log name NoMachine = ⊥
-IsDefineRefusal log name ExecTaken = ⊥
-IsDefineRefusal log name NoThread = ⊥
-IsDefineRefusal log name (NotReady readiness) = ⊥
-IsDefineRefusal log name NoStep = ⊥
-IsDefineRefusal log name (HasDependents step) = ⊥
-IsDefineRefusal log name (NotLast step) = ⊥
+-- a definition is refused where its name is taken, where it is no machine's, where there is no room, or for memory
+abbrev pub IsDefineRefusal : List Entry → List ℕ → Option Definition → Refusal → Type 0
+IsDefineRefusal log name read MachineTaken = IsSome (machine_of name log)
+IsDefineRefusal log name read (BadMachine fault) = (machine_of name log ≡ None) × (read ≡ None)
+IsDefineRefusal log name read Full = (machine_of name log ≡ None) × (IsSome read × IsTrue (is_full_for_define log))
+IsDefineRefusal log name read Memory = machine_of name log ≡ None
+IsDefineRefusal log name read NoMachine = ⊥
+IsDefineRefusal log name read ExecTaken = ⊥
+IsDefineRefusal log name read NoThread = ⊥
+IsDefineRefusal log name read (NotReady readiness) = ⊥
+IsDefineRefusal log name read NoStep = ⊥
+IsDefineRefusal log name read (HasDependents step) = ⊥
+IsDefineRefusal log name read (NotLast step) = ⊥
 
--- a definition that isn't read is faulty, or memory was refused
-abbrev pub IsReadRefusal : Refusal → Type 0
-IsReadRefusal (BadMachine fault) = Unit {0}
-IsReadRefusal Memory = Unit {0}
-IsReadRefusal MachineTaken = ⊥
-IsReadRefusal Full = ⊥
-IsReadRefusal NoMachine = ⊥
-IsReadRefusal ExecTaken = ⊥
-IsReadRefusal NoThread = ⊥
-IsReadRefusal (NotReady readiness) = ⊥
-IsReadRefusal NoStep = ⊥
-IsReadRefusal (HasDependents step) = ⊥
-IsReadRefusal (NotLast step) = ⊥
+-- a definition that isn't read is no machine's, or memory was refused
+abbrev pub IsReadRefusal : Option Definition → Refusal → Type 0
+IsReadRefusal read (BadMachine fault) = read ≡ None
+IsReadRefusal read Memory = Unit {0}
+IsReadRefusal read MachineTaken = ⊥
+IsReadRefusal read Full = ⊥
+IsReadRefusal read NoMachine = ⊥
+IsReadRefusal read ExecTaken = ⊥
+IsReadRefusal read NoThread = ⊥
+IsReadRefusal read (NotReady readiness) = ⊥
+IsReadRefusal read NoStep = ⊥
+IsReadRefusal read (HasDependents step) = ⊥
+IsReadRefusal read (NotLast step) = ⊥
 
 -- ---- start
 

@@ -2,7 +2,9 @@
 ghost use Rattle.std.specs.Prelude.{◌≡◌, ◌+◌, ◌^◌, ◌<◌, ◌≤◌, ◌∷◌, ◌++◌, [], map, length, false, IfOk, IfErr, IsSome, IsTrue, OnOk, OnErr, MatchResult, Some, None, Ok, Err};
 ghost use Rattle.json_tree.specs.Data.{depth};
 ghost use Rattle.json_tree.specs.View.{data_of, list_of};
+ghost use Rattle.serde_json.specs.View.{view};
 ghost use Rattle.asl_machine.specs.Definition.{Definition, IsComplete};
+ghost use Rattle.asl_machine.specs.Reading.{definition_of};
 ghost use Rattle.rollback_book.specs.Names.{name_of, start_name};
 ghost use Rattle.rollback_book.specs.Story.{Story, accepted, base_of, remaining, machine_of, world_of};
 ghost use Rattle.rollback_book.specs.Move.{next_step, ready_state};
@@ -86,10 +88,11 @@ impl Book {
         name: &Text,
         definition: &Value,
     ) -> Result<(), Refusal>
-        ensures ok { OnOk result ((machine : Definition) × (self.new ≡ accepted self.old (Entry.Define name.now machine))) }
+        ensures ok { OnOk result ((machine : Definition) × (definition_of (view definition.now) ≡ Some machine)
+            × (self.new ≡ accepted self.old (Entry.Define name.now machine))) }
         ensures free { OnOk result (machine_of name.now self.old.log ≡ None) }
         ensures room { OnOk result (is_full_for_define self.old.log ≡ false) }
-        ensures refused { IfErr result (IsDefineRefusal self.old.log name.now) }
+        ensures refused { IfErr result (IsDefineRefusal self.old.log name.now (definition_of (view definition.now))) }
         ensures err { OnErr result (self.new ≡ self.old) }
     {
         self.check_name(name)?;
@@ -315,7 +318,8 @@ impl Book {
 /// The machine of a definition.
 fn read_machine(alloc: Global, definition: &Value) -> Result<Machine, Refusal>
     ensures complete { IfOk result IsComplete }
-    ensures refused { IfErr result IsReadRefusal }
+    ensures read { IfOk result (λ m. definition_of (view definition.now) ≡ Some m) }
+    ensures refused { IfErr result (IsReadRefusal (definition_of (view definition.now))) }
 {
     match Machine::read(alloc, definition) {
         Ok(machine) => {
