@@ -48,28 +48,28 @@ pub remaining-more : (log : List Entry) (e : Entry) → remaining (log ++ e ∷ 
 unfolding remaining
 remaining-more log e = fold-append steps_after [] log (e ∷ [])
 
-machine_of-start : (name : List ℕ) (log : List Entry) (t : Thread) (m : List ℕ) (i : Json) → machine_of name (log ++ StartEntry t m i ∷ []) ≡ machine_of name log
+pub machine_of-start : (name : List ℕ) (log : List Entry) (t : Thread) (m : List ℕ) (i : Json) → machine_of name (log ++ StartEntry t m i ∷ []) ≡ machine_of name log
 machine_of-start name [] t m i = refl
 machine_of-start name (Define n d ∷ log) t m i = ap (λ (o : Option Definition). cond (is_same_name n name) (Some d) o) (machine_of-start name log t m i)
 machine_of-start name (StartEntry u k j ∷ log) t m i = machine_of-start name log t m i
 machine_of-start name (StepEntry s k ∷ log) t m i = machine_of-start name log t m i
 machine_of-start name (Undo s ∷ log) t m i = machine_of-start name log t m i
 
-machine_of-step : (name : List ℕ) (log : List Entry) (s : StepName) → machine_of name (log ++ StepEntry s Plain ∷ []) ≡ machine_of name log
+pub machine_of-step : (name : List ℕ) (log : List Entry) (s : StepName) → machine_of name (log ++ StepEntry s Plain ∷ []) ≡ machine_of name log
 machine_of-step name [] s = refl
 machine_of-step name (Define n d ∷ log) s = ap (λ (o : Option Definition). cond (is_same_name n name) (Some d) o) (machine_of-step name log s)
 machine_of-step name (StartEntry u k j ∷ log) s = machine_of-step name log s
 machine_of-step name (StepEntry r k ∷ log) s = machine_of-step name log s
 machine_of-step name (Undo r ∷ log) s = machine_of-step name log s
 
-machine_of-undo : (name : List ℕ) (log : List Entry) (s : StepName) → machine_of name (log ++ Undo s ∷ []) ≡ machine_of name log
+pub machine_of-undo : (name : List ℕ) (log : List Entry) (s : StepName) → machine_of name (log ++ Undo s ∷ []) ≡ machine_of name log
 machine_of-undo name [] s = refl
 machine_of-undo name (Define n d ∷ log) s = ap (λ (o : Option Definition). cond (is_same_name n name) (Some d) o) (machine_of-undo name log s)
 machine_of-undo name (StartEntry u k j ∷ log) s = machine_of-undo name log s
 machine_of-undo name (StepEntry r k ∷ log) s = machine_of-undo name log s
 machine_of-undo name (Undo r ∷ log) s = machine_of-undo name log s
 
-same_base : (log more : List Entry) → ((name : List ℕ) → machine_of name more ≡ machine_of name log) → base_of more ≡ base_of log
+pub same_base : (log more : List Entry) → ((name : List ℕ) → machine_of name more ≡ machine_of name log) → base_of more ≡ base_of log
 same_base log more h = ap (λ (m : List ℕ → Option Definition). let w : World = record { machines = m; frames = λ _. None; table = λ _. None } in w) (fun_ext h)
 
 legally_more : (log before : List Entry) (e : Entry) → GoesOnLegally before log → IsAccepted (before ++ log) e → GoesOnLegally before (log ++ e ∷ [])
@@ -85,10 +85,10 @@ legal-more log e h a = legally_more log [] e h a
 pub restored : (w : World) (t : Thread) (g : Frame) (o : Option Frame) → w.frames t ≡ o → set_frame (set_frame w t (Some g)) t o ≡ w
 restored w t g o e =
     ap (λ (f : Thread → Option Frame). let v : World = record { machines = w.machines; frames = f; table = w.table } in v)
-      (fun_ext (λ q. elim (is_same_thread t q) as (λ b. is_same_thread t q ≡ b → cond b o (cond b (Some g) (w.frames q)) ≡ w.frames q) [
-        | true ↦ λ same. sym e ∙ ap w.frames (thread_same t q same)
-        | false ↦ λ other. refl
-      ] refl))
+    (fun_ext (λ q. elim (is_same_thread t q) as (λ b. is_same_thread t q ≡ b → cond b o (cond b (Some g) (w.frames q)) ≡ w.frames q) [
+      | true ↦ λ same. sym e ∙ ap w.frames (thread_same t q same)
+      | false ↦ λ other. refl
+    ] refl))
 
 abbrev at_world : (List ℕ → Option Definition) → (Thread → Option Frame) → World
 at_world machines frames = record { machines = machines; frames = frames; table = λ _. None }
@@ -105,13 +105,13 @@ held-set machines old new t o e = ap (at_world (get (slice_cmp nat_cmp) machines
 
 pub tied_room : (begin : Begin) (log : List Entry) (w : World) (rs : List StepRecord) (capacity more : ℕ) → IsTied begin log w rs capacity → capacity ≤ more → IsTied begin log w rs more
 tied_room begin log w rs capacity more h grown = record {
-    runs = h.runs;
-    legal = h.legal;
-    room = let r = h.room in omega (arith, r, grown);
-    few = h.few;
-    bounded = h.bounded;
-    no_items = h.no_items;
-  }
+  runs = h.runs;
+  legal = h.legal;
+  room = let r = h.room in omega (arith, r, grown);
+  few = h.few;
+  bounded = h.bounded;
+  no_items = h.no_items;
+}
 
 or_false : (a b : Bool) → (a || b) ≡ false → (a ≡ false) × (b ≡ false)
 or_false true b h = cc
@@ -148,13 +148,13 @@ tied_start begin log w rs capacity more thread frame kept entry h s grown =
     let ran = Runs-more (remaining log) (base_of log) w _ rs (started thread s.machine s.input) _ (runs begin log w rs capacity h) taken in
     let room = has_room begin log w rs capacity h free.1 in
     let kept_as : record_of w (started thread s.machine s.input) (record { name = start_name thread; kind = Start; access = None }) ≡ kept =
-      ap (λ (o : Option Frame). let r : StepRecord = record { fact = record { name = start_name thread; kind = Start; access = None }; saved = saved_frame o } in r) absent ∙ sym s.kept_is in
+    ap (λ (o : Option Frame). let r : StepRecord = record { fact = record { name = start_name thread; kind = Start; access = None }; saved = saved_frame o } in r) absent ∙ sym s.kept_is in
     let more_log : log ++ entry ∷ [] ≡ log ++ StartEntry thread s.machine s.input ∷ [] = ap (λ (e : Entry). log ++ e ∷ []) s.entry_is in
     let steps : remaining (log ++ entry ∷ []) ≡ remaining log ++ started thread s.machine s.input ∷ [] = ap remaining more_log ∙ remaining-more log (StartEntry thread s.machine s.input) in
     let base : base_of (log ++ entry ∷ []) ≡ base_of log = ap base_of more_log ∙ same_base log (log ++ StartEntry thread s.machine s.input ∷ []) (λ name. machine_of-start name log thread s.machine s.input) in
     let result : (set_frame w thread (Some (first_frame s.machine s.definition s.input)), rs ++ record_of w (started thread s.machine s.input) (record { name = start_name thread; kind = Start; access = None }) ∷ [])
-        ≡ (set_frame w thread (Some frame), rs ++ kept ∷ []) =
-      ap₂ (λ (f : Frame) (r : StepRecord). (set_frame w thread (Some f), rs ++ r ∷ [])) (sym s.frame_is) kept_as in
+    ≡ (set_frame w thread (Some frame), rs ++ kept ∷ []) =
+    ap₂ (λ (f : Frame) (r : StepRecord). (set_frame w thread (Some f), rs ++ r ∷ [])) (sym s.frame_is) kept_as in
     let len_log = length-append log (entry ∷ []) in
     let len_rs = length-append rs (kept ∷ []) in
     let few = room.0 in
@@ -192,13 +192,13 @@ tied_step begin log w rs capacity more thread before frame fact entry h s there 
     let ran = Runs-more (remaining log) (base_of log) w _ rs (moved name) _ (runs begin log w rs capacity h) taken in
     let room = has_room begin log w rs capacity h free in
     let kept_as : record_of w (moved name) (record { name = name; kind = Plain; access = None }) ≡ record { fact = fact; saved = Framed before } =
-      ap₂ (λ (f : Fact) (o : Option Frame). let r : StepRecord = record { fact = f; saved = saved_frame o } in r) (sym s.fact_is) there in
+    ap₂ (λ (f : Fact) (o : Option Frame). let r : StepRecord = record { fact = f; saved = saved_frame o } in r) (sym s.fact_is) there in
     let more_log : log ++ entry ∷ [] ≡ log ++ StepEntry name Plain ∷ [] = ap (λ (e : Entry). log ++ e ∷ []) s.entry_is in
     let steps : remaining (log ++ entry ∷ []) ≡ remaining log ++ moved name ∷ [] = ap remaining more_log ∙ remaining-more log (StepEntry name Plain) in
     let base : base_of (log ++ entry ∷ []) ≡ base_of log = ap base_of more_log ∙ same_base log (log ++ StepEntry name Plain ∷ []) (λ q. machine_of-step q log name) in
     let result : (set_frame w thread (Some (after_state s.state s.before)), rs ++ record_of w (moved name) (record { name = name; kind = Plain; access = None }) ∷ [])
-        ≡ (set_frame w thread (Some frame), rs ++ record { fact = fact; saved = Framed before } ∷ []) =
-      ap₂ (λ (f : Frame) (r : StepRecord). (set_frame w thread (Some f), rs ++ r ∷ [])) (sym s.frame_is) kept_as in
+    ≡ (set_frame w thread (Some frame), rs ++ record { fact = fact; saved = Framed before } ∷ []) =
+    ap₂ (λ (f : Frame) (r : StepRecord). (set_frame w thread (Some f), rs ++ r ∷ [])) (sym s.frame_is) kept_as in
     let len_log = length-append log (entry ∷ []) in
     let last : StepRecord = record { fact = fact; saved = Framed before } in
     let len_rs = length-append rs (last ∷ []) in
@@ -308,7 +308,7 @@ taken_back begin log w rs r capacity name h ok =
     let same_name : name ≡ name_of e.last = sym named ∙ ap (λ (x : StepRecord). x.fact.name) e.kept ∙ take_named e.before e.last w e.fact e.taken in
     let fresh : without (name_of e.last) (e.front ++ e.last ∷ []) ≡ e.front = without_last e.front e.before e.last w e.fact (good_from_base log e.front e.before rs e.ran) e.taken in
     let steps : remaining (log ++ Undo name ∷ []) ≡ e.front =
-      remaining-more log (Undo name) ∙ ap₂ without same_name e.steps_are ∙ fresh in
+    remaining-more log (Undo name) ∙ ap₂ without same_name e.steps_are ∙ fresh in
     let base : base_of (log ++ Undo name ∷ []) ≡ base_of log = same_base log (log ++ Undo name ∷ []) (λ q. machine_of-undo q log name) in
     let undo : Entry = Undo name in
     let len_log = length-append log (undo ∷ []) in
@@ -319,9 +319,9 @@ taken_back begin log w rs r capacity name h ok =
     let last : IsLast w r e.before = subst (λ (x : StepRecord). IsLast w x e.before) (sym e.kept) is_record in
     let t : r.fact.name.thread ≡ name.thread = ap (λ (n : StepName). n.thread) named in
     let back : set_frame w name.thread (frame_of r.saved) ≡ e.before =
-      ap (λ (x : Thread). set_frame w x (frame_of r.saved)) (sym t)
-      ∙ ap₂ (λ (x : World) (o : Option Frame). set_frame x r.fact.name.thread o) last.world (ap frame_of last.saved ∙ frame_of-saved_frame (e.before.frames r.fact.name.thread))
-      ∙ restored e.before r.fact.name.thread last.frame (e.before.frames r.fact.name.thread) refl in
+    ap (λ (x : Thread). set_frame w x (frame_of r.saved)) (sym t)
+    ∙ ap₂ (λ (x : World) (o : Option Frame). set_frame x r.fact.name.thread o) last.world (ap frame_of last.saved ∙ frame_of-saved_frame (e.before.frames r.fact.name.thread))
+    ∙ restored e.before r.fact.name.thread last.frame (e.before.frames r.fact.name.thread) refl in
     record {
       there = subst (λ (x : Thread). IsSome (w.frames x)) t (subst IsSome (sym last.there) refl);
       tied = subst (λ (x : World). IsTied begin (log ++ Undo name ∷ []) x rs capacity) (sym back) (record {
@@ -379,12 +379,12 @@ last_is_free begin log w rs capacity name h last =
     let tied : IsTied begin log w (l.front ++ l.last ∷ []) capacity = subst (λ (xs : List StepRecord). IsTied begin log w xs capacity) l.whole h in
     let e = Runs-ends (remaining log) (base_of log) w l.front l.last (runs begin log w (l.front ++ l.last ∷ []) capacity tied) in
     let same_name : name_of e.last ≡ name =
-      sym (ap (λ (x : StepRecord). x.fact.name) e.kept ∙ take_named e.before e.last w e.fact e.taken) ∙ sym (step_same name l.last.fact.name l.named) in
+    sym (ap (λ (x : StepRecord). x.fact.name) e.kept ∙ take_named e.before e.last w e.fact e.taken) ∙ sym (step_same name l.last.fact.name l.named) in
     let good_front = good_from_base log e.front e.before l.front e.ran in
     let fresh = all_new e.front e.before e.last w e.fact good_front.counted e.taken in
     let others : AllByRecursion (λ (n : StepName). is_same_step name n ≡ false) (map (λ (r : StepRecord). r.fact.name) l.front) =
-      subst (λ (ns : List StepName). AllByRecursion (λ (n : StepName). is_same_step name n ≡ false) ns) (sym (Runs-names e.front (base_of log) e.before l.front e.ran))
-        (subst (λ (m : StepName). AllByRecursion (λ (n : StepName). is_same_step m n ≡ false) (map name_of e.front)) same_name fresh) in
+    subst (λ (ns : List StepName). AllByRecursion (λ (n : StepName). is_same_step name n ≡ false) ns) (sym (Runs-names e.front (base_of log) e.before l.front e.ran))
+    (subst (λ (m : StepName). AllByRecursion (λ (n : StepName). is_same_step m n ≡ false) (map name_of e.front)) same_name fresh) in
     let all : facts_of log ≡ facts l.front ++ l.last.fact ∷ [] = facts_are begin log w (l.front ++ l.last ∷ []) capacity tied ∙ facts-append l.front l.last in
     ap (found_answer name) (ap (from_step name) all ∙ from_step-passes name l.front l.last.fact others l.named)
 

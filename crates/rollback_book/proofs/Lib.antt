@@ -5,3 +5,4 @@ pub mod Searching
 pub mod Tied
 pub mod Entering
 pub mod Defining
+pub mod Undone

@@ -6,3 +6,4 @@ pub mod Story
 pub mod Saving
 pub mod Answers
 pub mod Legal
+pub mod Laws

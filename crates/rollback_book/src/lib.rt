@@ -4,18 +4,22 @@
 mod book;
 mod depend;
 mod frame;
+mod laws;
 mod log;
 mod making;
 mod maps;
 mod refusal;
 mod room;
 mod step;
+#[cfg(test)]
+mod tests;
 mod turn;
 mod undoing;
 
 pub use book::Book;
 pub use depend::depends;
 pub use frame::{Fault, Frame, Origin, Phase, Retries};
+pub use laws::{records_are_of_the_run, undoing_is_exact};
 pub use log::{Begin, Entry, KeyAttribute, KeySchema, KeyType};
 pub use refusal::{BeginFault, Refusal};
 pub use room::Room;
