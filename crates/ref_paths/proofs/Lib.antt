@@ -1,1 +1,3 @@
 pub mod Shapes
+pub mod Nests
+pub mod Places

@@ -1,9 +1,10 @@
 //! Reference paths into JSON values, and templates that copy what paths pick.
 #![tactic(auto)]
 
+mod nesting;
 mod path;
 mod picking;
-
+mod placing;
 
 pub use path::{PathStep, RefPath};
-
+pub use placing::{PlaceFault, PlaceRefusal, place};

@@ -1,5 +1,7 @@
 //! Paths and their steps.
 
+ghost use Rattle.std.specs.Prelude.{◌≡◌};
+
 use json_tree::Text;
 use std::marker::Model;
 

@@ -1,16 +1,16 @@
 //! Placing a value where a path leads.
 
 ghost use Rattle.std.specs.Prelude.{◌≡◌, ◌≢◌, ◌↔◌, ◌∷◌, [], Some, None, IsTrue, IsSome, IfOk, IfErr, OnOk, OnErr};
-ghost use Rattle.std.specs.List.{list_all};
 ghost use Rattle.json_tree.specs.Data.{fields, list, items_of, members_of};
 ghost use Rattle.json_tree.specs.Fields.{get_field, IsInNameOrder};
 ghost use Rattle.json_tree.specs.View.{data_of};
-ghost use Rattle.ref_paths.specs.Placing.{place_at, nested_at, is_name};
+ghost use Rattle.ref_paths.specs.Placing.{place_at};
 ghost use Rattle.ref_paths.specs.declared.path.PathStep.TheVariants.{Name, Index};
 
 use crate::path::{PathStep, RefPath};
+use crate::nesting::{are_names, insert_nested};
 use json_tree::{Json, JsonFields, JsonList, Text};
-use std::alloc::{AllocError, Global};
+use std::alloc::Global;
 
 /// Why a value was not placed.
 #[derive(Clone, Copy, Debug, Drop, PartialEq, Eq)]
@@ -151,7 +151,7 @@ fn add_field(
     ensures root_stays { OnErr result (members.new ≡ members.old) }
     ensures value_returned { IfErr result (λ e. e.value ≡ value) }
 {
-    if !rest.iter().all(|step| step.is_name()) {
+    if !are_names(rest) {
         return Err(Unplaced {
             refusal: PlaceRefusal::CannotPlace,
             value,
@@ -163,30 +163,5 @@ fn add_field(
             refusal: PlaceRefusal::Memory,
             value,
         }),
-    }
-}
-
-fn insert_nested(
-    alloc: Global,
-    members: &mut JsonFields,
-    name: &Text,
-    rest: &[PathStep],
-    value: Json,
-) -> Result<(), Json>
-    requires { list_all is_name rest.now ≡ true }
-    ensures ok { OnOk result (members.new ≡ with_field name.now (nested rest.now (data_of value)) members.old) }
-    ensures err { OnErr result (members.new ≡ members.old) }
-    ensures value_returned { IfErr result (λ v. v ≡ value) }
-{
-    let inner = nest(alloc, rest, value)?;
-    let Ok(copy) = name.copy() else {
-        return Err(take_apart(rest, inner));
-    };
-    match members.insert(copy.into_string(), inner) {
-        Ok(_absent) => Ok(()),
-        Err(refused) => {
-            let (_name, inner) = refused.value;
-            Err(take_apart(rest, inner))
-        }
     }
 }
