@@ -1,3 +1,4 @@
 pub mod Shapes
 pub mod Nests
 pub mod Places
+pub mod Scans

@@ -1,3 +1,6 @@
 pub mod Picking
 pub mod Placing
 pub mod Nesting
+pub mod Grammar
+pub mod Scanner
+pub mod Faults

@@ -5,6 +5,8 @@ mod nesting;
 mod path;
 mod picking;
 mod placing;
+mod reading;
 
 pub use path::{PathStep, RefPath};
 pub use placing::{PlaceFault, PlaceRefusal, place};
+pub use reading::PathFault;
