@@ -2,3 +2,4 @@ pub mod Shapes
 pub mod Nests
 pub mod Places
 pub mod Scans
+pub mod PickedAgain

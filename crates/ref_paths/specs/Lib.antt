@@ -4,3 +4,5 @@ pub mod Nesting
 pub mod Grammar
 pub mod Scanner
 pub mod Faults
+pub mod Laws
+pub mod Composition
