@@ -3,3 +3,4 @@ pub mod Nests
 pub mod Places
 pub mod Scans
 pub mod PickedAgain
+pub mod Composed

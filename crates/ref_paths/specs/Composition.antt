@@ -1,5 +1,6 @@
 -- What one path picks after another has placed a value.
-use Rattle.std.specs.Prelude.{List, Option, option_map, unwrap_or, Bor}
+use Rattle.std.specs.Prelude.{List, Option, option_map, unwrap_or}
+use Rattle.std.specs.Borrow.{Bor}
 use Rattle.json_tree.specs.Data.{Data, fields, no_members}
 use Rattle.json_tree.specs.View.{data_of}
 use Rattle.json_tree.specs.declared.tree.Json.{Json}

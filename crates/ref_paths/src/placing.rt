@@ -10,7 +10,7 @@ ghost use Rattle.ref_paths.specs.declared.path.PathStep.TheVariants.{Name, Index
 use crate::path::{PathStep, RefPath};
 use crate::nesting::{are_names, insert_nested};
 use json_tree::{Json, JsonFields, JsonList, Text};
-use std::alloc::Global;
+use std::alloc::{AllocError, Global};
 
 /// Why a value was not placed.
 #[derive(Clone, Copy, Debug, Drop, PartialEq, Eq)]
@@ -19,6 +19,17 @@ pub enum PlaceRefusal {
     CannotPlace,
     /// An allocation was refused.
     Memory,
+}
+
+impl From<AllocError> for PlaceRefusal {
+    ghost use Rattle.std.specs.Prelude.{◌≡◌};
+    ghost use Rattle.ref_paths.specs.declared.placing.PlaceRefusal.TheVariants.{Memory};
+
+    ghost from_gives = { λ _ e. e ≡ Memory };
+
+    fn from(_refused: AllocError) -> PlaceRefusal {
+        PlaceRefusal::Memory
+    }
 }
 
 /// A value that was not placed, and what it was to be placed in, both as they were.
@@ -43,7 +54,7 @@ struct Unplaced {
 /// below these.
 pub fn place(
     alloc: Global,
-    mut root: Json,
+    root: Json,
     path: &RefPath,
     value: Json,
 ) -> Result<Json, PlaceFault>
@@ -52,7 +63,22 @@ pub fn place(
     ensures root_returned { IfErr result (λ e. e.root ≡ root) }
     ensures value_returned { IfErr result (λ e. e.value ≡ value) }
 {
-    match place_in(alloc, &mut root, path.steps.as_slice(), value) {
+    place_steps(alloc, root, path.steps.as_slice(), value)
+}
+
+/// The same by a part of a path.
+pub(crate) fn place_steps(
+    alloc: Global,
+    mut root: Json,
+    steps: &[PathStep],
+    value: Json,
+) -> Result<Json, PlaceFault>
+    ensures ok { IfOk result (λ j. place_at steps.now (data_of value) (data_of root) ≡ Some (data_of j)) }
+    ensures cannot { IfErr result (λ e. (e.refusal ≡ PlaceRefusal.CannotPlace) ↔ (place_at steps.now (data_of value) (data_of root) ≡ None)) }
+    ensures root_returned { IfErr result (λ e. e.root ≡ root) }
+    ensures value_returned { IfErr result (λ e. e.value ≡ value) }
+{
+    match place_in(alloc, &mut root, steps, value) {
         Ok(()) => Ok(root),
         Err(Unplaced { refusal, value }) => Err(PlaceFault {
             refusal,
