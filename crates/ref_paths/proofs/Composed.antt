@@ -1,10 +1,10 @@
 -- Placing and then picking, step by step.
-use Rattle.std.proofs.Common.{◌≡◌, ◌≢◌, ℕ, Bool, true, false, List, [], ◌∷◌, Option, Some, None, option_map, is_some, refl, sym, ap, ◌∙◌, unwrap_or}
+use Rattle.std.proofs.Common.{◌≡◌, true, false, List, [], ◌∷◌, Option, Some, None, option_map, is_some, refl, sym, ap, ◌∙◌}
 use Rattle.std.specs.Option.{option_and_then}
 use Rattle.json_tree.specs.Data.{Data, fields, no_members}
 use Rattle.ref_paths.specs.Composition.{pick_placed_at}
 use Rattle.ref_paths.specs.Laws.{Part}
-use Rattle.ref_paths.specs.Picking.{child_at, pick_at}
+use Rattle.ref_paths.specs.Picking.{pick_at}
 use Rattle.ref_paths.specs.Placing.{opened_at, put_at, place_at}
 use Rattle.ref_paths.specs.declared.path.PathStep.{PathStep}
 use Rattle.ref_paths.specs.declared.path.PathStep.TheVariants.{Name, Index}

@@ -1,12 +1,12 @@
 -- What is picked once a value was placed.
-use Rattle.std.proofs.Common.{◌≡◌, ◌≢◌, ◌⊎◌, ◌<◌, ◌≤◌, ℕ, Bool, true, false, List, [], ◌∷◌, length, Option, Some, None, Ordering, Less, Equal, Greater, option_map, refl, sym, ap, ◌∙◌, inl, inr, unwrap_or, slice_get, slice_set, is_eq, cond, arith}
+use Rattle.std.proofs.Common.{◌≡◌, ◌≢◌, ◌⊎◌, ◌<◌, ◌≤◌, ℕ, false, List, [], ◌∷◌, length, Option, Some, None, Ordering, Less, Equal, Greater, option_map, refl, sym, ap, ◌∙◌, inl, inr, unwrap_or, slice_get, slice_set, is_eq, cond, arith}
 use Rattle.std.proofs.lemmas.Bool.{cases_lt}
 use Rattle.std.proofs.lemmas.List.{get_or-set_same, get_or-set_other, length-set}
 use Rattle.std.proofs.lemmas.Option.{slice_get_within, slice_get_past, slice_get-get_or}
 use Rattle.std.proofs.lemmas.Map.Text.{is_eq-slice_cmp}
 use Rattle.std.proofs.lemmas.Slice.Eq.{bytes_eq-Decides}
 use Rattle.std.specs.Option.{option_and_then}
-use Rattle.json_tree.specs.Data.{Data, null, boolean, whole, text, list, fields, no_members, items_of, members_of}
+use Rattle.json_tree.specs.Data.{Data, list, fields, no_members}
 use Rattle.json_tree.specs.Fields.{text_cmp, get_field, with_field}
 use Rattle.ref_paths.specs.Laws.{Part, PlacedIsPicked, ElsewhereStays}
 use Rattle.ref_paths.specs.Picking.{values_of, pairs_of, child_at, pick_at}

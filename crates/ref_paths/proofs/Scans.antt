@@ -1,5 +1,5 @@
 -- A path's text, byte by byte.
-use Rattle.std.proofs.Common.{◌≡◌, ◌≢◌, ◌⊎◌, ℕ, zero, suc, ◌+◌, ◌-◌, ◌*◌, ◌/◌, ◌%◌, ◌^◌, ◌<◌, ◌≤◌, Bool, true, false, not, if◌then◌else◌, ◌==◌, ◌||◌, List, [], ◌∷◌, ◌++◌, length, take, drop, get_or, Option, Some, None, IsTrue, is_some, nat_lt, nat_le, lit<, MatchOption, Bor, append_assoc, length-append, arith, subst, refl, sym, ap, ◌∙◌, inl, inr}
+use Rattle.std.proofs.Common.{◌≡◌, ◌≢◌, ◌⊎◌, ℕ, zero, suc, ◌+◌, ◌-◌, ◌*◌, ◌/◌, ◌%◌, ◌^◌, ◌<◌, ◌≤◌, Bool, true, false, if◌then◌else◌, ◌==◌, List, [], ◌∷◌, ◌++◌, length, take, drop, get_or, Option, Some, None, is_some, nat_lt, nat_le, lit<, MatchOption, Bor, append_assoc, length-append, arith, subst, refl, sym, ap, ◌∙◌, inl, inr}
 use Rattle.std.proofs.lemmas.Bool.{and_parts, not-true, ne_eqb, lt-ltb, ltb-true, leb-true, cases_lt}
 use Rattle.std.proofs.lemmas.Bool.Decides.{nat_tests}
 use Rattle.std.proofs.lemmas.Fmt.{decimal_digit, decimal_step}
@@ -10,7 +10,7 @@ use Rattle.std.proofs.lemmas.Str.Pattern.{IsSplitOnceResult, split_parts}
 use Rattle.std.specs.Char.{is_ascii_digit}
 use Rattle.std.specs.Fmt.{decimal}
 use Rattle.std.specs.List.{list_all}
-use Rattle.std.specs.Option.{option_map, option_and_then}
+use Rattle.std.specs.Option.{option_and_then}
 use Rattle.std.specs.Str.{IsCharBoundary, IsUtf8}
 use Rattle.ref_paths.specs.Grammar.{is_name_byte, is_quotable, SpellsStep, SpellsSteps, SpellsPath, BeginsPath, FailsAt}
 use Rattle.ref_paths.specs.Scanner.{Place, between, dotted, in_name, bracketed, quoted, closing, indexed, with_digit, extended, begun, after, scan, is_end, GoesOn, ReadsStep, StopsAt, IsIndexSoFar}
@@ -274,11 +274,11 @@ spelled_after (step ∷ path) path' a b h g =
 
 pub read_more : (text : List ℕ) (steps : List PathStep) (rest rest' : List ℕ) (step : PathStep) → ReadSoFar text steps rest → ReadsStep rest step rest' → ReadSoFar text (steps ++ step ∷ []) rest'
 read_more text steps rest rest' step h r = record {
-    front = h.front ++ r.front;
-    joined = h.joined ∙ ap (λ x. 36 ∷ (h.front ++ x)) r.joined ∙ ap (λ x. 36 ∷ x) (sym (append_assoc h.front r.front rest'));
-    spelled = spelled_after steps (step ∷ []) h.front r.front h.spelled (one_step step r.front r.spelled);
-    goes_on = passes_on h.front r.front rest' (let P : List ℕ → Type 0 = λ x. GoesOn h.front x in subst P r.joined h.goes_on) r.goes_on;
-  }
+  front = h.front ++ r.front;
+  joined = h.joined ∙ ap (λ x. 36 ∷ (h.front ++ x)) r.joined ∙ ap (λ x. 36 ∷ x) (sym (append_assoc h.front r.front rest'));
+  spelled = spelled_after steps (step ∷ []) h.front r.front h.spelled (one_step step r.front r.spelled);
+  goes_on = passes_on h.front r.front rest' (let P : List ℕ → Type 0 = λ x. GoesOn h.front x in subst P r.joined h.goes_on) r.goes_on;
+}
 
 -- what spells steps leads to where a path may end
 step_scan : (step : PathStep) (front : List ℕ) (p : Place) → is_end (Some p) ≡ true → SpellsStep step front → (q : Place) × (is_end (Some q) ≡ true) × (scan front (Some p) ≡ Some q)
@@ -320,38 +320,37 @@ text_fails text steps rest n j h s some is =
     let cut : (k : ℕ) → length front < k → take k text ≡ 36 ∷ (front ++ take (k - 1 - length front) rest) = λ k low. ap (take k) h.joined ∙ take_behind front rest k low in
     record {
       no_path = λ path spelled.
-        let steps_text : spelled.0 ≡ front ++ rest = cc (spelled.2, h.joined) in
-        let end = steps_end path spelled.0 between refl spelled.1 in
-        let same = h.goes_on (length rest) some (omega arith) in
-        let all = take-length rest in
-        let no : is_end (scan spelled.0 (Some between)) ≡ false = ap (λ x. is_end (scan x (Some between))) (steps_text ∙ ap (λ x. front ++ x) (sym all)) ∙ ap is_end (same ∙ ap (λ x. scan x (Some between)) all) ∙ s.no_end in
-        let contra : true ≡ false = sym end ∙ no in
-        cc contra;
+          let steps_text : spelled.0 ≡ front ++ rest = cc (spelled.2, h.joined) in
+          let end = steps_end path spelled.0 between refl spelled.1 in
+          let same = h.goes_on (length rest) some (omega arith) in
+          let all = take-length rest in
+          let no : is_end (scan spelled.0 (Some between)) ≡ false = ap (λ x. is_end (scan x (Some between))) (steps_text ∙ ap (λ x. front ++ x) (sym all)) ∙ ap is_end (same ∙ ap (λ x. scan x (Some between)) all) ∙ s.no_end in
+          let contra : true ≡ false = sym end ∙ no in
+          cc contra;
       within = omega (arith, s.within);
-      begins =
+      begins = (
+        s.more,
+        steps ++ s.path,
         (
-          s.more,
-          steps ++ s.path,
-          (
-            front ++ (take j rest ++ s.more),
-            spelled_after steps s.path front (take j rest ++ s.more) h.spelled s.begins,
-            ap (λ x. x ++ s.more) (cut n (omega arith) ∙ ap (λ k. 36 ∷ (front ++ take k rest)) (omega arith)) ∙ ap (λ x. 36 ∷ x) (append_assoc front (take j rest) s.more),
-          ),
-        );
+          front ++ (take j rest ++ s.more),
+          spelled_after steps s.path front (take j rest ++ s.more) h.spelled s.begins,
+          ap (λ x. x ++ s.more) (cut n (omega arith) ∙ ap (λ k. 36 ∷ (front ++ take k rest)) (omega arith)) ∙ ap (λ x. 36 ∷ x) (append_assoc front (take j rest) s.more),
+        ),
+      );
       longest = λ k low high begun_by.
-        let m = k - 1 - length front in
-        let gone : scan (front ++ take m rest) (Some between) ≡ None = h.goes_on m (omega arith) (omega arith) ∙ s.longest m (omega arith) (omega arith) in
-        begins_no (front ++ take m rest) gone (subst BeginsPath (cut k (omega arith)) begun_by);
+          let m = k - 1 - length front in
+          let gone : scan (front ++ take m rest) (Some between) ≡ None = h.goes_on m (omega arith) (omega arith) ∙ s.longest m (omega arith) (omega arith) in
+          begins_no (front ++ take m rest) gone (subst BeginsPath (cut k (omega arith)) begun_by);
     }
 
 -- a text that begins with no `$`
 pub none_fails : (text : List ℕ) → (0 < length text → get_or text 0 0 ≢ 36) → FailsAt text 0
 none_fails text h = record {
-    no_path = λ path spelled. absurd (h (omega (arith, ap length spelled.2)) (ap (λ x. get_or x 0 0) spelled.2));
-    within = omega arith;
-    begins = (36 ∷ [], [], ([], refl, refl));
-    longest = λ k low high begun_by. other text k low high h begun_by;
-  }
+  no_path = λ path spelled. absurd (h (omega (arith, ap length spelled.2)) (ap (λ x. get_or x 0 0) spelled.2));
+  within = omega arith;
+  begins = (36 ∷ [], [], ([], refl, refl));
+  longest = λ k low high begun_by. other text k low high h begun_by;
+}
   where
     other : (text : List ℕ) (k : ℕ) → 0 < k → k ≤ length text → (0 < length text → get_or text 0 0 ≢ 36) → BeginsPath (take k text) → ⊥
     other [] k low high h b = absurd (omega arith)
@@ -413,7 +412,7 @@ some_left zero b h is = cc
 some_left (suc n) b h is = omega arith
 
 pub nothing_read : (text : List ℕ) (rest : List ℕ) → text ≡ 36 ∷ rest → ReadSoFar text [] rest
-nothing_read text rest h = record { front = []; joined = h; spelled = refl; goes_on = λ k low high. refl; }
+nothing_read text rest h = record { front = []; joined = h; spelled = refl; goes_on = λ k low high. refl }
 
 pub all_read : (text : List ℕ) (steps : List PathStep) (rest : List ℕ) → length rest ≡ 0 → ReadSoFar text steps rest → SpellsPath steps text
 all_read text steps [] none h = (h.front, h.spelled, h.joined ∙ ap (λ x. 36 ∷ x) (append_none h.front))

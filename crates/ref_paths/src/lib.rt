@@ -8,6 +8,8 @@ mod path;
 mod picking;
 mod placing;
 mod reading;
+#[cfg(test)]
+mod tests;
 
 pub use composing::pick_placed;
 pub use laws::{elsewhere_stays, placed_at_root, placed_is_picked};

@@ -47,7 +47,11 @@ pub(crate) fn insert_nested(
     };
     match members.insert(name.into_string(), inner) {
         Ok(_absent) => Ok(()),
-        Err(AllocFailed { value: (_name, inner) }) => Err(take_apart(rest, inner)),
+        Err(
+            AllocFailed {
+                value: (_name, inner),
+            },
+        ) => Err(take_apart(rest, inner)),
     }
 }
 
@@ -84,7 +88,11 @@ fn wrap(alloc: Global, step: &PathStep, inner: Json) -> Result<Json, Json>
     let mut fields = JsonFields::new(alloc);
     match fields.insert(name.into_string(), inner) {
         Ok(_absent) => Ok(Json::Fields(fields)),
-        Err(AllocFailed { value: (_name, inner) }) => Err(inner),
+        Err(
+            AllocFailed {
+                value: (_name, inner),
+            },
+        ) => Err(inner),
     }
 }
 

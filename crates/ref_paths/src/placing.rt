@@ -7,8 +7,8 @@ ghost use Rattle.json_tree.specs.View.{data_of};
 ghost use Rattle.ref_paths.specs.Placing.{place_at};
 ghost use Rattle.ref_paths.specs.declared.path.PathStep.TheVariants.{Name, Index};
 
-use crate::path::{PathStep, RefPath};
 use crate::nesting::{are_names, insert_nested};
+use crate::path::{PathStep, RefPath};
 use json_tree::{Json, JsonFields, JsonList, Text};
 use std::alloc::{AllocError, Global};
 
@@ -52,12 +52,7 @@ struct Unplaced {
 /// it adds alone. The root and the value are moved, and nothing of them is copied. One look-up for each step; what the
 /// value replaces is dropped. Calls itself once for each level of the root that the path goes down, and for no step
 /// below these.
-pub fn place(
-    alloc: Global,
-    root: Json,
-    path: &RefPath,
-    value: Json,
-) -> Result<Json, PlaceFault>
+pub fn place(alloc: Global, root: Json, path: &RefPath, value: Json) -> Result<Json, PlaceFault>
     ensures ok { IfOk result (λ j. place_at path.now (data_of value) (data_of root) ≡ Some (data_of j)) }
     ensures cannot { IfErr result (λ e. (e.refusal ≡ PlaceRefusal.CannotPlace) ↔ (place_at path.now (data_of value) (data_of root) ≡ None)) }
     ensures root_returned { IfErr result (λ e. e.root ≡ root) }
@@ -89,12 +84,7 @@ pub(crate) fn place_steps(
 }
 
 #[cycle(place)]
-fn place_in(
-    alloc: Global,
-    root: &mut Json,
-    steps: &[PathStep],
-    value: Json,
-) -> Result<(), Unplaced>
+fn place_in(alloc: Global, root: &mut Json, steps: &[PathStep], value: Json) -> Result<(), Unplaced>
     ensures ok { OnOk result (place_at steps.now (data_of value) (data_of root.old) ≡ Some (data_of root.new)) }
     ensures cannot { IfErr result (λ e. (e.refusal ≡ PlaceRefusal.CannotPlace) ↔ (place_at steps.now (data_of value) (data_of root.old) ≡ None)) }
     ensures root_stays { OnErr result (root.new ≡ root.old) }

@@ -1,8 +1,7 @@
-use Rattle.std.proofs.Common.{◌≡◌, Some, None, rules, refl, sym, ap, ◌∙◌, option_map}
-use Rattle.json_tree.specs.Data.{Data, fields, member, no_members, members_of}
+use Rattle.std.proofs.Common.{◌≡◌, Some, None, sym, ap, ◌∙◌, option_map}
+use Rattle.json_tree.specs.Data.{fields, member, no_members, members_of}
 use Rattle.json_tree.specs.Fields.{get_field}
 use Rattle.json_tree.specs.View.{data_of}
-use Rattle.ref_paths.specs.Nesting.{nested}
 use Rattle.ref_paths.proofs.Nests.{only_field}
 use Rattle.ref_paths.proofs.nesting.unwrap.Goals as goal
 

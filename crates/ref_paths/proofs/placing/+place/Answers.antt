@@ -1,4 +1,4 @@
-use Rattle.std.proofs.Common.{◌≡◌, Some, None, refl, sym, ap, ◌∙◌, option_map, slice_set}
+use Rattle.std.proofs.Common.{refl, sym, ap, ◌∙◌, slice_set}
 use Rattle.std.proofs.lemmas.Result.{on_ok_weaker, on_err_weaker, IfErr-weaker}
 use Rattle.json_tree.specs.Fields.{get_field, with_field}
 use Rattle.json_tree.specs.View.{data_of}

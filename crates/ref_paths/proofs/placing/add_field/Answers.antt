@@ -1,4 +1,4 @@
-use Rattle.std.proofs.Common.{◌≡◌, ℕ, List, ◌∷◌, Option, Some, None, sym, ap, ◌∙◌, refl, option_map}
+use Rattle.std.proofs.Common.{◌≡◌, ℕ, List, ◌∷◌, Some, sym, ap, ◌∙◌, refl, option_map}
 use Rattle.json_tree.specs.Data.{Data, fields, members_of}
 use Rattle.json_tree.specs.Fields.{with_field}
 use Rattle.json_tree.specs.View.{data_of}

@@ -1,4 +1,4 @@
-use Rattle.std.proofs.Common.{◌≡◌, ◌+◌, ◌++◌, ◌∷◌, [], List, ℕ, take, get_or, Some, sym, ap, ◌∙◌, subst}
+use Rattle.std.proofs.Common.{List, ℕ, take, get_or, Some, sym, ◌∙◌, subst}
 use Rattle.std.proofs.lemmas.List.{take_more}
 use Rattle.ref_paths.specs.Scanner.{IsIndexSoFar}
 use Rattle.ref_paths.proofs.Scans.{digit_more}

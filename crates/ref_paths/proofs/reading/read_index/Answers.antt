@@ -1,7 +1,6 @@
-use Rattle.std.proofs.Common.{◌≡◌, ◌≢◌, ◌<◌, ℕ, List, Option, Some, None, true, is_some, length, get_or, take, drop, arith, sym, ap, ◌∙◌, subst}
+use Rattle.std.proofs.Common.{◌≡◌, ◌≢◌, ◌<◌, ℕ, List, Option, Some, true, is_some, length, get_or, take, arith, sym, ap, ◌∙◌, subst}
 use Rattle.std.proofs.lemmas.Str.{IsCharBoundary-after_ascii}
-use Rattle.ref_paths.specs.Scanner.{ReadsStep, IsIndexSoFar, extended}
-use Rattle.ref_paths.specs.declared.path.PathStep.TheVariants.{Index}
+use Rattle.ref_paths.specs.Scanner.{IsIndexSoFar, extended}
 use Rattle.ref_paths.proofs.Scans.{index_reads, index_reads_as, index_stops, no_some}
 use Rattle.ref_paths.proofs.reading.read_index.Goals as goal
 use Rattle.ref_paths.proofs.reading.read_index.Goals.{in_default-via-in-Some+then-end-bytes+else-bytes-end-eq93, in_default-via-in-Some+else-end-bytes, in_default-via-in_default}
@@ -30,9 +29,9 @@ returns-in_default-clause-err c =
     let e = c.read_digits-index.result.1 in
     let so_far : IsIndexSoFar o (take e t) = subst (λ (x : List ℕ). IsIndexSoFar o (take e x)) same c.read_digits-index.ensures.numeral in
     let ends : e < length t → is_some o ≡ true → get_or t e 0 ≢ 93 =
-        λ high some is. elim c.in_default.branch [
-          in_default-via-in-Some+then-end-bytes+else-bytes-end-eq93 w ↦ w.if-bytes-end-eq93.false (ap (λ x. get_or x e 0) same ∙ is)
-        | in_default-via-in-Some+else-end-bytes w ↦ absurd (omega (arith, ap length same))
-        | in_default-via-in_default w ↦ no_some o some w.in_default.not-Some
-        ] in
+    λ high some is. elim c.in_default.branch [
+      | in_default-via-in-Some+then-end-bytes+else-bytes-end-eq93 w ↦ w.if-bytes-end-eq93.false (ap (λ x. get_or x e 0) same ∙ is)
+      | in_default-via-in-Some+else-end-bytes w ↦ absurd (omega (arith, ap length same))
+      | in_default-via-in_default w ↦ no_some o some w.in_default.not-Some
+    ] in
     index_stops t o e (omega (arith, ap length same)) so_far (λ h. ap (λ x. extended o (get_or x e 0)) (sym same) ∙ c.read_digits-index.ensures.stops (omega (arith, ap length same))) c.requires ends

@@ -1,4 +1,4 @@
-use Rattle.std.proofs.Common.{◌≡◌, ◌++◌, ◌∷◌, List, ℕ, sym, ap, ◌∙◌, drop, get_or, length, arith, subst, lit<}
+use Rattle.std.proofs.Common.{◌≡◌, ◌++◌, ◌∷◌, sym, ap, ◌∙◌, drop, get_or, length, arith, subst, lit<}
 use Rattle.std.specs.Str.{IsUtf8}
 use Rattle.ref_paths.proofs.Scans.{quoted_reads, quoted_stops, quote_end_stops, first_of, reads_as, after_first}
 use Rattle.ref_paths.proofs.reading.read_quoted_name.Goals as goal

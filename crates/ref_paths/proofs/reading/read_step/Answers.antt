@@ -1,5 +1,5 @@
-use Rattle.std.proofs.Common.{◌≡◌, ◌∷◌, List, ℕ, sym, ap, ◌∙◌, drop, get_or, length, arith, lit<}
-use Rattle.ref_paths.proofs.Scans.{begin_stops, first_of, after_first}
+use Rattle.std.proofs.Common.{ap, ◌∙◌, get_or, length, arith, lit<}
+use Rattle.ref_paths.proofs.Scans.{begin_stops, after_first}
 use Rattle.ref_paths.proofs.reading.read_step.Goals as goal
 
 pub range_from-requires : goal.range_from-requires

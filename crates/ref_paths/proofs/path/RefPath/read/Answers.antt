@@ -1,4 +1,4 @@
-use Rattle.std.proofs.Common.{◌≡◌, ◌∷◌, ◌++◌, [], List, ℕ, rules, refl, sym, ap, ◌∙◌, subst, drop, get_or, length, arith, lit<}
+use Rattle.std.proofs.Common.{◌≡◌, ◌∷◌, ◌++◌, [], List, rules, sym, ap, ◌∙◌, subst, get_or, length, arith, lit<}
 use Rattle.ref_paths.proofs.Scans.{ReadSoFar, none_fails, text_fails, read_more, after_first, some_left}
 use Rattle.ref_paths.specs.Faults.{StepFaultStands}
 use Rattle.ref_paths.specs.declared.reading.PathFault.{PathFault}
