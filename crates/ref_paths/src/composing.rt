@@ -1,0 +1,141 @@
+//! What one path picks after another has placed a value, without placing it.
+
+ghost use Rattle.std.specs.Prelude.{◌≡◌, ◌↔◌, [], None, Some, IsTrue, IfOk, IfErr, option_map, is_some};
+ghost use Rattle.json_tree.specs.Data.{Data};
+ghost use Rattle.json_tree.specs.View.{data_of};
+ghost use Rattle.ref_paths.specs.Composition.{pick_placed_at, data_or_made};
+ghost use Rattle.ref_paths.specs.Laws.{Part};
+ghost use Rattle.ref_paths.specs.Placing.{opened_at, place_at};
+
+use crate::path::{PathStep, RefPath};
+use crate::picking::pick_steps;
+use crate::placing::{PlaceRefusal, place_steps};
+use json_tree::{Json, JsonFields};
+use std::alloc::Global;
+
+/// A copy of what `picking` picks after the value was placed at `placing`, and nothing where it picks nothing. The root
+/// and the value are only lent, and of both no more is copied than what is picked; nothing else is built. Goes over
+/// both paths by loops, but calls itself once for each level of the part of the root that is both picked and placed in.
+pub fn pick_placed(
+    alloc: Global,
+    root: &Json,
+    placing: &RefPath,
+    value: &Json,
+    picking: &RefPath,
+) -> Result<Option<Json>, PlaceRefusal>
+    ensures ok { IfOk result (λ r. pick_placed_at placing.now picking.now (data_of value.now) (data_of root.now) ≡ Some (option_map data_of r)) }
+    ensures cannot { (result ≡ Err PlaceRefusal.CannotPlace) ↔ (place_at placing.now (data_of value.now) (data_of root.now) ≡ None) }
+{
+    let mut current = Some(root);
+    let mut to_place = placing.steps.as_slice();
+    let mut to_pick = picking.steps.as_slice();
+    while let Some((step, rest)) = to_place.split_first() {
+        let Some((other, others)) = to_pick.split_first() else {
+            return pick_whole(alloc, current, to_place, value);
+        };
+        if !step.is_same(other) {
+            return pick_apart(current, to_place, to_pick);
+        }
+        let Some(child) = step.open(current) else {
+            return Err(PlaceRefusal::CannotPlace);
+        };
+        current = child;
+        to_place = rest;
+        to_pick = others;
+    }
+    copy_picked(pick_steps(to_pick, value))
+}
+
+impl PathStep {
+    fn is_same(&self, other: &PathStep) -> bool
+        ensures { IsTrue result ↔ (self.now ≡ other.now) }
+    {
+        match (self, other) {
+            (PathStep::Name(name), PathStep::Name(same)) => name.as_str() == same.as_str(),
+            (PathStep::Index(index), PathStep::Index(same)) => *index == *same,
+            _ => false,
+        }
+    }
+
+    /// What the step leads to for a value that is to be placed below: `Some(None)` is an object that is made.
+    #[tactic(auto, using(crate::proofs::Shapes::values_again, crate::proofs::Shapes::pairs_again))]
+    fn open<'a>(&self, parent: Option<&'a Json>) -> Option<Option<&'a Json>>
+        ensures { option_map data_or_made result ≡ opened_at self.now (data_or_made parent.entry) }
+    {
+        match (self, parent) {
+            (PathStep::Name(name), Some(Json::Fields(fields))) => Some(fields.get(name.as_str())),
+            (PathStep::Name(_), None) => Some(None),
+            (PathStep::Index(index), Some(Json::List(list))) => match list.get(*index as usize) {
+                Some(child) => Some(Some(child)),
+                None => None,
+            },
+            _ => None,
+        }
+    }
+}
+
+/// Whether some value can be placed there.
+fn can_place(root: Option<&Json>, steps: &[PathStep]) -> bool
+    ensures { (value : Data) → result ≡ is_some (place_at steps.now value (data_or_made root.entry)) }
+{
+    let mut current = root;
+    for step in steps {
+        match step.open(current) {
+            Some(child) => current = child,
+            None => return false,
+        }
+    }
+    true
+}
+
+/// All that is there, with the value placed in it.
+fn pick_whole(
+    alloc: Global,
+    root: Option<&Json>,
+    to_place: &[PathStep],
+    value: &Json,
+) -> Result<Option<Json>, PlaceRefusal>
+    ensures ok { IfOk result (λ r. pick_placed_at to_place.now [] (data_of value.now) (data_or_made root.entry) ≡ Some (option_map data_of r)) }
+    ensures cannot { (result ≡ Err PlaceRefusal.CannotPlace) ↔ (place_at to_place.now (data_of value.now) (data_or_made root.entry) ≡ None) }
+{
+    if !can_place(root, to_place) {
+        return Err(PlaceRefusal::CannotPlace);
+    }
+    let copy = match root {
+        Some(json) => json.copy()?,
+        None => Json::Fields(JsonFields::new(alloc)),
+    };
+    match place_steps(alloc, copy, to_place, value.copy()?) {
+        Ok(placed) => Ok(Some(placed)),
+        Err(fault) => Err(fault.refusal),
+    }
+}
+
+/// What the value is not placed in.
+fn pick_apart(
+    root: Option<&Json>,
+    to_place: &[PathStep],
+    to_pick: &[PathStep],
+) -> Result<Option<Json>, PlaceRefusal>
+    requires { Part to_place.now to_pick.now }
+    ensures ok { (value : Data) → IfOk result (λ r. pick_placed_at to_place.now to_pick.now value (data_or_made root.entry) ≡ Some (option_map data_of r)) }
+    ensures cannot { (value : Data) → (result ≡ Err PlaceRefusal.CannotPlace) ↔ (place_at to_place.now value (data_or_made root.entry) ≡ None) }
+{
+    if !can_place(root, to_place) {
+        return Err(PlaceRefusal::CannotPlace);
+    }
+    match root {
+        Some(json) => copy_picked(pick_steps(to_pick, json)),
+        None => Ok(None),
+    }
+}
+
+fn copy_picked(picked: Option<&Json>) -> Result<Option<Json>, PlaceRefusal>
+    ensures ok { IfOk result (λ r. option_map data_of r ≡ option_map (λ j. data_of j.now) picked.entry) }
+    ensures memory { IfErr result (λ e. e ≡ PlaceRefusal.Memory) }
+{
+    match picked {
+        Some(json) => Ok(Some(json.copy()?)),
+        None => Ok(None),
+    }
+}

@@ -1,0 +1,183 @@
+//! Placing a value where a path leads.
+
+ghost use Rattle.std.specs.Prelude.{◌≡◌, ◌≢◌, ◌↔◌, ◌∷◌, [], Some, None, IsTrue, IsSome, IfOk, IfErr, OnOk, OnErr};
+ghost use Rattle.json_tree.specs.Data.{fields, list, items_of, members_of};
+ghost use Rattle.json_tree.specs.Fields.{get_field, IsInNameOrder};
+ghost use Rattle.json_tree.specs.View.{data_of};
+ghost use Rattle.ref_paths.specs.Placing.{place_at};
+ghost use Rattle.ref_paths.specs.declared.path.PathStep.TheVariants.{Name, Index};
+
+use crate::nesting::{are_names, insert_nested};
+use crate::path::{PathStep, RefPath};
+use json_tree::{Json, JsonFields, JsonList, Text};
+use std::alloc::{AllocError, Global};
+
+/// Why a value was not placed.
+#[derive(Clone, Copy, Debug, Drop, PartialEq, Eq)]
+pub enum PlaceRefusal {
+    /// Some step names a field of what is no object, or an element that is not there.
+    CannotPlace,
+    /// An allocation was refused.
+    Memory,
+}
+
+impl From<AllocError> for PlaceRefusal {
+    ghost use Rattle.std.specs.Prelude.{◌≡◌};
+    ghost use Rattle.ref_paths.specs.declared.placing.PlaceRefusal.TheVariants.{Memory};
+
+    ghost from_gives = { λ _ e. e ≡ Memory };
+
+    fn from(_refused: AllocError) -> PlaceRefusal {
+        PlaceRefusal::Memory
+    }
+}
+
+/// A value that was not placed, and what it was to be placed in, both as they were.
+#[derive(Debug, Drop)]
+pub struct PlaceFault {
+    pub refusal: PlaceRefusal,
+    pub root: Json,
+    pub value: Json,
+}
+
+/// A value that was not placed, with the root in its place.
+#[derive(Drop)]
+struct Unplaced {
+    refusal: PlaceRefusal,
+    value: Json,
+}
+
+/// The root with the value where the path leads: a name replaces or adds that field of an object, and fields on the
+/// way that are absent are made as objects; an index replaces that element of a list. Takes memory for the fields that
+/// it adds alone. The root and the value are moved, and nothing of them is copied. One look-up for each step; what the
+/// value replaces is dropped. Calls itself once for each level of the root that the path goes down, and for no step
+/// below these.
+pub fn place(alloc: Global, root: Json, path: &RefPath, value: Json) -> Result<Json, PlaceFault>
+    ensures ok { IfOk result (λ j. place_at path.now (data_of value) (data_of root) ≡ Some (data_of j)) }
+    ensures cannot { IfErr result (λ e. (e.refusal ≡ PlaceRefusal.CannotPlace) ↔ (place_at path.now (data_of value) (data_of root) ≡ None)) }
+    ensures root_returned { IfErr result (λ e. e.root ≡ root) }
+    ensures value_returned { IfErr result (λ e. e.value ≡ value) }
+{
+    place_steps(alloc, root, path.steps.as_slice(), value)
+}
+
+/// The same by a part of a path.
+pub(crate) fn place_steps(
+    alloc: Global,
+    mut root: Json,
+    steps: &[PathStep],
+    value: Json,
+) -> Result<Json, PlaceFault>
+    ensures ok { IfOk result (λ j. place_at steps.now (data_of value) (data_of root) ≡ Some (data_of j)) }
+    ensures cannot { IfErr result (λ e. (e.refusal ≡ PlaceRefusal.CannotPlace) ↔ (place_at steps.now (data_of value) (data_of root) ≡ None)) }
+    ensures root_returned { IfErr result (λ e. e.root ≡ root) }
+    ensures value_returned { IfErr result (λ e. e.value ≡ value) }
+{
+    match place_in(alloc, &mut root, steps, value) {
+        Ok(()) => Ok(root),
+        Err(Unplaced { refusal, value }) => Err(PlaceFault {
+            refusal,
+            root,
+            value,
+        }),
+    }
+}
+
+#[cycle(place)]
+fn place_in(alloc: Global, root: &mut Json, steps: &[PathStep], value: Json) -> Result<(), Unplaced>
+    ensures ok { OnOk result (place_at steps.now (data_of value) (data_of root.old) ≡ Some (data_of root.new)) }
+    ensures cannot { IfErr result (λ e. (e.refusal ≡ PlaceRefusal.CannotPlace) ↔ (place_at steps.now (data_of value) (data_of root.old) ≡ None)) }
+    ensures root_stays { OnErr result (root.new ≡ root.old) }
+    ensures value_returned { IfErr result (λ e. e.value ≡ value) }
+{
+    let Some((step, rest)) = steps.split_first() else {
+        *root = value;
+        return Ok(());
+    };
+    match (step, root) {
+        (PathStep::Name(name), Json::Fields(fields)) => {
+            place_in_field(alloc, fields, name, rest, value)
+        }
+        (PathStep::Index(index), Json::List(list)) => {
+            place_in_item(alloc, list, *index, rest, value)
+        }
+        _ => Err(Unplaced {
+            refusal: PlaceRefusal::CannotPlace,
+            value,
+        }),
+    }
+}
+
+#[cycle(place)]
+fn place_in_item(
+    alloc: Global,
+    items: &mut JsonList,
+    index: u32,
+    rest: &[PathStep],
+    value: Json,
+) -> Result<(), Unplaced>
+    ensures ok { OnOk result (place_at (Index index ∷ rest.now) (data_of value) (list (items_of items.old)) ≡ Some (list (items_of items.new))) }
+    ensures cannot { IfErr result (λ e. (e.refusal ≡ PlaceRefusal.CannotPlace) ↔ (place_at (Index index ∷ rest.now) (data_of value) (list (items_of items.old)) ≡ None)) }
+    ensures root_stays { OnErr result (items.new ≡ items.old) }
+    ensures value_returned { IfErr result (λ e. e.value ≡ value) }
+{
+    match items.get_mut(index as usize) {
+        Some(child) => place_in(alloc, child, rest, value),
+        None => Err(Unplaced {
+            refusal: PlaceRefusal::CannotPlace,
+            value,
+        }),
+    }
+}
+
+#[cycle(place)]
+fn place_in_field(
+    alloc: Global,
+    members: &mut JsonFields,
+    name: &Text,
+    rest: &[PathStep],
+    value: Json,
+) -> Result<(), Unplaced>
+    ensures ok { OnOk result (place_at (Name name.now ∷ rest.now) (data_of value) (fields (members_of members.old)) ≡ Some (fields (members_of members.new))) }
+    ensures cannot { IfErr result (λ e. (e.refusal ≡ PlaceRefusal.CannotPlace) ↔ (place_at (Name name.now ∷ rest.now) (data_of value) (fields (members_of members.old)) ≡ None)) }
+    ensures root_stays { OnErr result (members.new ≡ members.old) }
+    ensures value_returned { IfErr result (λ e. e.value ≡ value) }
+{
+    // An object with no field has nothing to look up.
+    if members.len() == 0 {
+        return add_field(alloc, members, name, rest, value);
+    }
+    match members.get_mut(name.as_str()) {
+        Some(child) => place_in(alloc, child, rest, value),
+        None => add_field(alloc, members, name, rest, value),
+    }
+}
+
+/// Adds a field that is absent, with the objects in it that the rest of the path names.
+fn add_field(
+    alloc: Global,
+    members: &mut JsonFields,
+    name: &Text,
+    rest: &[PathStep],
+    value: Json,
+) -> Result<(), Unplaced>
+    requires { get_field name.now members.old ≡ None }
+    ensures ok { OnOk result (place_at (Name name.now ∷ rest.now) (data_of value) (fields (members_of members.old)) ≡ Some (fields (members_of members.new))) }
+    ensures cannot { IfErr result (λ e. (e.refusal ≡ PlaceRefusal.CannotPlace) ↔ (place_at (Name name.now ∷ rest.now) (data_of value) (fields (members_of members.old)) ≡ None)) }
+    ensures root_stays { OnErr result (members.new ≡ members.old) }
+    ensures value_returned { IfErr result (λ e. e.value ≡ value) }
+{
+    if !are_names(rest) {
+        return Err(Unplaced {
+            refusal: PlaceRefusal::CannotPlace,
+            value,
+        });
+    }
+    match insert_nested(alloc, members, name, rest, value) {
+        Ok(()) => Ok(()),
+        Err(value) => Err(Unplaced {
+            refusal: PlaceRefusal::Memory,
+            value,
+        }),
+    }
+}
