@@ -1,4 +1,4 @@
 pub mod Found
 pub mod Whole
-pub mod Refusals
 pub mod Names
+mod Rows

@@ -1,8 +1,11 @@
--- Names of members that may stand, one after another.
-use Rattle.std.proofs.Common.{◌≡◌, ℕ, List, ◌∷◌, Bool, true, false, ◌&&◌, if◌then◌else◌, String, Global, string_bytes, refl, sym, ap, ◌∙◌}
-use Rattle.serde_json.specs.View.{members_view}
+-- Members that may stand, and their faults, one after another.
+use Rattle.std.proofs.Common.{◌≡◌, inl, inr, ℕ, List, ◌∷◌, Some, Bool, true, false, ◌&&◌, if◌then◌else◌, String, Global, string_bytes, refl, sym, ap, subst, ◌∙◌}
+use Rattle.serde_json.specs.View.{view, members_view}
 use Rattle.serde_json.specs.declared.value.Value.{Value}
+use Rattle.asl_machine.specs.Faults.{name_fault, fault_of_standing, NamesFault, StateFault, StatesFault}
 use Rattle.asl_machine.specs.Fields.{is_known, is_left_out, all_known, standing}
+use Rattle.asl_machine.specs.declared.fault.MachineFault.{MachineFault}
+use Rattle.asl_machine.specs.declared.fault.MachineFault.TheVariants.{Unsupported as LeftOut, UnknownField}
 use Rattle.asl_machine.specs.declared.fields.Place.{Place}
 use Rattle.asl_machine.specs.declared.fields.Standing.{Standing}
 use Rattle.asl_machine.specs.declared.fields.Standing.TheVariants.{Known, Unsupported, Unknown}
@@ -42,3 +45,34 @@ pub names_unknown : (place : Place) (from rest : List (String Global × Value)) 
     → Unknown ≡ standing place text → all_known place (members_view from) ≡ all → all ≡ false
 names_unknown place from rest name value text all is named unknown before =
     sym before ∙ first_is place from rest name value text false is named (when_unknown (is_known place text) (is_left_out place text) unknown)
+
+-- ---- a fault of a name
+
+pub names_later : (place : Place) (from rest : List (String Global × Value)) (name : String Global) (value : Value) (e : MachineFault) → from ≡ (name, value) ∷ rest
+    → NamesFault place (members_view rest) e → NamesFault place (members_view from) e
+names_later place from rest name value e is fault = subst (λ ms. NamesFault place (members_view ms) e) (sym is) (inr fault)
+
+names_first : (place : Place) (from rest : List (String Global × Value)) (name : String Global) (value : Value) (e : MachineFault) → from ≡ (name, value) ∷ rest
+    → name_fault place (string_bytes name) ≡ Some e → NamesFault place (members_view from) e
+names_first place from rest name value e is fault = subst (λ ms. NamesFault place (members_view ms) e) (sym is) (inl fault)
+
+pub unsupported_first : (place : Place) (from rest : List (String Global × Value)) (name : String Global) (value : Value) (text told : List ℕ) → from ≡ (name, value) ∷ rest → text ≡ string_bytes name
+    → Unsupported ≡ standing place text → told ≡ text → NamesFault place (members_view from) (LeftOut told)
+unsupported_first place from rest name value text told is named left_out same =
+    names_first place from rest name value (LeftOut told) is
+    (ap (name_fault place) (sym named) ∙ ap (λ s. fault_of_standing s text) (sym left_out) ∙ ap (λ t. Some (LeftOut t)) (sym same))
+
+pub unknown_first : (place : Place) (from rest : List (String Global × Value)) (name : String Global) (value : Value) (text told : List ℕ) → from ≡ (name, value) ∷ rest → text ≡ string_bytes name
+    → Unknown ≡ standing place text → told ≡ text → NamesFault place (members_view from) (UnknownField told)
+unknown_first place from rest name value text told is named unknown same =
+    names_first place from rest name value (UnknownField told) is
+    (ap (name_fault place) (sym named) ∙ ap (λ s. fault_of_standing s text) (sym unknown) ∙ ap (λ t. Some (UnknownField t)) (sym same))
+
+pub states_later : (from rest : List (String Global × Value)) (name : String Global) (value : Value) (e : MachineFault) → from ≡ (name, value) ∷ rest
+    → StatesFault (members_view rest) e → StatesFault (members_view from) e
+states_later from rest name value e is fault = subst (λ ms. StatesFault (members_view ms) e) (sym is) (inr fault)
+
+pub states_first : (from rest : List (String Global × Value)) (name : String Global) (value : Value) (text : List ℕ) (e : MachineFault) → from ≡ (name, value) ∷ rest → text ≡ string_bytes name
+    → StateFault text (view value) e → StatesFault (members_view from) e
+states_first from rest name value text e is named fault =
+    subst (λ ms. StatesFault (members_view ms) e) (sym is) (inl (subst (λ t. StateFault t (view value) e) named fault))

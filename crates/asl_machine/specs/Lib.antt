@@ -3,3 +3,4 @@ pub mod Find
 pub mod Fields
 pub mod Refusal
 pub mod Reading
+pub mod Faults

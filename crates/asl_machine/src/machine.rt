@@ -1,11 +1,12 @@
 // A machine: its states by name, and where it starts.
-ghost use Rattle.std.specs.Prelude.{◌≡◌, option_copied, [], IfOk, IfErr, OnOk, OnErr, IfSome, IfNone, None, true, false};
+ghost use Rattle.std.specs.Prelude.{◌≡◌, option_copied, [], IfOk, IfErr, OnOk, OnErr, IfSome, IfNone, None, Some, true, false};
 ghost use Rattle.std.specs.BTreeMap.{insert_entry};
 ghost use Rattle.std.specs.Cmp.Lexicographic.{slice_cmp};
 ghost use Rattle.std.specs.Ordering.{nat_cmp};
 ghost use Rattle.asl_machine.specs.Definition.{state_of, IsComplete, StaysInside};
 ghost use Rattle.asl_machine.specs.Find.{state_at};
 ghost use Rattle.asl_machine.specs.Reading.{is_complete, stays_inside};
+ghost use Rattle.asl_machine.specs.Faults.{TargetsFault, state_target_fault};
 ghost use Rattle.asl_machine.specs.Refusal.{Refuses};
 
 use crate::fault::MachineFault;
@@ -88,7 +89,8 @@ impl Machine {
     pub fn new(alloc: Global, start: Text, states: States) -> Result<Machine, MachineFault>
         ensures ok { IfOk result (λ m. m ≡ record { start = start; states = states }) }
         ensures complete { OnOk result (is_complete start states ≡ true) }
-        ensures refused { IfErr result (λ e. Refuses e (is_complete start states ≡ false)) }
+        ensures refused { OnErr result (is_complete start states ≡ false) }
+        ensures fault { IfErr result (λ e. Refuses e (TargetsFault start states e)) }
     {
         if states.get(&start).is_none() {
             return Err(MachineFault::NoTarget(start));
@@ -127,6 +129,8 @@ fn missing_target<'a>(states: &States, state: &'a State) -> Option<&'a Text>
     ensures inside { IfNone result (StaysInside states.now state.now) }
     ensures stays { IfNone result (stays_inside states.now state.now ≡ true) }
     ensures leaves { IfSome result (λ name. stays_inside states.now state.now ≡ false) }
+    ensures fault { IfSome result
+        (λ name. state_target_fault states.now state.now ≡ Some (MachineFault.NoTarget name.now)) }
     ensures missing { IfSome result (λ name. state_of name.now states.now ≡ None) }
 {
     let next = match state {

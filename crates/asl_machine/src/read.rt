@@ -1,9 +1,10 @@
 // Reading a definition.
-ghost use Rattle.std.specs.Prelude.{◌≡◌, IfOk, IfErr, OnOk, [], Some, None, true, false, codes};
+ghost use Rattle.std.specs.Prelude.{◌≡◌, IfOk, IfErr, OnOk, OnErr, [], Some, None, true, false, codes};
 ghost use Rattle.serde_json.specs.Find.{get, as_str, as_object};
 ghost use Rattle.serde_json.specs.View.{view, members_view};
 ghost use Rattle.asl_machine.specs.Fields.{all_known, speaks_json_path};
 ghost use Rattle.asl_machine.specs.Reading.{definition_of, states_read, state_read, pass_of, result_of, transition_of, is_end};
+ghost use Rattle.asl_machine.specs.Faults.{DefinitionFault, StatesFault, StateFault, PassFault, NamesFault, query_language_fault, result_fault, required_text_fault, text_fault, transition_fault, is_type_left_out};
 ghost use Rattle.asl_machine.specs.Refusal.{Refuses};
 
 use crate::fault::MachineFault;
@@ -22,6 +23,7 @@ impl Machine {
     pub fn read(alloc: Global, definition: &Value) -> Result<Machine, MachineFault>
         ensures ok { IfOk result (λ m. definition_of (view definition.now) ≡ Some m) }
         ensures refused { IfErr result (λ e. Refuses e (definition_of (view definition.now) ≡ None)) }
+        ensures fault { IfErr result (λ e. Refuses e (DefinitionFault (view definition.now) e)) }
     {
         let Some(fields) = definition.as_object() else {
             return Err(MachineFault::Missing(Text::new(alloc, "StartAt")?));
@@ -42,7 +44,8 @@ impl Machine {
 /// The value of a required field.
 fn required<'a>(alloc: Global, object: &'a Value, name: &str) -> Result<&'a Value, MachineFault>
     ensures ok { IfOk result (λ v. get name.now (view object.now) ≡ Some (view v.now)) }
-    ensures refused { IfErr result (λ e. Refuses e (get name.now (view object.now) ≡ None)) }
+    ensures refused { OnErr result (get name.now (view object.now) ≡ None) }
+    ensures fault { IfErr result (λ e. Refuses e (e ≡ MachineFault.Missing name.now)) }
 {
     match object.get(name) {
         Some(value) => Ok(value),
@@ -54,6 +57,7 @@ fn required<'a>(alloc: Global, object: &'a Value, name: &str) -> Result<&'a Valu
 fn text_of(alloc: Global, value: &Value, name: &str) -> Result<Text, MachineFault>
     ensures ok { IfOk result (λ text. as_str (view value.now) ≡ Some text) }
     ensures refused { IfErr result (λ e. Refuses e (as_str (view value.now) ≡ None)) }
+    ensures fault { IfErr result (λ e. Refuses e (e ≡ MachineFault.BadField name.now)) }
 {
     match value.as_str() {
         Some(text) => Ok(Text::new(alloc, text)?),
@@ -66,6 +70,8 @@ fn check_names(alloc: Global, place: Place, fields: &Map<String, Value>) -> Resu
     ensures ok { OnOk result (all_known place (members_view fields.now.entries) ≡ true) }
     ensures refused { IfErr result
         (λ e. Refuses e (all_known place (members_view fields.now.entries) ≡ false)) }
+    ensures fault { IfErr result
+        (λ e. Refuses e (NamesFault place (members_view fields.now.entries) e)) }
 {
     for (name, _value) in fields {
         match standing_of(place, name.as_str()) {
@@ -84,7 +90,9 @@ fn check_names(alloc: Global, place: Place, fields: &Map<String, Value>) -> Resu
 /// Only JSONPath is read. JSONata is left out.
 fn check_query_language(alloc: Global, object: &Value) -> Result<(), MachineFault>
     ensures ok { OnOk result (speaks_json_path (view object.now) ≡ true) }
-    ensures refused { IfErr result (λ e. Refuses e (speaks_json_path (view object.now) ≡ false)) }
+    ensures refused { OnErr result (speaks_json_path (view object.now) ≡ false) }
+    ensures fault { IfErr result
+        (λ e. Refuses e (query_language_fault (get (codes "QueryLanguage") (view object.now)) ≡ Some e)) }
 {
     let Some(value) = object.get("QueryLanguage") else {
         return Ok(());
@@ -105,6 +113,8 @@ fn read_states(alloc: Global, states: &Map<String, Value>) -> Result<States, Mac
     ensures ok { IfOk result (λ read. states_read [] (members_view states.now.entries) ≡ Some read) }
     ensures refused { IfErr result
         (λ e. Refuses e (states_read [] (members_view states.now.entries) ≡ None)) }
+    ensures fault { IfErr result
+        (λ e. Refuses e (StatesFault (members_view states.now.entries) e)) }
 {
     let mut read = States::new(alloc);
     for (name, value) in states {
@@ -118,6 +128,7 @@ fn read_states(alloc: Global, states: &Map<String, Value>) -> Result<States, Mac
 fn read_state(alloc: Global, name: &str, value: &Value) -> Result<State, MachineFault>
     ensures ok { IfOk result (λ state. state_read (view value.now) ≡ Some state) }
     ensures refused { IfErr result (λ e. Refuses e (state_read (view value.now) ≡ None)) }
+    ensures fault { IfErr result (λ e. Refuses e (StateFault name.now (view value.now) e)) }
 {
     let Some(fields) = value.as_object() else {
         return Err(MachineFault::BadField(Text::new(alloc, "States")?));
@@ -140,7 +151,9 @@ fn read_state(alloc: Global, name: &str, value: &Value) -> Result<State, Machine
 }
 
 /// Whether the language has a state of this type that is left out.
-fn is_other_kind(kind: &str) -> bool {
+fn is_other_kind(kind: &str) -> bool
+    ensures { result ≡ is_type_left_out kind.now }
+{
     ["Task", "Choice", "Wait", "Fail", "Parallel", "Map"]
         .as_slice()
         .contains(&kind)
@@ -156,6 +169,9 @@ fn read_pass(
     requires { as_object (view object.now) ≡ Some (members_view fields.now.entries) }
     ensures ok { IfOk result (λ pass. pass_of (view object.now) ≡ Some pass) }
     ensures refused { IfErr result (λ e. Refuses e (pass_of (view object.now) ≡ None)) }
+    ensures fault { IfErr result
+        (λ e. Refuses e
+        (PassFault name.now (view object.now) (members_view fields.now.entries) e)) }
 {
     check_names(alloc, Place::Pass, fields)?;
     check_query_language(alloc, object)?;
@@ -169,6 +185,8 @@ fn read_result(alloc: Global, object: &Value) -> Result<Option<Json>, MachineFau
     ensures ok { IfOk result (λ r. result_of (get (codes "Result") (view object.now)) ≡ Some r) }
     ensures refused { IfErr result
         (λ e. Refuses e (result_of (get (codes "Result") (view object.now)) ≡ None)) }
+    ensures fault { IfErr result
+        (λ e. Refuses e (result_fault (get (codes "Result") (view object.now)) ≡ Some e)) }
 {
     let Some(value) = object.get("Result") else {
         return Ok(None);
@@ -184,6 +202,10 @@ fn read_result(alloc: Global, object: &Value) -> Result<Option<Json>, MachineFau
 fn read_transition(alloc: Global, name: &str, object: &Value) -> Result<Transition, MachineFault>
     ensures ok { IfOk result (λ transition. transition_of (view object.now) ≡ Some transition) }
     ensures refused { IfErr result (λ e. Refuses e (transition_of (view object.now) ≡ None)) }
+    ensures fault { IfErr result
+        (λ e. Refuses e
+        (transition_fault name.now (is_end (get (codes "End") (view object.now)))
+        (get (codes "Next") (view object.now)) ≡ Some e)) }
 {
     let ends = read_end(alloc, object)?;
     match object.get("Next") {
@@ -199,6 +221,7 @@ fn read_end(alloc: Global, object: &Value) -> Result<bool, MachineFault>
     ensures ok { IfOk result (λ ends. is_end (get (codes "End") (view object.now)) ≡ Some ends) }
     ensures refused { IfErr result
         (λ e. Refuses e (is_end (get (codes "End") (view object.now)) ≡ None)) }
+    ensures fault { IfErr result (λ e. Refuses e (e ≡ MachineFault.BadField (codes "End"))) }
 {
     let Some(end) = object.get("End") else {
         return Ok(false);
