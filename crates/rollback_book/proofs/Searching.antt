@@ -6,7 +6,7 @@ use Rattle.std.proofs.Math.Seq.{drop-cons}
 use Rattle.std.proofs.lemmas.Bool.{eqb-true, eqb-false}
 use Rattle.std.proofs.lemmas.List.{take_rest}
 use Rattle.std.proofs.lemmas.Option.{slice_get_read}
-use Rattle.asl_machine.specs.Definition.{Definition}
+use Rattle.serde_json.specs.Data.{Data}
 use Rattle.step_names.specs.declared.step.StepName.{StepName}
 use Rattle.rollback_book.specs.Names.{is_same_step}
 use Rattle.rollback_book.specs.Answers.{last_name, last_answer, from_step, found_answer, free_answer, IsReadRefusal, IsDefineRefusal}
@@ -64,15 +64,15 @@ from_here name rs i r within at same =
 
 -- ---- refusals of a definition
 
-pub read_is_define : (log : List Entry) (name : List ℕ) (read : Option Definition) (e : Refusal) → machine_of name log ≡ None → IsReadRefusal read e → IsDefineRefusal log name read e
-read_is_define log name read (BadMachine fault) free h = (free, h)
-read_is_define log name read Memory free h = free
-read_is_define log name read MachineTaken free h = absurd h
-read_is_define log name read Full free h = absurd h
-read_is_define log name read NoMachine free h = absurd h
-read_is_define log name read ExecTaken free h = absurd h
-read_is_define log name read NoThread free h = absurd h
-read_is_define log name read (NotReady readiness) free h = absurd h
-read_is_define log name read NoStep free h = absurd h
-read_is_define log name read (HasDependents step) free h = absurd h
-read_is_define log name read (NotLast step) free h = absurd h
+pub read_is_define : (log : List Entry) (name : List ℕ) (d : Data) (e : Refusal) → machine_of name log ≡ None → IsReadRefusal d e → IsDefineRefusal log name d e
+read_is_define log name d (BadMachine fault) free h = (free, h)
+read_is_define log name d Memory free h = free
+read_is_define log name d MachineTaken free h = absurd h
+read_is_define log name d Full free h = absurd h
+read_is_define log name d NoMachine free h = absurd h
+read_is_define log name d ExecTaken free h = absurd h
+read_is_define log name d NoThread free h = absurd h
+read_is_define log name d (NotReady readiness) free h = absurd h
+read_is_define log name d NoStep free h = absurd h
+read_is_define log name d (HasDependents step) free h = absurd h
+read_is_define log name d (NotLast step) free h = absurd h

@@ -1,7 +1,10 @@
 -- What a command is answered, memory apart: each refusal exactly where it stands, in the order in which they are tested.
 use Rattle.std.specs.Prelude.{◌≡◌, ℕ, ◌+◌, ◌||◌, List, [], ◌∷◌, length, Bool, false, Option, None, Some, Result, Ok, Err, is_some, IsSome, IsTrue, ◌⊎◌, option_map, nat_le, nat_lt, if◌then◌else◌}
 use Rattle.std.specs.List.{find}
-use Rattle.asl_machine.specs.Definition.{Definition}
+use Rattle.serde_json.specs.Data.{Data}
+use Rattle.asl_machine.specs.Reading.{definition_of}
+use Rattle.asl_machine.specs.Refusal.{Refuses}
+use Rattle.asl_machine.specs.Faults.{DefinitionFault}
 use Rattle.step_names.specs.Thread.{Thread}
 use Rattle.step_names.specs.declared.step.StepName.{StepName}
 use Rattle.rollback_book.specs.Names.{start_name, is_same_step}
@@ -34,33 +37,33 @@ is_full_for_define log = nat_le 1000000 (length log + length (remaining log))
 
 -- ---- define
 
--- a definition is refused where its name is taken, where it is no machine's, where there is no room, or for memory
-abbrev pub IsDefineRefusal : List Entry → List ℕ → Option Definition → Refusal → Type 0
-IsDefineRefusal log name read MachineTaken = IsSome (machine_of name log)
-IsDefineRefusal log name read (BadMachine fault) = (machine_of name log ≡ None) × (read ≡ None)
-IsDefineRefusal log name read Full = (machine_of name log ≡ None) × (IsSome read × IsTrue (is_full_for_define log))
-IsDefineRefusal log name read Memory = machine_of name log ≡ None
-IsDefineRefusal log name read NoMachine = ⊥
-IsDefineRefusal log name read ExecTaken = ⊥
-IsDefineRefusal log name read NoThread = ⊥
-IsDefineRefusal log name read (NotReady readiness) = ⊥
-IsDefineRefusal log name read NoStep = ⊥
-IsDefineRefusal log name read (HasDependents step) = ⊥
-IsDefineRefusal log name read (NotLast step) = ⊥
+-- a definition that isn't read is no machine's, for the fault that is told, or memory was refused
+abbrev pub IsReadRefusal : Data → Refusal → Type 0
+IsReadRefusal d (BadMachine fault) = (definition_of d ≡ None) × Refuses fault (DefinitionFault d fault)
+IsReadRefusal d Memory = Unit {0}
+IsReadRefusal d MachineTaken = ⊥
+IsReadRefusal d Full = ⊥
+IsReadRefusal d NoMachine = ⊥
+IsReadRefusal d ExecTaken = ⊥
+IsReadRefusal d NoThread = ⊥
+IsReadRefusal d (NotReady readiness) = ⊥
+IsReadRefusal d NoStep = ⊥
+IsReadRefusal d (HasDependents step) = ⊥
+IsReadRefusal d (NotLast step) = ⊥
 
--- a definition that isn't read is no machine's, or memory was refused
-abbrev pub IsReadRefusal : Option Definition → Refusal → Type 0
-IsReadRefusal read (BadMachine fault) = read ≡ None
-IsReadRefusal read Memory = Unit {0}
-IsReadRefusal read MachineTaken = ⊥
-IsReadRefusal read Full = ⊥
-IsReadRefusal read NoMachine = ⊥
-IsReadRefusal read ExecTaken = ⊥
-IsReadRefusal read NoThread = ⊥
-IsReadRefusal read (NotReady readiness) = ⊥
-IsReadRefusal read NoStep = ⊥
-IsReadRefusal read (HasDependents step) = ⊥
-IsReadRefusal read (NotLast step) = ⊥
+-- a definition is refused where its name is taken, where it is no machine's, where there is no room, or for memory
+abbrev pub IsDefineRefusal : List Entry → List ℕ → Data → Refusal → Type 0
+IsDefineRefusal log name d MachineTaken = IsSome (machine_of name log)
+IsDefineRefusal log name d (BadMachine fault) = (machine_of name log ≡ None) × IsReadRefusal d (BadMachine fault)
+IsDefineRefusal log name d Full = (machine_of name log ≡ None) × (IsSome (definition_of d) × IsTrue (is_full_for_define log))
+IsDefineRefusal log name d Memory = machine_of name log ≡ None
+IsDefineRefusal log name d NoMachine = ⊥
+IsDefineRefusal log name d ExecTaken = ⊥
+IsDefineRefusal log name d NoThread = ⊥
+IsDefineRefusal log name d (NotReady readiness) = ⊥
+IsDefineRefusal log name d NoStep = ⊥
+IsDefineRefusal log name d (HasDependents step) = ⊥
+IsDefineRefusal log name d (NotLast step) = ⊥
 
 -- ---- start
 

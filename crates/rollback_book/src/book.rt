@@ -92,7 +92,7 @@ impl Book {
             × (self.new ≡ accepted self.old (Entry.Define name.now machine))) }
         ensures free { OnOk result (machine_of name.now self.old.log ≡ None) }
         ensures room { OnOk result (is_full_for_define self.old.log ≡ false) }
-        ensures refused { IfErr result (IsDefineRefusal self.old.log name.now (definition_of (view definition.now))) }
+        ensures refused { IfErr result (IsDefineRefusal self.old.log name.now (view definition.now)) }
         ensures err { OnErr result (self.new ≡ self.old) }
     {
         self.check_name(name)?;
@@ -319,7 +319,7 @@ impl Book {
 fn read_machine(alloc: Global, definition: &Value) -> Result<Machine, Refusal>
     ensures complete { IfOk result IsComplete }
     ensures read { IfOk result (λ m. definition_of (view definition.now) ≡ Some m) }
-    ensures refused { IfErr result (IsReadRefusal (definition_of (view definition.now))) }
+    ensures refused { IfErr result (IsReadRefusal (view definition.now)) }
 {
     match Machine::read(alloc, definition) {
         Ok(machine) => {
