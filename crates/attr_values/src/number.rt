@@ -57,16 +57,16 @@ impl Number {
     }
 
     /// The one spelling of the number: `-` below zero, the digits of its whole part, and the point and the digits of the
-    /// fraction where there are any. Takes memory for the text, at most 102 bytes.
+    /// fraction where there are any. Takes memory for the text, at most 103 bytes.
     pub fn write_text(&self, alloc: Global) -> Result<String, AllocError>
         ensures text { IfOk result (λ s. string_bytes s ≡ number_text self.now) }
         ensures reads_back { IfOk result (λ s. read_number (string_bytes s) ≡ Some self.now) }
     {
-        spell(self, alloc)
+        spell(alloc, self)
     }
 }
 
-fn spell(number: &Number, alloc: Global) -> Result<String, AllocError>
+fn spell(alloc: Global, number: &Number) -> Result<String, AllocError>
     ensures text { IfOk result (λ s. string_bytes s ≡ number_text number.now) }
     ensures normal { IsNormal number.now }
 {
