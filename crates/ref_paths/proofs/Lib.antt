@@ -4,3 +4,4 @@ pub mod Places
 pub mod Scans
 pub mod PickedAgain
 pub mod Composed
+pub mod OneSpelling

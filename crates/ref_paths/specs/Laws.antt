@@ -1,6 +1,7 @@
 -- Laws of picking and placing.
-use Rattle.std.specs.Prelude.{◌≡◌, ◌≢◌, ◌⊎◌, List, [], ◌∷◌, Some}
+use Rattle.std.specs.Prelude.{◌≡◌, ◌≢◌, ℕ, ◌⊎◌, List, [], ◌∷◌, Some}
 use Rattle.json_tree.specs.Data.{Data}
+use Rattle.ref_paths.specs.Grammar.{SpellsPath}
 use Rattle.ref_paths.specs.Picking.{pick_at}
 use Rattle.ref_paths.specs.Placing.{place_at}
 use Rattle.ref_paths.specs.declared.path.PathStep.{PathStep}
@@ -22,3 +23,7 @@ ElsewhereStays = (path other : List PathStep) (value root after : Data) → Part
 -- the empty path gives the placed value
 abbrev pub PlacedAtRoot : Type 0
 PlacedAtRoot = (value root : Data) → place_at [] value root ≡ Some value
+
+-- a text spells one path at most
+abbrev pub TextsSpellOnePath : Type 0
+TextsSpellOnePath = (text : List ℕ) (path other : List PathStep) → SpellsPath path text → SpellsPath other text → path ≡ other

@@ -1,4 +1,4 @@
-//! Reference paths into JSON values, and templates that copy what paths pick.
+//! Reference paths into JSON values: what they pick, and what a value becomes when another is placed where they lead.
 #![tactic(auto)]
 
 mod composing;
@@ -12,7 +12,7 @@ mod reading;
 mod tests;
 
 pub use composing::pick_placed;
-pub use laws::{elsewhere_stays, placed_at_root, placed_is_picked};
+pub use laws::{elsewhere_stays, placed_at_root, placed_is_picked, texts_spell_one_path};
 pub use path::{PathStep, RefPath};
 pub use placing::{PlaceFault, PlaceRefusal, place};
 pub use reading::PathFault;

@@ -3,7 +3,7 @@
 
 use crate::{
     PathFault, PlaceRefusal, RefPath, elsewhere_stays, pick_placed, place, placed_at_root,
-    placed_is_picked,
+    placed_is_picked, texts_spell_one_path,
 };
 use json_tree::{Json, JsonFields, read, write_text};
 use std::alloc::Global;
@@ -141,6 +141,7 @@ fn places(rt: HostRuntime) -> Result<(), Fail> {
     placed_is_picked();
     elsewhere_stays();
     placed_at_root();
+    texts_spell_one_path();
     Ok(())
 }
 
