@@ -292,63 +292,65 @@ fn expect(rt: &impl Abort, alloc: Global, rows: &[(Command, &str)]) -> Result<()
     Ok(())
 }
 
+const ONE_EXECUTION: &[(Command, &str)] = &[
+    (Command::Define("p", TWO), "no 2"),
+    (Command::Define("x", "{}"), "no 3"),
+    (Command::Step("a"), "no 5"),
+    (Command::Undo("a#1"), "no 7"),
+    (Command::Start("a", "x"), "no 1"),
+    (Command::Start("a", "two"), "a#0"),
+    (Command::Start("a", "x"), "no 1"),
+    (Command::Start("a", "p"), "no 4"),
+    (Command::Step("a"), "a#1"),
+    (Command::Undo("a#0"), "no 8 a#1"),
+    (Command::Undo("a#2"), "no 7"),
+    (Command::Step("a"), "a#2"),
+    (Command::Step("a"), "no 6 done"),
+    (Command::Step("a/1.0"), "no 5"),
+    (Command::Undo("a#0"), "no 8 a#1"),
+    (Command::Undo("a#1"), "no 8 a#2"),
+    (Command::Undo("a#2"), "a#2"),
+    (Command::Undo("a#2"), "no 7"),
+    (Command::Step("a"), "a#2"),
+    (Command::Undo("a#2"), "a#2"),
+    (Command::Undo("a#1"), "a#1"),
+    (Command::Undo("a#0"), "a#0"),
+    (Command::Step("a"), "no 5"),
+    (Command::Undo("a#0"), "no 7"),
+    (Command::Start("a", "p"), "a#0"),
+    (Command::Step("a"), "a#1"),
+    (Command::Step("a"), "no 6 done"),
+];
+
 #[test]
 fn one_execution(rt: HostRuntime) -> Result<(), Fail> {
-    let rows = [
-        (Command::Define("p", TWO), "no 2"),
-        (Command::Define("x", "{}"), "no 3"),
-        (Command::Step("a"), "no 5"),
-        (Command::Undo("a#1"), "no 7"),
-        (Command::Start("a", "x"), "no 1"),
-        (Command::Start("a", "two"), "a#0"),
-        (Command::Start("a", "x"), "no 1"),
-        (Command::Start("a", "p"), "no 4"),
-        (Command::Step("a"), "a#1"),
-        (Command::Undo("a#0"), "no 8 a#1"),
-        (Command::Undo("a#2"), "no 7"),
-        (Command::Step("a"), "a#2"),
-        (Command::Step("a"), "no 6 done"),
-        (Command::Step("a/1.0"), "no 5"),
-        (Command::Undo("a#0"), "no 8 a#1"),
-        (Command::Undo("a#1"), "no 8 a#2"),
-        (Command::Undo("a#2"), "a#2"),
-        (Command::Undo("a#2"), "no 7"),
-        (Command::Step("a"), "a#2"),
-        (Command::Undo("a#2"), "a#2"),
-        (Command::Undo("a#1"), "a#1"),
-        (Command::Undo("a#0"), "a#0"),
-        (Command::Step("a"), "no 5"),
-        (Command::Undo("a#0"), "no 7"),
-        (Command::Start("a", "p"), "a#0"),
-        (Command::Step("a"), "a#1"),
-        (Command::Step("a"), "no 6 done"),
-    ];
-    expect(&rt, rt.alloc(), rows.as_slice())
+    expect(&rt, rt.alloc(), ONE_EXECUTION)
 }
+
+const SIDE_BY_SIDE: &[(Command, &str)] = &[
+    (Command::Start("b", "two"), "b#0"),
+    (Command::Start("a", "two"), "a#0"),
+    (Command::Step("b"), "b#1"),
+    (Command::Undo("a#0"), "no 14 b#1"),
+    (Command::Undo("b#0"), "no 8 b#1"),
+    (Command::Step("a"), "a#1"),
+    (Command::Undo("b#1"), "no 14 a#1"),
+    (Command::Step("b"), "b#2"),
+    (Command::Start("c", "p"), "c#0"),
+    (Command::Undo("b#2"), "no 14 c#0"),
+    (Command::Undo("b#1"), "no 8 b#2"),
+    (Command::Undo("c#0"), "c#0"),
+    (Command::Undo("b#2"), "b#2"),
+    (Command::Undo("a#1"), "a#1"),
+    (Command::Step("b"), "b#2"),
+    (Command::Step("a"), "a#1"),
+    (Command::Start("c", "two"), "c#0"),
+    (Command::Step("c"), "c#1"),
+];
 
 #[test]
 fn executions_side_by_side(rt: HostRuntime) -> Result<(), Fail> {
-    let rows = [
-        (Command::Start("b", "two"), "b#0"),
-        (Command::Start("a", "two"), "a#0"),
-        (Command::Step("b"), "b#1"),
-        (Command::Undo("a#0"), "no 14 b#1"),
-        (Command::Undo("b#0"), "no 8 b#1"),
-        (Command::Step("a"), "a#1"),
-        (Command::Undo("b#1"), "no 14 a#1"),
-        (Command::Step("b"), "b#2"),
-        (Command::Start("c", "p"), "c#0"),
-        (Command::Undo("b#2"), "no 14 c#0"),
-        (Command::Undo("b#1"), "no 8 b#2"),
-        (Command::Undo("c#0"), "c#0"),
-        (Command::Undo("b#2"), "b#2"),
-        (Command::Undo("a#1"), "a#1"),
-        (Command::Step("b"), "b#2"),
-        (Command::Step("a"), "a#1"),
-        (Command::Start("c", "two"), "c#0"),
-        (Command::Step("c"), "c#1"),
-    ];
-    expect(&rt, rt.alloc(), rows.as_slice())
+    expect(&rt, rt.alloc(), SIDE_BY_SIDE)
 }
 
 fn is_started(rt: &impl Abort, alloc: Global, book: &mut Book, exec: &str) -> Result<(), Fail> {
@@ -413,13 +415,91 @@ fn rooms_and_counters(rt: HostRuntime) -> Result<(), Fail> {
     Ok(())
 }
 
-/// A fact of a step, with an access by the first letter of a mode.
-fn fact(
-    alloc: Global,
-    name: &str,
-    kind: Kind,
-    access: Option<(&str, AccessMode)>,
-) -> Result<Fact, Fail> {
+/// A step's name, its kind, and the key and mode of its access.
+type ToldFact = (&'static str, Kind, Option<(&'static str, AccessMode)>);
+
+const READ: Option<(&str, AccessMode)> = Some(("k", AccessMode::Read));
+
+const WRITE: Option<(&str, AccessMode)> = Some(("k", AccessMode::Write));
+
+const OTHER: Option<(&str, AccessMode)> = Some(("j", AccessMode::Write));
+
+/// An earlier and a later step, and whether the later one depends directly on the other.
+const DEPENDENCE: &[(ToldFact, ToldFact, bool)] = &[
+    (("a#1", Kind::Plain, None), ("a#2", Kind::Plain, None), true),
+    (
+        ("a#1", Kind::Plain, None),
+        ("b#2", Kind::Plain, None),
+        false,
+    ),
+    (
+        ("a#0", Kind::Start, None),
+        ("a/1.0#1", Kind::Plain, None),
+        true,
+    ),
+    (
+        ("b#0", Kind::Start, None),
+        ("a/1.0#1", Kind::Plain, None),
+        false,
+    ),
+    (
+        ("a#1", Kind::Fork, None),
+        ("a/1.0#1", Kind::Plain, None),
+        true,
+    ),
+    (
+        ("a#2", Kind::Fork, None),
+        ("a/1.0#1", Kind::Plain, None),
+        false,
+    ),
+    (
+        ("a#1", Kind::Fork, None),
+        ("a/1.0/4.1#1", Kind::Plain, None),
+        true,
+    ),
+    (
+        ("a#1", Kind::Plain, None),
+        ("a/1.0#1", Kind::Plain, None),
+        false,
+    ),
+    (
+        ("a/1.0#1", Kind::Plain, None),
+        ("a#2", Kind::Join, None),
+        true,
+    ),
+    (
+        ("a/1.0#1", Kind::Plain, None),
+        ("a#2", Kind::Terminate, None),
+        true,
+    ),
+    (
+        ("a/1.0#1", Kind::Plain, None),
+        ("a#3", Kind::Join, None),
+        false,
+    ),
+    (
+        ("a/1.0#1", Kind::Plain, None),
+        ("a/1.1#1", Kind::Plain, None),
+        false,
+    ),
+    (("a#1", Kind::Call, WRITE), ("b#1", Kind::Call, READ), true),
+    (("a#1", Kind::Call, READ), ("b#1", Kind::Call, WRITE), true),
+    (("a#1", Kind::Call, WRITE), ("b#1", Kind::Call, WRITE), true),
+    (("a#1", Kind::Call, READ), ("b#1", Kind::Call, READ), false),
+    (
+        ("a#1", Kind::Call, WRITE),
+        ("b#1", Kind::Call, OTHER),
+        false,
+    ),
+    (
+        ("a#1", Kind::Call, WRITE),
+        ("b#1", Kind::Plain, None),
+        false,
+    ),
+];
+
+fn fact(alloc: Global, told: ToldFact) -> Result<Fact, Fail> {
+    let (name, kind, access) = told;
     let access = match access {
         Some((key, mode)) => Some(Access {
             key: Text::new(alloc, key)?,
@@ -437,85 +517,87 @@ fn fact(
 #[test]
 fn dependence(rt: HostRuntime) -> Result<(), Fail> {
     let alloc = rt.alloc();
-    let read = Some(("k", AccessMode::Read));
-    let write = Some(("k", AccessMode::Write));
-    let other = Some(("j", AccessMode::Write));
-    let rows = [
-        (("a#1", Kind::Plain, None), ("a#2", Kind::Plain, None), true),
-        (
-            ("a#1", Kind::Plain, None),
-            ("b#2", Kind::Plain, None),
-            false,
-        ),
-        (
-            ("a#0", Kind::Start, None),
-            ("a/1.0#1", Kind::Plain, None),
-            true,
-        ),
-        (
-            ("b#0", Kind::Start, None),
-            ("a/1.0#1", Kind::Plain, None),
-            false,
-        ),
-        (
-            ("a#1", Kind::Fork, None),
-            ("a/1.0#1", Kind::Plain, None),
-            true,
-        ),
-        (
-            ("a#2", Kind::Fork, None),
-            ("a/1.0#1", Kind::Plain, None),
-            false,
-        ),
-        (
-            ("a#1", Kind::Fork, None),
-            ("a/1.0/4.1#1", Kind::Plain, None),
-            true,
-        ),
-        (
-            ("a#1", Kind::Plain, None),
-            ("a/1.0#1", Kind::Plain, None),
-            false,
-        ),
-        (
-            ("a/1.0#1", Kind::Plain, None),
-            ("a#2", Kind::Join, None),
-            true,
-        ),
-        (
-            ("a/1.0#1", Kind::Plain, None),
-            ("a#2", Kind::Terminate, None),
-            true,
-        ),
-        (
-            ("a/1.0#1", Kind::Plain, None),
-            ("a#3", Kind::Join, None),
-            false,
-        ),
-        (
-            ("a/1.0#1", Kind::Plain, None),
-            ("a/1.1#1", Kind::Plain, None),
-            false,
-        ),
-        (("a#1", Kind::Call, write), ("b#1", Kind::Call, read), true),
-        (("a#1", Kind::Call, read), ("b#1", Kind::Call, write), true),
-        (("a#1", Kind::Call, write), ("b#1", Kind::Call, write), true),
-        (("a#1", Kind::Call, read), ("b#1", Kind::Call, read), false),
-        (
-            ("a#1", Kind::Call, write),
-            ("b#1", Kind::Call, other),
-            false,
-        ),
-        (
-            ("a#1", Kind::Call, write),
-            ("b#1", Kind::Plain, None),
-            false,
-        ),
-    ];
-    for (i, (earlier, later, wanted)) in rows.into_iter().enumerate() {
-        let earlier = fact(alloc, earlier.0, earlier.1, earlier.2)?;
-        let later = fact(alloc, later.0, later.1, later.2)?;
-        assert_eq!(rt; depends(&earlier, &later), wanted, "at {i}");
+    for (i, (earlier, later, wanted)) in DEPENDENCE.iter().enumerate() {
+        let earlier = fact(alloc, *earlier)?;
+        let later = fact(alloc, *later)?;
+        assert_eq!(rt; depends(&earlier, &later), *wanted, "at {i}");
     }
+    Ok(())
+}
+
+// ---- growths that are refused
+
+/// Gives a command, and tells whether the book accepted it.
+fn is_accepted(alloc: Global, book: &mut Book, command: Command) -> bool {
+    let (_begin, log) = book.entries();
+    let entries = log.len();
+    give(alloc, book, command);
+    let (_begin, log) = book.entries();
+    log.len() != entries
+}
+
+fn give(alloc: Global, book: &mut Book, command: Command) -> Option<()> {
+    match command {
+        Command::Define(name, text) => {
+            let name = Text::new(alloc, name).ok()?;
+            let definition = Value::from_str(alloc, text).ok()?;
+            book.define(alloc, &name, &definition).ok()
+        }
+        Command::Start(exec, machine) => {
+            let exec = ThreadName::read(alloc, exec).ok()?;
+            let machine = Text::new(alloc, machine).ok()?;
+            if exec.is_execution() {
+                drop(book.start(alloc, &exec, &machine, Json::Whole(1)).ok()?);
+            }
+            Some(())
+        }
+        Command::Step(thread) => {
+            let thread = ThreadName::read(alloc, thread).ok()?;
+            drop(book.step(alloc, &thread).ok()?);
+            Some(())
+        }
+        Command::Undo(step) => {
+            let step = StepName::read(alloc, step).ok()?;
+            let room = book.room(alloc, &step).ok()?;
+            drop(book.undo(room).ok()?);
+            Some(())
+        }
+    }
+}
+
+/// Commands, each with the number of steps that remain after it.
+const GROWING: &[(Command, usize)] = &[
+    (Command::Define("two", TWO), 0),
+    (Command::Start("a", "two"), 1),
+    (Command::Start("b", "two"), 2),
+    (Command::Step("a"), 3),
+    (Command::Step("b"), 4),
+    (Command::Undo("b#1"), 3),
+    (Command::Step("b"), 4),
+    (Command::Step("a"), 5),
+    (Command::Undo("a#2"), 4),
+    (Command::Undo("b#1"), 3),
+];
+
+/// Whichever growth is refused, its command changes nothing, and is accepted when it is given again.
+#[test]
+fn refused_growths_change_nothing(rt: HostRuntime) -> Result<(), Fail> {
+    let alloc = rt.alloc();
+    let mut book = match open(alloc, JsonList::new(alloc)) {
+        Ok(Ok(book)) => book,
+        _ => return Ok(()),
+    };
+    let mut refused = 0u32;
+    let mut steps = 0;
+    for (command, wanted) in GROWING {
+        if !is_accepted(alloc, &mut book, *command) {
+            assert_eq!(rt; book.history().len(), steps);
+            refused = refused.saturating_add(1);
+            assert!(rt; is_accepted(alloc, &mut book, *command));
+        }
+        steps = book.history().len();
+        assert_eq!(rt; steps, *wanted);
+    }
+    assert!(rt; refused <= 1);
     Ok(())
 }
