@@ -13,12 +13,10 @@ ghost use Rattle.rollback_book.specs.Legal.{IsLegal};
 use crate::frame::Frame;
 use crate::log::{Begin, Entry};
 use crate::making::{MadeDefine, MadeStart, MadeStep, make_define, make_start, make_step};
-use crate::maps;
 use crate::refusal::{BeginFault, Refusal};
 use crate::room::Room;
 use crate::step::{Kind, Moved, Saved, StepRecord};
-use crate::turn;
-use crate::undoing;
+use crate::{maps, turn, undoing};
 use asl_machine::{Machine, MachineFault, SharedMachine, State};
 use json_tree::{Json, Text};
 use serde_json::Value;
@@ -44,7 +42,6 @@ impl Model for Book {
     ghost use Rattle.std.specs.Prelude.{vec_capacity};
     ghost use Rattle.rollback_book.specs.Story.{Story};
     ghost use Rattle.rollback_book.specs.Saving.{IsTied, held};
-
     ghost use Rattle.rollback_book.specs.contracts.log.Begin as begin_row;
     ghost use Rattle.rollback_book.specs.contracts.log.Entry as entry_row;
     ghost use Rattle.std.specs.Coded.{codes};
@@ -80,12 +77,7 @@ impl Book {
     }
 
     /// Defines a machine. Takes time linear in the definition and logarithmic in the number of machines.
-    pub fn define(
-        &mut self,
-        alloc: Global,
-        name: &Text,
-        definition: &Value,
-    ) -> Result<(), Refusal>
+    pub fn define(&mut self, alloc: Global, name: &Text, definition: &Value) -> Result<(), Refusal>
         ensures ok { OnOk result ((machine : Definition) × (self.new ≡ accepted self.old (Entry.Define name.now machine))) }
         ensures free { OnOk result (machine_of name.now self.old.log ≡ None) }
         ensures room { OnOk result (is_full_for_define self.old.log ≡ false) }
