@@ -68,9 +68,9 @@ unfolding or_else
 machine_of-free q log n d free =
     machine_of-define q log n d
     ∙ elim (is_same_name n q) as (λ b. is_same_name n q ≡ b → or_else (machine_of q log) (cond b (Some d) None) ≡ cond b (Some d) (machine_of q log)) [
-        | true ↦ λ same. let absent : machine_of q log ≡ None = sym (ap (λ (x : List ℕ). machine_of x log) (name_same n q same)) ∙ free in ap (λ (o : Option Definition). or_else o (Some d)) absent
-        | false ↦ λ other. or_else-none (machine_of q log)
-      ] refl
+      | true ↦ λ same. let absent : machine_of q log ≡ None = sym (ap (λ (x : List ℕ). machine_of x log) (name_same n q same)) ∙ free in ap (λ (o : Option Definition). or_else o (Some d)) absent
+      | false ↦ λ other. or_else-none (machine_of q log)
+    ] refl
 
 -- ---- runs with more machines
 
@@ -100,7 +100,7 @@ take_wider w m (moved name) v f grows h =
     let taken = step_taken_by (with_machines w m) name.thread i.frame i.state i.stands (ready_wider w.machines m i.frame i.frame.phase i.state grows i.ready) in
     ap (λ (n : StepName). take_step (with_machines w m) (moved n)) (sym named) ∙ taken
     ∙ ap₂ (λ (x : World) (g : Fact). let p : World × Fact = (with_machines x m, g) in Some p) (sym i.world)
-        (ap (λ (n : StepName). let g : Fact = record { name = n; kind = Plain; access = None } in g) named ∙ sym i.fact)
+    (ap (λ (n : StepName). let g : Fact = record { name = n; kind = Plain; access = None } in g) named ∙ sym i.fact)
 
 same_machines : (w : World) (s : Step) (v : World) (f : Fact) → take_step w s ≡ Some (v, f) → v.machines ≡ w.machines
 same_machines w (started exec machine input) v f h = ap (λ (x : World). x.machines) (start_is w exec machine input v f h).world
@@ -121,20 +121,20 @@ tied_define begin log w rs capacity more name machine h free room complete grown
     let m : List ℕ → Option Definition = λ q. machine_of q (log ++ Define name machine ∷ []) in
     let is : (q : List ℕ) → m q ≡ cond (is_same_name name q) (Some machine) (machine_of q log) = λ q. machine_of-free q log name machine free in
     let grows : Grows (base_of log).machines m = λ q d e.
-      is q ∙ elim (is_same_name name q) as (λ b. is_same_name name q ≡ b → cond b (Some machine) (machine_of q log) ≡ Some d) [
-        | true ↦ λ same. let clash : ◌≡◌ {A = Option Definition} None (Some d) = sym free ∙ ap (λ (x : List ℕ). machine_of x log) (name_same name q same) ∙ e in cc
-        | false ↦ λ other. e
-      ] refl in
+    is q ∙ elim (is_same_name name q) as (λ b. is_same_name name q ≡ b → cond b (Some machine) (machine_of q log) ≡ Some d) [
+      | true ↦ λ same. let clash : ◌≡◌ {A = Option Definition} None (Some d) = sym free ∙ ap (λ (x : List ℕ). machine_of x log) (name_same name q same) ∙ e in cc
+      | false ↦ λ other. e
+    ] refl in
     let ran = Runs-wider (remaining log) (base_of log) w rs m grows (runs begin log w rs capacity h) in
     let world : with_machines w m ≡ with_machines w (λ q. cond (is_same_name name q) (Some machine) (w.machines q)) =
-      ap (with_machines w) (fun_ext (λ q. is q ∙ ap (λ (o : Option Definition). cond (is_same_name name q) (Some machine) o) (machine_is begin log w rs capacity h q))) in
+    ap (with_machines w) (fun_ext (λ q. is q ∙ ap (λ (o : Option Definition). cond (is_same_name name q) (Some machine) o) (machine_is begin log w rs capacity h q))) in
     let entry : Entry = Define name machine in
     let len_log = length-append log (entry ∷ []) in
     let not_full = leb-false 1000000 (length log + length rs) (sym (define_full_is begin log w rs capacity h) ∙ room) in
     let few = h.few in
     record {
       runs = ap (run_saving (base_of (log ++ Define name machine ∷ []))) (remaining-more log (Define name machine))
-        ∙ to_run (remaining log) (base_of (log ++ Define name machine ∷ [])) (with_machines w m) rs ran ∙ ap (λ (x : World). let p : World × List StepRecord = (x, rs) in Some p) world;
+          ∙ to_run (remaining log) (base_of (log ++ Define name machine ∷ [])) (with_machines w m) rs ran ∙ ap (λ (x : World). let p : World × List StepRecord = (x, rs) in Some p) world;
       legal = legal-more log (Define name machine) h.legal (free, room, complete);
       room = omega (arith, grown, len_log);
       few = few;
@@ -149,9 +149,9 @@ pub tied_empty : (begin : Begin) (machines : BTreeMap (List ℕ) Definition) (fr
 unfolding remaining IsLegal
 tied_empty begin machines frames capacity m f none_there =
     let no_machine : (λ (name : List ℕ). let o : Option Definition = None in o) ≡ get (slice_cmp nat_cmp) machines =
-      fun_ext (λ (q : List ℕ). ap (λ (es : List (List ℕ × Definition)). lookup (is_at (slice_cmp nat_cmp q)) es) (sym m)) in
+    fun_ext (λ (q : List ℕ). ap (λ (es : List (List ℕ × Definition)). lookup (is_at (slice_cmp nat_cmp q)) es) (sym m)) in
     let no_frame : (λ (t : Thread). let o : Option Frame = None in o) ≡ get thread_cmp frames =
-      fun_ext (λ (q : Thread). ap (λ (es : List (Thread × Frame)). lookup (is_at (thread_cmp q)) es) (sym f)) in
+    fun_ext (λ (q : Thread). ap (λ (es : List (Thread × Frame)). lookup (is_at (thread_cmp q)) es) (sym f)) in
     record {
       runs = ap₂ (λ (a : List ℕ → Option Definition) (b : Thread → Option Frame). let p : World × List StepRecord = (record { machines = a; frames = b; table = λ _. None }, []) in Some p) no_machine no_frame;
       legal = tt;

@@ -69,38 +69,38 @@ good_set : (steps : List Step) (w : World) (s : Step) (t : Thread) (g : Frame) �
     → ((f : Frame) → w.frames t ≡ Some f → f.count ≤ g.count) → g.count ≤ length steps + 1 → IsCounted (set_frame w t (Some g)) (name_of s)
     → IsGood (steps ++ s ∷ []) (set_frame w t (Some g))
 good_set steps w s t g good grows bound last = record {
-      few = λ q f h.
-        let l : length (steps ++ s ∷ []) ≡ length steps + 1 = length-append steps (s ∷ []) in
-        at_set w t q g f h (f.count ≤ length (steps ++ s ∷ []))
-          (λ e same. let c : g.count ≡ f.count = ap (λ (x : Frame). x.count) same in omega (arith, l, c, bound))
-          (λ old. let c = good.few q f old in omega (arith, l, c));
-      counted = all_more (λ (x : Step). IsCounted w (name_of x)) (λ (x : Step). IsCounted (set_frame w t (Some g)) (name_of x)) steps s good.counted
-        (λ x h. stays_counted w t g (name_of x) h grows) last;
-    }
+  few = λ q f h.
+      let l : length (steps ++ s ∷ []) ≡ length steps + 1 = length-append steps (s ∷ []) in
+      at_set w t q g f h (f.count ≤ length (steps ++ s ∷ []))
+      (λ e same. let c : g.count ≡ f.count = ap (λ (x : Frame). x.count) same in omega (arith, l, c, bound))
+      (λ old. let c = good.few q f old in omega (arith, l, c));
+  counted = all_more (λ (x : Step). IsCounted w (name_of x)) (λ (x : Step). IsCounted (set_frame w t (Some g)) (name_of x)) steps s good.counted
+      (λ x h. stays_counted w t g (name_of x) h grows) last;
+}
 
 pub good_step : (steps : List Step) (w : World) (s : Step) (v : World) (f : Fact) → IsGood steps w → take_step w s ≡ Some (v, f) → IsGood (steps ++ s ∷ []) v
 good_step steps w (started exec machine input) v f good h =
     let i = start_is w exec machine input v f h in
     let g = first_frame machine i.definition input in
     subst (IsGood (steps ++ started exec machine input ∷ [])) (sym i.world)
-      (good_set steps w (started exec machine input) exec g good
-        (λ x e. let impossible : None ≡ Some x = sym i.free ∙ e in cc)
-        (omega arith) (is_counted_now w exec g 0 (omega arith)))
+    (good_set steps w (started exec machine input) exec g good
+    (λ x e. let impossible : None ≡ Some x = sym i.free ∙ e in cc)
+    (omega arith) (is_counted_now w exec g 0 (omega arith)))
 good_step steps w (moved name) v f good h =
     let i = move_is w name v f h in
     let g = after_state i.state i.frame in
     let c : g.count ≡ i.frame.count + 1 = after_state-count i.state i.frame in
     let bound = good.few name.thread i.frame i.stands in
     subst (IsGood (steps ++ moved name ∷ [])) (sym i.world)
-      (good_set steps w (moved name) name.thread g good
-        (λ x e. let same : x ≡ i.frame = same_Some x i.frame (sym e ∙ i.stands) in let k = ap (λ (y : Frame). y.count) same in omega (arith, c, k))
-        (omega (arith, c, bound)) (is_counted_now w name.thread g name.no (omega (arith, c, i.numbered))))
+    (good_set steps w (moved name) name.thread g good
+    (λ x e. let same : x ≡ i.frame = same_Some x i.frame (sym e ∙ i.stands) in let k = ap (λ (y : Frame). y.count) same in omega (arith, c, k))
+    (omega (arith, c, bound)) (is_counted_now w name.thread g name.no (omega (arith, c, i.numbered))))
 
 pub good_run : (steps front : List Step) (w v : World) (rs : List StepRecord) → IsGood front w → Runs w steps v rs → IsGood (front ++ steps) v
 good_run [] front w v rs good h = subst (λ (xs : List Step). IsGood xs v) (sym (append-nil front)) (subst (IsGood front) h.0 good)
 good_run (s ∷ steps) front w v rs good h =
     subst (λ (xs : List Step). IsGood xs v) (append_assoc front (s ∷ []) steps)
-      (good_run steps (front ++ s ∷ []) h.0.0 v h.2.0 (good_step front w s h.0.0 h.0.1 good h.1) h.2.2)
+    (good_run steps (front ++ s ∷ []) h.0.0 v h.2.0 (good_step front w s h.0.0 h.0.1 good h.1) h.2.2)
 
 pub good_base : (log : List Entry) → IsGood [] (base_of log)
 good_base log = record { few = λ t f h. cc; counted = tt }

@@ -104,9 +104,15 @@ from_run [] w v rs h =
 from_run (s ∷ steps) w v rs h =
     let a = and_then_some _ (take_step w s) (v, rs) h in
     let b = map_some (λ (q : World × List StepRecord). (q.0, record_of w s a.0.1 ∷ q.1)) (run_saving a.0.0 steps) (v, rs) a.2 in
-    let e : b.0.0 ≡ v = ap (λ (p : World × List StepRecord). p.0) b.2 in
-    (a.0, a.1, (b.0.1, sym (ap (λ (p : World × List StepRecord). p.1) b.2),
-      subst (λ (x : World). Runs a.0.0 steps x b.0.1) e (from_run steps a.0.0 b.0.0 b.0.1 b.1)))
+    let e : b.0.0 ≡ v = ap (λ (p : World × List StepRecord). p.0) b.2 in (
+      a.0,
+      a.1,
+      (
+        b.0.1,
+        sym (ap (λ (p : World × List StepRecord). p.1) b.2),
+        subst (λ (x : World). Runs a.0.0 steps x b.0.1) e (from_run steps a.0.0 b.0.0 b.0.1 b.1),
+      ),
+    )
 
 pub to_run : (steps : List Step) (w v : World) (rs : List StepRecord) → Runs w steps v rs → run_saving w steps ≡ Some (v, rs)
 to_run [] w v rs h = ap₂ (λ (x : World) (xs : List StepRecord). Some (x, xs)) h.0 (sym h.1)
@@ -115,9 +121,11 @@ to_run (s ∷ steps) w v rs h =
     rw (h.1, rest) (ap (λ (xs : List StepRecord). Some (v, xs)) (sym h.2.1))
 
 pub Runs-more : (steps : List Step) (u w v : World) (rs : List StepRecord) (s : Step) (f : Fact) → Runs u steps w rs → take_step w s ≡ Some (v, f) → Runs u (steps ++ s ∷ []) v (rs ++ record_of w s f ∷ [])
-Runs-more [] u w v rs s f h t =
-    ((v, f), subst (λ (x : World). take_step x s ≡ Some (v, f)) (sym h.0) t,
-      ([], ap₂ (λ (x : World) (xs : List StepRecord). xs ++ record_of x s f ∷ []) (sym h.0) h.1, (refl, refl)))
+Runs-more [] u w v rs s f h t = (
+  (v, f),
+  subst (λ (x : World). take_step x s ≡ Some (v, f)) (sym h.0) t,
+  ([], ap₂ (λ (x : World) (xs : List StepRecord). xs ++ record_of x s f ∷ []) (sym h.0) h.1, (refl, refl)),
+)
 Runs-more (x ∷ steps) u w v rs s f h t =
     (h.0, h.1, (h.2.0 ++ record_of w s f ∷ [], ap (λ (xs : List StepRecord). xs ++ record_of w s f ∷ []) h.2.1, Runs-more steps h.0.0 w v h.2.0 s f h.2.2 t))
 

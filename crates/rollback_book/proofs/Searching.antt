@@ -45,10 +45,10 @@ pub not_last : (name : StepName) (rs : List StepRecord) (i : ℕ) (r : StepRecor
 not_last name rs i r within at same other =
     elim (i + 1 == length rs) as (λ b. (i + 1 == length rs) ≡ b → i + 1 < length rs) [
       | true ↦ λ e.
-        let n : length rs - 1 ≡ i = omega (arith, eqb-true (i + 1) (length rs) e) in
-        let here : is_last name rs ≡ true = ap (λ (k : ℕ). is_record_of name (slice_get rs k)) n ∙ ap (is_record_of name) (slice_get_read rs (length rs) i r refl within at) ∙ same in
-        let clash : true ≡ false = sym here ∙ other in
-        cc
+          let n : length rs - 1 ≡ i = omega (arith, eqb-true (i + 1) (length rs) e) in
+          let here : is_last name rs ≡ true = ap (λ (k : ℕ). is_record_of name (slice_get rs k)) n ∙ ap (is_record_of name) (slice_get_read rs (length rs) i r refl within at) ∙ same in
+          let clash : true ≡ false = sym here ∙ other in
+          cc
       | false ↦ λ e. let apart = eqb-false (i + 1) (length rs) e in omega (arith, apart)
     ] refl
 

@@ -79,7 +79,7 @@ module _ (begin : Begin) (log : List Entry) (w : World) (rs : List StepRecord) (
   -- ---- start
 
   pub start_by : (exec : Thread) (machine : List ℕ) (known there full : Bool) → is_some (w.machines machine) ≡ known → is_some (w.frames exec) ≡ there → is_full_for_step log ≡ full
-    → start_answer log exec machine ≡ cond known (cond there (Err ExecTaken) (cond full (Err Full) (Ok (start_name exec)))) (Err NoMachine)
+      → start_answer log exec machine ≡ cond known (cond there (Err ExecTaken) (cond full (Err Full) (Ok (start_name exec)))) (Err NoMachine)
   unfolding start_answer
   start_by exec machine known there full k t f =
       ap (λ (b : Bool). cond b (cond (is_some ((world_of log).frames exec)) (Err ExecTaken) (cond (is_full_for_step log) (Err Full) (Ok (start_name exec)))) (Err NoMachine)) (ap is_some (machine_is machine) ∙ k)
@@ -117,7 +117,7 @@ module _ (begin : Begin) (log : List Entry) (w : World) (rs : List StepRecord) (
   step_stuck t f e r = step_by t (Some f) e ∙ ap (moved_answer log (readiness_of f.phase)) (move_by t f None e r)
 
   pub step_ready : (t : Thread) (f : Frame) (s : State) (full : Bool) → w.frames t ≡ Some f → ready_state w.machines f f.phase ≡ Some s → is_full_for_step log ≡ full
-    → step_answer log t ≡ cond full (Err Full) (Ok (let m : Moved = record { name = next_step t f; kind = Plain } in m))
+      → step_answer log t ≡ cond full (Err Full) (Ok (let m : Moved = record { name = next_step t f; kind = Plain } in m))
   step_ready t f s full e r b =
       step_by t (Some f) e ∙ ap (moved_answer log (readiness_of f.phase)) (move_by t f (Some s) e r)
       ∙ ap (λ (x : Bool). cond x (Err Full) (Ok (let m : Moved = record { name = next_step t f; kind = Plain } in m))) b
@@ -126,7 +126,7 @@ module _ (begin : Begin) (log : List Entry) (w : World) (rs : List StepRecord) (
   step_full t f s e r b = step_ready t f s true e r b
 
   pub step_free : (t : Thread) (f : Frame) (s : State) → w.frames t ≡ Some f → ready_state w.machines f f.phase ≡ Some s → is_full_for_step log ≡ false
-    → step_answer log t ≡ Ok (record { name = next_step t f; kind = Plain })
+      → step_answer log t ≡ Ok (record { name = next_step t f; kind = Plain })
   step_free t f s e r b = step_ready t f s false e r b
 
   -- a frame counts at most as many moves as steps remain

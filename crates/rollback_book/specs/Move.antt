@@ -71,13 +71,13 @@ readiness_of (Failed fault) = readiness.Failed
 -- the frame with which an execution of a machine starts
 abbrev pub first_frame : List ℕ → Definition → Json → Frame
 first_frame machine d input = record {
-    level = record { machine = machine; path = [] };
-    state = d.start;
-    raw = input;
-    retries = [];
-    count = 0;
-    phase = Ready;
-  }
+  level = record { machine = machine; path = [] };
+  state = d.start;
+  raw = input;
+  retries = [];
+  count = 0;
+  phase = Ready;
+}
 
 -- a start needs a known machine, and that no execution of its name is there
 abbrev pub start : World → Thread → List ℕ → Json → Option (World × Fact)
@@ -85,7 +85,7 @@ start w exec machine input =
     if is_some (w.frames exec)
     then None
     else option_map (λ d. (set_frame w exec (Some (first_frame machine d input)), record { name = start_name exec; kind = Start; access = None }))
-         (w.machines machine)
+    (w.machines machine)
 
 -- ---- runs
 

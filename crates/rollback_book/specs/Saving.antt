@@ -47,10 +47,10 @@ run_saving w (s ∷ steps) = option_and_then (λ p. option_map (λ q. (q.0, reco
 -- the world that a book's maps hold
 abbrev pub held : BTreeMap (List ℕ) Definition → BTreeMap Thread Frame → World
 held machines frames = record {
-    machines = λ name. get (slice_cmp nat_cmp) machines name;
-    frames = λ thread. get thread_cmp frames thread;
-    table = λ _. None;
-  }
+  machines = λ name. get (slice_cmp nat_cmp) machines name;
+  frames = λ thread. get thread_cmp frames thread;
+  table = λ _. None;
+}
 
 -- a book's fields belong to its log
 pub record IsTied (begin : Begin) (log : List Entry) (world : World) (records : List StepRecord) (capacity : ℕ) : Type 0 where

@@ -15,12 +15,10 @@ ghost use Rattle.rollback_book.specs.Legal.{IsLegal};
 use crate::frame::Frame;
 use crate::log::{Begin, Entry};
 use crate::making::{MadeDefine, MadeStart, MadeStep, make_define, make_start, make_step};
-use crate::maps;
 use crate::refusal::{BeginFault, Refusal};
 use crate::room::Room;
 use crate::step::{Kind, Moved, Saved, StepRecord};
-use crate::turn;
-use crate::undoing;
+use crate::{maps, turn, undoing};
 use asl_machine::{Machine, MachineFault, SharedMachine, State};
 use json_tree::{Json, Text};
 use serde_json::Value;
@@ -46,7 +44,6 @@ impl Model for Book {
     ghost use Rattle.std.specs.Prelude.{vec_capacity};
     ghost use Rattle.rollback_book.specs.Story.{Story};
     ghost use Rattle.rollback_book.specs.Saving.{IsTied, held};
-
     ghost use Rattle.rollback_book.specs.contracts.log.Begin as begin_row;
     ghost use Rattle.rollback_book.specs.contracts.log.Entry as entry_row;
     ghost use Rattle.std.specs.Coded.{codes};
@@ -82,12 +79,7 @@ impl Book {
     }
 
     /// Defines a machine. Takes time linear in the definition and logarithmic in the number of machines.
-    pub fn define(
-        &mut self,
-        alloc: Global,
-        name: &Text,
-        definition: &Value,
-    ) -> Result<(), Refusal>
+    pub fn define(&mut self, alloc: Global, name: &Text, definition: &Value) -> Result<(), Refusal>
         ensures ok { OnOk result ((machine : Definition) × (definition_of (view definition.now) ≡ Some machine)
             × (self.new ≡ accepted self.old (Entry.Define name.now machine))) }
         ensures free { OnOk result (machine_of name.now self.old.log ≡ None) }

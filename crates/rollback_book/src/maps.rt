@@ -20,17 +20,12 @@ use std::mem;
 use step_names::ThreadName;
 
 /// The state before which a frame stands.
-pub fn state_in<'a>(
-    machines: &'a BTreeMap<Text, SharedMachine>,
-    frame: &Frame,
-) -> Option<&'a State>
+pub fn state_in<'a>(machines: &'a BTreeMap<Text, SharedMachine>, frame: &Frame) -> Option<&'a State>
     ensures { option_copied result ≡ option_and_then (λ d. state_at frame.now.level.path frame.now.state d)
         (get (slice_cmp nat_cmp) machines.now frame.now.level.machine) }
 {
     match machines.get(&frame.level.machine) {
-        Some(shared) => shared
-            .machine()
-            .state_at(&frame.level.path, &frame.state),
+        Some(shared) => shared.machine().state_at(&frame.level.path, &frame.state),
         None => None,
     }
 }
@@ -111,10 +106,7 @@ pub fn is_full_for_define(entries: usize, steps: usize) -> bool
 }
 
 /// Makes room for one more step, for its entry, and for the entries of its undoing and of all others'.
-pub fn reserve_step(
-    log: &mut Vec<Entry>,
-    records: &mut Vec<StepRecord>,
-) -> Result<(), AllocError>
+pub fn reserve_step(log: &mut Vec<Entry>, records: &mut Vec<StepRecord>) -> Result<(), AllocError>
     requires { vec_len records.old < 2 ^ 32 }
     ensures log { log.new.items ≡ log.old.items }
     ensures records { records.new.items ≡ records.old.items }

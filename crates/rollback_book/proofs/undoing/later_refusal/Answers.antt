@@ -12,12 +12,12 @@ use Rattle.rollback_book.proofs.undoing.later_refusal.Goals as goal
 pub returns-in-Some : goal.returns-in-Some
 returns-in-Some c =
     let found : find (depends_directly c.args.fact.now) (facts c.args.later.now) ≡ Some c.in-Some.dependent.now.fact =
-      find-facts (depends_directly c.args.fact.now) c.args.later.now ∙ ap (option_map (λ (r : StepRecord). r.fact)) (sym c.in-Some.ensures) in
+    find-facts (depends_directly c.args.fact.now) c.args.later.now ∙ ap (option_map (λ (r : StepRecord). r.fact)) (sym c.in-Some.ensures) in
     rw found (ap (λ (n : StepName). Err (HasDependents n)) (sym c.step.ensures))
 
 pub returns-in-None : goal.returns-in-None
 returns-in-None c =
     let none_found : find (depends_directly c.args.fact.now) (facts c.args.later.now) ≡ None =
-      find-facts (depends_directly c.args.fact.now) c.args.later.now ∙ ap (option_map (λ (r : StepRecord). r.fact)) (sym c.in-None.ensures) in
+    find-facts (depends_directly c.args.fact.now) c.args.later.now ∙ ap (option_map (λ (r : StepRecord). r.fact)) (sym c.in-None.ensures) in
     rw none_found (last_answered c.args.step.now c.args.later.now _ c.index-later-later.result (omega arith) (slice_get_read c.args.later.now _ _ c.index-later-later.result refl (omega arith) c.index-later-later.is)
-      ∙ ap (λ (n : StepName). Err (NotLast n)) (sym c.step-in-None.ensures))
+    ∙ ap (λ (n : StepName). Err (NotLast n)) (sym c.step-in-None.ensures))

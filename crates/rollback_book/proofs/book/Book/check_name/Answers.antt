@@ -7,11 +7,12 @@ use Rattle.rollback_book.proofs.Tied.{machine_is}
 use Rattle.rollback_book.proofs.book.Book.check_name.Goals as goal
 
 pub returns-then-contains_key-clause-taken : goal.returns-then-contains_key-clause-taken
-returns-then-contains_key-clause-taken c =
-    (refl,
-      ap (λ (s : Story). is_some (machine_of c.args.name.now s.log)) (sym c.self.view_is)
+returns-then-contains_key-clause-taken c = (
+  refl,
+  ap (λ (s : Story). is_some (machine_of c.args.name.now s.log)) (sym c.self.view_is)
       ∙ ap (λ (o : Option Definition). is_some o) (machine_is _ _ _ _ _ c.self.invariant c.args.name.now)
-      ∙ sym c.contains_key.ensures ∙ c.if-contains_key.true)
+      ∙ sym c.contains_key.ensures ∙ c.if-contains_key.true,
+)
 
 pub returns-clause-free : goal.returns-clause-free
 returns-clause-free c =

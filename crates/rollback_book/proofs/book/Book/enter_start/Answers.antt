@@ -19,15 +19,15 @@ invariant_of-self-2 c =
     let b = c.self.inside.begin in
     let world = held-set c.self.inside.machines c.self.inside.frames c.insert_frame.new.frames c.args.made.thread (Some c.args.made.frame) c.in_ok-insert_frame.ensures.ok in
     let log_is : c.push_with_room-2.new.list.items ≡ c.self.inside.log.items ++ c.args.made.entry ∷ [] =
-      c.push_with_room-2.ensures.items ∙ ap (λ (es : List Entry). es ++ c.args.made.entry ∷ []) c.reserve_step.ensures.log in
+    c.push_with_room-2.ensures.items ∙ ap (λ (es : List Entry). es ++ c.args.made.entry ∷ []) c.reserve_step.ensures.log in
     let records_are : c.push_with_room.new.list.items ≡ c.self.inside.records.items ++ c.args.made.kept ∷ [] =
-      c.push_with_room.ensures.items ∙ ap (λ (rs : List StepRecord). rs ++ c.args.made.kept ∷ []) c.reserve_step.ensures.records in
+    c.push_with_room.ensures.items ∙ ap (λ (rs : List StepRecord). rs ++ c.args.made.kept ∷ []) c.reserve_step.ensures.records in
     let accepted : IsStartOf c.self.inside.log.items c.args.made.thread c.args.made.frame c.args.made.kept c.args.made.entry =
-      subst (λ (s : Story). IsStartOf s.log c.args.made.thread c.args.made.frame c.args.made.kept c.args.made.entry) (sym c.self.view_is) c.requires.accepted in
+    subst (λ (s : Story). IsStartOf s.log c.args.made.thread c.args.made.frame c.args.made.kept c.args.made.entry) (sym c.self.view_is) c.requires.accepted in
     let grown : length c.self.inside.log.items + length c.self.inside.records.items + 2 ≤ vec_capacity c.push_with_room-2.new.list =
-      let logs = ap length c.reserve_step.ensures.log in
-      let records = ap length c.reserve_step.ensures.records in
-      let room = c.in_ok-reserve_step.ensures.log_room in
-      let kept = c.push_with_room-2.ensures.kept in
-      omega (arith, logs, records, room, kept, c.reserve_step.new.log.ok.0, c.reserve_step.new.records.ok.0) in
+    let logs = ap length c.reserve_step.ensures.log in
+    let records = ap length c.reserve_step.ensures.records in
+    let room = c.in_ok-reserve_step.ensures.log_room in
+    let kept = c.push_with_room-2.ensures.kept in
+    omega (arith, logs, records, room, kept, c.reserve_step.new.log.ok.0, c.reserve_step.new.records.ok.0) in
     rw (log_is, records_are, world) (tied_start b _ _ _ _ _ c.args.made.thread c.args.made.frame c.args.made.kept c.args.made.entry c.self.invariant accepted grown)

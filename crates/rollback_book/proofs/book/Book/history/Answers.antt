@@ -20,4 +20,4 @@ returns-clause-saved c =
     ap (λ (s : Story). run_saving (base_of s.log) (remaining s.log)) (sym c.self.view_is)
     ∙ c.self.invariant.runs
     ∙ ap₂ (λ (w : World) (rs : List StepRecord). let p : World × List StepRecord = (w, rs) in Some p)
-        (sym (world_is _ _ _ _ _ c.self.invariant) ∙ ap (λ (s : Story). world_of s.log) c.self.view_is) (sym c.as_slice.ensures.value)
+    (sym (world_is _ _ _ _ _ c.self.invariant) ∙ ap (λ (s : Story). world_of s.log) c.self.view_is) (sym c.as_slice.ensures.value)

@@ -10,7 +10,8 @@ returns-in-Some c =
     ∙ ap (λ (w : World). w.frames c.args.thread.now) (world_is _ _ _ _ _ c.self.invariant) ∙ sym c.in-Some.ensures.value
 
 pub returns-in-None : goal.returns-in-None
-returns-in-None c =
-    (refl,
-      ap (λ (s : Story). (world_of s.log).frames c.args.thread.now) (sym c.self.view_is)
-      ∙ ap (λ (w : World). w.frames c.args.thread.now) (world_is _ _ _ _ _ c.self.invariant) ∙ sym c.in-None.ensures.value)
+returns-in-None c = (
+  refl,
+  ap (λ (s : Story). (world_of s.log).frames c.args.thread.now) (sym c.self.view_is)
+      ∙ ap (λ (w : World). w.frames c.args.thread.now) (world_is _ _ _ _ _ c.self.invariant) ∙ sym c.in-None.ensures.value,
+)

@@ -21,14 +21,14 @@ pub restore-requires : goal.restore-requires
 restore-requires c =
     let ok = ap (λ (s : Story). undo_answer s.log c.args.step) c.self.view_is ∙ c.requires in
     let all : c.self.inside.records.items ≡ c.pop.new.self.items ++ c.unwrap-fact.result ∷ [] =
-      c.pop.ensures.items ∙ ap (λ (o : Option StepRecord). c.pop.new.self.items ++ option_to_list o) c.unwrap-fact.ensures in
+    c.pop.ensures.items ∙ ap (λ (o : Option StepRecord). c.pop.new.self.items ++ option_to_list o) c.unwrap-fact.ensures in
     (taken_back c.self.inside.begin _ _ _ _ _ c.args.step (subst (λ (rs : List StepRecord). IsTied c.self.inside.begin c.self.inside.log.items (held c.self.inside.machines c.self.inside.frames) rs (vec_capacity c.self.inside.log)) all c.self.invariant) ok).there
 
 pub invariant_of-self : goal.invariant_of-self
 invariant_of-self c =
     let ok = ap (λ (s : Story). undo_answer s.log c.args.step) c.self.view_is ∙ c.requires in
     let all : c.self.inside.records.items ≡ c.pop.new.self.items ++ c.unwrap-fact.result ∷ [] =
-      c.pop.ensures.items ∙ ap (λ (o : Option StepRecord). c.pop.new.self.items ++ option_to_list o) c.unwrap-fact.ensures in
+    c.pop.ensures.items ∙ ap (λ (o : Option StepRecord). c.pop.new.self.items ++ option_to_list o) c.unwrap-fact.ensures in
     let back = taken_back c.self.inside.begin _ _ _ _ _ c.args.step (subst (λ (rs : List StepRecord). IsTied c.self.inside.begin c.self.inside.log.items (held c.self.inside.machines c.self.inside.frames) rs (vec_capacity c.self.inside.log)) all c.self.invariant) ok in
     let world = held-set c.self.inside.machines c.self.inside.frames c.restore.new.frames c.args.step.thread (frame_of c.unwrap-fact.result.saved) c.restore.ensures in
     let grown = tied_room c.self.inside.begin _ _ _ _ (vec_capacity c.push_with_room.new.list) back.tied c.push_with_room.ensures.kept in
@@ -38,5 +38,5 @@ pub returns-clause-name : goal.returns-clause-name
 returns-clause-name c =
     let ok = ap (λ (s : Story). undo_answer s.log c.args.step) c.self.view_is ∙ c.requires in
     let all : c.self.inside.records.items ≡ c.pop.new.self.items ++ c.unwrap-fact.result ∷ [] =
-      c.pop.ensures.items ∙ ap (λ (o : Option StepRecord). c.pop.new.self.items ++ option_to_list o) c.unwrap-fact.ensures in
+    c.pop.ensures.items ∙ ap (λ (o : Option StepRecord). c.pop.new.self.items ++ option_to_list o) c.unwrap-fact.ensures in
     undo_is_last c.self.inside.begin _ _ _ _ _ c.args.step (subst (λ (rs : List StepRecord). IsTied c.self.inside.begin c.self.inside.log.items (held c.self.inside.machines c.self.inside.frames) rs (vec_capacity c.self.inside.log)) all c.self.invariant) ok
