@@ -7,45 +7,45 @@ use step_names::{LONGEST_STEP, StepName};
 
 /// A reply that is being written. It keeps the room of the longest one so far.
 #[derive(Drop)]
-pub struct Reply {
+pub(crate) struct Reply {
     text: String,
 }
 
 impl Reply {
     /// No text. Takes no memory.
-    pub fn new(alloc: Global) -> Reply {
+    pub(crate) fn new(alloc: Global) -> Reply {
         Reply {
             text: String::new(alloc),
         }
     }
 
-    pub fn clear(&mut self) {
+    pub(crate) fn clear(&mut self) {
         self.text.clear();
     }
 
     /// Makes room for any reply that names one step, beforehand.
-    pub fn reserve_step(&mut self) -> Result<(), AllocError> {
+    pub(crate) fn reserve_step(&mut self) -> Result<(), AllocError> {
         self.text.reserve(LONGEST_STEP + 32)
     }
 
-    pub fn as_bytes(&self) -> &[u8] {
+    pub(crate) fn as_bytes(&self) -> &[u8] {
         self.text.as_bytes()
     }
 
     /// `ok`.
-    pub fn accept(&mut self) -> Result<(), AllocError> {
+    pub(crate) fn accept(&mut self) -> Result<(), AllocError> {
         self.text.push_str("ok\n")
     }
 
     /// `ok` and a step.
-    pub fn accept_step(&mut self, step: &StepName) -> Result<(), AllocError> {
+    pub(crate) fn accept_step(&mut self, step: &StepName) -> Result<(), AllocError> {
         self.text.push_str("ok ")?;
         self.step(step)?;
         self.end()
     }
 
     /// `ok`, a step and its kind.
-    pub fn accept_kind(&mut self, step: &StepName, kind: Kind) -> Result<(), AllocError> {
+    pub(crate) fn accept_kind(&mut self, step: &StepName, kind: Kind) -> Result<(), AllocError> {
         self.text.push_str("ok ")?;
         self.step(step)?;
         self.text.push_str(kind_word(kind))?;
@@ -53,7 +53,7 @@ impl Reply {
     }
 
     /// `ok`, the number of steps, and a line for each.
-    pub fn accept_steps(&mut self, records: &[StepRecord]) -> Result<(), AllocError> {
+    pub(crate) fn accept_steps(&mut self, records: &[StepRecord]) -> Result<(), AllocError> {
         self.text.push_str("ok ")?;
         self.number(records.len() as u64)?;
         self.end()?;
@@ -65,7 +65,7 @@ impl Reply {
     }
 
     /// `ok`, the number of items, and a line for each.
-    pub fn accept_items(&mut self, alloc: Global, items: &[Json]) -> Result<(), AllocError> {
+    pub(crate) fn accept_items(&mut self, alloc: Global, items: &[Json]) -> Result<(), AllocError> {
         self.text.push_str("ok ")?;
         self.number(items.len() as u64)?;
         self.end()?;
@@ -77,7 +77,7 @@ impl Reply {
     }
 
     /// `ok` and a thread's frame.
-    pub fn accept_frame(&mut self, alloc: Global, frame: &Frame) -> Result<(), AllocError> {
+    pub(crate) fn accept_frame(&mut self, alloc: Global, frame: &Frame) -> Result<(), AllocError> {
         match &frame.phase {
             Phase::Ready => {
                 self.text.push_str("ok ready ")?;
@@ -102,14 +102,14 @@ impl Reply {
     }
 
     /// `no` and a code.
-    pub fn refuse(&mut self, code: u32) -> Result<(), AllocError> {
+    pub(crate) fn refuse(&mut self, code: u32) -> Result<(), AllocError> {
         self.text.push_str("no ")?;
         self.number(u64::from(code))?;
         self.end()
     }
 
     /// `no`, a code and a number.
-    pub fn refuse_by(&mut self, code: u32, number: u32) -> Result<(), AllocError> {
+    pub(crate) fn refuse_by(&mut self, code: u32, number: u32) -> Result<(), AllocError> {
         self.text.push_str("no ")?;
         self.number(u64::from(code))?;
         self.text.push_str(" ")?;
@@ -118,7 +118,11 @@ impl Reply {
     }
 
     /// `no` and the refusal of a book.
-    pub fn refuse_command(&mut self, alloc: Global, refusal: Refusal) -> Result<(), AllocError> {
+    pub(crate) fn refuse_command(
+        &mut self,
+        alloc: Global,
+        refusal: Refusal,
+    ) -> Result<(), AllocError> {
         match refusal {
             Refusal::NoMachine => self.refuse(1),
             Refusal::MachineTaken => self.refuse(2),

@@ -4,7 +4,7 @@ ghost use Rattle.std.specs.List.{list_all};
 ghost use Rattle.step_names.specs.Thread.{is_name, is_name_byte};
 
 /// NAME: 1 to 64 ASCII letters, digits, `_` and `-`.
-pub fn is_name(word: &str) -> bool
+pub(crate) fn is_name(word: &str) -> bool
     ensures { result ≡ is_name word.now }
 {
     let bytes = word.as_bytes();
@@ -18,7 +18,7 @@ fn all_name_bytes(bytes: &[u8]) -> bool
 }
 
 /// NAME2: 1 to 255 of these and `.`.
-pub fn is_table_name(word: &str) -> bool {
+pub(crate) fn is_table_name(word: &str) -> bool {
     let bytes = word.as_bytes();
     !bytes.is_empty() && bytes.len() <= 255 && bytes.iter().all(|b| is_name_byte(*b) || *b == b'.')
 }
@@ -30,12 +30,12 @@ fn is_name_byte(byte: u8) -> bool
 }
 
 /// The first word, and what comes after the space behind it.
-pub fn cut(text: &str) -> Option<(&str, &str)> {
+pub(crate) fn cut(text: &str) -> Option<(&str, &str)> {
     text.split_once(' ')
 }
 
 /// The first word, and what comes after the space behind it, if there is one.
-pub fn first_word(text: &str) -> (&str, Option<&str>) {
+pub(crate) fn first_word(text: &str) -> (&str, Option<&str>) {
     match text.split_once(' ') {
         Some((word, rest)) => (word, Some(rest)),
         None => (text, None),
@@ -44,7 +44,7 @@ pub fn first_word(text: &str) -> (&str, Option<&str>) {
 
 /// A key's name and type, where a word has the form K:TYPE. K is one or more characters but `:` and doesn't begin with
 /// `[`, TYPE is `S` or `N`.
-pub fn key_parts(word: &str) -> Option<(&str, &str)> {
+pub(crate) fn key_parts(word: &str) -> Option<(&str, &str)> {
     let (name, kind) = word.split_once(':')?;
     let is_key = !name.is_empty() && !name.starts_with('[') && (kind == "S" || kind == "N");
     if is_key { Some((name, kind)) } else { None }
