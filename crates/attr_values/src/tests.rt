@@ -101,6 +101,11 @@ fn reads_and_writes_numbers(rt: HostRuntime) -> Result<(), Fail> {
             "at {input}"
         );
     }
+    Ok(())
+}
+
+#[test]
+fn refuses_other_numbers(rt: HostRuntime) {
     for input in [
         "",
         "-",
@@ -128,6 +133,11 @@ fn reads_and_writes_numbers(rt: HostRuntime) -> Result<(), Fail> {
             "at {input}"
         );
     }
+}
+
+#[test]
+fn keeps_the_bounds_of_numbers(rt: HostRuntime) -> Result<(), Fail> {
+    let alloc = rt.alloc();
     let most = zeros(alloc, "1", 37, "")?;
     assert_eq!(rt;
         number(most.as_str())?.write_text(alloc)?.as_str(),
