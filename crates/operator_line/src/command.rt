@@ -1,11 +1,11 @@
 // The commands, read from lines.
 ghost use Rattle.std.specs.Prelude.{◌≡◌, [], List, ℕ};
 
-use crate::words::{cut, first_word, is_name, is_table_name, key_parts};
+use crate::words::{cut, first_word, is_table_name, key_parts};
 use json_tree::Text;
 use rollback_book::{KeyAttribute, KeySchema, KeyType};
 use std::alloc::{AllocError, AllocFailed, Global};
-use step_names::{NameFault, StepName, ThreadName};
+use step_names::{NameFault, StepName, ThreadName, is_name};
 
 /// Why a line is no command.
 #[derive(Clone, Copy, Debug, PartialEq, Eq)]

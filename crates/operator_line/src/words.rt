@@ -1,32 +1,10 @@
 // The words of a line.
-ghost use Rattle.std.specs.Prelude.{◌≡◌};
-ghost use Rattle.std.specs.List.{list_all};
-ghost use Rattle.step_names.specs.Thread.{is_name, is_name_byte};
-
-/// NAME: 1 to 64 ASCII letters, digits, `_` and `-`.
-pub(crate) fn is_name(word: &str) -> bool
-    ensures { result ≡ is_name word.now }
-{
-    let bytes = word.as_bytes();
-    !bytes.is_empty() && bytes.len() <= 64 && all_name_bytes(bytes)
-}
-
-fn all_name_bytes(bytes: &[u8]) -> bool
-    ensures { result ≡ list_all is_name_byte bytes.now }
-{
-    bytes.iter().all(|b| is_name_byte(*b))
-}
+use step_names::is_name_byte;
 
 /// NAME2: 1 to 255 of these and `.`.
 pub(crate) fn is_table_name(word: &str) -> bool {
     let bytes = word.as_bytes();
     !bytes.is_empty() && bytes.len() <= 255 && bytes.iter().all(|b| is_name_byte(*b) || *b == b'.')
-}
-
-fn is_name_byte(byte: u8) -> bool
-    ensures { result ≡ is_name_byte byte }
-{
-    byte.is_ascii_alphanumeric() || byte == b'_' || byte == b'-'
 }
 
 /// The first word, and what comes after the space behind it.

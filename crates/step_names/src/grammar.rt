@@ -8,7 +8,7 @@ ghost use Rattle.step_names.specs.Grammar.{read_number, read_branch, read_path, 
 use crate::path_buffer::PathBuffer;
 use crate::thread::LONGEST_EXEC;
 
-/// Whether the text names an execution.
+/// Whether the text is a NAME: 1 to 64 ASCII letters, digits, `_` and `-`. Takes time linear in it.
 pub fn is_name(text: &str) -> bool
     ensures { result ≡ is_name text.now }
 {
@@ -22,7 +22,8 @@ fn all_name_bytes(bytes: &[u8]) -> bool
     bytes.iter().all(|c| is_name_byte(*c))
 }
 
-fn is_name_byte(c: u8) -> bool
+/// Whether a NAME may have the byte: an ASCII letter or digit, `_` or `-`.
+pub fn is_name_byte(c: u8) -> bool
     ensures { result ≡ is_name_byte c }
 {
     c.is_ascii_alphanumeric() || c == b'_' || c == b'-'
