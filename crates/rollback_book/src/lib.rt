@@ -24,3 +24,4 @@ pub use log::{Begin, Entry, KeyAttribute, KeySchema, KeyType};
 pub use refusal::{BeginFault, Refusal};
 pub use room::Room;
 pub use step::{Access, AccessMode, Fact, Kind, Moved, Readiness, Saved, StepRecord};
+pub use turn::{after_state, first_frame};
