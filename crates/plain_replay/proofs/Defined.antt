@@ -1,5 +1,5 @@
 -- The machines of a log, entry by entry.
-use Rattle.std.proofs.Common.{◌≡◌, ℕ, true, false, cond, List, [], ◌∷◌, Option, None, Some, refl}
+use Rattle.std.proofs.Common.{◌≡◌, ℕ, true, false, cond, List, [], ◌∷◌, None, Some, refl}
 use Rattle.asl_machine.specs.Definition.{Definition}
 use Rattle.rollback_book.specs.Story.{machine_of, is_same_name}
 use Rattle.rollback_book.specs.declared.log.Entry.{Entry}

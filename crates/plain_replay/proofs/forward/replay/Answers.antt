@@ -1,4 +1,4 @@
-use Rattle.std.proofs.Common.{◌≡◌, ◌∙◌, ap, sym, map, List, Option, None}
+use Rattle.std.proofs.Common.{◌∙◌, ap, sym, map, None}
 use Rattle.std.specs.Prelude.{option_map}
 use Rattle.std.specs.BTreeMap.{BTreeMap, get}
 use Rattle.step_names.specs.Thread.{Thread}
@@ -7,7 +7,6 @@ use Rattle.rollback_book.specs.declared.frame.Frame.{Frame}
 use Rattle.plain_replay.specs.Steps.{step_of}
 use Rattle.plain_replay.specs.Worlds.{world_at}
 use Rattle.plain_replay.specs.declared.forward.Replayed.{Replayed}
-use Rattle.plain_replay.specs.declared.step.Step.{Step}
 use Rattle.plain_replay.proofs.Runs.{run-log, legal_given}
 use Rattle.plain_replay.proofs.forward.replay.Goals as goal
 

@@ -1,6 +1,5 @@
-use Rattle.std.proofs.Common.{◌≡◌, ◌∙◌, ap, sym, Bool, true, false, cond, Option, Some, None, List, [], ◌∷◌}
+use Rattle.std.proofs.Common.{◌≡◌, ◌∙◌, ap, sym, Bool, true, false, cond, Some, None, [], ◌∷◌}
 use Rattle.std.specs.Cmp.Lexicographic.{texts_ties}
-use Rattle.asl_machine.specs.Definition.{Definition}
 use Rattle.rollback_book.specs.Story.{machine_of, is_same_name}
 use Rattle.rollback_book.specs.declared.log.Entry.{Entry}
 use Rattle.plain_replay.proofs.machines.defined.Goals as goal

@@ -1,4 +1,4 @@
-use Rattle.std.proofs.Common.{◌≡◌, ◌∙◌, ◌+◌, ap, sym, drop}
+use Rattle.std.proofs.Common.{◌∙◌, ◌+◌, ap, sym, drop}
 use Rattle.rollback_book.specs.Story.{machine_of}
 use Rattle.plain_replay.proofs.Lists.{from_here}
 use Rattle.plain_replay.proofs.Defined.{defined_first, defined_later}
