@@ -6,3 +6,4 @@ pub mod Tied
 pub mod Entering
 pub mod Defining
 pub mod Undone
+pub mod Ready

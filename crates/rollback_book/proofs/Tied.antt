@@ -25,7 +25,7 @@ use Rattle.rollback_book.proofs.Good.{IsGood, good_from_base}
 use Rattle.rollback_book.proofs.Searching.{facts}
 
 -- a step leaves the machines as they are
-take-machines : (w : World) (s : Step) (v : World) (f : Fact) → take_step w s ≡ Some (v, f) → v.machines ≡ w.machines
+pub take-machines : (w : World) (s : Step) (v : World) (f : Fact) → take_step w s ≡ Some (v, f) → v.machines ≡ w.machines
 take-machines w (started exec machine input) v f h = ap (λ (x : World). x.machines) (start_is w exec machine input v f h).world
 take-machines w (moved name) v f h = ap (λ (x : World). x.machines) (move_is w name v f h).world
 

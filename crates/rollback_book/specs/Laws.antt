@@ -1,19 +1,23 @@
 -- Laws over the definitions, each the contract of a function of the crate.
-use Rattle.std.specs.Prelude.{◌≡◌, ℕ, List, [], ◌∷◌, ◌++◌, map, length, slice_get, false, Some, Ok}
+use Rattle.std.specs.Prelude.{◌≡◌, ℕ, List, [], ◌∷◌, ◌++◌, map, length, slice_get, false, Some, Ok, Err, IsSome}
 use Rattle.json_tree.specs.declared.tree.Json.{Json}
 use Rattle.step_names.specs.Thread.{Thread}
 use Rattle.step_names.specs.declared.step.StepName.{StepName}
 use Rattle.rollback_book.specs.Names.{Step, started, moved, name_of, start_name}
 use Rattle.rollback_book.specs.World.{World}
-use Rattle.rollback_book.specs.Move.{run}
+use Rattle.rollback_book.specs.Move.{run, move}
 use Rattle.rollback_book.specs.Story.{remaining, base_of, world_of}
 use Rattle.rollback_book.specs.Answers.{start_answer, step_answer, undo_answer, is_full_for_step}
 use Rattle.rollback_book.specs.Legal.{IsAccepted, IsLegal}
 use Rattle.rollback_book.specs.Saving.{run_saving, saved_frame}
+use Rattle.rollback_book.specs.declared.frame.Frame.{Frame}
+use Rattle.rollback_book.specs.declared.frame.Phase.TheVariants.{Ready}
 use Rattle.rollback_book.specs.declared.log.Entry.{Entry}
 use Rattle.rollback_book.specs.declared.log.Entry.TheVariants.{Start, Step as Stepped, Undo}
+use Rattle.rollback_book.specs.declared.refusal.Refusal.TheVariants.{NotReady}
 use Rattle.rollback_book.specs.declared.step.Fact.{Fact}
 use Rattle.rollback_book.specs.declared.step.Kind.TheVariants.{Plain}
+use Rattle.rollback_book.specs.declared.step.Readiness.TheVariants as readiness
 use Rattle.rollback_book.specs.declared.step.StepRecord.{StepRecord}
 
 -- ---- what is saved
@@ -80,3 +84,14 @@ pub record IsGivenBack (log : List Entry) (name : StepName) : Type 0 where
 
 abbrev pub AgainGivesBack : Type 0
 AgainGivesBack = (log : List Entry) (name : StepName) → IsLegal log → undo_answer log name ≡ Ok name → IsGivenBack log name
+
+-- ---- what can move
+
+-- a ready thread of a legal log has a move, since its machine has the state before which it stands
+abbrev pub ReadyThreadsMove : Type 0
+ReadyThreadsMove = (log : List Entry) (t : Thread) (f : Frame) → IsLegal log → (world_of log).frames t ≡ Some f → f.phase ≡ Ready
+    → IsSome (move (world_of log) t)
+
+-- so no step is refused for a thread that is ready
+abbrev pub ReadyThreadsAreNotRefused : Type 0
+ReadyThreadsAreNotRefused = (log : List Entry) (t : Thread) → IsLegal log → step_answer log t ≡ Err (NotReady readiness.Ready) → ⊥

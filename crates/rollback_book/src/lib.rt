@@ -19,7 +19,7 @@ mod undoing;
 pub use book::Book;
 pub use depend::depends;
 pub use frame::{Fault, Frame, Origin, Phase, Retries};
-pub use laws::{records_are_of_the_run, undoing_is_exact};
+pub use laws::{ready_threads_move, records_are_of_the_run, undoing_is_exact};
 pub use log::{Begin, Entry, KeyAttribute, KeySchema, KeyType};
 pub use refusal::{BeginFault, Refusal};
 pub use room::Room;
