@@ -54,9 +54,19 @@ pub fn run(
         let Some(frame) = frame_after(alloc, log, &frames, step)? else {
             return Ok(None);
         };
-        set_frame(&mut frames, step.thread(), frame)?;
+        set_frame(&mut frames, thread_of(step), frame)?;
     }
     Ok(Some(frames))
+}
+
+/// The thread that moves, or the execution that starts.
+fn thread_of(step: &Step) -> &ThreadName
+    ensures { result.now ≡ (name_of (step_of step.now)).thread }
+{
+    match step {
+        Step::Started { exec, .. } => exec,
+        Step::Moved(name) => &name.thread,
+    }
 }
 
 /// Gives a frame to a thread.

@@ -18,16 +18,6 @@ pub enum Step {
 }
 
 impl Step {
-    /// The thread that moves, or the execution that starts. Takes no memory.
-    pub fn thread(&self) -> &ThreadName
-        ensures { result.now ≡ (name_of (step_of self.now)).thread }
-    {
-        match self {
-            Step::Started { exec, .. } => exec,
-            Step::Moved(name) => &name.thread,
-        }
-    }
-
     /// Whether it is the step of this name. Takes no memory.
     pub fn is_named(&self, name: &StepName) -> bool
         ensures { result ≡ is_same_step name.now (name_of (step_of self.now)) }

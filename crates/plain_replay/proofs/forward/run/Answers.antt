@@ -25,7 +25,7 @@ loop-step-preserved c =
     c.in_ok-frame.ensures ∙ ap (option_map (λ (f : Frame). set_frame w (name_of s).thread (Some f))) c.in-Some.is in
     let new : world_at log c.set_frame.new.frames ≡ v =
     ap (λ (fs : Thread → Option Frame). let u : World = record { machines = w.machines; frames = fs; table = w.table } in u)
-    (c.in_ok-set_frame.ensures ∙ ap (λ (t : Thread). with_frame (get thread_cmp c.loop-step.frames) t (Some c.in-Some.frame)) c.thread.ensures) in
+    (c.in_ok-set_frame.ensures ∙ ap (λ (t : Thread). with_frame (get thread_cmp c.loop-step.frames) t (Some c.in-Some.frame)) c.thread_of.ensures) in
     let here = from_here c.args.steps.now c.loop-step.step-index c.step-item.result c.loop-step-test.true c.step-item.is in
     ap (λ (u : World). worlds (run u rest)) new
     ∙ sym (run-first w s rest (Some v) taken)
