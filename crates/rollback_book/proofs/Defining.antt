@@ -1,5 +1,5 @@
 -- A machine more: what ran before runs as it did.
-use Rattle.std.proofs.Common.{◌≡◌, ℕ, ◌+◌, ◌≤◌, ◌<◌, Bool, true, false, cond, List, [], ◌∷◌, ◌++◌, length, refl, ap, ap₂, sym, subst, ◌∙◌, Option, None, Some, arith, length-append}
+use Rattle.std.proofs.Common.{◌≡◌, ℕ, ◌+◌, ◌≤◌, true, false, cond, List, [], ◌∷◌, ◌++◌, length, refl, ap, ap₂, sym, subst, ◌∙◌, Option, None, Some, arith, length-append}
 use Rattle.std.proofs.Math.Path.{fun_ext}
 use Rattle.std.proofs.lemmas.Bool.{leb-false}
 use Rattle.std.proofs.lemmas.Map.Lookups.{exact_bytes}
@@ -9,20 +9,19 @@ use Rattle.std.specs.Cmp.Lexicographic.{slice_cmp}
 use Rattle.std.specs.BTreeMap.{BTreeMap, get, is_at}
 use Rattle.std.specs.Map.{lookup}
 use Rattle.rollback_book.specs.Legal.{IsLegal}
-use Rattle.std.specs.Prelude.{option_map, option_and_then, nat_le}
+use Rattle.std.specs.Prelude.{option_and_then}
 use Rattle.step_names.specs.Thread.{Thread}
 use Rattle.step_names.specs.Order.{thread_cmp}
 use Rattle.step_names.specs.declared.step.StepName.{StepName}
-use Rattle.json_tree.specs.declared.tree.Json.{Json}
 use Rattle.asl_machine.specs.Definition.{Definition, IsComplete}
 use Rattle.asl_machine.specs.Find.{state_at}
 use Rattle.asl_machine.specs.declared.state.State.{State}
 use Rattle.rollback_book.specs.Names.{Step, started, moved}
-use Rattle.rollback_book.specs.World.{World, set_frame}
-use Rattle.rollback_book.specs.Move.{ready_state, next_step, first_frame, after_state, take_step}
-use Rattle.rollback_book.specs.Story.{remaining, steps_after, machine_of, is_same_name, base_of}
+use Rattle.rollback_book.specs.World.{World}
+use Rattle.rollback_book.specs.Move.{ready_state, next_step, take_step}
+use Rattle.rollback_book.specs.Story.{remaining, machine_of, is_same_name, base_of}
 use Rattle.rollback_book.specs.Answers.{is_full_for_define}
-use Rattle.rollback_book.specs.Saving.{held, run_saving, record_of, IsTied}
+use Rattle.rollback_book.specs.Saving.{held, run_saving, IsTied}
 use Rattle.rollback_book.specs.declared.frame.Frame.{Frame}
 use Rattle.rollback_book.specs.declared.frame.Phase.{Phase}
 use Rattle.rollback_book.specs.declared.frame.Phase.TheVariants.{Ready, Parked, Done, Failed}
@@ -30,7 +29,7 @@ use Rattle.rollback_book.specs.declared.log.Begin.{Begin}
 use Rattle.rollback_book.specs.declared.log.Entry.{Entry}
 use Rattle.rollback_book.specs.declared.log.Entry.TheVariants.{Define, Start as StartEntry, Step as StepEntry, Undo}
 use Rattle.rollback_book.specs.declared.step.Fact.{Fact}
-use Rattle.rollback_book.specs.declared.step.Kind.TheVariants.{Start, Plain}
+use Rattle.rollback_book.specs.declared.step.Kind.TheVariants.{Plain}
 use Rattle.rollback_book.specs.declared.step.StepRecord.{StepRecord}
 use Rattle.rollback_book.proofs.Runs.{Runs, to_run, start_is, move_is, and_then_some}
 use Rattle.rollback_book.proofs.Tied.{define_full_is, machine_is, runs}

@@ -1,12 +1,12 @@
 -- What each kind of entry makes of a book that belongs to its log.
-use Rattle.std.proofs.Common.{◌≡◌, ℕ, zero, suc, ◌+◌, ◌-◌, ◌≤◌, ◌<◌, ◌==◌, Bool, true, false, ◌||◌, cond, List, [], ◌∷◌, ◌++◌, length, map, fold, refl, ap, ap₂, sym, subst, ◌∙◌, Option, None, Some, Ok, Err, arith, append_assoc, length-append}
+use Rattle.std.proofs.Common.{◌≡◌, ℕ, zero, suc, ◌+◌, ◌-◌, ◌≤◌, ◌<◌, Bool, true, false, ◌||◌, cond, List, [], ◌∷◌, ◌++◌, length, map, refl, ap, ap₂, sym, subst, ◌∙◌, Option, None, Some, Ok, Err, arith, append_assoc, length-append}
 use Rattle.std.proofs.Math.Path.{fun_ext}
 use Rattle.std.proofs.lemmas.Bool.{eq-eqb, leb-false, ltb-false}
 use Rattle.std.proofs.lemmas.List.{append-nil}
 use Rattle.std.proofs.lemmas.List.Sums.{fold-append}
 use Rattle.std.proofs.lemmas.Option.{same_Some, none-some, slice_get_within}
-use Rattle.std.specs.Prelude.{is_some, IsSome, slice_get, option_map, option_and_then, nat_le, nat_lt, Result}
-use Rattle.std.specs.List.{find, AllByRecursion}
+use Rattle.std.specs.Prelude.{is_some, IsSome, slice_get, nat_le, nat_lt}
+use Rattle.std.specs.List.{AllByRecursion}
 use Rattle.std.specs.Ordering.{nat_cmp}
 use Rattle.std.specs.Cmp.Lexicographic.{slice_cmp}
 use Rattle.std.specs.BTreeMap.{BTreeMap, get}
@@ -19,28 +19,26 @@ use Rattle.asl_machine.specs.Definition.{Definition}
 use Rattle.asl_machine.specs.declared.state.State.{State}
 use Rattle.rollback_book.specs.Names.{Step, started, moved, name_of, start_name, is_same_thread, is_same_step}
 use Rattle.rollback_book.specs.World.{World, with_frame, set_frame}
-use Rattle.rollback_book.specs.Move.{ready_state, next_step, moves_to, move_frame, move, first_frame, after_state, start, if_numbered, take_step}
-use Rattle.rollback_book.specs.Story.{remaining, steps_after, machine_of, is_same_name, base_of, without, world_of, facts_of}
-use Rattle.rollback_book.specs.Answers.{is_full_for_step, is_full_for_define, start_answer, step_answer, undo_answer, found_answer, free_answer, last_answer, from_step}
+use Rattle.rollback_book.specs.Move.{ready_state, next_step, first_frame, after_state, take_step}
+use Rattle.rollback_book.specs.Story.{remaining, steps_after, machine_of, is_same_name, base_of, without, facts_of}
+use Rattle.rollback_book.specs.Answers.{is_full_for_step, undo_answer, found_answer, free_answer, last_answer, from_step}
 use Rattle.rollback_book.specs.Legal.{IsAccepted, GoesOnLegally, IsLegal}
 use Rattle.rollback_book.specs.Saving.{held, run_saving, record_of, saved_frame, frame_of, IsTied, IsStartOf, IsStepOf, is_record_of, is_last}
 use Rattle.rollback_book.specs.declared.frame.Frame.{Frame}
 use Rattle.rollback_book.specs.declared.log.Begin.{Begin}
 use Rattle.rollback_book.specs.declared.log.Entry.{Entry}
 use Rattle.rollback_book.specs.declared.log.Entry.TheVariants.{Define, Start as StartEntry, Step as StepEntry, Undo}
-use Rattle.rollback_book.specs.declared.refusal.Refusal.{Refusal}
 use Rattle.rollback_book.specs.declared.refusal.Refusal.TheVariants.{NoMachine, ExecTaken, Full}
 use Rattle.rollback_book.specs.declared.step.Fact.{Fact}
 use Rattle.rollback_book.specs.declared.step.Kind.TheVariants.{Start, Plain}
 use Rattle.rollback_book.specs.declared.step.Moved.{Moved}
-use Rattle.rollback_book.specs.declared.step.Saved.{Saved}
-use Rattle.rollback_book.specs.declared.step.Saved.TheVariants.{Started, Framed}
+use Rattle.rollback_book.specs.declared.step.Saved.TheVariants.{Framed}
 use Rattle.rollback_book.specs.declared.step.StepRecord.{StepRecord}
-use Rattle.rollback_book.proofs.Names.{step_same, step_itself}
-use Rattle.rollback_book.proofs.Runs.{Runs, Runs-more, Runs-ends, EndsBy, to_run, from_run, start_is, move_is, Runs-names, take_named, none_there}
-use Rattle.rollback_book.proofs.Good.{IsGood, IsCounted, good_from_base, new_for, without_last}
+use Rattle.rollback_book.proofs.Names.{step_same}
+use Rattle.rollback_book.proofs.Runs.{Runs-more, Runs-ends, to_run, start_is, move_is, Runs-names, take_named, none_there}
+use Rattle.rollback_book.proofs.Good.{IsCounted, good_from_base, new_for, without_last}
 use Rattle.rollback_book.proofs.Searching.{facts}
-use Rattle.rollback_book.proofs.Tied.{start_by, step_ready, full_is, define_full_is, machine_is, world_is, facts_are, many, runs, good}
+use Rattle.rollback_book.proofs.Tied.{start_by, step_ready, full_is, machine_is, world_is, facts_are, runs}
 
 -- ---- logs
 

@@ -1,8 +1,8 @@
 -- What holds in every world that a run reaches: no frame counts more moves than steps were taken, and each step that was
 -- taken is counted in its thread's frame, so that no name comes twice.
-use Rattle.std.proofs.Common.{◌≡◌, ℕ, ◌+◌, ◌≤◌, ◌<◌, ◌==◌, Bool, true, false, cond, List, [], ◌∷◌, ◌++◌, length, map, refl, ap, ap₂, sym, subst, ◌∙◌, Option, None, Some, arith, append_assoc, length-append}
+use Rattle.std.proofs.Common.{◌≡◌, ℕ, ◌+◌, ◌≤◌, Bool, true, false, cond, List, [], ◌∷◌, ◌++◌, length, refl, ap, sym, subst, ◌∙◌, None, Some, arith, append_assoc, length-append}
 use Rattle.std.proofs.lemmas.List.{append-nil}
-use Rattle.std.specs.Prelude.{filter, not}
+use Rattle.std.specs.Prelude.{not}
 use Rattle.std.specs.List.{AllByRecursion}
 use Rattle.std.proofs.lemmas.Option.{same_Some}
 use Rattle.json_tree.specs.declared.tree.Json.{Json}
@@ -13,7 +13,7 @@ use Rattle.asl_machine.specs.declared.state.State.{State}
 use Rattle.asl_machine.specs.declared.state.State.TheVariants.{Pass, Succeed}
 use Rattle.asl_machine.specs.declared.state.Transition.{Transition}
 use Rattle.asl_machine.specs.declared.state.Transition.TheVariants.{Next, End}
-use Rattle.rollback_book.specs.Names.{Step, started, moved, name_of, start_name, is_same_thread, is_same_step}
+use Rattle.rollback_book.specs.Names.{Step, started, moved, name_of, is_same_thread, is_same_step}
 use Rattle.rollback_book.specs.World.{World, set_frame}
 use Rattle.rollback_book.specs.Move.{first_frame, after_state, go_on, take_step}
 use Rattle.rollback_book.specs.Story.{base_of, without}
@@ -22,7 +22,7 @@ use Rattle.rollback_book.specs.declared.log.Entry.{Entry}
 use Rattle.rollback_book.specs.declared.step.Fact.{Fact}
 use Rattle.rollback_book.specs.declared.step.StepRecord.{StepRecord}
 use Rattle.rollback_book.proofs.Names.{step_same, step_itself}
-use Rattle.rollback_book.proofs.Runs.{start_is, move_is, Runs, EndsBy}
+use Rattle.rollback_book.proofs.Runs.{start_is, move_is, Runs}
 
 -- a step of this name was taken by a thread that is there, and is counted
 abbrev pub IsCounted : World → StepName → Type 0

@@ -1,10 +1,9 @@
 -- Each frame stands before a state that its machine has, so a ready one has a move.
-use Rattle.std.proofs.Common.{◌≡◌, ℕ, Bool, true, false, cond, List, [], ◌∷◌, ◌++◌, refl, ap, ap₂, sym, subst, ◌∙◌, Option, None, Some, Ok, Err}
+use Rattle.std.proofs.Common.{◌≡◌, ℕ, true, false, cond, List, [], ◌∷◌, ◌++◌, refl, ap, ap₂, sym, subst, ◌∙◌, Option, None, Some, Ok, Err}
 use Rattle.std.specs.Prelude.{option_map, option_and_then, IsSome, IfSome}
 use Rattle.std.proofs.lemmas.Option.{same_Some}
 use Rattle.json_tree.specs.declared.tree.Json.{Json}
 use Rattle.step_names.specs.Thread.{Thread}
-use Rattle.step_names.specs.declared.step.StepName.{StepName}
 use Rattle.asl_machine.specs.Definition.{Definition, IsComplete, LeadsInto, StaysInside, state_of}
 use Rattle.asl_machine.specs.Find.{state_at}
 use Rattle.asl_machine.specs.declared.level.LevelStep.{LevelStep}
@@ -24,7 +23,6 @@ use Rattle.rollback_book.specs.declared.frame.Phase.{Phase}
 use Rattle.rollback_book.specs.declared.frame.Phase.TheVariants.{Ready, Parked, Done, Failed}
 use Rattle.rollback_book.specs.declared.log.Entry.{Entry}
 use Rattle.rollback_book.specs.declared.log.Entry.TheVariants.{Define, Start as StartEntry, Step as StepEntry, Undo}
-use Rattle.rollback_book.specs.declared.refusal.Refusal.{Refusal}
 use Rattle.rollback_book.specs.declared.refusal.Refusal.TheVariants.{NotReady, Full}
 use Rattle.rollback_book.specs.declared.step.Fact.{Fact}
 use Rattle.rollback_book.specs.declared.step.Moved.{Moved}

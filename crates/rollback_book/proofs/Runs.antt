@@ -1,7 +1,7 @@
 -- Runs taken apart and put together, step by step.
-use Rattle.std.proofs.Common.{◌≡◌, ℕ, ◌+◌, ◌≤◌, ◌==◌, Bool, true, false, cond, List, [], ◌∷◌, ◌++◌, length, map, refl, ap, ap₂, sym, subst, ◌∙◌, Option, None, Some, arith, append_assoc}
+use Rattle.std.proofs.Common.{◌≡◌, ℕ, ◌+◌, ◌==◌, Bool, true, false, cond, List, [], ◌∷◌, ◌++◌, map, refl, ap, ap₂, sym, subst, ◌∙◌, Option, None, Some}
 use Rattle.std.specs.Prelude.{is_some, option_map, option_and_then}
-use Rattle.std.proofs.lemmas.Bool.{eqb-true, eq-eqb}
+use Rattle.std.proofs.lemmas.Bool.{eqb-true}
 use Rattle.std.proofs.lemmas.Option.{same_Some, cond_some}
 use Rattle.json_tree.specs.declared.tree.Json.{Json}
 use Rattle.step_names.specs.Thread.{Thread}
@@ -10,7 +10,7 @@ use Rattle.asl_machine.specs.Definition.{Definition}
 use Rattle.asl_machine.specs.declared.state.State.{State}
 use Rattle.rollback_book.specs.Names.{Step, started, moved, name_of, start_name}
 use Rattle.rollback_book.specs.World.{World, set_frame}
-use Rattle.rollback_book.specs.Move.{ready_state, next_step, moves_to, move_frame, move, first_frame, start, if_numbered, after_state, take_step, run}
+use Rattle.rollback_book.specs.Move.{ready_state, moves_to, move_frame, move, first_frame, if_numbered, after_state, take_step, run}
 use Rattle.rollback_book.specs.Saving.{record_of, run_saving}
 use Rattle.rollback_book.specs.declared.frame.Frame.{Frame}
 use Rattle.rollback_book.specs.declared.step.Fact.{Fact}

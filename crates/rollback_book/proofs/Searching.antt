@@ -1,5 +1,5 @@
 -- Searches through records are searches through their facts.
-use Rattle.std.proofs.Common.{◌≡◌, ℕ, ◌+◌, ◌-◌, ◌≤◌, ◌<◌, ◌==◌, take, drop, get_or, subst, Bool, true, false, cond, List, [], ◌∷◌, length, map, refl, ap, sym, ◌∙◌, Option, None, Some, Ok, Err, arith, zero, suc}
+use Rattle.std.proofs.Common.{◌≡◌, ℕ, ◌+◌, ◌-◌, ◌<◌, ◌==◌, take, drop, get_or, Bool, true, false, cond, List, [], ◌∷◌, length, map, refl, ap, sym, ◌∙◌, None, Some, Err, arith, zero, suc}
 use Rattle.std.specs.Prelude.{option_map, slice_get}
 use Rattle.std.specs.List.{find}
 use Rattle.std.proofs.Math.Seq.{drop-cons}
@@ -9,8 +9,7 @@ use Rattle.std.proofs.lemmas.Option.{slice_get_read}
 use Rattle.serde_json.specs.Data.{Data}
 use Rattle.step_names.specs.declared.step.StepName.{StepName}
 use Rattle.rollback_book.specs.Names.{is_same_step}
-use Rattle.rollback_book.specs.Answers.{last_name, last_answer, from_step, found_answer, free_answer, IsReadRefusal, IsDefineRefusal}
-use Rattle.rollback_book.specs.Dependence.{depends_directly}
+use Rattle.rollback_book.specs.Answers.{last_name, last_answer, from_step, IsReadRefusal, IsDefineRefusal}
 use Rattle.rollback_book.specs.Saving.{is_record_of, is_last}
 use Rattle.rollback_book.specs.declared.refusal.Refusal.{Refusal}
 use Rattle.rollback_book.specs.declared.log.Entry.{Entry}

@@ -1,20 +1,18 @@
 -- What a book's fields say of its log.
-use Rattle.std.proofs.Common.{◌≡◌, ℕ, ◌+◌, ◌≤◌, ◌<◌, Bool, true, false, ◌||◌, cond, List, [], ◌∷◌, ◌++◌, length, map, refl, ap, ap₂, sym, subst, ◌∙◌, Option, None, Some, Ok, Err, arith}
-use Rattle.std.specs.Prelude.{is_some, option_map, option_and_then, ◌^◌, suc, nat_le, nat_lt, unwrap_or, Result}
+use Rattle.std.proofs.Common.{◌≡◌, ℕ, ◌+◌, ◌<◌, Bool, true, false, ◌||◌, cond, List, [], ◌∷◌, length, refl, ap, ap₂, sym, ◌∙◌, Option, None, Some, Ok, Err, arith}
+use Rattle.std.specs.Prelude.{is_some, option_map, option_and_then, ◌^◌, suc, nat_le, nat_lt, unwrap_or}
 use Rattle.step_names.specs.Thread.{Thread}
-use Rattle.step_names.specs.declared.step.StepName.{StepName}
 use Rattle.asl_machine.specs.Definition.{Definition}
 use Rattle.asl_machine.specs.declared.state.State.{State}
 use Rattle.rollback_book.specs.Names.{Step, started, moved, start_name}
-use Rattle.rollback_book.specs.World.{World, set_frame}
-use Rattle.rollback_book.specs.Move.{ready_state, next_step, moves_to, move_frame, move, after_state, readiness_of, take_step, run}
+use Rattle.rollback_book.specs.World.{World}
+use Rattle.rollback_book.specs.Move.{ready_state, next_step, moves_to, move_frame, move, after_state, readiness_of, take_step}
 use Rattle.rollback_book.specs.Story.{remaining, machine_of, base_of, run_of, world_of, facts_of}
-use Rattle.rollback_book.specs.Answers.{is_full_for_step, is_full_for_define, start_answer, step_answer, thread_answer, moved_answer, undo_answer}
-use Rattle.rollback_book.specs.Saving.{run_saving, IsTied}
+use Rattle.rollback_book.specs.Answers.{is_full_for_step, is_full_for_define, start_answer, step_answer, thread_answer, moved_answer}
+use Rattle.rollback_book.specs.Saving.{IsTied}
 use Rattle.rollback_book.specs.declared.frame.Frame.{Frame}
 use Rattle.rollback_book.specs.declared.log.Begin.{Begin}
 use Rattle.rollback_book.specs.declared.log.Entry.{Entry}
-use Rattle.rollback_book.specs.declared.refusal.Refusal.{Refusal}
 use Rattle.rollback_book.specs.declared.refusal.Refusal.TheVariants.{NoMachine, ExecTaken, NoThread, NotReady, Full}
 use Rattle.rollback_book.specs.declared.step.Fact.{Fact}
 use Rattle.rollback_book.specs.declared.step.Kind.TheVariants.{Plain}

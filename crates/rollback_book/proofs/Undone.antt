@@ -1,5 +1,5 @@
 -- The laws: legal logs run, and an undoing and its step take each other back.
-use Rattle.std.proofs.Common.{◌≡◌, ℕ, ◌+◌, ◌-◌, ◌≤◌, ◌<◌, Bool, true, false, cond, List, [], ◌∷◌, ◌++◌, length, map, refl, ap, ap₂, sym, subst, ◌∙◌, Option, None, Some, Ok, Err, arith, append_assoc, length-append}
+use Rattle.std.proofs.Common.{◌≡◌, ℕ, ◌+◌, ◌-◌, ◌≤◌, Bool, true, false, cond, List, [], ◌∷◌, ◌++◌, length, map, refl, ap, ap₂, sym, subst, ◌∙◌, Option, None, Some, Ok, Err, arith, append_assoc, length-append}
 use Rattle.std.proofs.lemmas.List.{append-nil}
 use Rattle.std.proofs.lemmas.Option.{same_Some}
 use Rattle.std.specs.Prelude.{is_some, slice_get, unwrap_or, Result}
@@ -11,10 +11,10 @@ use Rattle.asl_machine.specs.declared.state.State.{State}
 use Rattle.rollback_book.specs.Names.{Step, started, moved, name_of, start_name, is_same_step}
 use Rattle.rollback_book.specs.World.{World, set_frame}
 use Rattle.rollback_book.specs.Move.{ready_state, next_step, first_frame, after_state, take_step, run}
-use Rattle.rollback_book.specs.Story.{remaining, steps_after, machine_of, base_of, without, world_of, run_of}
-use Rattle.rollback_book.specs.Answers.{is_full_for_step, start_answer, step_answer, undo_answer}
+use Rattle.rollback_book.specs.Story.{remaining, steps_after, base_of, without, world_of, run_of}
+use Rattle.rollback_book.specs.Answers.{is_full_for_step, step_answer, undo_answer}
 use Rattle.rollback_book.specs.Legal.{IsAccepted, GoesOnLegally, IsLegal}
-use Rattle.rollback_book.specs.Saving.{run_saving, record_of, saved_frame, frame_of, IsTied, IsStartOf, IsStepOf, is_record_of, is_last}
+use Rattle.rollback_book.specs.Saving.{run_saving, record_of, frame_of, IsTied, IsStartOf, IsStepOf, is_record_of, is_last}
 use Rattle.rollback_book.specs.Laws.{IsSaved, LeavesTheSame, entry_of, IsTakenAgain, IsGivenBack}
 use Rattle.rollback_book.specs.declared.frame.Frame.{Frame}
 use Rattle.rollback_book.specs.declared.log.Begin.{Begin}
@@ -29,8 +29,8 @@ use Rattle.rollback_book.specs.declared.step.Kind.TheVariants.{Start, Plain}
 use Rattle.rollback_book.specs.declared.step.Moved.{Moved}
 use Rattle.rollback_book.specs.declared.step.Saved.TheVariants.{Started, Framed}
 use Rattle.rollback_book.specs.declared.step.StepRecord.{StepRecord}
-use Rattle.rollback_book.proofs.Names.{step_same, step_itself}
-use Rattle.rollback_book.proofs.Runs.{Runs, Runs-ends, EndsBy, from_run, to_run, none_there, Runs-forgets, start_is, move_is, take_named}
+use Rattle.rollback_book.proofs.Names.{step_itself}
+use Rattle.rollback_book.proofs.Runs.{Runs, Runs-ends, from_run, to_run, none_there, Runs-forgets, start_is, move_is, take_named}
 use Rattle.rollback_book.proofs.Good.{good_from_base, without_last}
 use Rattle.rollback_book.proofs.Tied.{start_by, start_free, step_absent, step_stuck, step_full, step_free, machine_is, world_is, runs, good}
 use Rattle.rollback_book.proofs.Entering.{remaining-more, machine_of-start, machine_of-step, machine_of-undo, same_base, start_taken_by, tied_start, step_taken_by, tied_step, undo_is_last, undo_has_one, taken_back, last_is_free}

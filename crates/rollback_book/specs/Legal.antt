@@ -1,5 +1,5 @@
 -- Logs whose every entry was accepted at its place, with the reply that stands in it.
-use Rattle.std.specs.Prelude.{◌≡◌, List, [], ◌∷◌, ◌++◌, None, Ok, false, length}
+use Rattle.std.specs.Prelude.{◌≡◌, List, [], ◌∷◌, ◌++◌, None, Ok, false}
 use Rattle.asl_machine.specs.Definition.{IsComplete}
 use Rattle.rollback_book.specs.Names.{start_name}
 use Rattle.rollback_book.specs.Story.{machine_of}

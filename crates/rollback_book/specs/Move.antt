@@ -1,5 +1,5 @@
 -- How a thread moves (Amazon States Language: "States", "Transitions", "Input and Output Processing").
-use Rattle.std.specs.Prelude.{ℕ, ◌+◌, ◌==◌, List, [], ◌∷◌, Bool, Option, None, Some, is_some, option_map, option_and_then, if◌then◌else◌}
+use Rattle.std.specs.Prelude.{ℕ, ◌+◌, ◌==◌, List, [], ◌∷◌, Option, None, Some, is_some, option_map, option_and_then, if◌then◌else◌}
 use Rattle.json_tree.specs.declared.tree.Json.{Json}
 use Rattle.step_names.specs.Thread.{Thread}
 use Rattle.step_names.specs.declared.step.StepName.{StepName}
@@ -9,7 +9,7 @@ use Rattle.asl_machine.specs.declared.state.State.{State}
 use Rattle.asl_machine.specs.declared.state.State.TheVariants.{Pass, Succeed}
 use Rattle.asl_machine.specs.declared.state.Transition.{Transition}
 use Rattle.asl_machine.specs.declared.state.Transition.TheVariants.{Next, End}
-use Rattle.rollback_book.specs.Names.{Step, started, moved, start_name, name_of}
+use Rattle.rollback_book.specs.Names.{Step, started, moved, start_name}
 use Rattle.rollback_book.specs.World.{World, set_frame}
 use Rattle.rollback_book.specs.declared.frame.Frame.{Frame}
 use Rattle.rollback_book.specs.declared.frame.Phase.{Phase}

@@ -1,8 +1,7 @@
-use Rattle.std.proofs.Common.{rules, ◌≡◌, ◌∙◌, ◌+◌, ◌-◌, ap, sym, take, drop, length, length-drop, arith, true}
+use Rattle.std.proofs.Common.{◌≡◌, ◌∙◌, ◌+◌, ap, sym, length-drop, arith, true}
 use Rattle.std.proofs.lemmas.List.{take_rest}
 use Rattle.rollback_book.specs.Names.{is_same_step}
 use Rattle.rollback_book.specs.Answers.{found_answer}
-use Rattle.rollback_book.specs.declared.step.StepRecord.{StepRecord}
 use Rattle.rollback_book.proofs.Searching.{not_last, from_here}
 use Rattle.rollback_book.proofs.undoing.refusal.Goals as goal
 

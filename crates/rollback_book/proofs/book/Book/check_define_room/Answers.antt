@@ -1,4 +1,4 @@
-use Rattle.std.proofs.Common.{rules, refl, ◌≡◌, ◌∙◌, ap, sym, true}
+use Rattle.std.proofs.Common.{refl, ◌≡◌, ◌∙◌, ap, sym, true}
 use Rattle.rollback_book.specs.Story.{Story}
 use Rattle.rollback_book.specs.Answers.{is_full_for_define}
 use Rattle.rollback_book.proofs.Tied.{define_full_by}

@@ -1,5 +1,5 @@
-use Rattle.std.proofs.Common.{rules, refl, ◌≡◌, ◌∙◌, ap, sym, subst, Some, Option}
-use Rattle.std.specs.Prelude.{IsSome, is_some}
+use Rattle.std.proofs.Common.{refl, ◌∙◌, ap, sym, Option}
+use Rattle.std.specs.Prelude.{is_some}
 use Rattle.asl_machine.specs.Definition.{Definition}
 use Rattle.rollback_book.specs.Story.{Story, machine_of}
 use Rattle.rollback_book.proofs.Runs.{none_there}

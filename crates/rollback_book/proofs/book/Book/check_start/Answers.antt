@@ -1,4 +1,4 @@
-use Rattle.std.proofs.Common.{rules, ◌≡◌, ◌∙◌, ap, sym, true, false}
+use Rattle.std.proofs.Common.{◌≡◌, ◌∙◌, ap, sym, true, false}
 use Rattle.std.specs.Prelude.{is_some}
 use Rattle.rollback_book.specs.Story.{Story, machine_of}
 use Rattle.rollback_book.specs.Answers.{start_answer, is_full_for_step}

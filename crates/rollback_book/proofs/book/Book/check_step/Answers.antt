@@ -1,4 +1,4 @@
-use Rattle.std.proofs.Common.{rules, ◌≡◌, ◌∙◌, ap, sym, true, false, Err}
+use Rattle.std.proofs.Common.{◌≡◌, ◌∙◌, ap, sym, true, false, Err}
 use Rattle.rollback_book.specs.Move.{ready_state}
 use Rattle.rollback_book.specs.Story.{Story, world_of}
 use Rattle.rollback_book.specs.World.{World}

@@ -1,13 +1,8 @@
-use Rattle.std.proofs.Common.{rules, refl, ◌≡◌, ◌∙◌, ap, ap₂, sym, subst, Some, None, Option, arith, List, ℕ, cond, ◌++◌, ◌∷◌, [], ◌+◌, ◌≤◌, length, vec_capacity}
+use Rattle.std.proofs.Common.{◌≡◌, ◌∙◌, ap, ap₂, Some, arith, List, ℕ, cond, ◌++◌, ◌∷◌, [], ◌+◌, ◌≤◌, length, vec_capacity}
 use Rattle.std.proofs.Math.Path.{fun_ext}
-use Rattle.std.specs.Ordering.{nat_cmp}
-use Rattle.std.specs.Cmp.Lexicographic.{slice_cmp}
-use Rattle.std.specs.BTreeMap.{get}
-use Rattle.asl_machine.specs.Definition.{Definition}
 use Rattle.rollback_book.specs.Story.{Story, is_same_name, machine_of}
 use Rattle.rollback_book.specs.Answers.{is_full_for_define}
-use Rattle.rollback_book.specs.Saving.{IsTied, held}
-use Rattle.rollback_book.specs.World.{World}
+use Rattle.rollback_book.specs.Saving.{held}
 use Rattle.rollback_book.specs.declared.log.Entry.{Entry}
 use Rattle.rollback_book.specs.declared.log.Entry.TheVariants.{Define}
 use Rattle.rollback_book.proofs.Defining.{tied_define, with_machines}

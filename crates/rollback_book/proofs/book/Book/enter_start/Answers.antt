@@ -1,7 +1,6 @@
-use Rattle.std.proofs.Common.{rules, ◌≡◌, ◌∙◌, ap, ap₂, sym, subst, Some, arith, List, ◌++◌, ◌∷◌, [], ◌+◌, ◌≤◌, length, vec_capacity}
-use Rattle.rollback_book.specs.World.{World, set_frame}
+use Rattle.std.proofs.Common.{◌≡◌, ◌∙◌, ap, sym, subst, Some, arith, List, ◌++◌, ◌∷◌, [], ◌+◌, ◌≤◌, length, vec_capacity}
 use Rattle.rollback_book.specs.Story.{Story}
-use Rattle.rollback_book.specs.Saving.{IsTied, IsStartOf, held}
+use Rattle.rollback_book.specs.Saving.{IsStartOf}
 use Rattle.rollback_book.specs.declared.log.Entry.{Entry}
 use Rattle.rollback_book.specs.declared.step.StepRecord.{StepRecord}
 use Rattle.rollback_book.proofs.Entering.{tied_room, tied_start, held-frames, held-set}

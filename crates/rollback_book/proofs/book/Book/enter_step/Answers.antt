@@ -1,13 +1,13 @@
-use Rattle.std.proofs.Common.{rules, refl, ◌≡◌, ◌∙◌, ap, ap₂, sym, subst, Some, arith, List, ◌++◌, ◌∷◌, [], ◌+◌, ◌≤◌, length, vec_capacity}
+use Rattle.std.proofs.Common.{refl, ◌≡◌, ◌∙◌, ap, sym, subst, Some, arith, List, ◌++◌, ◌∷◌, [], ◌+◌, ◌≤◌, length, vec_capacity}
 use Rattle.std.specs.Prelude.{IsSome}
-use Rattle.rollback_book.specs.World.{World, set_frame}
+use Rattle.rollback_book.specs.World.{World}
 use Rattle.rollback_book.specs.Story.{Story, world_of}
-use Rattle.rollback_book.specs.Saving.{IsTied, IsStepOf, held}
+use Rattle.rollback_book.specs.Saving.{IsStepOf}
 use Rattle.rollback_book.specs.declared.log.Entry.{Entry}
 use Rattle.rollback_book.specs.declared.step.Saved.TheVariants.{Framed}
 use Rattle.rollback_book.specs.declared.step.StepRecord.{StepRecord}
 use Rattle.rollback_book.proofs.Tied.{world_is}
-use Rattle.rollback_book.proofs.Entering.{tied_room, tied_step, held-set}
+use Rattle.rollback_book.proofs.Entering.{tied_step, held-set}
 use Rattle.rollback_book.proofs.book.Book.enter_step.Goals as goal
 
 pub replace_frame-before-requires : goal.replace_frame-before-requires

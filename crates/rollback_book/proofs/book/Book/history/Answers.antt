@@ -1,5 +1,4 @@
-use Rattle.std.proofs.Common.{rules, ◌≡◌, ◌∙◌, ap, ap₂, sym, map, List, Some}
-use Rattle.step_names.specs.declared.step.StepName.{StepName}
+use Rattle.std.proofs.Common.{◌∙◌, ap, ap₂, sym, map, List, Some}
 use Rattle.rollback_book.specs.Names.{name_of}
 use Rattle.rollback_book.specs.Story.{Story, remaining, base_of, world_of}
 use Rattle.rollback_book.specs.Saving.{run_saving}

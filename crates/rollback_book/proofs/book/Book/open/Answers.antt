@@ -1,4 +1,3 @@
-use Rattle.std.proofs.Common.{rules, ◌≡◌, ◌∙◌, ap, sym, List, []}
 use Rattle.rollback_book.proofs.Defining.{tied_empty}
 use Rattle.rollback_book.proofs.book.Book.open.Goals as goal
 

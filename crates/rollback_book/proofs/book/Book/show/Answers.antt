@@ -1,4 +1,4 @@
-use Rattle.std.proofs.Common.{rules, refl, ◌≡◌, ◌∙◌, ap, sym}
+use Rattle.std.proofs.Common.{refl, ◌∙◌, ap, sym}
 use Rattle.rollback_book.specs.Story.{Story, world_of}
 use Rattle.rollback_book.specs.World.{World}
 use Rattle.rollback_book.proofs.Tied.{world_is}

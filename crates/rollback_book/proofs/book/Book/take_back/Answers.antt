@@ -1,12 +1,8 @@
-use Rattle.std.proofs.Common.{rules, refl, ◌≡◌, ◌∙◌, ap, ap₂, sym, subst, Some, Ok, Option, arith, List, ◌++◌, ◌∷◌, [], ◌+◌, ◌≤◌, length, vec_capacity}
-use Rattle.std.specs.Prelude.{IsSome, option_to_list}
-use Rattle.step_names.specs.declared.step.StepName.{StepName}
-use Rattle.rollback_book.specs.World.{World, set_frame}
+use Rattle.std.proofs.Common.{◌≡◌, ◌∙◌, ap, subst, Option, arith, List, ◌++◌, ◌∷◌, [], vec_capacity}
+use Rattle.std.specs.Prelude.{option_to_list}
 use Rattle.rollback_book.specs.Story.{Story}
 use Rattle.rollback_book.specs.Answers.{undo_answer}
 use Rattle.rollback_book.specs.Saving.{IsTied, held, frame_of}
-use Rattle.rollback_book.specs.declared.log.Entry.{Entry}
-use Rattle.rollback_book.specs.declared.log.Entry.TheVariants.{Undo}
 use Rattle.rollback_book.specs.declared.step.StepRecord.{StepRecord}
 use Rattle.rollback_book.proofs.Entering.{undo_needs_one, undo_is_last, taken_back, tied_room, held-set}
 use Rattle.rollback_book.proofs.book.Book.take_back.Goals as goal

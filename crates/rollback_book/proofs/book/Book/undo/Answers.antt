@@ -1,4 +1,4 @@
-use Rattle.std.proofs.Common.{rules, ◌≡◌, ◌∙◌, ap, sym, true, Ok, Err, List}
+use Rattle.std.proofs.Common.{◌∙◌, ap, sym, Ok, List}
 use Rattle.step_names.specs.declared.step.StepName.{StepName}
 use Rattle.rollback_book.specs.Story.{Story}
 use Rattle.rollback_book.specs.Answers.{undo_answer, found_answer, from_step}
