@@ -2,6 +2,7 @@
 
 //! The operators' language: lines in, replies out.
 mod command;
+mod execution;
 mod line;
 mod reply;
 mod serving;
