@@ -1,4 +1,5 @@
 pub mod Cuts
+pub mod Keywords
+pub mod Spelling
 pub mod Steps
 pub mod Utf8
-pub mod Keywords

@@ -1,2 +1,4 @@
 pub mod Lines
 pub mod Grammar
+pub mod GrammarLaws
+mod GrammarRows
