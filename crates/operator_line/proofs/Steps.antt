@@ -10,7 +10,7 @@ use Rattle.operator_line.specs.Grammar.{cut_at, step_of}
 use Rattle.operator_line.proofs.Cuts.{cut_split}
 
 -- the bytes of a NAME
-name_bytes : (word : List ℕ) → is_name word ≡ true → list_all is_name_byte word ≡ true
+pub name_bytes : (word : List ℕ) → is_name word ≡ true → list_all is_name_byte word ≡ true
 name_bytes word h =
     let s = and_parts (nat_le 1 (length word)) (nat_le (length word) 64 && list_all is_name_byte word) h in
     (and_parts (nat_le (length word) 64) (list_all is_name_byte word) s.1).1
