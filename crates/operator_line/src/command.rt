@@ -14,6 +14,7 @@ use step_names::{NameFault, StepName, ThreadName, is_name};
 pub enum CommandFault {
     /// The line isn't UTF-8, or not of the grammar.
     BadLine,
+    /// Memory was refused.
     Memory,
 }
 

@@ -13,7 +13,7 @@ pub(crate) struct KeyWord<'a> {
     pub(crate) kind: KeyType,
 }
 
-/// NAME2: 1 to 255 of these and `.`.
+/// NAME2: 1 to 255 ASCII letters, digits, `_`, `-` and `.`.
 pub(crate) fn is_table_name(word: &str) -> bool
     ensures { result ≡ is_table_name word.now }
 {
