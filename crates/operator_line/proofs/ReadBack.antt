@@ -1,9 +1,8 @@
 -- The one line of a command is read as that command.
-use Rattle.std.proofs.Common.{◌≡◌, ◌∙◌, sym, ap, subst, refl, ℕ, ◌==◌, nat_le, Bool, true, false, not, ◌&&◌, List, [], ◌∷◌, ◌++◌, length, append-nil, Option, Some, None, codes}
+use Rattle.std.proofs.Common.{◌≡◌, ◌∙◌, sym, ap, subst, refl, ℕ, ◌==◌, nat_le, true, false, not, ◌&&◌, List, [], ◌∷◌, ◌++◌, length, append-nil, Option, Some, None}
 use Rattle.std.specs.List.{list_all}
-use Rattle.std.specs.Str.{is_utf8}
 use Rattle.std.specs.Fmt.{decimal}
-use Rattle.std.proofs.lemmas.Bool.{and_parts, and_from, not-true}
+use Rattle.std.proofs.lemmas.Bool.{and_parts, not-true}
 use Rattle.step_names.specs.Thread.{Thread, execution, is_name, is_name_byte}
 use Rattle.step_names.specs.Written.{thread_text, step_text}
 use Rattle.step_names.specs.declared.step.StepName.{StepName}
@@ -12,7 +11,7 @@ use Rattle.step_names.proofs.Numbers.{number_reads}
 use Rattle.rollback_book.specs.declared.log.KeyAttribute.{KeyAttribute}
 use Rattle.rollback_book.specs.declared.log.KeyType.{KeyType}
 use Rattle.rollback_book.specs.declared.log.KeyType.TheVariants.{S, N}
-use Rattle.operator_line.specs.Grammar.{Spoken, table, define, start, step, undo, show, items, history, Says, is_text, is_table_name, is_table_name_byte, thread_of, step_of, type_of, key_name_of, key_of, first_word, table_by, table_of, define_of, start_of, text_command}
+use Rattle.operator_line.specs.Grammar.{Spoken, table, define, start, step, undo, show, items, history, is_text, is_table_name, is_table_name_byte, thread_of, step_of, type_of, key_name_of, key_of, first_word, table_by, table_of, define_of, start_of, text_command}
 use Rattle.operator_line.specs.Spelled.{type_text, key_text, items_text, is_key_name, IsExecution, IsSort, IsProper, line_of}
 use Rattle.operator_line.specs.GrammarLaws.{LineIsRead}
 use Rattle.operator_line.proofs.Cuts.{cut_some}

@@ -1,5 +1,5 @@
 -- A line that is a command is its one line.
-use Rattle.std.proofs.Common.{◌≡◌, ◌∙◌, sym, ap, subst, refl, ℕ, ◌==◌, Bool, true, false, not, cond, ◌&&◌, ◌||◌, List, [], ◌∷◌, ◌++◌, append-nil, Option, Some, None, codes, ◌⊎◌, inl, inr, eqb-true}
+use Rattle.std.proofs.Common.{◌≡◌, ◌∙◌, sym, ap, subst, refl, ℕ, ◌==◌, Bool, true, false, not, cond, List, [], ◌∷◌, ◌++◌, append-nil, Option, Some, None, codes, ◌⊎◌, inl, inr, eqb-true}
 use Rattle.std.specs.Option.{option_map, option_and_then}
 use Rattle.std.specs.Str.{is_utf8}
 use Rattle.std.specs.Fmt.{decimal}
@@ -14,7 +14,7 @@ use Rattle.step_names.proofs.Numbers.{number_parts, number_writes}
 use Rattle.rollback_book.specs.declared.log.KeyAttribute.{KeyAttribute}
 use Rattle.rollback_book.specs.declared.log.KeyType.{KeyType}
 use Rattle.rollback_book.specs.declared.log.KeyType.TheVariants.{S, N}
-use Rattle.operator_line.specs.Grammar.{Spoken, table, define, start, step, undo, show, items, history, Says, is_text, cut_at, is_table_name, thread_of, step_of, type_of, key_name_of, key_of, first_word, table_by, table_of, define_of, start_of, command_by, text_command, command_of}
+use Rattle.operator_line.specs.Grammar.{Spoken, table, define, start, step, undo, show, items, history, is_text, cut_at, is_table_name, thread_of, step_of, type_of, key_name_of, key_of, first_word, table_by, table_of, define_of, start_of, command_by, text_command}
 use Rattle.operator_line.specs.Spelled.{type_text, key_text, items_text, is_key_name, IsExecution, IsSort, IsProper, line_of}
 use Rattle.operator_line.specs.GrammarLaws.{LineSaysOne, LineIsSpelled}
 

@@ -1,6 +1,6 @@
 -- The name of a step whose thread has no branches.
-use Rattle.std.proofs.Common.{◌≡◌, ℕ, true, List, [], ◌∷◌, refl, length, nat_le, ◌&&◌, ◌∙◌, ◌==◌, Option, Some, None}
-use Rattle.std.specs.List.{slice_split, list_all}
+use Rattle.std.proofs.Common.{◌≡◌, ℕ, true, List, refl, length, nat_le, ◌&&◌, ◌∙◌, Some}
+use Rattle.std.specs.List.{list_all}
 use Rattle.std.proofs.lemmas.Bool.{and_parts}
 use Rattle.step_names.specs.Thread.{execution, is_name, is_name_byte}
 use Rattle.step_names.specs.Grammar.{read_thread, read_step}

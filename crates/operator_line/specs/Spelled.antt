@@ -1,5 +1,5 @@
 -- The one line of each command, and what the parts of a command keep.
-use Rattle.std.specs.Prelude.{◌≡◌, ℕ, ◌<◌, ◌^◌, ◌==◌, Bool, true, false, not, ◌&&◌, List, [], ◌∷◌, ◌++◌, Option, Some, None, IsTrue, codes}
+use Rattle.std.specs.Prelude.{◌≡◌, ℕ, ◌<◌, ◌^◌, ◌==◌, Bool, false, not, ◌&&◌, List, [], ◌∷◌, ◌++◌, Option, Some, None, IsTrue, codes}
 use Rattle.std.specs.List.{list_all}
 use Rattle.step_names.specs.Thread.{Thread, is_name}
 use Rattle.step_names.specs.Written.{thread_text, step_text}

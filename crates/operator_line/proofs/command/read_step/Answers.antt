@@ -1,7 +1,6 @@
-use Rattle.std.proofs.Common.{rules, ◌≡◌, ◌∙◌, sym, true, Some, None, Err, ap, refl}
+use Rattle.std.proofs.Common.{rules, ◌≡◌, ◌∙◌, sym, true, Some, Err, ap, refl}
 use Rattle.step_names.specs.declared.NameFault.TheVariants.{BadName}
 use Rattle.step_names.specs.Thread.{is_name}
-use Rattle.step_names.specs.Grammar.{read_step}
 use Rattle.operator_line.specs.Grammar.{step_of}
 use Rattle.operator_line.proofs.Steps.{step_read}
 use Rattle.operator_line.proofs.command.read_step.Goals as goal

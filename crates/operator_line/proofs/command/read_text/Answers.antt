@@ -1,4 +1,4 @@
-use Rattle.std.proofs.Common.{◌≡◌, ◌∙◌, sym, subst, Some, None, IfOk}
+use Rattle.std.proofs.Common.{◌≡◌, ◌∙◌, sym, subst, Some, IfOk}
 use Rattle.operator_line.specs.Grammar.{spoken}
 use Rattle.operator_line.proofs.Keywords.{by_keyword}
 use Rattle.operator_line.proofs.command.read_text.Goals as goal
