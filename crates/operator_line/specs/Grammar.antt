@@ -4,9 +4,9 @@
 --     define NAME J                        undo S        history
 --     start NAME NAME J                    show T
 --
--- Words are parted by exactly one space, and J is the rest of the line. NAME is the name of an execution or a machine. T is
--- a thread and S a step, as far as commands take them: a thread has no branches, and so is written as its execution's
--- NAME, and a step as NAME `#` NUM.
+-- Between two words stands one space and no more, and J is all that is left. NAME is the name of an execution or a machine.
+-- T is a thread and S a step, as far as commands take them: a thread has no branches, and so is written as its
+-- execution's NAME, and a step as NAME `#` NUM.
 use Rattle.std.specs.Prelude.{◌≡◌, ℕ, ◌==◌, Bool, ◌&&◌, ◌||◌, List, [], ◌∷◌, length, nat_le, if◌then◌else◌, Option, Some, None, option_and_then, option_map, codes}
 use Rattle.std.specs.List.{list_all}
 use Rattle.std.specs.Option.{option_map_or}
@@ -57,11 +57,11 @@ first_word text = option_map_or (λ parts. parts.0) (cut_at 32 text) text
 abbrev pub name_of : List ℕ → Option (List ℕ)
 name_of word = if is_name word then Some word else None
 
--- an ASCII letter or digit, `_`, `-` or `.`
+-- a byte of a NAME, or `.`
 abbrev pub is_table_name_byte : ℕ → Bool
 is_table_name_byte b = is_name_byte b || b == 46
 
--- NAME2: 1 to 255 such bytes
+-- NAME2: such bytes, at least one and at most 255
 abbrev pub is_table_name : List ℕ → Bool
 is_table_name word = nat_le 1 (length word) && (nat_le (length word) 255 && list_all is_table_name_byte word)
 
@@ -80,7 +80,7 @@ step_of word = do
   number ← read_number digits
   Some (record { thread = thread; no = number })
 
--- K: one or more characters, the first of them no `[`; a space and a colon end it
+-- K: it isn't empty, and has no `[` in front
 abbrev pub key_name_of : List ℕ → Option (List ℕ)
 key_name_of [] = None
 key_name_of (b ∷ name) = if b == 91 then None else Some (b ∷ name)
@@ -97,8 +97,8 @@ key_of word = do
   kind ← type_of letter
   Some (record { name = name; kind = kind })
 
--- J alone, or a second key and J: the word after the first key is a key where it has the form of one. The names of two keys
--- differ.
+-- Where the next word is a key too, it is the sort key, which needs another name, and J comes after it. Where it is none, J
+-- comes at once.
 abbrev pub table_by : List ℕ → KeyAttribute → Option KeyAttribute → List ℕ → Option Spoken
 table_by name partition None text = Some (table name (record { partition = partition; sort = None }) text)
 table_by name partition (Some sort) text = do

@@ -35,7 +35,7 @@ line_of history = codes "history"
 abbrev pub IsExecution : Thread → Type 0
 IsExecution thread = IsTrue (is_name thread.exec) × (thread.path ≡ [])
 
--- K: one or more characters but space and `:`, the first of them no `[`
+-- K: there is neither a space nor a colon in it, it isn't empty, and has no `[` in front
 abbrev pub is_key_name : List ℕ → Bool
 is_key_name [] = false
 is_key_name (b ∷ name) = not (b == 91) && (list_all (λ c. not (c == 32)) (b ∷ name) && list_all (λ c. not (c == 58)) (b ∷ name))

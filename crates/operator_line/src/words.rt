@@ -13,7 +13,7 @@ pub(crate) struct KeyWord<'a> {
     pub(crate) kind: KeyType,
 }
 
-/// NAME2: 1 to 255 ASCII letters, digits, `_`, `-` and `.`.
+/// NAME2: bytes of a NAME and points, at least one and at most 255.
 pub(crate) fn is_table_name(word: &str) -> bool
     ensures { result ≡ is_table_name word.now }
 {
@@ -45,8 +45,7 @@ pub(crate) fn first_word(text: &str) -> &str
     }
 }
 
-/// A key, where a word has the form K:TYPE. K is one or more characters but `:` and doesn't begin with `[`, TYPE is `S`
-/// or `N`.
+/// A key, where a word is a name, a colon and `S` or `N`. The name isn't empty, and has no `[` in front.
 pub(crate) fn read_key(word: &str) -> Option<KeyWord<'_>>
     ensures { option_map attribute_of result ≡ key_of word.now }
 {
