@@ -1,1 +1,5 @@
 pub mod Lines
+pub mod Grammar
+pub mod Spelled
+pub mod GrammarLaws
+mod GrammarRows

@@ -1,9 +1,11 @@
 // The commands, read from lines.
-ghost use Rattle.std.specs.Prelude.{◌≡◌, [], List, ℕ};
+ghost use Rattle.std.specs.Prelude.{◌≡◌, ◌↔◌, None, Some, IfOk, IsErrOf, MatchResult, option_map};
+ghost use Rattle.operator_line.specs.Grammar.{cut_at, command_of, text_command, command_by, table_of, define_of, start_of, thread_of, step_of, spoken, attribute_of};
 
-use crate::words::{cut, first_word, is_table_name, key_parts};
+pub use crate::execution::Execution;
+use crate::words::{KeyWord, cut, first_word, is_table_name, read_key};
 use json_tree::Text;
-use rollback_book::{KeyAttribute, KeySchema, KeyType};
+use rollback_book::{KeyAttribute, KeySchema};
 use std::alloc::{AllocError, AllocFailed, Global};
 use step_names::{NameFault, StepName, ThreadName, is_name};
 
@@ -12,6 +14,7 @@ use step_names::{NameFault, StepName, ThreadName, is_name};
 pub enum CommandFault {
     /// The line isn't UTF-8, or not of the grammar.
     BadLine,
+    /// Memory was refused.
     Memory,
 }
 
@@ -35,22 +38,6 @@ impl<T: Drop> From<AllocFailed<T>> for CommandFault {
     fn from(_refused: AllocFailed<T>) -> CommandFault {
         CommandFault::Memory
     }
-}
-
-impl From<NameFault> for CommandFault {
-    fn from(fault: NameFault) -> CommandFault {
-        match fault {
-            NameFault::BadName => CommandFault::BadLine,
-            NameFault::Memory => CommandFault::Memory,
-        }
-    }
-}
-
-/// An execution's own thread.
-#[derive(Debug, Drop)]
-pub struct Execution {
-    pub thread: ThreadName,
-    ghost whole: { thread.path ≡ [] },
 }
 
 /// A line of the operators' language. A text of JSON is borrowed from the line, and not read yet.
@@ -78,143 +65,175 @@ pub enum Command<'a> {
 }
 
 impl<'a> Command<'a> {
-    /// The command of a line without its end. Takes time linear in the words before the JSON text, and memory for the
-    /// names.
-    pub fn read(alloc: Global, line: &'a [u8]) -> Result<Command<'a>, CommandFault> {
-        let Ok(text) = str::from_utf8(line) else {
-            return Err(CommandFault::BadLine);
-        };
-        match first_word(text) {
-            ("items", None) => Ok(Command::Items),
-            ("history", None) => Ok(Command::History),
-            (word, Some(rest)) => read_words(alloc, word, rest),
-            _ => Err(CommandFault::BadLine),
+    /// The command of a line without its end. Takes time linear in the line, and memory for the names of a command: a line
+    /// that is none is told before any memory is asked for.
+    ///
+    /// # Errors
+    ///
+    /// `BadLine` where the line is no command, and `Memory`.
+    pub fn read(alloc: Global, line: &'a [u8]) -> Result<Command<'a>, CommandFault>
+        ensures ok { IfOk result (λ c. command_of line.now ≡ Some (spoken c)) }
+        ensures bad { IsErrOf result CommandFault.BadLine ↔ (command_of line.now ≡ None) }
+    {
+        match str::from_utf8(line) {
+            Ok(text) => read_text(alloc, text),
+            Err(_) => Err(CommandFault::BadLine),
         }
+    }
+}
+
+fn read_text(alloc: Global, text: &str) -> Result<Command<'_>, CommandFault>
+    ensures ok { IfOk result (λ c. text_command text.now ≡ Some (spoken c)) }
+    ensures bad { IsErrOf result CommandFault.BadLine ↔ (text_command text.now ≡ None) }
+{
+    match text {
+        "items" => Ok(Command::Items),
+        "history" => Ok(Command::History),
+        _ => match cut(text, ' ') {
+            Some((keyword, rest)) => read_words(alloc, keyword, rest),
+            None => Err(CommandFault::BadLine),
+        },
     }
 }
 
 /// The command whose first word this is, from the rest of its line.
-fn read_words<'a>(alloc: Global, word: &str, rest: &'a str) -> Result<Command<'a>, CommandFault> {
-    match word {
+fn read_words<'a>(alloc: Global, keyword: &str, rest: &'a str) -> Result<Command<'a>, CommandFault>
+    ensures ok { IfOk result (λ c. command_by keyword.now rest.now ≡ Some (spoken c)) }
+    ensures bad { IsErrOf result CommandFault.BadLine ↔ (command_by keyword.now rest.now ≡ None) }
+{
+    match keyword {
         "table" => read_table(alloc, rest),
         "define" => read_define(alloc, rest),
         "start" => read_start(alloc, rest),
-        "step" => Ok(Command::Step(read_thread(alloc, rest)?.thread)),
+        "step" => Ok(Command::Step(read_execution(alloc, rest)?.thread)),
         "undo" => Ok(Command::Undo(read_step(alloc, rest)?)),
-        "show" => Ok(Command::Show(read_thread(alloc, rest)?.thread)),
+        "show" => Ok(Command::Show(read_execution(alloc, rest)?.thread)),
         _ => Err(CommandFault::BadLine),
     }
 }
 
-fn read_table(alloc: Global, rest: &str) -> Result<Command<'_>, CommandFault> {
-    let (name, rest) = parted(rest)?;
+fn read_table(alloc: Global, text: &str) -> Result<Command<'_>, CommandFault>
+    ensures ok { IfOk result (λ c. table_of text.now ≡ Some (spoken c)) }
+    ensures bad { IsErrOf result CommandFault.BadLine ↔ (table_of text.now ≡ None) }
+{
+    let (name, rest) = parted(text)?;
     if !is_table_name(name) {
         return Err(CommandFault::BadLine);
     }
-    let (partition, rest) = parted(rest)?;
-    let Some(partition) = key_parts(partition) else {
+    let (word, rest) = parted(rest)?;
+    let Some(partition) = read_key(word) else {
         return Err(CommandFault::BadLine);
     };
-    let (word, after) = first_word(rest);
-    let (sort, items) = match key_parts(word) {
+    let sort = read_key(first_word(rest));
+    let items = match sort {
+        None => rest,
         Some(sort) => {
-            let Some(items) = after else {
+            if sort.name == partition.name {
                 return Err(CommandFault::BadLine);
-            };
-            (Some(sort), items)
+            }
+            parted(rest)?.1
         }
-        None => (None, rest),
     };
-    let schema = read_schema(alloc, partition, sort)?;
     Ok(Command::Table {
         name: Text::new(alloc, name)?,
-        schema,
+        schema: schema_of(alloc, partition, sort)?,
         items,
     })
 }
 
-/// The key of these attributes, whose names differ.
-fn read_schema(
+fn schema_of(
     alloc: Global,
-    partition: (&str, &str),
-    sort: Option<(&str, &str)>,
-) -> Result<KeySchema, CommandFault> {
+    partition: KeyWord<'_>,
+    sort: Option<KeyWord<'_>>,
+) -> Result<KeySchema, AllocError>
+    ensures { IfOk result (λ k. k ≡ record { partition = attribute_of partition.entry; sort = option_map attribute_of sort.entry }) }
+{
     let sort = match sort {
-        Some(sort) => {
-            if sort.0 == partition.0 {
-                return Err(CommandFault::BadLine);
-            }
-            Some(read_attribute(alloc, sort)?)
-        }
+        Some(sort) => Some(attribute_of(alloc, sort)?),
         None => None,
     };
     Ok(KeySchema {
-        partition: read_attribute(alloc, partition)?,
+        partition: attribute_of(alloc, partition)?,
         sort,
     })
 }
 
-fn read_attribute(alloc: Global, parts: (&str, &str)) -> Result<KeyAttribute, AllocError> {
-    let kind = if parts.1 == "S" {
-        KeyType::S
-    } else {
-        KeyType::N
-    };
+fn attribute_of(alloc: Global, key: KeyWord<'_>) -> Result<KeyAttribute, AllocError>
+    ensures { IfOk result (λ a. a ≡ attribute_of key.entry) }
+{
     Ok(KeyAttribute {
-        name: Text::new(alloc, parts.0)?,
-        kind,
+        name: Text::new(alloc, key.name)?,
+        kind: key.kind,
     })
 }
 
-fn read_define(alloc: Global, rest: &str) -> Result<Command<'_>, CommandFault> {
-    let (name, definition) = parted(rest)?;
+fn read_define(alloc: Global, text: &str) -> Result<Command<'_>, CommandFault>
+    ensures ok { IfOk result (λ c. define_of text.now ≡ Some (spoken c)) }
+    ensures bad { IsErrOf result CommandFault.BadLine ↔ (define_of text.now ≡ None) }
+{
+    let (name, definition) = parted(text)?;
+    if !is_name(name) {
+        return Err(CommandFault::BadLine);
+    }
     Ok(Command::Define {
-        name: read_name(alloc, name)?,
+        name: Text::new(alloc, name)?,
         definition,
     })
 }
 
-fn read_start(alloc: Global, rest: &str) -> Result<Command<'_>, CommandFault> {
-    let (exec, rest) = parted(rest)?;
+fn read_start(alloc: Global, text: &str) -> Result<Command<'_>, CommandFault>
+    ensures ok { IfOk result (λ c. start_of text.now ≡ Some (spoken c)) }
+    ensures bad { IsErrOf result CommandFault.BadLine ↔ (start_of text.now ≡ None) }
+{
+    let (exec, rest) = parted(text)?;
     let (machine, input) = parted(rest)?;
+    if !is_name(machine) {
+        return Err(CommandFault::BadLine);
+    }
     Ok(Command::Start {
-        exec: read_thread(alloc, exec)?,
-        machine: read_name(alloc, machine)?,
+        exec: read_execution(alloc, exec)?,
+        machine: Text::new(alloc, machine)?,
         input,
     })
 }
 
-fn read_name(alloc: Global, word: &str) -> Result<Text, CommandFault> {
-    if is_name(word) {
-        Ok(Text::new(alloc, word)?)
-    } else {
-        Err(CommandFault::BadLine)
+/// A thread without branches, the only one that a command takes yet.
+fn read_execution(alloc: Global, word: &str) -> Result<Execution, CommandFault>
+    ensures ok { IfOk result (λ e. thread_of word.now ≡ Some e.thread) }
+    ensures bad { IsErrOf result CommandFault.BadLine ↔ (thread_of word.now ≡ None) }
+{
+    if !is_name(word) {
+        return Err(CommandFault::BadLine);
     }
-}
-
-/// A thread without branches: no command takes another yet.
-fn read_thread(alloc: Global, word: &str) -> Result<Execution, CommandFault> {
-    let thread = ThreadName::read(alloc, word)?;
-    if thread.is_execution() {
-        Ok(Execution { thread })
-    } else {
-        Err(CommandFault::BadLine)
+    match ThreadName::new(String::from_str(alloc, word)?) {
+        Some(thread) => Ok(Execution { thread }),
+        None => Err(CommandFault::BadLine),
     }
 }
 
 /// A step of such a thread.
-fn read_step(alloc: Global, word: &str) -> Result<StepName, CommandFault> {
-    let step = StepName::read(alloc, word)?;
-    if step.thread.is_execution() {
-        Ok(step)
-    } else {
-        Err(CommandFault::BadLine)
+fn read_step(alloc: Global, word: &str) -> Result<StepName, CommandFault>
+    ensures ok { IfOk result (λ s. step_of word.now ≡ Some s) }
+    ensures bad { IsErrOf result CommandFault.BadLine ↔ (step_of word.now ≡ None) }
+{
+    let Some((exec, _)) = cut(word, '#') else {
+        return Err(CommandFault::BadLine);
+    };
+    if !is_name(exec) {
+        return Err(CommandFault::BadLine);
+    }
+    match StepName::read(alloc, word) {
+        Ok(step) => Ok(step),
+        Err(NameFault::BadName) => Err(CommandFault::BadLine),
+        Err(NameFault::Memory) => Err(CommandFault::Memory),
     }
 }
 
 /// The first word, and what comes after the space behind it.
-fn parted(text: &str) -> Result<(&str, &str), CommandFault> {
-    match cut(text) {
+fn parted(text: &str) -> Result<(&str, &str), CommandFault>
+    ensures { MatchResult result (λ x. cut_at 32 text.now ≡ Some (x.0.now, x.1.now)) (λ e. (e ≡ CommandFault.BadLine) × (cut_at 32 text.now ≡ None)) }
+{
+    match cut(text, ' ') {
         Some(parts) => Ok(parts),
         None => Err(CommandFault::BadLine),
     }

@@ -2,6 +2,10 @@
 
 //! The operators' language: lines in, replies out.
 mod command;
+#[cfg(test)]
+mod command_tests;
+mod execution;
+mod laws;
 mod line;
 mod reply;
 mod serving;
@@ -11,6 +15,7 @@ mod tests;
 mod words;
 
 pub use command::{Command, CommandFault, Execution};
+pub use laws::lines_are_spelled;
 pub use line::{Line, LineBuffer};
 pub use serving::{ServeFault, serve};
 pub use session::Session;

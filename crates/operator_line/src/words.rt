@@ -1,29 +1,62 @@
 // The words of a line.
+ghost use Rattle.std.specs.Prelude.{◌≡◌, ◌<◌, None, Some, MatchOption, option_map};
+ghost use Rattle.std.specs.List.{list_all};
+ghost use Rattle.operator_line.specs.Grammar.{is_table_name, is_table_name_byte, cut_at, first_word, key_of, attribute_of};
+
+use rollback_book::KeyType;
 use step_names::is_name_byte;
 
-/// NAME2: 1 to 255 of these and `.`.
-pub(crate) fn is_table_name(word: &str) -> bool {
+/// A key's name and type.
+#[derive(Clone, Copy)]
+pub(crate) struct KeyWord<'a> {
+    pub(crate) name: &'a str,
+    pub(crate) kind: KeyType,
+}
+
+/// NAME2: bytes of a NAME and points, at least one and at most 255.
+pub(crate) fn is_table_name(word: &str) -> bool
+    ensures { result ≡ is_table_name word.now }
+{
     let bytes = word.as_bytes();
-    !bytes.is_empty() && bytes.len() <= 255 && bytes.iter().all(|b| is_name_byte(*b) || *b == b'.')
+    !bytes.is_empty() && bytes.len() <= 255 && all_table_name_bytes(bytes)
 }
 
-/// The first word, and what comes after the space behind it.
-pub(crate) fn cut(text: &str) -> Option<(&str, &str)> {
-    text.split_once(' ')
+fn all_table_name_bytes(bytes: &[u8]) -> bool
+    ensures { result ≡ list_all is_table_name_byte bytes.now }
+{
+    bytes.iter().all(|b| is_name_byte(*b) || *b == b'.')
 }
 
-/// The first word, and what comes after the space behind it, if there is one.
-pub(crate) fn first_word(text: &str) -> (&str, Option<&str>) {
-    match text.split_once(' ') {
-        Some((word, rest)) => (word, Some(rest)),
-        None => (text, None),
+/// What stands before the first separator, and what after it.
+pub(crate) fn cut(text: &str, separator: char) -> Option<(&str, &str)>
+    requires { separator < 128 }
+    ensures { MatchOption result (cut_at separator text.now ≡ None) (λ x. cut_at separator text.now ≡ Some (x.0.now, x.1.now)) }
+{
+    text.split_once(separator)
+}
+
+/// The first word, which is all of a text that has no space.
+pub(crate) fn first_word(text: &str) -> &str
+    ensures { result.now ≡ first_word text.now }
+{
+    match cut(text, ' ') {
+        Some((word, _)) => word,
+        None => text,
     }
 }
 
-/// A key's name and type, where a word has the form K:TYPE. K is one or more characters but `:` and doesn't begin with
-/// `[`, TYPE is `S` or `N`.
-pub(crate) fn key_parts(word: &str) -> Option<(&str, &str)> {
-    let (name, kind) = word.split_once(':')?;
-    let is_key = !name.is_empty() && !name.starts_with('[') && (kind == "S" || kind == "N");
-    if is_key { Some((name, kind)) } else { None }
+/// A key, where a word is a name, a colon and `S` or `N`. The name isn't empty, and has no `[` in front.
+pub(crate) fn read_key(word: &str) -> Option<KeyWord<'_>>
+    ensures { option_map attribute_of result ≡ key_of word.now }
+{
+    let (name, kind) = cut(word, ':')?;
+    if name.is_empty() || name.starts_with('[') {
+        return None;
+    }
+    let kind = match kind {
+        "S" => KeyType::S,
+        "N" => KeyType::N,
+        _ => return None,
+    };
+    Some(KeyWord { name, kind })
 }

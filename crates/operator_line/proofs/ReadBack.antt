@@ -1,0 +1,111 @@
+-- The one line of a command is read as that command.
+use Rattle.std.proofs.Common.{◌≡◌, ◌∙◌, sym, ap, subst, refl, ℕ, ◌==◌, nat_le, true, false, not, ◌&&◌, List, [], ◌∷◌, ◌++◌, length, append-nil, Option, Some, None}
+use Rattle.std.specs.List.{list_all}
+use Rattle.std.specs.Fmt.{decimal}
+use Rattle.std.proofs.lemmas.Bool.{and_parts, not-true}
+use Rattle.step_names.specs.Thread.{Thread, execution, is_name, is_name_byte}
+use Rattle.step_names.specs.Written.{thread_text, step_text}
+use Rattle.step_names.specs.declared.step.StepName.{StepName}
+use Rattle.step_names.proofs.Parts.{lacks, lacks-append, passing_lacks}
+use Rattle.step_names.proofs.Numbers.{number_reads}
+use Rattle.rollback_book.specs.declared.log.KeyAttribute.{KeyAttribute}
+use Rattle.rollback_book.specs.declared.log.KeyType.{KeyType}
+use Rattle.rollback_book.specs.declared.log.KeyType.TheVariants.{S, N}
+use Rattle.operator_line.specs.Grammar.{Spoken, table, define, start, step, undo, show, items, history, is_text, is_table_name, is_table_name_byte, thread_of, step_of, type_of, key_name_of, key_of, first_word, table_by, table_of, define_of, start_of, text_command}
+use Rattle.operator_line.specs.Spelled.{type_text, key_text, items_text, is_key_name, IsExecution, IsSort, IsProper, line_of}
+use Rattle.operator_line.specs.GrammarLaws.{LineIsRead}
+use Rattle.operator_line.proofs.Cuts.{cut_some}
+use Rattle.operator_line.proofs.Steps.{name_bytes}
+
+name_lacks : (c : ℕ) (name : List ℕ) → is_name_byte c ≡ false → is_name name ≡ true → lacks c name ≡ true
+name_lacks c name apart h = passing_lacks is_name_byte c name apart (name_bytes name h)
+
+table_name_lacks : (name : List ℕ) → is_table_name name ≡ true → lacks 32 name ≡ true
+table_name_lacks name h =
+    let s = and_parts (nat_le 1 (length name)) (nat_le (length name) 255 && list_all is_table_name_byte name) h in
+    passing_lacks is_table_name_byte 32 name refl (and_parts (nat_le (length name) 255) (list_all is_table_name_byte name) s.1).1
+
+execution_is : (thread : Thread) → IsExecution thread → execution thread.exec ≡ thread
+execution_is thread kept = ap (λ (path : List (ℕ × ℕ)). let t : Thread = record { exec = thread.exec; path = path } in t) (sym kept.1)
+
+thread_reads : (thread : Thread) → IsExecution thread → thread_of (thread_text thread) ≡ Some thread
+thread_reads thread kept =
+    subst (λ (t : Thread). thread_of (thread_text t) ≡ Some t) (execution_is thread kept) (ap thread_of (append-nil thread.exec) ∙ rw kept.0)
+
+thread_lacks : (c : ℕ) (thread : Thread) → is_name_byte c ≡ false → IsExecution thread → lacks c (thread_text thread) ≡ true
+thread_lacks c thread apart kept =
+    subst (λ (t : Thread). lacks c (thread_text t) ≡ true) (execution_is thread kept) (ap (lacks c) (append-nil thread.exec) ∙ name_lacks c thread.exec apart kept.0)
+
+step_reads : (named : StepName) → IsProper (undo named) → step_of (step_text named) ≡ Some named
+step_reads named kept =
+    rw (cut_some 35 (thread_text named.thread) (decimal named.no) (thread_lacks 35 named.thread refl kept.0), thread_reads named.thread kept.0, number_reads named.no kept.1)
+
+-- ---- keys
+
+key_name_parts : (name : List ℕ) → is_key_name name ≡ true → (key_name_of name ≡ Some name) × (lacks 32 name ≡ true) × (lacks 58 name ≡ true)
+key_name_parts [] h = cc
+key_name_parts (b ∷ name) h =
+    let s = and_parts (not (b == 91)) (lacks 32 (b ∷ name) && lacks 58 (b ∷ name)) h in
+    let t = and_parts (lacks 32 (b ∷ name)) (lacks 58 (b ∷ name)) s.1 in
+    (rw (not-true (b == 91) s.0), t.0, t.1)
+
+type_reads : (kind : KeyType) → type_of (type_text kind) ≡ Some kind
+type_reads S = refl
+type_reads N = refl
+
+type_lacks : (kind : KeyType) → lacks 32 (58 ∷ type_text kind) ≡ true
+type_lacks S = refl
+type_lacks N = refl
+
+key_reads : (key : KeyAttribute) → is_key_name key.name ≡ true → key_of (key_text key) ≡ Some key
+key_reads key h =
+    let parts = key_name_parts key.name h in
+    rw (cut_some 58 key.name (type_text key.kind) parts.2, parts.0, type_reads key.kind)
+
+key_lacks : (key : KeyAttribute) → is_key_name key.name ≡ true → lacks 32 (key_text key) ≡ true
+key_lacks key h = lacks-append 32 key.name (58 ∷ type_text key.kind) (key_name_parts key.name h).1 (type_lacks key.kind)
+
+sort_reads : (name : List ℕ) (partition : KeyAttribute) (sort : Option KeyAttribute) (json : List ℕ) → IsSort partition sort json
+    → table_by name partition (key_of (first_word (items_text sort json))) (items_text sort json) ≡ Some (table name (record { partition = partition; sort = sort }) json)
+sort_reads name partition None json kept = rw kept
+sort_reads name partition (Some sort) json kept =
+    let cut = cut_some 32 (key_text sort) json (key_lacks sort kept.0) in
+    let first : first_word (key_text sort ++ 32 ∷ json) ≡ key_text sort = rw cut in
+    ap (λ (key : Option KeyAttribute). table_by name partition key (key_text sort ++ 32 ∷ json)) (ap key_of first ∙ key_reads sort kept.0)
+    ∙ rw (cut, not-true (is_text sort.name partition.name) kept.1)
+
+-- ---- lines
+
+table_reads : (name : List ℕ) (partition : KeyAttribute) (sort : Option KeyAttribute) (json : List ℕ) → is_table_name name ≡ true → is_key_name partition.name ≡ true
+    → IsSort partition sort json
+    → table_of (name ++ 32 ∷ (key_text partition ++ 32 ∷ items_text sort json)) ≡ Some (table name (record { partition = partition; sort = sort }) json)
+table_reads name partition sort json named keyed kept = rw (
+  cut_some 32 name (key_text partition ++ 32 ∷ items_text sort json) (table_name_lacks name named),
+  named,
+  cut_some 32 (key_text partition) (items_text sort json) (key_lacks partition keyed),
+  key_reads partition keyed,
+) (sort_reads name partition sort json kept)
+
+define_reads : (name json : List ℕ) → is_name name ≡ true → define_of (name ++ 32 ∷ json) ≡ Some (define name json)
+define_reads name json h = rw (cut_some 32 name json (name_lacks 32 name refl h), h)
+
+start_reads : (exec : Thread) (machine json : List ℕ) → IsExecution exec → is_name machine ≡ true → start_of (thread_text exec ++ 32 ∷ (machine ++ 32 ∷ json)) ≡ Some (start exec machine json)
+start_reads exec machine json kept h = rw (
+  cut_some 32 (thread_text exec) (machine ++ 32 ∷ json) (thread_lacks 32 exec refl kept),
+  thread_reads exec kept,
+  cut_some 32 machine json (name_lacks 32 machine refl h),
+  h,
+)
+
+text_reads : (command : Spoken) → IsProper command → text_command (line_of command) ≡ Some command
+text_reads (table name schema json) kept = table_reads name schema.partition schema.sort json kept.0 kept.1 kept.2
+text_reads (define name json) kept = define_reads name json kept
+text_reads (start exec machine json) kept = start_reads exec machine json kept.0 kept.1
+text_reads (step thread) kept = rw (thread_reads thread kept)
+text_reads (undo named) kept = rw (step_reads named kept)
+text_reads (show thread) kept = rw (thread_reads thread kept)
+text_reads items kept = refl
+text_reads history kept = refl
+
+pub line_is_read : LineIsRead
+line_is_read command kept utf8 = rw utf8 (text_reads command kept)

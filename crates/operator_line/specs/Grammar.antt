@@ -1,0 +1,174 @@
+-- The grammar of lines: which command a line is, if it is one.
+--
+--     table NAME2 K:TYPE [K:TYPE] J        step T        items
+--     define NAME J                        undo S        history
+--     start NAME NAME J                    show T
+--
+-- Between two words stands one space and no more, and J is all that is left. NAME is the name of an execution or a machine.
+-- T is a thread and S a step, as far as commands take them: a thread has no branches, and so is written as its
+-- execution's NAME, and a step as NAME `#` NUM.
+use Rattle.std.specs.Prelude.{◌≡◌, ℕ, ◌==◌, Bool, ◌&&◌, ◌||◌, List, [], ◌∷◌, length, nat_le, if◌then◌else◌, Option, Some, None, option_and_then, option_map, codes}
+use Rattle.std.specs.List.{list_all}
+use Rattle.std.specs.Option.{option_map_or}
+use Rattle.std.specs.Str.{is_utf8}
+use lib.Pointwise.{pointwise}
+use Rattle.step_names.specs.Thread.{Thread, execution, is_name, is_name_byte}
+use Rattle.step_names.specs.Grammar.{read_number}
+use Rattle.step_names.specs.declared.step.StepName.{StepName}
+use Rattle.rollback_book.specs.declared.log.KeyAttribute.{KeyAttribute}
+use Rattle.rollback_book.specs.declared.log.KeySchema.{KeySchema}
+use Rattle.rollback_book.specs.declared.log.KeyType.{KeyType}
+use Rattle.rollback_book.specs.declared.log.KeyType.TheVariants.{S, N}
+use Rattle.operator_line.specs.declared.words.KeyWord.{KeyWord}
+use Rattle.operator_line.specs.declared.command.Command.{Command}
+use Rattle.operator_line.specs.declared.command.Command.TheVariants.{Table, Define, Start, Step, Undo, Show, Items, History}
+
+-- A command: of a table its name, its key and its items' JSON; of a definition the machine's name and the definition's
+-- JSON; of a start the execution's thread, the machine's name and the input's JSON. Texts are their bytes.
+pub data Spoken : Type 0 where
+  table : List ℕ → KeySchema → List ℕ → Spoken
+  define : List ℕ → List ℕ → Spoken
+  start : Thread → List ℕ → List ℕ → Spoken
+  step : Thread → Spoken
+  undo : StepName → Spoken
+  show : Thread → Spoken
+  items : Spoken
+  history : Spoken
+
+-- whether two texts have the same bytes
+abbrev pub is_text : List ℕ → List ℕ → Bool
+is_text = pointwise ◌==◌
+
+-- one part after another: nothing where one of them is nothing
+infixl 10 ◌>>=◌
+abbrev pub ◌>>=◌ : {A B : Type 0} → Option A → (A → Option B) → Option B
+o >>= f = option_and_then f o
+
+-- what stands before the first c, and what after it, where there is one
+abbrev pub cut_at : ℕ → List ℕ → Option (List ℕ × List ℕ)
+cut_at c [] = None
+cut_at c (b ∷ text) = if b == c then Some ([], text) else option_map (λ parts. (b ∷ parts.0, parts.1)) (cut_at c text)
+
+-- the first word, which is all of a text that has no space
+abbrev pub first_word : List ℕ → List ℕ
+first_word text = option_map_or (λ parts. parts.0) (cut_at 32 text) text
+
+-- NAME
+abbrev pub name_of : List ℕ → Option (List ℕ)
+name_of word = if is_name word then Some word else None
+
+-- a byte of a NAME, or `.`
+abbrev pub is_table_name_byte : ℕ → Bool
+is_table_name_byte b = is_name_byte b || b == 46
+
+-- NAME2: such bytes, at least one and at most 255
+abbrev pub is_table_name : List ℕ → Bool
+is_table_name word = nat_le 1 (length word) && (nat_le (length word) 255 && list_all is_table_name_byte word)
+
+abbrev pub table_name_of : List ℕ → Option (List ℕ)
+table_name_of word = if is_table_name word then Some word else None
+
+-- T: NAME
+abbrev pub thread_of : List ℕ → Option Thread
+thread_of word = if is_name word then Some (execution word) else None
+
+-- S: NAME `#` NUM
+abbrev pub step_of : List ℕ → Option StepName
+step_of word = do
+  (exec, digits) ← cut_at 35 word
+  thread ← thread_of exec
+  number ← read_number digits
+  Some (record { thread = thread; no = number })
+
+-- K: it isn't empty, and has no `[` in front
+abbrev pub key_name_of : List ℕ → Option (List ℕ)
+key_name_of [] = None
+key_name_of (b ∷ name) = if b == 91 then None else Some (b ∷ name)
+
+-- TYPE: `S` or `N`
+abbrev pub type_of : List ℕ → Option KeyType
+type_of text = if is_text text (codes "S") then Some S else (if is_text text (codes "N") then Some N else None)
+
+-- K `:` TYPE
+abbrev pub key_of : List ℕ → Option KeyAttribute
+key_of word = do
+  (text, letter) ← cut_at 58 word
+  name ← key_name_of text
+  kind ← type_of letter
+  Some (record { name = name; kind = kind })
+
+-- Where the next word is a key too, it is the sort key, which needs another name, and J comes after it. Where it is none, J
+-- comes at once.
+abbrev pub table_by : List ℕ → KeyAttribute → Option KeyAttribute → List ℕ → Option Spoken
+table_by name partition None text = Some (table name (record { partition = partition; sort = None }) text)
+table_by name partition (Some sort) text = do
+  (word, json) ← cut_at 32 text
+  if is_text sort.name partition.name then None else Some (table name (record { partition = partition; sort = Some sort }) json)
+
+-- NAME2 K:TYPE [K:TYPE] J
+abbrev pub table_of : List ℕ → Option Spoken
+table_of text = do
+  (first, after_name) ← cut_at 32 text
+  name ← table_name_of first
+  (second, after_key) ← cut_at 32 after_name
+  partition ← key_of second
+  table_by name partition (key_of (first_word after_key)) after_key
+
+-- NAME J
+abbrev pub define_of : List ℕ → Option Spoken
+define_of text = do
+  (word, json) ← cut_at 32 text
+  name ← name_of word
+  Some (define name json)
+
+-- NAME NAME J
+abbrev pub start_of : List ℕ → Option Spoken
+start_of text = do
+  (first, after_exec) ← cut_at 32 text
+  thread ← thread_of first
+  (second, json) ← cut_at 32 after_exec
+  machine ← name_of second
+  Some (start thread machine json)
+
+-- by the first word, from what stands after it
+abbrev pub command_by : List ℕ → List ℕ → Option Spoken
+command_by keyword text =
+    if is_text keyword (codes "table") then table_of text
+    else (if is_text keyword (codes "define") then define_of text
+    else (if is_text keyword (codes "start") then start_of text
+    else (if is_text keyword (codes "step") then option_map step (thread_of text)
+    else (if is_text keyword (codes "undo") then option_map undo (step_of text)
+    else (if is_text keyword (codes "show") then option_map show (thread_of text)
+    else None)))))
+
+-- of a text
+abbrev pub text_command : List ℕ → Option Spoken
+text_command text =
+    if is_text text (codes "items") then Some items
+    else (if is_text text (codes "history") then Some history
+    else (do
+      (keyword, rest) ← cut_at 32 text
+      command_by keyword rest))
+
+-- the command that a line is, without its end
+abbrev pub command_of : List ℕ → Option Spoken
+command_of line = if is_utf8 line then text_command line else None
+
+-- this line is this command
+abbrev pub Says : Spoken → List ℕ → Type 0
+Says command line = command_of line ≡ Some command
+
+-- a key of the program, as the grammar speaks of it
+abbrev pub attribute_of : KeyWord → KeyAttribute
+attribute_of key = record { name = key.name.now; kind = key.kind }
+
+-- a command of the program, as the grammar speaks of it
+abbrev pub spoken : Command → Spoken
+spoken (Table name schema json) = table name schema json.now
+spoken (Define name json) = define name json.now
+spoken (Start exec machine json) = start exec.thread machine json.now
+spoken (Step thread) = step thread
+spoken (Undo named) = undo named
+spoken (Show thread) = show thread
+spoken Items = items
+spoken History = history
