@@ -3,3 +3,6 @@ pub mod Keywords
 pub mod Spelling
 pub mod Steps
 pub mod Utf8
+pub mod Served
+pub mod Replied
+pub mod Json

@@ -2,3 +2,8 @@ pub mod Lines
 pub mod Grammar
 pub mod GrammarLaws
 mod GrammarRows
+pub mod Texts
+pub mod Replies
+pub mod Replying
+pub mod Answers
+pub mod Serving
