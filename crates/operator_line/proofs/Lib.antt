@@ -4,3 +4,6 @@ pub mod ReadBack
 pub mod Spelling
 pub mod Steps
 pub mod Utf8
+pub mod Served
+pub mod Replied
+pub mod Json

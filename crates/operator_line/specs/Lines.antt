@@ -9,6 +9,10 @@ abbrev pub grown : List ℕ → Option (List ℕ) → Option (List ℕ)
 grown more None = None
 grown more (Some bytes) = if nat_le (length bytes + length more) 1048577 then Some (bytes ++ more) else None
 
+-- what is kept of a line that has begun so
+abbrev pub kept : List ℕ → Option (List ℕ)
+kept front = if nat_le (length front) 1048577 then Some front else None
+
 -- a line has at most 1,048,576 bytes
 abbrev pub within_limit : List ℕ → Option (List ℕ)
 within_limit bytes = if nat_le (length bytes) 1048576 then Some bytes else None

@@ -1,7 +1,16 @@
 // Replies, as they are written.
+ghost use Rattle.std.specs.Prelude.{◌≡◌, ◌+◌, ◌<◌, ◌≤◌, ◌∷◌, ◌++◌, [], codes, length, map, flat_map, string_bytes, string_len, OnOk, OnErr};
+ghost use Rattle.std.specs.Fmt.{decimal};
+ghost use Rattle.std.specs.String.{string_capacity};
+ghost use Rattle.json_tree.specs.View.{data_of, list_of};
+ghost use Rattle.json_tree.specs.Written.{quoted, text_of};
+ghost use Rattle.step_names.specs.Written.{step_text};
+ghost use Rattle.operator_line.specs.Replies.{done_reply, step_reply, moved_reply, kind_text, line_of, list_reply, place_text, fault_text, frame_reply, refused, refused_by, refused_for_step, refused_for_field, machine_reply, readiness_text, refusal_reply};
+ghost use Rattle.operator_line.specs.Replying.{Writes, has_room_for_step};
+
 use asl_machine::MachineFault;
 use json_tree::{Json, Text, write_text};
-use rollback_book::{Fault, Frame, Kind, Phase, Readiness, Refusal, StepRecord};
+use rollback_book::{Fault, Frame, Kind, Moved, Phase, Readiness, Refusal, StepRecord};
 use std::alloc::{AllocError, Global};
 use step_names::{LONGEST_STEP, StepName};
 
@@ -13,108 +22,134 @@ pub(crate) struct Reply {
 
 impl Reply {
     /// No text. Takes no memory.
-    pub(crate) fn new(alloc: Global) -> Reply {
+    pub(crate) fn new(alloc: Global) -> Reply
+        ensures { string_bytes result.text ≡ [] }
+    {
         Reply {
             text: String::new(alloc),
         }
     }
 
-    pub(crate) fn clear(&mut self) {
+    pub(crate) fn clear(&mut self)
+        ensures { string_bytes self.new.text ≡ [] }
+    {
         self.text.clear();
     }
 
-    /// Makes room for any reply that names one step, beforehand.
-    pub(crate) fn reserve_step(&mut self) -> Result<(), AllocError> {
-        self.text.reserve(LONGEST_STEP + 32)
-    }
-
-    pub(crate) fn as_bytes(&self) -> &[u8] {
+    pub(crate) fn as_bytes(&self) -> &[u8]
+        ensures { result.now ≡ string_bytes self.now.text }
+    {
         self.text.as_bytes()
     }
 
+    /// Makes room for any reply that names one step, beforehand.
+    pub(crate) fn reserve_step(&mut self) -> Result<(), AllocError>
+        ensures same { string_bytes self.new.text ≡ string_bytes self.old.text }
+        ensures room { OnOk result (has_room_for_step self.new.text) }
+    {
+        self.text.reserve(LONGEST_STEP + 32)
+    }
+
     /// `ok`.
-    pub(crate) fn accept(&mut self) -> Result<(), AllocError> {
+    pub(crate) fn accept(&mut self) -> Result<(), AllocError>
+        ensures ok { Writes result self.old self.new done_reply }
+        ensures room { has_room_for_step self.old.text → OnErr result ⊥ }
+    {
         self.text.push_str("ok\n")
     }
 
     /// `ok` and a step.
-    pub(crate) fn accept_step(&mut self, step: &StepName) -> Result<(), AllocError> {
+    pub(crate) fn accept_step(&mut self, step: &StepName) -> Result<(), AllocError>
+        ensures ok { Writes result self.old self.new (step_reply step.now) }
+        ensures room { has_room_for_step self.old.text → OnErr result ⊥ }
+    {
+        self.text.reserve(step.text_len() + 4)?;
         self.text.push_str("ok ")?;
-        self.step(step)?;
-        self.end()
+        step.write_to(&mut self.text)?;
+        self.text.push_str("\n")
     }
 
     /// `ok`, a step and its kind.
-    pub(crate) fn accept_kind(&mut self, step: &StepName, kind: Kind) -> Result<(), AllocError> {
+    pub(crate) fn accept_moved(&mut self, moved: &Moved) -> Result<(), AllocError>
+        ensures ok { Writes result self.old self.new (moved_reply moved.now) }
+        ensures room { has_room_for_step self.old.text → OnErr result ⊥ }
+    {
+        self.text.reserve(moved.name.text_len() + 14)?;
         self.text.push_str("ok ")?;
-        self.step(step)?;
-        self.text.push_str(kind_word(kind))?;
-        self.end()
+        moved.name.write_to(&mut self.text)?;
+        self.text.push_str(kind_word(moved.kind))?;
+        self.text.push_str("\n")
     }
 
     /// `ok`, the number of steps, and a line for each.
-    pub(crate) fn accept_steps(&mut self, records: &[StepRecord]) -> Result<(), AllocError> {
-        self.text.push_str("ok ")?;
-        self.number(records.len() as u64)?;
-        self.end()?;
+    pub(crate) fn accept_steps(&mut self, records: &[StepRecord]) -> Result<(), AllocError>
+        ensures ok { Writes result self.old self.new (list_reply (map (λ r. step_text r.fact.name) records.now)) }
+    {
+        self.count(records.len() as u64)?;
         for record in records {
-            self.step(&record.fact.name)?;
-            self.end()?;
+            self.step_line(&record.fact.name)?;
         }
         Ok(())
     }
 
     /// `ok`, the number of items, and a line for each.
-    pub(crate) fn accept_items(&mut self, alloc: Global, items: &[Json]) -> Result<(), AllocError> {
-        self.text.push_str("ok ")?;
-        self.number(items.len() as u64)?;
-        self.end()?;
+    pub(crate) fn accept_items(&mut self, alloc: Global, items: &[Json]) -> Result<(), AllocError>
+        ensures ok { Writes result self.old self.new (list_reply (map text_of (list_of items.now))) }
+    {
+        self.count(items.len() as u64)?;
         for item in items {
-            self.json(alloc, item)?;
-            self.end()?;
+            self.json_line(alloc, item)?;
         }
         Ok(())
     }
 
     /// `ok` and a thread's frame.
-    pub(crate) fn accept_frame(&mut self, alloc: Global, frame: &Frame) -> Result<(), AllocError> {
+    pub(crate) fn accept_frame(&mut self, alloc: Global, frame: &Frame) -> Result<(), AllocError>
+        ensures ok { Writes result self.old self.new (frame_reply frame.now) }
+    {
         match &frame.phase {
             Phase::Ready => {
-                self.text.push_str("ok ready ")?;
+                self.word("ok ready ")?;
                 self.place(alloc, frame)?;
+                self.word("\n")
             }
             Phase::Parked(branches) => {
-                self.text.push_str("ok parked ")?;
+                self.word("ok parked ")?;
                 self.place(alloc, frame)?;
-                self.text.push_str(" ")?;
+                self.word(" ")?;
                 self.number(u64::from(*branches))?;
+                self.word("\n")
             }
             Phase::Done(output) => {
-                self.text.push_str("ok done ")?;
-                self.json(alloc, output)?;
+                self.word("ok done ")?;
+                self.json_line(alloc, output)
             }
             Phase::Failed(fault) => {
-                self.text.push_str("ok failed ")?;
+                self.word("ok failed ")?;
                 self.fault(alloc, fault)?;
+                self.word("\n")
             }
         }
-        self.end()
     }
 
     /// `no` and a code.
-    pub(crate) fn refuse(&mut self, code: u32) -> Result<(), AllocError> {
-        self.text.push_str("no ")?;
+    pub(crate) fn refuse(&mut self, code: u32) -> Result<(), AllocError>
+        ensures ok { Writes result self.old self.new (refused code) }
+    {
+        self.word("no ")?;
         self.number(u64::from(code))?;
-        self.end()
+        self.word("\n")
     }
 
     /// `no`, a code and a number.
-    pub(crate) fn refuse_by(&mut self, code: u32, number: u32) -> Result<(), AllocError> {
-        self.text.push_str("no ")?;
+    pub(crate) fn refuse_by(&mut self, code: u32, number: u32) -> Result<(), AllocError>
+        ensures ok { Writes result self.old self.new (refused_by code number) }
+    {
+        self.word("no ")?;
         self.number(u64::from(code))?;
-        self.text.push_str(" ")?;
+        self.word(" ")?;
         self.number(u64::from(number))?;
-        self.end()
+        self.word("\n")
     }
 
     /// `no` and the refusal of a book.
@@ -122,7 +157,10 @@ impl Reply {
         &mut self,
         alloc: Global,
         refusal: Refusal,
-    ) -> Result<(), AllocError> {
+    ) -> Result<(), AllocError>
+        ensures ok { Writes result self.old self.new (refusal_reply refusal) }
+        ensures memory { refusal ≡ Refusal.Memory → OnOk result ⊥ }
+    {
         match refusal {
             Refusal::NoMachine => self.refuse(1),
             Refusal::MachineTaken => self.refuse(2),
@@ -138,25 +176,26 @@ impl Reply {
         }
     }
 
-    fn refuse_for_step(&mut self, code: u32, step: &StepName) -> Result<(), AllocError> {
-        self.text.push_str("no ")?;
+    fn refuse_for_step(&mut self, code: u32, step: &StepName) -> Result<(), AllocError>
+        ensures ok { Writes result self.old self.new (refused_for_step code step.now) }
+    {
+        self.word("no ")?;
         self.number(u64::from(code))?;
-        self.text.push_str(" ")?;
-        self.step(step)?;
-        self.end()
+        self.word(" ")?;
+        self.step_line(step)
     }
 
-    fn refuse_readiness(&mut self, readiness: Readiness) -> Result<(), AllocError> {
-        self.text.push_str("no 6 ")?;
-        self.text.push_str(match readiness {
-            Readiness::Done => "done",
-            Readiness::Failed => "failed",
-            _ => "waiting",
-        })?;
-        self.end()
+    fn refuse_readiness(&mut self, readiness: Readiness) -> Result<(), AllocError>
+        ensures ok { Writes result self.old self.new (codes "no 6 " ++ line_of (readiness_text readiness)) }
+    {
+        self.word("no 6 ")?;
+        self.word(readiness_word(readiness))?;
+        self.word("\n")
     }
 
-    fn refuse_machine(&mut self, alloc: Global, fault: MachineFault) -> Result<(), AllocError> {
+    fn refuse_machine(&mut self, alloc: Global, fault: MachineFault) -> Result<(), AllocError>
+        ensures ok { Writes result self.old self.new (machine_reply fault) }
+    {
         match fault {
             MachineFault::Missing(field) => self.refuse_field(alloc, 1, field),
             MachineFault::UnknownField(field) => self.refuse_field(alloc, 2, field),
@@ -170,51 +209,86 @@ impl Reply {
         }
     }
 
-    fn refuse_field(&mut self, alloc: Global, fault: u32, field: Text) -> Result<(), AllocError> {
-        self.text.push_str("no 3 ")?;
+    fn refuse_field(&mut self, alloc: Global, fault: u32, field: Text) -> Result<(), AllocError>
+        ensures ok { Writes result self.old self.new (refused_for_field fault field) }
+    {
+        self.word("no 3 ")?;
         self.number(u64::from(fault))?;
-        self.text.push_str(" ")?;
-        self.json(alloc, &Json::Text(field))?;
-        self.end()
+        self.word(" ")?;
+        self.json_line(alloc, &Json::Text(field))
     }
 
     /// The state as a JSON text, and the number of moves.
-    fn place(&mut self, alloc: Global, frame: &Frame) -> Result<(), AllocError> {
+    fn place(&mut self, alloc: Global, frame: &Frame) -> Result<(), AllocError>
+        ensures ok { Writes result self.old self.new (place_text frame.now) }
+    {
         self.quoted(alloc, &frame.state)?;
-        self.text.push_str(" ")?;
+        self.word(" ")?;
         self.number(u64::from(frame.count))
     }
 
-    fn fault(&mut self, alloc: Global, fault: &Fault) -> Result<(), AllocError> {
+    fn fault(&mut self, alloc: Global, fault: &Fault) -> Result<(), AllocError>
+        ensures ok { Writes result self.old self.new (fault_text fault.now) }
+    {
         self.quoted(alloc, &fault.error)?;
-        self.text.push_str(" ")?;
+        self.word(" ")?;
         self.quoted(alloc, &fault.cause)
     }
 
-    fn quoted(&mut self, alloc: Global, text: &Text) -> Result<(), AllocError> {
+    fn quoted(&mut self, alloc: Global, text: &Text) -> Result<(), AllocError>
+        ensures ok { Writes result self.old self.new (quoted text.now) }
+    {
         let text = Json::Text(text.copy()?);
         self.json(alloc, &text)
     }
 
-    fn json(&mut self, alloc: Global, json: &Json) -> Result<(), AllocError> {
+    fn json_line(&mut self, alloc: Global, json: &Json) -> Result<(), AllocError>
+        ensures ok { Writes result self.old self.new (line_of (text_of (data_of json.now))) }
+    {
+        self.json(alloc, json)?;
+        self.word("\n")
+    }
+
+    fn json(&mut self, alloc: Global, json: &Json) -> Result<(), AllocError>
+        ensures ok { Writes result self.old self.new (text_of (data_of json.now)) }
+    {
         let text = write_text(alloc, json)?;
-        self.text.push_str(text.as_str())
+        self.word(text.as_str())
     }
 
-    fn step(&mut self, step: &StepName) -> Result<(), AllocError> {
-        step.write_to(&mut self.text)
+    fn step_line(&mut self, step: &StepName) -> Result<(), AllocError>
+        ensures ok { Writes result self.old self.new (line_of (step_text step.now)) }
+    {
+        step.write_to(&mut self.text)?;
+        self.word("\n")
     }
 
-    fn number(&mut self, number: u64) -> Result<(), AllocError> {
+    /// `ok` and how many lines follow.
+    fn count(&mut self, lines: u64) -> Result<(), AllocError>
+        ensures ok { Writes result self.old self.new (codes "ok " ++ line_of (decimal lines)) }
+    {
+        self.word("ok ")?;
+        self.number(lines)?;
+        self.word("\n")
+    }
+
+    fn number(&mut self, number: u64) -> Result<(), AllocError>
+        ensures ok { Writes result self.old self.new (decimal number) }
+    {
         write!(self.text, "{number}")
     }
 
-    fn end(&mut self) -> Result<(), AllocError> {
-        self.text.push_str("\n")
+    fn word(&mut self, word: &str) -> Result<(), AllocError>
+        ensures ok { Writes result self.old self.new word.now }
+    {
+        self.text.push_str(word)
     }
 }
 
-fn kind_word(kind: Kind) -> &'static str {
+fn kind_word(kind: Kind) -> &'static str
+    ensures text { result.now ≡ kind_text kind }
+    ensures bound { length result.now ≤ 10 }
+{
     match kind {
         Kind::Start => " start",
         Kind::Plain => " plain",
@@ -222,5 +296,15 @@ fn kind_word(kind: Kind) -> &'static str {
         Kind::Fork => " fork",
         Kind::Join => " join",
         Kind::Terminate => " terminate",
+    }
+}
+
+fn readiness_word(readiness: Readiness) -> &'static str
+    ensures { result.now ≡ readiness_text readiness }
+{
+    match readiness {
+        Readiness::Done => "done",
+        Readiness::Failed => "failed",
+        _ => "waiting",
     }
 }

@@ -1,5 +1,12 @@
 // Serving an input: line after line, its reply is written before the next is read.
+ghost use Rattle.std.specs.Prelude.{◌≡◌, ◌<◌, ◌≤◌, ℕ, List, ◌∷◌, ◌++◌, [], true, false, Some, None, Ok, Err, IfSome, IfErr, IsTrue, length, slice_index, take, MatchOption, OnOk};
+ghost use Rattle.std.specs.Io.KnownBytes.{Keeps};
+ghost use Rattle.operator_line.specs.Lines.{grown, ended_line, last_line, bytes_of, kept};
+ghost use Rattle.operator_line.specs.Serving.{ServesLast, ServesLine, ServesPiece, ServesRead, Serves, WritesReply};
+ghost use Rattle.operator_line.specs.Texts.{has_no_feed};
+
 use crate::line::{Line, LineBuffer};
+use crate::reply::Reply;
 use crate::session::Session;
 use std::alloc::{AllocError, Global};
 use std::io::{ErrorKind, Read, Write};
@@ -7,6 +14,9 @@ use thiserror::Error;
 
 /// How many bytes the reader is asked for at once.
 const PIECE: usize = 65_536;
+
+/// What a refused growth is answered, from no memory.
+const MEMORY: &[u8] = b"no 11\n";
 
 /// Why serving ended before the input did.
 #[derive(Clone, Copy, Debug, PartialEq, Eq, Error)]
@@ -19,90 +29,204 @@ pub enum ServeFault {
     Memory,
 }
 
+/// What is between the reader and the writer: the line that is being read, and the reply that is being written.
+#[derive(Drop)]
+struct Buffers {
+    line: LineBuffer,
+    reply: Reply,
+}
+
 /// Answers each line of the reader, and writes the replies.
 ///
 /// Nothing of a line is applied before the whole line was read. Where a reply can't be written, the command stands. Where
 /// the reader fails, would be asked more than 4,294,967,295 times, or memory for a line is refused, nothing of that line
 /// is applied.
+///
+/// Takes a block of 65,536 bytes and the room of the longest line and of the longest reply. The replies to the lines of
+/// one piece of the input are flushed together.
 pub fn serve<R: Read, W: Write>(
     alloc: Global,
     reader: &mut R,
     writer: &mut W,
     session: &mut Session,
-) -> Result<(), ServeFault> {
+) -> Result<(), ServeFault>
+    ensures answers { IfSome (R.remaining reader.old) (λ input.
+        Serves result input session.old session.new (W.contents writer.old) (W.contents writer.new)) }
+    ensures whole { IfSome (R.remaining reader.old) (λ _. OnOk result (R.remaining reader.new ≡ Some [])) }
+{
     let Ok(mut piece) = vec![in alloc; 0u8; PIECE] else {
         return Err(ServeFault::Memory);
     };
-    let mut line = LineBuffer::new(alloc);
+    let mut buffers = Buffers {
+        line: LineBuffer::new(alloc),
+        reply: Reply::new(alloc),
+    };
     for _ in 0..u32::MAX {
-        let count = match reader.read(&mut piece) {
-            Ok(count) => count,
-            Err(e) => {
-                if e.kind() == ErrorKind::Interrupted {
-                    continue;
-                }
-                return Err(ServeFault::Read);
-            }
-        };
-        if count == 0 {
-            return serve_last(&line, writer, session);
+        if !serve_read(reader, &mut piece, &mut buffers, writer, session)? {
+            return serve_last(&mut buffers, writer, session);
         }
-        serve_piece(&piece[..count], &mut line, writer, session)?;
     }
     Err(ServeFault::Read)
+}
+
+/// Asks the reader once and answers the lines that end in what it gives. Answers whether there may be more.
+fn serve_read<R: Read, W: Write>(
+    reader: &mut R,
+    piece: &mut [u8],
+    buffers: &mut Buffers,
+    writer: &mut W,
+    session: &mut Session,
+) -> Result<bool, ServeFault>
+    requires { 0 < length piece.old }
+    ensures { (front : List ℕ) (text : List ℕ) → buffers.old.line ≡ kept front → R.remaining reader.old ≡ Some text
+        → ServesRead result front text (R.remaining reader.new) buffers.new.line session.old session.new (W.contents writer.old) (W.contents writer.new) }
+{
+    match reader.read(piece) {
+        Ok(0) => Ok(false),
+        Ok(count) => {
+            serve_piece(&piece[..count], buffers, writer, session)?;
+            Ok(true)
+        }
+        Err(error) => {
+            if error.kind() == ErrorKind::Interrupted {
+                Ok(true)
+            } else {
+                Err(ServeFault::Read)
+            }
+        }
+    }
 }
 
 /// Answers the lines that end in a piece of the input, and keeps what comes after them.
 fn serve_piece<W: Write>(
     piece: &[u8],
-    line: &mut LineBuffer,
+    buffers: &mut Buffers,
     writer: &mut W,
     session: &mut Session,
-) -> Result<(), ServeFault> {
-    let mut start = 0;
-    for (at, byte) in piece.iter().enumerate() {
+) -> Result<(), ServeFault>
+    ensures { (front : List ℕ) → buffers.old.line ≡ kept front
+        → ServesPiece result front piece.now buffers.new.line session.old session.new (W.contents writer.old) (W.contents writer.new) }
+{
+    let mut rest = piece;
+    let mut has_line = false;
+    while let Some((front, after)) = cut_line(rest) {
+        serve_line(front, buffers, writer, session)?;
+        has_line = true;
+        rest = after;
+    }
+    add(&mut buffers.line, rest)?;
+    if has_line { flush(writer) } else { Ok(()) }
+}
+
+/// What stands before the first line feed, and what after it.
+fn cut_line(bytes: &[u8]) -> Option<(&[u8], &[u8])>
+    ensures { MatchOption result (IsTrue (has_no_feed bytes.now)) (λ parts. IsTrue (has_no_feed parts.0.now) × (bytes.now ≡ parts.0.now ++ 10 ∷ parts.1.now)) }
+{
+    let end = line_len(bytes);
+    if end < bytes.len() {
+        Some((&bytes[..end], &bytes[end + 1..]))
+    } else {
+        None
+    }
+}
+
+/// How many bytes stand before the first line feed.
+fn line_len(bytes: &[u8]) -> usize
+    ensures within { result ≤ length bytes.now }
+    ensures before { IsTrue (has_no_feed (take result bytes.now)) }
+    ensures feed { result < length bytes.now → slice_index bytes.now result ≡ 10 }
+{
+    for (i, byte) in bytes.iter().enumerate() {
         if *byte == b'\n' {
-            add(line, &piece[start..at])?;
-            write_answer(line.ended(), writer, session)?;
-            line.clear();
-            start = at + 1;
+            return i;
         }
     }
-    add(line, &piece[start..])?;
-    flush(writer)
+    bytes.len()
 }
 
-/// Answers what stands after the last line feed.
-fn serve_last<W: Write>(
-    line: &LineBuffer,
+/// Answers the line that these bytes end, before a line feed.
+fn serve_line<W: Write>(
+    front: &[u8],
+    buffers: &mut Buffers,
     writer: &mut W,
     session: &mut Session,
-) -> Result<(), ServeFault> {
-    if let Some(last) = line.last() {
-        write_answer(last, writer, session)?;
-    }
+) -> Result<(), ServeFault>
+    ensures answers { ServesLine result (ended_line (grown front.now buffers.old.line)) session.old session.new (W.contents writer.old) (W.contents writer.new) }
+    ensures begun { OnOk result (buffers.new.line ≡ Some []) }
+{
+    add(&mut buffers.line, front)?;
+    write_answer(buffers.line.ended(), &mut buffers.reply, writer, session)?;
+    buffers.line.clear();
+    Ok(())
+}
+
+/// Answers what stands after the last line feed, if anything does.
+fn serve_last<W: Write>(
+    buffers: &mut Buffers,
+    writer: &mut W,
+    session: &mut Session,
+) -> Result<(), ServeFault>
+    ensures { ServesLast result (last_line buffers.old.line) session.old session.new (W.contents writer.old) (W.contents writer.new) }
+{
+    let Some(last) = buffers.line.last() else {
+        return Ok(());
+    };
+    write_answer(last, &mut buffers.reply, writer, session)?;
     flush(writer)
 }
 
-fn add(line: &mut LineBuffer, bytes: &[u8]) -> Result<(), ServeFault> {
+fn add(line: &mut LineBuffer, bytes: &[u8]) -> Result<(), ServeFault>
+    ensures ok { OnOk result (line.new ≡ grown bytes.now line.old) }
+    ensures err { IfErr result (λ e. e ≡ ServeFault.Memory) }
+{
     match line.add(bytes) {
         Ok(()) => Ok(()),
         Err(AllocError) => Err(ServeFault::Memory),
     }
 }
 
+/// Answers a line, and writes its reply.
 fn write_answer<W: Write>(
     line: Line<'_>,
+    reply: &mut Reply,
     writer: &mut W,
     session: &mut Session,
-) -> Result<(), ServeFault> {
-    match writer.write_all(session.answer(line)) {
-        Ok(()) => Ok(()),
-        Err(_) => Err(ServeFault::Write),
+) -> Result<(), ServeFault>
+    ensures answers { ServesLine result (bytes_of line.entry) session.old session.new (W.contents writer.old) (W.contents writer.new) }
+    ensures no_memory { result ≡ Err ServeFault.Memory → ⊥ }
+{
+    match session.answer(line, reply) {
+        Ok(()) => write_all(writer, reply.as_bytes()),
+        Err(AllocError) => write_all(writer, MEMORY),
     }
 }
 
-fn flush<W: Write>(writer: &mut W) -> Result<(), ServeFault> {
+/// Writes all of a reply, in as many calls as the writer needs. A writer that takes nothing has failed.
+fn write_all<W: Write>(writer: &mut W, reply: &[u8]) -> Result<(), ServeFault>
+    ensures { WritesReply result reply.now (W.contents writer.old) (W.contents writer.new) }
+{
+    let mut rest = reply;
+    for _ in 0..u64::MAX {
+        if rest.is_empty() {
+            return Ok(());
+        }
+        match writer.write(rest) {
+            Ok(0) => return Err(ServeFault::Write),
+            Ok(count) => rest = &rest[count..],
+            Err(error) => {
+                if error.kind() != ErrorKind::Interrupted {
+                    return Err(ServeFault::Write);
+                }
+            }
+        }
+    }
+    Err(ServeFault::Write)
+}
+
+fn flush<W: Write>(writer: &mut W) -> Result<(), ServeFault>
+    ensures kept { Keeps (W.contents writer.old) (W.contents writer.new) }
+    ensures err { IfErr result (λ e. e ≡ ServeFault.Write) }
+{
     match writer.flush() {
         Ok(()) => Ok(()),
         Err(_) => Err(ServeFault::Write),

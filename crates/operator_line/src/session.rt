@@ -1,5 +1,11 @@
 // A session: a book, and the commands that are given to it.
-ghost use Rattle.std.specs.Prelude.{◌≡◌, ◌≤◌};
+ghost use Rattle.std.specs.Prelude.{◌≡◌, ◌≤◌, [], Some, None, option_map, string_bytes, OnOk, OnErr};
+ghost use Rattle.operator_line.specs.Answers.{AnswersCommand, AnswersLine};
+ghost use Rattle.operator_line.specs.Grammar as grammar;
+ghost use Rattle.operator_line.specs.Grammar.{spoken};
+ghost use Rattle.operator_line.specs.Lines.{bytes_of};
+ghost use Rattle.operator_line.specs.Replies.{json_reply};
+ghost use Rattle.operator_line.specs.Replying.{Writes};
 
 use crate::command::{Command, CommandFault, Execution};
 use crate::line::Line;
@@ -8,6 +14,7 @@ use json_tree::{Json, JsonFault, Text, read};
 use rollback_book::{Begin, Book, KeySchema};
 use serde_json::Value;
 use std::alloc::{AllocError, Global};
+use std::marker::Model;
 use step_names::{StepName, ThreadName};
 
 const BAD_LINE: u32 = 20;
@@ -20,84 +27,106 @@ const BAD_BEGIN: u32 = 23;
 
 const BAD_JSON: u32 = 25;
 
-/// What a refused growth is answered, from no memory.
-const MEMORY: &[u8] = b"no 11\n";
-
-/// The book of one session, none before its table is given.
+/// The book of one session, none before its table is given. Contracts see the book.
 #[derive(Drop)]
 pub struct Session {
     alloc: Global,
     book: Option<Book>,
-    reply: Reply,
+}
+
+impl Model for Session {
+    ghost use Rattle.std.specs.Prelude.{Option};
+    ghost use Rattle.rollback_book.specs.Story.{Story};
+    ghost use Rattle.rollback_book.specs.contracts.book.Book as book_row;
+    ghost use Rattle.std.specs.Coded.{codes};
+
+    ghost Value = { Option Story };
+
+    ghost coded = { Prim.hlevel (codes, book_row.the_row.coded) };
+
+    ghost view = { λ s. s.book };
 }
 
 impl Session {
     /// A session without a book. Takes no memory.
-    pub fn new(alloc: Global) -> Session {
-        Session {
-            alloc,
-            book: None,
-            reply: Reply::new(alloc),
-        }
+    pub fn new(alloc: Global) -> Session
+        ensures { result ≡ None }
+    {
+        Session { alloc, book: None }
     }
 
-    pub fn book(&self) -> Option<&Book> {
+    /// The book, once its table was given. Takes no memory.
+    pub fn book(&self) -> Option<&Book>
+        ensures { option_map (λ book. book.now) result ≡ self.now }
+    {
         self.book.as_ref()
     }
 
-    /// Gives one line to the book, and answers the reply: none to an empty line. A refusal changes nothing.
-    pub fn answer(&mut self, line: Line<'_>) -> &[u8] {
-        self.reply.clear();
-        match self.write_answer(line) {
-            Ok(()) => self.reply.as_bytes(),
-            Err(AllocError) => MEMORY,
-        }
-    }
-
-    fn write_answer(&mut self, line: Line<'_>) -> Result<(), AllocError> {
+    /// Gives one line to the book, and writes its reply: none to an empty line. Where memory is refused, nothing has
+    /// changed.
+    pub(crate) fn answer(&mut self, line: Line<'_>, reply: &mut Reply) -> Result<(), AllocError>
+        ensures ok { OnOk result (AnswersLine self.old (bytes_of line.entry) (string_bytes reply.new.text) self.new) }
+        ensures err { OnErr result (self.new ≡ self.old) }
+        ensures empty { bytes_of line.entry ≡ Some [] → OnErr result ⊥ }
+    {
+        reply.clear();
         let bytes = match line {
             Line::Whole([]) => return Ok(()),
             Line::Whole(bytes) => bytes,
-            Line::TooLong => return self.reply.refuse(BAD_LINE),
+            Line::TooLong => return reply.refuse(BAD_LINE),
         };
         match Command::read(self.alloc, bytes) {
-            Ok(command) => self.run(command),
-            Err(CommandFault::BadLine) => self.reply.refuse(BAD_LINE),
+            Ok(command) => self.run(command, reply),
+            Err(CommandFault::BadLine) => reply.refuse(BAD_LINE),
             Err(CommandFault::Memory) => Err(AllocError),
         }
     }
 
-    fn run(&mut self, command: Command<'_>) -> Result<(), AllocError> {
+    fn run(&mut self, command: Command<'_>, reply: &mut Reply) -> Result<(), AllocError>
+        requires { string_bytes reply.old.text ≡ [] }
+        ensures ok { OnOk result (AnswersCommand self.old (spoken command.entry) (string_bytes reply.new.text) self.new) }
+        ensures err { OnErr result (self.new ≡ self.old) }
+    {
         match command {
             Command::Table {
                 name,
                 schema,
                 items,
-            } => self.table(name, schema, items),
-            Command::Define { name, definition } => self.define(&name, definition),
+            } => self.table(name, schema, items, reply),
+            Command::Define { name, definition } => self.define(&name, definition, reply),
             Command::Start {
                 exec,
                 machine,
                 input,
-            } => self.start(&exec, &machine, input),
-            Command::Step(thread) => self.step(&thread),
-            Command::Undo(step) => self.undo(&step),
-            Command::Show(thread) => self.show(&thread),
-            Command::Items => self.items(),
-            Command::History => self.history(),
+            } => self.start(&exec, &machine, input, reply),
+            Command::Step(thread) => self.step(&thread, reply),
+            Command::Undo(step) => self.undo(&step, reply),
+            Command::Show(thread) => self.show(&thread, reply),
+            Command::Items => self.items(reply),
+            Command::History => self.history(reply),
         }
     }
 
-    fn table(&mut self, table: Text, schema: KeySchema, items: &str) -> Result<(), AllocError> {
+    fn table(
+        &mut self,
+        table: Text,
+        schema: KeySchema,
+        items: &str,
+        reply: &mut Reply,
+    ) -> Result<(), AllocError>
+        requires { string_bytes reply.old.text ≡ [] }
+        ensures ok { OnOk result (AnswersCommand self.old (grammar.table table schema items.now) (string_bytes reply.new.text) self.new) }
+        ensures err { OnErr result (self.new ≡ self.old) }
+    {
         if self.book.is_some() {
-            return self.reply.refuse(TABLE_TAKEN);
+            return reply.refuse(TABLE_TAKEN);
         }
         let items = match read(self.alloc, items.as_bytes()) {
             Ok(Json::List(items)) => items,
-            Ok(_) => return self.reply.refuse_by(BAD_BEGIN, 1),
-            Err(fault) => return self.refuse_json(fault),
+            Ok(_) => return reply.refuse_by(BAD_BEGIN, 1),
+            Err(fault) => return refuse_json(fault, reply),
         };
-        self.reply.reserve_step()?;
+        reply.reserve_step()?;
         let begin = Begin {
             table,
             schema,
@@ -105,14 +134,18 @@ impl Session {
         };
         match Book::open(self.alloc, begin) {
             Ok(book) => self.book = Some(book),
-            Err(_) => return self.reply.refuse_by(BAD_BEGIN, 1),
+            Err(_) => return reply.refuse_by(BAD_BEGIN, 1),
         }
-        self.reply.accept()
+        reply.accept()
     }
 
-    fn define(&mut self, name: &Text, definition: &str) -> Result<(), AllocError> {
+    fn define(&mut self, name: &Text, definition: &str, reply: &mut Reply) -> Result<(), AllocError>
+        requires { string_bytes reply.old.text ≡ [] }
+        ensures ok { OnOk result (AnswersCommand self.old (grammar.define name.now definition.now) (string_bytes reply.new.text) self.new) }
+        ensures err { OnErr result (self.new ≡ self.old) }
+    {
         let Some(book) = &mut self.book else {
-            return self.reply.refuse(NO_TABLE);
+            return reply.refuse(NO_TABLE);
         };
         let definition = match Value::from_str(self.alloc, definition) {
             Ok(definition) => definition,
@@ -120,86 +153,117 @@ impl Session {
                 if fault.is_memory() {
                     return Err(AllocError);
                 }
-                return self.reply.refuse_by(BAD_JSON, 1);
+                return reply.refuse_by(BAD_JSON, 1);
             }
         };
-        self.reply.reserve_step()?;
+        reply.reserve_step()?;
         match book.define(self.alloc, name, &definition) {
-            Ok(()) => self.reply.accept(),
-            Err(refusal) => self.reply.refuse_command(self.alloc, refusal),
+            Ok(()) => reply.accept(),
+            Err(refusal) => reply.refuse_command(self.alloc, refusal),
         }
     }
 
-    fn start(&mut self, exec: &Execution, machine: &Text, input: &str) -> Result<(), AllocError> {
+    fn start(
+        &mut self,
+        exec: &Execution,
+        machine: &Text,
+        input: &str,
+        reply: &mut Reply,
+    ) -> Result<(), AllocError>
+        requires { string_bytes reply.old.text ≡ [] }
+        ensures ok { OnOk result (AnswersCommand self.old (grammar.start exec.now.thread machine.now input.now) (string_bytes reply.new.text) self.new) }
+        ensures err { OnErr result (self.new ≡ self.old) }
+    {
         let Some(book) = &mut self.book else {
-            return self.reply.refuse(NO_TABLE);
+            return reply.refuse(NO_TABLE);
         };
         let input = match read(self.alloc, input.as_bytes()) {
             Ok(input) => input,
-            Err(fault) => return self.refuse_json(fault),
+            Err(fault) => return refuse_json(fault, reply),
         };
-        self.reply.reserve_step()?;
+        reply.reserve_step()?;
         match book.start(self.alloc, &exec.thread, machine, input) {
-            Ok(name) => self.reply.accept_step(&name),
-            Err(refusal) => self.reply.refuse_command(self.alloc, refusal),
+            Ok(name) => reply.accept_step(&name),
+            Err(refusal) => reply.refuse_command(self.alloc, refusal),
         }
     }
 
-    fn step(&mut self, thread: &ThreadName) -> Result<(), AllocError> {
+    fn step(&mut self, thread: &ThreadName, reply: &mut Reply) -> Result<(), AllocError>
+        requires { string_bytes reply.old.text ≡ [] }
+        ensures ok { OnOk result (AnswersCommand self.old (grammar.step thread.now) (string_bytes reply.new.text) self.new) }
+        ensures err { OnErr result (self.new ≡ self.old) }
+    {
         let Some(book) = &mut self.book else {
-            return self.reply.refuse(NO_TABLE);
+            return reply.refuse(NO_TABLE);
         };
-        self.reply.reserve_step()?;
+        reply.reserve_step()?;
         match book.step(self.alloc, thread) {
-            Ok(moved) => self.reply.accept_kind(&moved.name, moved.kind),
-            Err(refusal) => self.reply.refuse_command(self.alloc, refusal),
+            Ok(moved) => reply.accept_moved(&moved),
+            Err(refusal) => reply.refuse_command(self.alloc, refusal),
         }
     }
 
-    fn undo(&mut self, step: &StepName) -> Result<(), AllocError> {
+    fn undo(&mut self, step: &StepName, reply: &mut Reply) -> Result<(), AllocError>
+        requires { string_bytes reply.old.text ≡ [] }
+        ensures ok { OnOk result (AnswersCommand self.old (grammar.undo step.now) (string_bytes reply.new.text) self.new) }
+        ensures err { OnErr result (self.new ≡ self.old) }
+    {
         let Some(book) = &mut self.book else {
-            return self.reply.refuse(NO_TABLE);
+            return reply.refuse(NO_TABLE);
         };
-        self.reply.reserve_step()?;
+        reply.reserve_step()?;
         let room = match book.room(self.alloc, step) {
             Ok(room) => room,
-            Err(refusal) => return self.reply.refuse_command(self.alloc, refusal),
+            Err(_) => return Err(AllocError),
         };
         match book.undo(room) {
-            Ok(_step) => self.reply.accept(),
-            Err(refusal) => self.reply.refuse_command(self.alloc, refusal),
+            Ok(_step) => reply.accept(),
+            Err(refusal) => reply.refuse_command(self.alloc, refusal),
         }
     }
 
-    fn show(&mut self, thread: &ThreadName) -> Result<(), AllocError> {
+    fn show(&self, thread: &ThreadName, reply: &mut Reply) -> Result<(), AllocError>
+        requires { string_bytes reply.old.text ≡ [] }
+        ensures ok { OnOk result (AnswersCommand self.now (grammar.show thread.now) (string_bytes reply.new.text) self.now) }
+    {
         let Some(book) = &self.book else {
-            return self.reply.refuse(NO_TABLE);
+            return reply.refuse(NO_TABLE);
         };
         match book.show(thread) {
-            Ok(frame) => self.reply.accept_frame(self.alloc, frame),
-            Err(refusal) => self.reply.refuse_command(self.alloc, refusal),
+            Ok(frame) => reply.accept_frame(self.alloc, frame),
+            Err(refusal) => reply.refuse_command(self.alloc, refusal),
         }
     }
 
-    fn items(&mut self) -> Result<(), AllocError> {
+    fn items(&self, reply: &mut Reply) -> Result<(), AllocError>
+        requires { string_bytes reply.old.text ≡ [] }
+        ensures ok { OnOk result (AnswersCommand self.now grammar.items (string_bytes reply.new.text) self.now) }
+    {
         match &self.book {
-            Some(book) => self.reply.accept_items(self.alloc, book.items()),
-            None => self.reply.refuse(NO_TABLE),
+            Some(book) => reply.accept_items(self.alloc, book.items()),
+            None => reply.refuse(NO_TABLE),
         }
     }
 
-    fn history(&mut self) -> Result<(), AllocError> {
+    fn history(&self, reply: &mut Reply) -> Result<(), AllocError>
+        requires { string_bytes reply.old.text ≡ [] }
+        ensures ok { OnOk result (AnswersCommand self.now grammar.history (string_bytes reply.new.text) self.now) }
+    {
         match &self.book {
-            Some(book) => self.reply.accept_steps(book.history()),
-            None => self.reply.refuse(NO_TABLE),
+            Some(book) => reply.accept_steps(book.history()),
+            None => reply.refuse(NO_TABLE),
         }
     }
+}
 
-    fn refuse_json(&mut self, fault: JsonFault) -> Result<(), AllocError> {
-        match fault {
-            JsonFault::NotJson => self.reply.refuse_by(BAD_JSON, 1),
-            JsonFault::NotWhole => self.reply.refuse_by(BAD_JSON, 2),
-            JsonFault::Memory => Err(AllocError),
-        }
+/// Tells what is wrong with a text of JSON.
+fn refuse_json(fault: JsonFault, reply: &mut Reply) -> Result<(), AllocError>
+    ensures ok { Writes result reply.old reply.new (json_reply fault) }
+    ensures memory { fault ≡ JsonFault.Memory → OnOk result ⊥ }
+{
+    match fault {
+        JsonFault::NotJson => reply.refuse_by(BAD_JSON, 1),
+        JsonFault::NotWhole => reply.refuse_by(BAD_JSON, 2),
+        JsonFault::Memory => Err(AllocError),
     }
 }

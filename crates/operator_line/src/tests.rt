@@ -38,18 +38,55 @@ fn empty_input(rt: HostRuntime) -> Result<(), Fail> {
     Ok(())
 }
 
+const FIRST_ROWS: [(&str, &str); 7] = [
+    ("table items id:S []", "ok\n"),
+    (MACHINE_P, "ok\n"),
+    ("start a p {}", "ok a#0\n"),
+    ("step a", "ok a#1 plain\n"),
+    ("show a", "ok done 7\n"),
+    ("undo a#1", "ok\n"),
+    ("show a", "ok ready \"P\" 0\n"),
+];
+
 #[test]
 fn first_path(rt: HostRuntime) -> Result<(), Fail> {
-    let rows = [
-        ("table items id:S []", "ok\n"),
-        (MACHINE_P, "ok\n"),
-        ("start a p {}", "ok a#0\n"),
-        ("step a", "ok a#1 plain\n"),
-        ("show a", "ok done 7\n"),
-        ("undo a#1", "ok\n"),
-        ("show a", "ok ready \"P\" 0\n"),
-    ];
-    expect(&rt, rt.alloc(), rows.as_slice())
+    expect(&rt, rt.alloc(), FIRST_ROWS.as_slice())
+}
+
+/// The reply to a line that is served alone, none where serving ended for want of memory.
+fn reply_to(alloc: Global, session: &mut Session, line: &str) -> Result<Option<Vec<u8>>, AllocError> {
+    let input = format!(in alloc; "{line}\n")?;
+    let mut reader = input.as_bytes();
+    let mut writer = Vec::new(alloc);
+    match serve(alloc, &mut reader, &mut writer, session) {
+        Ok(()) => Ok(Some(writer)),
+        Err(_) => Ok(None),
+    }
+}
+
+/// Whether a line has this reply, perhaps after it was refused once for want of memory.
+fn is_told(alloc: Global, session: &mut Session, line: &str, reply: &str) -> Result<bool, AllocError> {
+    if let Some(told) = reply_to(alloc, session, line)? {
+        if told.as_slice() != b"no 11\n".as_slice() {
+            return Ok(told.as_slice() == reply.as_bytes());
+        }
+    }
+    match reply_to(alloc, session, line)? {
+        Some(told) => Ok(told.as_slice() == reply.as_bytes()),
+        None => Ok(false),
+    }
+}
+
+/// For `rt try --test --fail-alloc N`, which refuses the Nth growth: the line that it strikes is told `no 11`, or serving
+/// ends, and has changed nothing, so that the line's reply is its row's when it comes again.
+#[test]
+fn first_path_with_a_refused_growth(rt: HostRuntime) -> Result<(), Fail> {
+    let alloc = rt.alloc();
+    let mut session = Session::new(alloc);
+    for (line, reply) in FIRST_ROWS {
+        assert!(rt; is_told(alloc, &mut session, line, reply)?, "at {line}");
+    }
+    Ok(())
 }
 
 #[test]

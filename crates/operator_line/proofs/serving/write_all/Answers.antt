@@ -1,0 +1,21 @@
+use Rattle.std.proofs.Common.{rules, ◌≡◌, ℕ, ◌-◌, List, [], ◌++◌, length, take, drop, sym, ap, subst, ◌∙◌, append_assoc, take-append-drop}
+use Rattle.std.proofs.lemmas.List.{take_rest}
+use Rattle.std.specs.Io.KnownBytes.{Appends, Keeps}
+use Rattle.std.proofs.KnownBytes.{Appends-trans, Appends-kept}
+use Rattle.operator_line.proofs.serving.write_all.Goals as goal
+use Rattle.operator_line.proofs.serving.write_all.Goals.{in-Ok, in-Err+else-ne}
+
+moves_front : (all done rest : List ℕ) (n : ℕ) → all ≡ done ++ rest → all ≡ (done ++ take n rest) ++ take (length rest - n) (drop n rest)
+moves_front all done rest n e =
+    e ∙ ap (λ l. done ++ l) (sym (take-append-drop n rest)) ∙ sym (append_assoc done (take n rest) (drop n rest)) ∙ ap (λ l. (done ++ take n rest) ++ l) (sym (take_rest rest n))
+
+pub loop-preserved : goal.loop-preserved
+loop-preserved g c =
+    let (done, split, appended) = c.loop.invariant in
+    let rest = c.loop.rest.now in
+    elim c.match-write.branch [
+      | in-Ok w ↦
+          let n = w.in-Ok.count in
+          (done ++ take n rest, moves_front _ done rest n split ∙ ap (λ l. (done ++ take n rest) ++ l) (sym (ap (λ b. b.now) w.rest-is)), Appends-trans _ _ _ _ _ appended w.in-Ok.ensures.bytes)
+      | in-Err+else-ne w ↦ (done, split ∙ ap (λ l. done ++ l) (sym (ap (λ b. b.now) w.rest-is)), Appends-kept _ _ _ _ appended w.in-Err.ensures.bytes)
+    ]

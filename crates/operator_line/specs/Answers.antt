@@ -1,0 +1,162 @@
+-- What lines are answered, and what the book is afterwards. Open are want of memory, which is told and changes nothing, and
+-- which fault of a definition is told, among those that stand.
+use Rattle.std.specs.Prelude.{◌≡◌, ℕ, ◌⊎◌, List, [], ◌∷◌, ◌++◌, map, false, Option, None, Some, option_and_then, Result, Ok, Err}
+use Rattle.serde_json.specs.Data as source
+use Rattle.serde_json.specs.Read as source_text
+use Rattle.json_tree.specs.Data.{Data, null, boolean, whole, text, list, fields, no_items, item}
+use Rattle.json_tree.specs.Reading.{source_of, whole_of}
+use Rattle.json_tree.specs.View.{data_of}
+use Rattle.json_tree.specs.declared.tree.Json.{Json}
+use Rattle.asl_machine.specs.Definition.{Definition}
+use Rattle.asl_machine.specs.Reading.{definition_of}
+use Rattle.step_names.specs.Thread.{Thread}
+use Rattle.step_names.specs.Written.{step_text}
+use Rattle.step_names.specs.declared.step.StepName.{StepName}
+use Rattle.rollback_book.specs.Names.{name_of}
+use Rattle.rollback_book.specs.Story.{Story, accepted, remaining, machine_of, world_of}
+use Rattle.rollback_book.specs.Answers.{IsDefineRefusal, is_full_for_define, start_answer, step_answer, undo_answer}
+use Rattle.rollback_book.specs.declared.frame.Frame.{Frame}
+use Rattle.rollback_book.specs.declared.log.Entry.{Entry}
+use Rattle.rollback_book.specs.declared.log.Entry.TheVariants.{Define, Start, Step as Stepped, Undo}
+use Rattle.rollback_book.specs.declared.log.KeySchema.{KeySchema}
+use Rattle.rollback_book.specs.declared.refusal.Refusal.{Refusal}
+use Rattle.rollback_book.specs.declared.step.Moved.{Moved}
+use Rattle.operator_line.specs.Grammar as spoken
+use Rattle.operator_line.specs.Grammar.{Spoken, command_of}
+use Rattle.operator_line.specs.Replies.{done_reply, step_reply, moved_reply, list_reply, frame_reply, refused, refused_by, refusal_reply, memory_reply}
+use Rattle.operator_line.specs.Texts.{lines_of}
+
+-- this is told, and this is the book then: such is the reply, and the book afterwards
+abbrev pub Tells : List ℕ → Option Story → List ℕ → Option Story → Type 0
+Tells told book reply after = (reply ≡ told) × (after ≡ book)
+
+-- ---- JSON of a line
+
+-- a value whose numbers are whole, or what is told where the text is none
+abbrev pub OfWhole : Option Data → (List ℕ → Type 0) → (Data → Type 0) → Type 0
+OfWhole None Refused Read = Refused (refused_by 25 2)
+OfWhole (Some d) Refused Read = Read d
+
+abbrev pub OfSource : Option source.Data → (List ℕ → Type 0) → (Data → Type 0) → Type 0
+OfSource None Refused Read = Refused (refused_by 25 1)
+OfSource (Some d) Refused Read = OfWhole (whole_of d) Refused Read
+
+abbrev pub OfJson : List ℕ → (List ℕ → Type 0) → (Data → Type 0) → Type 0
+OfJson json Refused Read = OfSource (source_of json) Refused Read
+
+-- ---- each command
+
+-- the table begins with a list of items, of which none is taken yet
+abbrev pub AnswersItems : List ℕ → KeySchema → Data → List ℕ → Option Story → Type 0
+AnswersItems name schema (list no_items) = Tells done_reply (Some (record { begin = record { table = name; schema = schema; items = [] }; log = [] }))
+AnswersItems name schema (list (item d ds)) = Tells (refused_by 23 1) None
+AnswersItems name schema null = Tells (refused_by 23 1) None
+AnswersItems name schema (boolean b) = Tells (refused_by 23 1) None
+AnswersItems name schema (whole z) = Tells (refused_by 23 1) None
+AnswersItems name schema (text s) = Tells (refused_by 23 1) None
+AnswersItems name schema (fields ms) = Tells (refused_by 23 1) None
+
+abbrev pub AnswersTable : List ℕ → KeySchema → List ℕ → List ℕ → Option Story → Type 0
+AnswersTable name schema json reply after =
+    OfJson json (λ told. Tells told None reply after) (λ d. AnswersItems name schema d reply after)
+
+-- a machine is defined where its name is free, where it is one, and where there is room; else it is refused for what stands
+pub record Defines (story : Story) (name : List ℕ) (d : source.Data) (reply : List ℕ) (after : Option Story) : Type 0 where
+  pub machine : Definition
+  pub is_one : definition_of d ≡ Some machine
+  pub free : machine_of name story.log ≡ None
+  pub room : is_full_for_define story.log ≡ false
+  pub told : Tells done_reply (Some (accepted story (Define name machine))) reply after
+
+pub record RefusesDefine (story : Story) (name : List ℕ) (d : source.Data) (reply : List ℕ) (after : Option Story) : Type 0 where
+  pub refusal : Refusal
+  pub stands : IsDefineRefusal story.log name d refusal
+  pub told : Tells (refusal_reply refusal) (Some story) reply after
+
+abbrev pub AnswersDefine : Story → List ℕ → Option source.Data → List ℕ → Option Story → Type 0
+AnswersDefine story name None reply after = Tells (refused_by 25 1) (Some story) reply after
+AnswersDefine story name (Some d) reply after = Defines story name d reply after ⊎ RefusesDefine story name d reply after
+
+abbrev pub AnswersStarted : Story → Entry → Result StepName Refusal → List ℕ → Option Story → Type 0
+AnswersStarted story entry (Ok name) = Tells (step_reply name) (Some (accepted story entry))
+AnswersStarted story entry (Err refusal) = Tells (refusal_reply refusal) (Some story)
+
+pub record AnswersInput (story : Story) (exec : Thread) (machine : List ℕ) (d : Data) (reply : List ℕ) (after : Option Story) : Type 0 where
+  pub input : Json
+  pub is_read : data_of input ≡ d
+  pub told : AnswersStarted story (Start exec machine input) (start_answer story.log exec machine) reply after
+
+abbrev pub AnswersStart : Story → Thread → List ℕ → List ℕ → List ℕ → Option Story → Type 0
+AnswersStart story exec machine json reply after =
+    OfJson json (λ told. Tells told (Some story) reply after) (λ d. AnswersInput story exec machine d reply after)
+
+abbrev pub AnswersStep : Story → Result Moved Refusal → List ℕ → Option Story → Type 0
+AnswersStep story (Ok m) = Tells (moved_reply m) (Some (accepted story (Stepped m.name m.kind)))
+AnswersStep story (Err refusal) = Tells (refusal_reply refusal) (Some story)
+
+abbrev pub AnswersUndo : Story → StepName → Result StepName Refusal → List ℕ → Option Story → Type 0
+AnswersUndo story name (Ok undone) = Tells done_reply (Some (accepted story (Undo name)))
+AnswersUndo story name (Err refusal) = Tells (refusal_reply refusal) (Some story)
+
+abbrev pub AnswersShow : Story → Option Frame → List ℕ → Option Story → Type 0
+AnswersShow story None = Tells (refused 5) (Some story)
+AnswersShow story (Some f) = Tells (frame_reply f) (Some story)
+
+-- the remaining steps, in the order in which they were taken
+abbrev pub history_reply : Story → List ℕ
+history_reply story = list_reply (map (λ s. step_text (name_of s)) (remaining story.log))
+
+-- ---- a line
+
+-- of a session with a book
+abbrev pub AnswersOpen : Story → Spoken → List ℕ → Option Story → Type 0
+AnswersOpen story (spoken.table name schema json) = Tells (refused 22) (Some story)
+AnswersOpen story (spoken.define name json) = AnswersDefine story name (source_text.read json)
+AnswersOpen story (spoken.start exec machine json) = AnswersStart story exec machine json
+AnswersOpen story (spoken.step thread) = AnswersStep story (step_answer story.log thread)
+AnswersOpen story (spoken.undo name) = AnswersUndo story name (undo_answer story.log name)
+AnswersOpen story (spoken.show thread) = AnswersShow story ((world_of story.log).frames thread)
+AnswersOpen story spoken.items = Tells (list_reply []) (Some story)
+AnswersOpen story spoken.history = Tells (history_reply story) (Some story)
+
+-- before its table is given
+abbrev pub AnswersClosed : Spoken → List ℕ → Option Story → Type 0
+AnswersClosed (spoken.table name schema json) = AnswersTable name schema json
+AnswersClosed (spoken.define name json) = Tells (refused 21) None
+AnswersClosed (spoken.start exec machine json) = Tells (refused 21) None
+AnswersClosed (spoken.step thread) = Tells (refused 21) None
+AnswersClosed (spoken.undo name) = Tells (refused 21) None
+AnswersClosed (spoken.show thread) = Tells (refused 21) None
+AnswersClosed spoken.items = Tells (refused 21) None
+AnswersClosed spoken.history = Tells (refused 21) None
+
+abbrev pub AnswersCommand : Option Story → Spoken → List ℕ → Option Story → Type 0
+AnswersCommand None command = AnswersClosed command
+AnswersCommand (Some story) command = AnswersOpen story command
+
+abbrev pub AnswersSpoken : Option Story → Option Spoken → List ℕ → Option Story → Type 0
+AnswersSpoken before None = Tells (refused 20) before
+AnswersSpoken before (Some command) = AnswersCommand before command
+
+-- want of memory may be told in place of what else is answered
+abbrev pub AnswersText : Option Story → Option (List ℕ) → List ℕ → Option Story → Type 0
+AnswersText before line reply after = Tells memory_reply before reply after ⊎ AnswersSpoken before (option_and_then command_of line) reply after
+
+-- an empty line has no reply; a line that is too long is no command
+abbrev pub AnswersLine : Option Story → Option (List ℕ) → List ℕ → Option Story → Type 0
+AnswersLine before None = AnswersText before None
+AnswersLine before (Some []) = Tells [] before
+AnswersLine before (Some (b ∷ line)) = AnswersText before (Some (b ∷ line))
+
+-- ---- lines
+
+-- one after another, each from the book that the one before left
+abbrev pub AnswersLines : Option Story → List (Option (List ℕ)) → List ℕ → Option Story → Type 0
+AnswersLines before [] output after = Tells [] before output after
+AnswersLines before (line ∷ lines) output after =
+    (reply : List ℕ) × (between : Option Story) × (rest : List ℕ)
+    × AnswersLine before line reply between × AnswersLines between lines rest after × (output ≡ reply ++ rest)
+
+-- this output answers this whole input
+abbrev pub Answers : Option Story → List ℕ → List ℕ → Option Story → Type 0
+Answers before input output after = AnswersLines before (lines_of input) output after

@@ -1,0 +1,86 @@
+-- What serving has done where it ends: with the whole input answered, or before that.
+use Rattle.std.specs.Prelude.{◌≡◌, ℕ, Bool, true, false, List, [], ◌∷◌, ◌++◌, Option, None, Some, Result, Ok, Err}
+use Rattle.std.specs.Io.KnownBytes.{Appends, Keeps}
+use Rattle.rollback_book.specs.Story.{Story}
+use Rattle.operator_line.specs.Lines.{kept}
+use Rattle.operator_line.specs.Texts.{lines_of, lines_after}
+use Rattle.operator_line.specs.Answers.{AnswersLine, AnswersLines}
+use Rattle.operator_line.specs.declared.serving.ServeFault.{ServeFault}
+use Rattle.operator_line.specs.declared.serving.ServeFault.TheVariants.{Read, Write, Memory}
+
+-- What was written answers the lines but these, which come later; the book is as after those that were answered.
+pub record AnswersUntil (lines : List (Option (List ℕ))) (later : List (Option (List ℕ))) (before : Option Story) (after : Option Story) (old : Option (List ℕ)) (new : Option (List ℕ)) : Type 0 where
+  pub front : List (Option (List ℕ))
+  pub output : List ℕ
+  pub parted : lines ≡ front ++ later
+  pub answered : AnswersLines before front output after
+  pub appended : Appends old new output
+
+-- What was written answers the lines before some line, of which and of those after it nothing is applied.
+pub record AnswersBefore (lines : List (Option (List ℕ))) (before : Option Story) (after : Option Story) (old : Option (List ℕ)) (new : Option (List ℕ)) : Type 0 where
+  pub later : List (Option (List ℕ))
+  pub until : AnswersUntil lines later before after old new
+
+-- One line is answered, of whose reply only a beginning may be written.
+pub record AnswersPart (line : Option (List ℕ)) (before : Option Story) (after : Option Story) (old : Option (List ℕ)) (new : Option (List ℕ)) : Type 0 where
+  pub written : List ℕ
+  pub unwritten : List ℕ
+  pub replied : AnswersLine before line (written ++ unwritten) after
+  pub appended : Appends old new written
+
+-- What was written answers the lines up to and with some line, of whose reply only a beginning may be written. The book is
+-- as after that line.
+pub record AnswersUpTo (lines : List (Option (List ℕ))) (before : Option Story) (after : Option Story) (old : Option (List ℕ)) (new : Option (List ℕ)) : Type 0 where
+  pub line : Option (List ℕ)
+  pub later : List (Option (List ℕ))
+  pub between : Option Story
+  pub contents : Option (List ℕ)
+  pub until : AnswersUntil lines (line ∷ later) before between old contents
+  pub part : AnswersPart line between after contents new
+
+-- how serving ends
+abbrev pub Serves : Result Unit ServeFault → List ℕ → Option Story → Option Story → Option (List ℕ) → Option (List ℕ) → Type 0
+Serves (Ok _) input before after old new = AnswersUntil (lines_of input) [] before after old new
+Serves (Err Write) input before after old new = AnswersUpTo (lines_of input) before after old new
+Serves (Err Read) input before after old new = AnswersBefore (lines_of input) before after old new
+Serves (Err Memory) input before after old new = AnswersBefore (lines_of input) before after old new
+
+-- ---- its parts
+
+-- a reply is written, or a beginning of it
+abbrev pub WritesReply : Result Unit ServeFault → List ℕ → Option (List ℕ) → Option (List ℕ) → Type 0
+WritesReply (Ok _) reply old new = Appends old new reply
+WritesReply (Err Write) reply old new = (written : List ℕ) × (unwritten : List ℕ) × (reply ≡ written ++ unwritten) × Appends old new written
+WritesReply (Err Read) reply old new = ⊥
+WritesReply (Err Memory) reply old new = ⊥
+
+-- a line is answered
+abbrev pub ServesLine : Result Unit ServeFault → Option (List ℕ) → Option Story → Option Story → Option (List ℕ) → Option (List ℕ) → Type 0
+ServesLine (Ok _) line before after old new = (reply : List ℕ) × AnswersLine before line reply after × Appends old new reply
+ServesLine (Err Write) line before after old new = AnswersPart line before after old new
+ServesLine (Err Read) line before after old new = ⊥
+ServesLine (Err Memory) line before after old new = (after ≡ before) × Keeps old new
+
+-- the last line is, where there is one
+abbrev pub ServesLast : Result Unit ServeFault → Option (Option (List ℕ)) → Option Story → Option Story → Option (List ℕ) → Option (List ℕ) → Type 0
+ServesLast result (Some line) before after old new = ServesLine result line before after old new
+ServesLast (Ok _) None before after old new = (after ≡ before) × Keeps old new
+ServesLast (Err e) None before after old new = ⊥
+
+-- The lines that end in a piece of the input are, where the line at hand had begun so; whatever comes after the piece, the
+-- lines that are left are those of what the line at hand has now, and of that.
+abbrev pub ServesPiece : Result Unit ServeFault → List ℕ → List ℕ → Option (List ℕ) → Option Story → Option Story → Option (List ℕ) → Option (List ℕ) → Type 0
+ServesPiece (Ok _) front piece line before after old new =
+    (tail : List ℕ) × (line ≡ kept tail) × ((more : List ℕ) → AnswersUntil (lines_after front (piece ++ more)) (lines_after tail more) before after old new)
+ServesPiece (Err Write) front piece line before after old new = (more : List ℕ) → AnswersUpTo (lines_after front (piece ++ more)) before after old new
+ServesPiece (Err Read) front piece line before after old new = ⊥
+ServesPiece (Err Memory) front piece line before after old new = (more : List ℕ) → AnswersBefore (lines_after front (piece ++ more)) before after old new
+
+-- The lines that end in what the reader gives are. It gave all there was where there is no more.
+abbrev pub ServesRead : Result Bool ServeFault → List ℕ → List ℕ → Option (List ℕ) → Option (List ℕ) → Option Story → Option Story → Option (List ℕ) → Option (List ℕ) → Type 0
+ServesRead (Ok true) front text left line before after old new =
+    (tail : List ℕ) × (rest : List ℕ) × (left ≡ Some rest) × (line ≡ kept tail) × AnswersUntil (lines_after front text) (lines_after tail rest) before after old new
+ServesRead (Ok false) front text left line before after old new = (text ≡ []) × (left ≡ Some []) × (line ≡ kept front) × (after ≡ before) × Keeps old new
+ServesRead (Err Write) front text left line before after old new = AnswersUpTo (lines_after front text) before after old new
+ServesRead (Err Read) front text left line before after old new = AnswersBefore (lines_after front text) before after old new
+ServesRead (Err Memory) front text left line before after old new = AnswersBefore (lines_after front text) before after old new
