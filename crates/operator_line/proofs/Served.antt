@@ -1,6 +1,6 @@
 -- Serving, one part after another.
 use Rattle.std.proofs.Common.{rules, ◌≡◌, ℕ, ◌+◌, ◌-◌, ◌≤◌, ◌<◌, Bool, true, false, cond, List, [], ◌∷◌, ◌++◌, length, take, drop, Option, None, Some, refl, sym, ap, subst, ◌∙◌, append_assoc, append-nil, arith, length-append}
-use Rattle.std.specs.Prelude.{nat_le, ◌==◌, suc, Result, Ok, Err, IfSome, IfErr}
+use Rattle.std.specs.Prelude.{nat_le, ◌==◌, suc, Result, Ok, Err, IfSome, IfErr, OnOk}
 use lib.Pointwise.{pointwise}
 use lib.ListN.{length-take}
 use Rattle.std.specs.Io.KnownBytes.{Appends, Keeps, Consumes}
@@ -343,3 +343,17 @@ module _ (input : List ℕ) (left left' line line' : Option (List ℕ)) (s t u :
 
 pub reading-stops : (input : List ℕ) (left line : Option (List ℕ)) (s t : Option Story) (o n : Option (List ℕ)) → IsReading input left line s t o n → Serves (Err Read) input s t o n
 reading-stops input left line s t o n soon = record { later = lines_after soon.tail soon.rest; until = soon.until }
+
+-- ---- small words
+
+pub on_ok-from : {T E : Type 0} → (r : Result T E) (P : Type 0) → P → OnOk r P
+on_ok-from (Ok x) P p = p
+on_ok-from (Err e) P p = tt
+
+-- serving that ended by a fault
+pub failed-answers : (r : Result Unit ServeFault) (e : ServeFault) → r ≡ Err e → (o : Option (List ℕ)) (s u : Option Story) (w n : Option (List ℕ))
+    → ((input : List ℕ) → o ≡ Some input → Serves (Err e) input s u w n) → IfSome o (λ input. Serves r input s u w n)
+failed-answers r e is o s u w n h = if_some o (λ input f. subst (λ (x : Result Unit ServeFault). Serves x input s u w n) (sym is) (h input f))
+
+pub failed-whole : (r : Result Unit ServeFault) (e : ServeFault) → r ≡ Err e → (o : Option (List ℕ)) (P : Type 0) → IfSome o (λ _. OnOk r P)
+failed-whole r e is o P = if_some o (λ _ _. subst (λ (x : Result Unit ServeFault). OnOk x P) (sym is) tt)
