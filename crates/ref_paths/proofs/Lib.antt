@@ -5,3 +5,6 @@ pub mod Scans
 pub mod PickedAgain
 pub mod Composed
 pub mod OneSpelling
+pub mod Sources
+pub mod TemplateReadings
+pub mod NoTemplates
