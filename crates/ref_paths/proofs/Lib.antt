@@ -8,3 +8,5 @@ pub mod OneSpelling
 pub mod Sources
 pub mod TemplateReadings
 pub mod NoTemplates
+pub mod OneTemplate
+pub mod Unmarked

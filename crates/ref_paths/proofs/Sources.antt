@@ -42,7 +42,7 @@ no_source item_paths s no_item no_path (from_item path) h = (no_item h.0).1 h.1 
 no_source item_paths s no_item no_path (list ps) h = h
 no_source item_paths s no_item no_path (fields fs) h = h
 
-index_is_no_value : (steps : List ℕ) → codes "$$.Map.Item.Value" ++ steps ≡ codes "$$.Map.Item.Index" → ⊥
+pub index_is_no_value : (steps : List ℕ) → codes "$$.Map.Item.Value" ++ steps ≡ codes "$$.Map.Item.Index" → ⊥
 index_is_no_value steps e = absurd (omega (arith, ap (λ x. get_or x 12 0) e))
 
 pub no_item_source : (item_paths : Bool) (steps : List ℕ) → ((path : List PathStep) → SpellsPath path (36 ∷ steps) → ⊥) → SpellsNoSource item_paths (codes "$$.Map.Item.Value" ++ steps)

@@ -12,3 +12,4 @@ pub mod Filling
 pub mod PayloadCode
 pub mod PayloadView
 pub mod PayloadFalls
+pub mod TemplateLaws

@@ -17,7 +17,10 @@ mod tests;
 
 pub use composing::pick_placed;
 pub use filling::FillFault;
-pub use laws::{elsewhere_stays, placed_at_root, placed_is_picked, texts_spell_one_path};
+pub use laws::{
+    elsewhere_stays, placed_at_root, placed_is_picked, texts_spell_one_path, unmarked_stays,
+    values_are_one_template,
+};
 pub use path::{PathStep, RefPath};
 pub use placing::{PlaceFault, PlaceRefusal, place};
 pub use reading::PathFault;
