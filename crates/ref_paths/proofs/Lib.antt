@@ -10,3 +10,5 @@ pub mod TemplateReadings
 pub mod NoTemplates
 pub mod OneTemplate
 pub mod Unmarked
+pub mod FieldsFilled
+mod Rows

@@ -1,6 +1,6 @@
 //! What a template gives.
 
-ghost use Rattle.std.specs.Prelude.{◌≡◌, [], None, Some, Err, IsTrue, option_map, IfOk, IfErr};
+ghost use Rattle.std.specs.Prelude.{◌≡◌, ◌↔◌, [], None, Some, Err, IsTrue, is_some, option_map, IfOk};
 ghost use Rattle.json_tree.specs.Data.{Data, has_room};
 ghost use Rattle.json_tree.specs.View.{data_of};
 ghost use Rattle.ref_paths.specs.Filling.{filled, filled_items, filled_fields, fields_with, item_of};
@@ -47,8 +47,9 @@ impl<T: Drop> From<AllocFailed<T>> for FillFault {
 
 impl Template {
     /// The template's value, with a copy of what each path picks in its place: of the input, or of the item, whose index
-    /// from 0 comes first. Without an item a path into it picks nothing, and there is no index. Parses nothing, makes one
-    /// copy of what each path picks, and calls itself once for each level of the template.
+    /// from 0 comes first. Without an item a path into it picks nothing, and there is no index. Parses nothing, and makes
+    /// one copy of what each path picks, after all of them were seen to pick something. Calls itself once for each level
+    /// of the template.
     pub fn fill(
         &self,
         alloc: Global,
@@ -56,11 +57,56 @@ impl Template {
         item: Option<(u32, &Json)>,
     ) -> Result<Json, FillFault>
         ensures ok { IfOk result (λ j. filled (data_of input.now) (item_of item.entry) self.now ≡ Some (data_of j)) }
-        ensures no_such_node { result ≡ Err FillFault.NoSuchNode → filled (data_of input.now) (item_of item.entry) self.now ≡ None }
+        ensures no_such_node { (result ≡ Err FillFault.NoSuchNode) ↔ (filled (data_of input.now) (item_of item.entry) self.now ≡ None) }
         ensures memory { result ≡ Err FillFault.Memory → (d : Data) → filled (data_of input.now) (item_of item.entry) self.now ≡ Some d → IsTrue (has_room d) }
     {
+        if !can_fill(&self.root, input, item) {
+            return Err(FillFault::NoSuchNode);
+        }
         fill_node(alloc, &self.root, input, item)
     }
+}
+
+/// Whether every path picks something.
+#[cycle(can_fill)]
+fn can_fill(node: &Node, input: &Json, item: Option<(u32, &Json)>) -> bool
+    ensures { result ≡ is_some (filled (data_of input.now) (item_of item.entry) (payload_of node.now)) }
+{
+    match node {
+        Node::Literal(_) => true,
+        Node::Input(path) => path.pick(input).is_some(),
+        Node::ItemIndex => item.is_some(),
+        Node::Item(path) => match item {
+            Some((_, value)) => path.pick(value).is_some(),
+            None => false,
+        },
+        Node::List(nodes) => can_fill_list(nodes, input, item),
+        Node::Fields(fields) => can_fill_fields(fields, input, item),
+    }
+}
+
+#[cycle(can_fill)]
+fn can_fill_list(nodes: &NodeList, input: &Json, item: Option<(u32, &Json)>) -> bool
+    ensures { result ≡ is_some (filled_items (data_of input.now) (item_of item.entry) (payloads_of nodes.now)) }
+{
+    for node in &nodes.inner {
+        if !can_fill(node, input, item) {
+            return false;
+        }
+    }
+    true
+}
+
+#[cycle(can_fill)]
+fn can_fill_fields(nodes: &NodeFields, input: &Json, item: Option<(u32, &Json)>) -> bool
+    ensures { result ≡ is_some (filled_fields (data_of input.now) (item_of item.entry) (named_of nodes.now)) }
+{
+    for field in &nodes.inner {
+        if !can_fill(&field.value, input, item) {
+            return false;
+        }
+    }
+    true
 }
 
 #[cycle(fill)]

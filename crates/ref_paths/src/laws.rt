@@ -1,7 +1,7 @@
 //! Laws of picking, placing and filling: each call does nothing, and its contract is the law.
 
 ghost use Rattle.ref_paths.specs.Laws.{PlacedIsPicked, ElsewhereStays, PlacedAtRoot, TextsSpellOnePath};
-ghost use Rattle.ref_paths.specs.TemplateLaws.{UnmarkedStays, ValuesAreOneTemplate};
+ghost use Rattle.ref_paths.specs.TemplateLaws.{FieldsAreFilled, UnmarkedStays, ValuesAreOneTemplate};
 
 /// What was placed is picked again by the same path.
 pub fn placed_is_picked()
@@ -31,4 +31,10 @@ pub fn unmarked_stays()
 /// A value is one template at most, so that what is read of it is that template.
 pub fn values_are_one_template()
     ensures { ValuesAreOneTemplate }
+{}
+
+/// Where an object is filled, each of its fields has become one: under its name without `.$`, with what its path picks, or
+/// under its name, with what its value is filled to.
+pub fn fields_are_filled()
+    ensures { FieldsAreFilled }
 {}

@@ -3,8 +3,8 @@
 
 use crate::{
     FillFault, PathFault, PlaceRefusal, RefPath, Template, TemplateFault, elsewhere_stays,
-    pick_placed, place, placed_at_root, placed_is_picked, texts_spell_one_path, unmarked_stays,
-    values_are_one_template,
+    fields_are_filled, pick_placed, place, placed_at_root, placed_is_picked, texts_spell_one_path,
+    unmarked_stays, values_are_one_template,
 };
 use json_tree::{Json, JsonFields, Text, read, write_text};
 use std::alloc::Global;
@@ -343,6 +343,7 @@ fn fills_templates(rt: HostRuntime) -> Result<(), Fail> {
             }
         }
     }
+    fields_are_filled();
     unmarked_stays();
     values_are_one_template();
     Ok(())
