@@ -5,3 +5,10 @@ pub mod Scans
 pub mod PickedAgain
 pub mod Composed
 pub mod OneSpelling
+pub mod Sources
+pub mod TemplateReadings
+pub mod NoTemplates
+pub mod OneTemplate
+pub mod Unmarked
+pub mod FieldsFilled
+mod Rows

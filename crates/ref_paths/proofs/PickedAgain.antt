@@ -26,7 +26,7 @@ pub get_with : (n : List ℕ) (d : Data) (ms : List (List ℕ × Data)) → get_
 get_with n d [] = rw (same_text n)
 get_with n d (m ∷ ms) = get_with_at (text_cmp n m.0) n d m ms refl (get_with n d ms)
 
-text_same : (s t : List ℕ) → text_cmp s t ≡ Equal → s ≡ t
+pub text_same : (s t : List ℕ) → text_cmp s t ≡ Equal → s ≡ t
 text_same s t h = (bytes_eq-Decides s t).0 (sym (is_eq-slice_cmp s t) ∙ ap is_eq h)
 
 not_eq_at : (o : Ordering) (q n : List ℕ) → q ≢ n → text_cmp q n ≡ o → is_eq o ≡ false

@@ -6,3 +6,10 @@ pub mod Scanner
 pub mod Faults
 pub mod Laws
 pub mod Composition
+pub mod Templates
+pub mod TemplateFaults
+pub mod Filling
+pub mod PayloadCode
+pub mod PayloadView
+pub mod PayloadFalls
+pub mod TemplateLaws

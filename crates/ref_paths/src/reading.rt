@@ -56,22 +56,30 @@ impl RefPath {
         if !begins_with(text.as_bytes(), b'$') {
             return Err(PathFault::BadPath(0));
         }
-        let mut rest = &text[1..];
-        let mut steps = Vec::new(alloc);
-        while !rest.is_empty() {
-            match read_step(alloc, rest) {
-                Ok((step, after)) => {
-                    steps.push(step)?;
-                    rest = after;
-                }
-                Err(PathFault::BadPath(at)) => {
-                    return Err(PathFault::BadPath(text.len() - rest.len() + at));
-                }
-                Err(PathFault::Memory) => return Err(PathFault::Memory),
-            }
-        }
-        Ok(RefPath { steps })
+        read_steps(alloc, &text[1..])
     }
+}
+
+/// The path whose text is `$` and then this one. A refusal counts from that `$`.
+pub(crate) fn read_steps(alloc: Global, text: &str) -> Result<RefPath, PathFault>
+    ensures ok { IfOk result (λ p. SpellsPath p (36 ∷ text.now)) }
+    ensures err { IfErr result (FaultStands (36 ∷ text.now)) }
+{
+    let mut rest = text;
+    let mut steps = Vec::new(alloc);
+    while !rest.is_empty() {
+        match read_step(alloc, rest) {
+            Ok((step, after)) => {
+                steps.push(step)?;
+                rest = after;
+            }
+            Err(PathFault::BadPath(at)) => {
+                return Err(PathFault::BadPath(text.len() - rest.len() + 1 + at));
+            }
+            Err(PathFault::Memory) => return Err(PathFault::Memory),
+        }
+    }
+    Ok(RefPath { steps })
 }
 
 /// The first step of a text, and what follows it. A refusal counts from the text's begin.

@@ -2,10 +2,11 @@
 //! where memory is refused.
 
 use crate::{
-    PathFault, PlaceRefusal, RefPath, elsewhere_stays, pick_placed, place, placed_at_root,
-    placed_is_picked, texts_spell_one_path,
+    FillFault, PathFault, PlaceRefusal, RefPath, Template, TemplateFault, elsewhere_stays,
+    fields_are_filled, pick_placed, place, placed_at_root, placed_is_picked, texts_spell_one_path,
+    unmarked_stays, values_are_one_template,
 };
-use json_tree::{Json, JsonFields, read, write_text};
+use json_tree::{Json, JsonFields, Text, read, write_text};
 use std::alloc::Global;
 use std::test::Fail;
 
@@ -271,6 +272,208 @@ fn answers_want_of_memory(rt: HostRuntime) -> Result<(), Fail> {
                 assert_eq!(rt; text.as_str(), "[\"v\"]");
             }
         }
+    }
+    Ok(())
+}
+
+fn template(alloc: Global, text: &str, item_paths: bool) -> Result<Template, Fail> {
+    match Template::read(alloc, &json(alloc, text)?, item_paths) {
+        Ok(template) => Ok(template),
+        Err(fault) => Err(Fail::from(fault)),
+    }
+}
+
+#[test]
+fn fills_templates(rt: HostRuntime) -> Result<(), Fail> {
+    let alloc = rt.alloc();
+    let input = json(alloc, "{\"a\":{\"b\":[1,[2]]},\"n\":null,\"t\":\"x\"}")?;
+    for (text, want) in [
+        ("null", "null"),
+        ("-7", "-7"),
+        ("\"$.a\"", "\"$.a\""),
+        ("[]", "[]"),
+        ("{}", "{}"),
+        (
+            "{\"x\":\"$.a\",\"y\":[true,{\"z\":{}}]}",
+            "{\"x\":\"$.a\",\"y\":[true,{\"z\":{}}]}",
+        ),
+        ("{\"x.$\":\"$.t\"}", "{\"x\":\"x\"}"),
+        ("{\"x.$\":\"$.n\"}", "{\"x\":null}"),
+        ("{\"x.$\":\"$.a.b[1]\"}", "{\"x\":[2]}"),
+        (
+            "{\"x.$\":\"$\"}",
+            "{\"x\":{\"a\":{\"b\":[1,[2]]},\"n\":null,\"t\":\"x\"}}",
+        ),
+        (
+            "[[{\"x.$\":\"$['t']\"}],{\"y\":{\"z.$\":\"$.a.b[0]\"}}]",
+            "[[{\"x\":\"x\"}],{\"y\":{\"z\":1}}]",
+        ),
+        (
+            "{\"b\":[0,{\"c.$\":\"$.t\",\"d\":1}],\"a.$\":\"$.n\"}",
+            "{\"a\":null,\"b\":[0,{\"c\":\"x\",\"d\":1}]}",
+        ),
+        // Without the mark a name may come before its neighbour.
+        (
+            "{\"a!\":1,\"a.$\":\"$.t\",\"a\\u0000\":2}",
+            "{\"a\":\"x\",\"a\\u0000\":2,\"a!\":1}",
+        ),
+        ("{\".$\":\"$.t\"}", "{\"\":\"x\"}"),
+        ("{\"x.$.$\":\"$.t\"}", "{\"x.$\":\"x\"}"),
+        (
+            "{\"x.$ \":\"$.t\",\"$\":1,\".\":2}",
+            "{\"$\":1,\".\":2,\"x.$ \":\"$.t\"}",
+        ),
+        (
+            "{\"x\":\"States.Format('a')\"}",
+            "{\"x\":\"States.Format('a')\"}",
+        ),
+        ("{\"x.$\":\"$.b\"}", ""),
+        ("{\"x.$\":\"$.t.u\"}", ""),
+        ("[1,{\"y\":[{\"x.$\":\"$.a.b[2]\"}]}]", ""),
+    ] {
+        for item_paths in [false, true] {
+            match template(alloc, text, item_paths)?.fill(alloc, &input, None) {
+                Ok(filled) => {
+                    assert_eq!(rt; write_text(alloc, &filled)?.as_str(), want, "at {text}");
+                }
+                Err(fault) => {
+                    assert_eq!(rt; want, "", "at {text}");
+                    assert_eq!(rt; fault, FillFault::NoSuchNode);
+                }
+            }
+        }
+    }
+    fields_are_filled();
+    unmarked_stays();
+    values_are_one_template();
+    Ok(())
+}
+
+#[test]
+fn fills_templates_of_items(rt: HostRuntime) -> Result<(), Fail> {
+    let alloc = rt.alloc();
+    let input = json(alloc, "{\"a\":5}")?;
+    let item = json(alloc, "{\"a\":[6],\"b b\":7}")?;
+    for (text, want) in [
+        ("{\"i.$\":\"$$.Map.Item.Index\"}", "{\"i\":4294967295}"),
+        (
+            "{\"v.$\":\"$$.Map.Item.Value\"}",
+            "{\"v\":{\"a\":[6],\"b b\":7}}",
+        ),
+        (
+            "[{\"v.$\":\"$$.Map.Item.Value.a[0]\",\"w.$\":\"$.a\"}]",
+            "[{\"v\":6,\"w\":5}]",
+        ),
+        ("{\"v.$\":\"$$.Map.Item.Value['b b']\"}", "{\"v\":7}"),
+        ("{\"v.$\":\"$$.Map.Item.Value.c\"}", ""),
+        ("{\"v.$\":\"$.b\"}", ""),
+    ] {
+        let template = template(alloc, text, true)?;
+        match template.fill(alloc, &input, Some((4294967295, &item))) {
+            Ok(filled) => {
+                assert_eq!(rt; write_text(alloc, &filled)?.as_str(), want, "at {text}");
+            }
+            Err(fault) => {
+                assert_eq!(rt; want, "", "at {text}");
+                assert_eq!(rt; fault, FillFault::NoSuchNode);
+            }
+        }
+        let without_item = template.fill(alloc, &input, None).err();
+        assert_eq!(rt; without_item, Some(FillFault::NoSuchNode), "at {text}");
+    }
+    Ok(())
+}
+
+#[test]
+fn refuses_other_templates(rt: HostRuntime) -> Result<(), Fail> {
+    let alloc = rt.alloc();
+    for (text, field, is_left_out) in [
+        ("{\"x.$\":7}", "x.$", false),
+        ("{\"x.$\":null}", "x.$", false),
+        ("{\"x.$\":[\"$.a\"]}", "x.$", false),
+        ("{\"x.$\":{\"y\":1}}", "x.$", false),
+        ("{\"x.$\":\"\"}", "x.$", false),
+        ("{\"x.$\":\"a\"}", "x.$", false),
+        ("{\"x.$\":\"$.a b\"}", "x.$", false),
+        ("{\"x.$\":\"$.*\"}", "x.$", false),
+        ("{\"x.$\":\"States\"}", "x.$", false),
+        ("{\"x.$\":\" $$\"}", "x.$", false),
+        ("{\"x\":1,\"x.$\":\"$.a\"}", "x.$", false),
+        ("{\"x.$\":\"$.a\",\"x.$.$\":\"$.a\"}", "x.$.$", false),
+        ("{\"\":1,\".$\":\"$.a\"}", ".$", false),
+        ("[0,[{\"a\":{\"b.$\":7}}]]", "b.$", false),
+        ("{\"x.$\":\"States.Format('a')\"}", "x.$", true),
+        ("{\"x.$\":\"States.\"}", "x.$", true),
+        ("[[{\"y.$\":\"States.UUID()\"}]]", "y.$", true),
+        ("{\"x.$\":\"$$\"}", "x.$", true),
+        ("{\"x.$\":\"$$.Execution.Id\"}", "x.$", true),
+        ("{\"x.$\":\"$$.Map.Item\"}", "x.$", true),
+        ("{\"x.$\":\"$$.Map.Item.Index.a\"}", "x.$", true),
+        ("{\"x.$\":\"$$.Map.Item.Values\"}", "x.$", true),
+        ("{\"x.$\":\"$$.Map.Item.Value..a\"}", "x.$", true),
+    ] {
+        for item_paths in [false, true] {
+            let fault = Template::read(alloc, &json(alloc, text)?, item_paths).err();
+            let field = Text::new(alloc, field)?;
+            let want = if is_left_out {
+                TemplateFault::Unsupported(field)
+            } else {
+                TemplateFault::BadTemplate(field)
+            };
+            assert_eq!(rt; fault, Some(want), "at {text}");
+        }
+    }
+    for text in [
+        "{\"x.$\":\"$$.Map.Item.Index\"}",
+        "{\"x.$\":\"$$.Map.Item.Value\"}",
+        "{\"x.$\":\"$$.Map.Item.Value.a\"}",
+    ] {
+        let fault = Template::read(alloc, &json(alloc, text)?, false).err();
+        let want = TemplateFault::Unsupported(Text::new(alloc, "x.$")?);
+        assert_eq!(rt; fault, Some(want), "at {text}");
+        assert!(rt; Template::read(alloc, &json(alloc, text)?, true).is_ok());
+    }
+    Ok(())
+}
+
+// With each allocation refused in turn, what is answered in its place is want of memory.
+#[test]
+fn answers_want_of_memory_for_templates(rt: HostRuntime) -> Result<(), Fail> {
+    let alloc = rt.alloc();
+    let (Ok(input), Ok(good), Ok(bad)) = (
+        read(alloc, b"{\"a\":[\"v\"]}"),
+        read(
+            alloc,
+            b"[{\"x.$\":\"$.a\",\"y\":\"t\"},{\"z.$\":\"$$.Map.Item.Value[0]\"}]",
+        ),
+        read(alloc, b"[{\"x.$\":\"$.a\",\"y.$\":\"$$\"}]"),
+    ) else {
+        return Ok(());
+    };
+    match Template::read(alloc, &bad, true) {
+        Ok(_template) => assert!(rt; false, "a context object was read"),
+        Err(fault) => match fault {
+            TemplateFault::Unsupported(name) => assert_eq!(rt; name.as_str(), "y.$"),
+            other => assert_eq!(rt; other, TemplateFault::Memory),
+        },
+    }
+    let template = match Template::read(alloc, &good, true) {
+        Ok(template) => template,
+        Err(fault) => {
+            assert_eq!(rt; fault, TemplateFault::Memory);
+            return Ok(());
+        }
+    };
+    match template.fill(alloc, &input, Some((0, &good))) {
+        Ok(filled) => {
+            if let Ok(text) = write_text(alloc, &filled) {
+                assert_eq!(rt;
+                    text.as_str(),
+                    "[{\"x\":[\"v\"],\"y\":\"t\"},{\"z\":{\"x.$\":\"$.a\",\"y\":\"t\"}}]"
+                );
+            }
+        }
+        Err(fault) => assert_eq!(rt; fault, FillFault::Memory),
     }
     Ok(())
 }

@@ -1,0 +1,51 @@
+use Rattle.std.proofs.Common.{◌≡◌, ◌∷◌, subst, arith}
+use Rattle.json_tree.specs.Data.{items_of}
+use Rattle.json_tree.specs.View.{data_of}
+use Rattle.json_tree.proofs.Depths.{depth-rest}
+use Rattle.json_tree.proofs.Views.{Entry}
+use Rattle.ref_paths.specs.PayloadView.{payload_of, field_of}
+use Rattle.ref_paths.specs.Templates.{IsTemplate, FieldIs}
+use Rattle.ref_paths.proofs.TemplateReadings.{on_named, passed_on, item_depth, items_step, items_end, item_fault, fields_step, fields_end, object_fault, object_reads}
+use Rattle.ref_paths.proofs.template_reading.+read_node.Goals as goal
+
+pub read_fields-loop-name-preserved : goal.read_fields-loop-name-preserved
+read_fields-loop-name-preserved t c =
+    let l = c.loop-name in
+    let e : Entry = (c.in-Some.name.now, c.in-Some.value.now) in
+    let next : l.name-iterator ≡ e ∷ c.next.new.self = c.in-Some.ensures.steps in
+    let f = c.in_ok-read_field.field-0 in
+    let reads = subst (λ k. FieldIs c.args.item_paths c.args.fields.now k (data_of e.1) (field_of f) (IsTemplate c.args.item_paths (data_of e.1) (payload_of f.value))) c.deref.ensures c.in_ok-read_field.ensures.ok in (
+      omega (arith, depth-rest l.name-iterator c.next.new.self e next, l.invariant.0),
+      fields_step c.args.item_paths c.args.fields.now l.name-iterator c.next.new.self e l.inner.items c.push.new.self.items f next reads c.in_ok-push.ensures.items l.invariant.1,
+    )
+
+pub read_fields-returns-clause-ok : goal.read_fields-returns-clause-ok
+read_fields-returns-clause-ok t c = fields_end c.args.item_paths c.args.fields.now c.loop-name.name-iterator c.loop-name.inner.items c.in-None.ensures.steps.0 c.loop-name.invariant.1
+
+pub read_list-read_node-requires : goal.read_list-read_node-requires
+read_list-read_node-requires t c =
+    (omega (arith, item_depth c.as_slice-json-items.result.now c.loop-json.json-index c.json-item.result c.args.list.now c.json-item.is c.loop-json-test.true c.as_slice-json-items.ensures, c.decreases), tt)
+
+pub read_list-returns-in_err-read_node-clause-fault : goal.read_list-returns-in_err-read_node-clause-fault
+read_list-returns-in_err-read_node-clause-fault t c =
+    let e = c.in_err-read_node.field-0.0 in
+    passed_on c.from_residual-in_err-read_node.result e _ c.from_residual-in_err-read_node.ensures.1
+    (on_named e (item_fault c.args.item_paths c.args.list.now c.as_slice-json-items.result.now c.loop-json.json-index c.json-item.result e c.json-item.is c.loop-json-test.true c.as_slice-json-items.ensures) c.in_err-read_node.ensures.fault)
+
+pub read_list-loop-json-preserved : goal.read_list-loop-json-preserved
+read_list-loop-json-preserved t c =
+    let l = c.loop-json in
+    items_step c.args.item_paths (items_of c.args.list.now) c.as_slice-json-items.result.now l.json-index c.json-item.result l.inner.items c.push.new.self.items c.in_ok-read_node.field-0
+    c.json-item.is c.loop-json-test.true c.in_ok-read_node.ensures.ok c.in_ok-push.ensures.items l.invariant
+
+pub read_list-returns-clause-ok : goal.read_list-returns-clause-ok
+read_list-returns-clause-ok t c = items_end c.args.item_paths (items_of c.args.list.now) c.as_slice-json-items.result.now c.loop-json.json-index c.loop-json.inner.items c.loop-json-test.false c.loop-json.invariant
+
+pub read_node-returns-in_err-read_fields-in-Fields-clause-fault : goal.read_node-returns-in_err-read_fields-in-Fields-clause-fault
+read_node-returns-in_err-read_fields-in-Fields-clause-fault t c =
+    let e = c.in_err-read_fields-in-Fields.field-0.0 in
+    passed_on c.from_residual-in_err-read_fields-in-Fields.result e _ c.from_residual-in_err-read_fields-in-Fields.ensures.1 (rw c.in-Fields.is (on_named e (object_fault c.args.item_paths c.in-Fields.fields e) c.in_err-read_fields-in-Fields.ensures.fault))
+
+pub read_node-returns-in_ok-read_fields-in-Fields-clause-ok : goal.read_node-returns-in_ok-read_fields-in-Fields-clause-ok
+read_node-returns-in_ok-read_fields-in-Fields-clause-ok t c =
+    rw c.in-Fields.is (object_reads c.args.item_paths c.in-Fields.fields c.in_ok-read_fields-in-Fields.field-0 c.in_ok-read_fields-in-Fields.ensures.ok)
