@@ -1,5 +1,5 @@
 -- JSON of a line, and what is told where it is none.
-use Rattle.std.proofs.Common.{◌≡◌, ℕ, List, [], ◌∷◌, ◌++◌, Option, Some, None, Ok, Err, OnOk, refl, sym, ap, ◌∙◌, subst}
+use Rattle.std.proofs.Common.{◌≡◌, ℕ, List, [], ◌∷◌, Option, Some, None, OnOk, refl, sym, subst}
 use Rattle.std.specs.Prelude.{Result, IsSome, option_and_then}
 use Rattle.std.specs.declared.alloc.AllocError.{AllocError}
 use Rattle.std.proofs.lemmas.Result.{on_ok_weaker}
@@ -8,7 +8,6 @@ use Rattle.json_tree.specs.Data.{Data, list, items_of}
 use Rattle.json_tree.specs.Reading.{source_of, whole_of, read_json}
 use Rattle.json_tree.specs.declared.fault.JsonFault.{JsonFault}
 use Rattle.json_tree.specs.declared.fault.JsonFault.TheVariants.{NotJson, NotWhole, Memory}
-use Rattle.json_tree.specs.declared.tree.Json.{Json}
 use Rattle.rollback_book.specs.Story.{Story}
 use Rattle.rollback_book.specs.declared.log.KeySchema.{KeySchema}
 use Rattle.operator_line.specs.Answers.{Tells, OfJson, OfSource, OfWhole, AnswersItems}

@@ -1,5 +1,5 @@
 -- Serving, one part after another.
-use Rattle.std.proofs.Common.{rules, ◌≡◌, ℕ, ◌+◌, ◌-◌, ◌≤◌, ◌<◌, Bool, true, false, cond, List, [], ◌∷◌, ◌++◌, length, take, drop, Option, None, Some, refl, sym, ap, subst, ◌∙◌, append_assoc, append-nil, arith, length-append}
+use Rattle.std.proofs.Common.{rules, ◌≡◌, ℕ, ◌-◌, ◌≤◌, Bool, true, false, cond, List, [], ◌∷◌, ◌++◌, length, take, drop, Option, None, Some, refl, sym, ap, subst, ◌∙◌, append_assoc, append-nil, arith, length-append}
 use Rattle.std.specs.Prelude.{nat_le, ◌==◌, suc, Result, Ok, Err, IfSome, IfErr, OnOk}
 use lib.Pointwise.{pointwise}
 use lib.ListN.{length-take}
@@ -180,8 +180,7 @@ pub line-goes_on : (front piece tail bytes after reply : List ℕ) (s t u : Opti
     → (more : List ℕ) → AnswersUntil (lines_after front (piece ++ more)) (lines_after [] (after ++ more)) s u o n × AnswersUpTo (lines_after front (piece ++ more)) s u o n
 line-goes_on front piece tail bytes after reply s t u o p n h until w k more =
     let here : AnswersUntil (lines_after front (piece ++ more)) (lines_after tail (bytes ++ 10 ∷ (after ++ more))) s t o p =
-    subst (λ (l : List ℕ). AnswersUntil (lines_after front (piece ++ more)) (lines_after tail l) s t o p) (append_assoc bytes (10 ∷ after) more) (until more) in
-    (
+    subst (λ (l : List ℕ). AnswersUntil (lines_after front (piece ++ more)) (lines_after tail l) s t o p) (append_assoc bytes (10 ∷ after) more) (until more) in (
       until-then (lines_after front (piece ++ more)) (lines_after tail (bytes ++ 10 ∷ (after ++ more))) (lines_after [] (after ++ more)) s t u o p n here (line-served tail bytes (after ++ more) h t u p n reply w k),
       until-up_to (lines_after front (piece ++ more)) (lines_after tail (bytes ++ 10 ∷ (after ++ more))) s t u o p n here (line-part tail bytes (after ++ more) h t u p n (part-whole (ended_line (grown bytes (kept tail))) reply t u p n w k)),
     )
@@ -329,14 +328,13 @@ module _ (input : List ℕ) (left left' line line' : Option (List ℕ)) (s t u :
   reading-fails e asks = read-failed e soon.tail soon.rest input left' line' s t u o p n soon.until (asks soon.tail soon.rest soon.line_is soon.left_is)
 
   pub reading-ends : (v : Option Story) (m : Option (List ℕ)) (result : Result Unit ServeFault) → Asks (Ok false) left left' line line' t u p n → ServesLast result (last_line line') u v n m
-    → Serves result input s v o m × (left' ≡ Some [])
+      → Serves result input s v o m × (left' ≡ Some [])
   reading-ends v m result asks last =
       let (over, gone, line_is, same, keeps) = asks soon.tail soon.rest soon.line_is soon.left_is in
       let until : AnswersUntil (lines_of input) (lines_after soon.tail []) s u o n =
-          until-kept (lines_of input) (lines_after soon.tail []) s u o p n
-          (subst (λ (x : Option Story). AnswersUntil (lines_of input) (lines_after soon.tail []) s x o p) (sym same)
-          (subst (λ (x : List ℕ). AnswersUntil (lines_of input) (lines_after soon.tail x) s t o p) over soon.until)) keeps in
-      (
+      until-kept (lines_of input) (lines_after soon.tail []) s u o p n
+      (subst (λ (x : Option Story). AnswersUntil (lines_of input) (lines_after soon.tail []) s x o p) (sym same)
+      (subst (λ (x : List ℕ). AnswersUntil (lines_of input) (lines_after soon.tail x) s t o p) over soon.until)) keeps in (
         last-served result soon.tail input s u v o n m until (subst (λ (l : Option (List ℕ)). ServesLast result (last_line l) u v n m) line_is last),
         gone,
       )

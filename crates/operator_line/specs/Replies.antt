@@ -1,5 +1,5 @@
 -- Replies, as they are written: `ok` or `no`, and what is told beside. Texts are JSON texts (RFC 8259, section 7).
-use Rattle.std.specs.Prelude.{ℕ, List, [], ◌∷◌, ◌++◌, length, map, flat_map, codes}
+use Rattle.std.specs.Prelude.{ℕ, List, [], ◌∷◌, ◌++◌, length, flat_map, codes}
 use Rattle.std.specs.Fmt.{decimal}
 use Rattle.json_tree.specs.declared.fault.JsonFault.{JsonFault}
 use Rattle.json_tree.specs.declared.fault.JsonFault.TheVariants as json_faults

@@ -54,7 +54,11 @@ fn first_path(rt: HostRuntime) -> Result<(), Fail> {
 }
 
 /// The reply to a line that is served alone, none where serving ended for want of memory.
-fn reply_to(alloc: Global, session: &mut Session, line: &str) -> Result<Option<Vec<u8>>, AllocError> {
+fn reply_to(
+    alloc: Global,
+    session: &mut Session,
+    line: &str,
+) -> Result<Option<Vec<u8>>, AllocError> {
     let input = format!(in alloc; "{line}\n")?;
     let mut reader = input.as_bytes();
     let mut writer = Vec::new(alloc);
@@ -65,7 +69,12 @@ fn reply_to(alloc: Global, session: &mut Session, line: &str) -> Result<Option<V
 }
 
 /// Whether a line has this reply, perhaps after it was refused once for want of memory.
-fn is_told(alloc: Global, session: &mut Session, line: &str, reply: &str) -> Result<bool, AllocError> {
+fn is_told(
+    alloc: Global,
+    session: &mut Session,
+    line: &str,
+    reply: &str,
+) -> Result<bool, AllocError> {
     if let Some(told) = reply_to(alloc, session, line)? {
         if told.as_slice() != b"no 11\n".as_slice() {
             return Ok(told.as_slice() == reply.as_bytes());

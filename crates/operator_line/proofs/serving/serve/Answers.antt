@@ -1,8 +1,8 @@
-use Rattle.std.proofs.Common.{rules, ◌≡◌, ◌<◌, ℕ, List, [], ◌++◌, Bool, true, false, Option, Some, Ok, Err, ap, ◌∙◌, length, drop, length-append, arith, refl, sym, subst}
+use Rattle.std.proofs.Common.{◌≡◌, [], ◌++◌, Bool, true, false, Some, Ok, Err, ap, ◌∙◌, length, drop, length-append, arith, refl, subst}
 use lib.ListN.{length-take, length-drop}
 use Rattle.std.proofs.lemmas.Result.{err_from_is_err_and}
 use Rattle.std.proofs.KnownBytes.{Keeps-refl}
-use Rattle.operator_line.proofs.Served.{IsReading, Asks, none-before, if_some, reading-begins, reading-goes_on, reading-fails, reading-ends, reading-stops, on_ok-from, failed-answers, failed-whole}
+use Rattle.operator_line.proofs.Served.{Asks, none-before, if_some, reading-begins, reading-goes_on, reading-fails, reading-ends, reading-stops, on_ok-from, failed-answers, failed-whole}
 use Rattle.operator_line.proofs.serving.serve.Goals as goal
 
 pub returns-in_default-clause-answers : goal.returns-in_default-clause-answers
@@ -21,8 +21,8 @@ pub returns-in_err-serve_read-clause-answers : goal.returns-in_err-serve_read-cl
 returns-in_err-serve_read-clause-answers g c =
     let p = err_from_is_err_and c.from_residual.result c.from_residual.ensures.1 in
     failed-answers c.from_residual.result _ (p.1 ∙ ap (λ x. Err x) p.2) _ _ _ _ _ (λ input e. reading-fails input (g.R.Read.remaining c.loop.reader) (g.R.Read.remaining c.serve_read.new.reader) c.loop.buffers.line c.serve_read.new.buffers.line
-        c.args.session.now c.loop.session c.serve_read.new.session (g.W.Write.contents c.args.writer.now) (g.W.Write.contents c.loop.writer) (g.W.Write.contents c.serve_read.new.writer)
-        (c.loop.invariant.1 input e) _ c.in_err-serve_read.ensures)
+    c.args.session.now c.loop.session c.serve_read.new.session (g.W.Write.contents c.args.writer.now) (g.W.Write.contents c.loop.writer) (g.W.Write.contents c.serve_read.new.writer)
+    (c.loop.invariant.1 input e) _ c.in_err-serve_read.ensures)
 
 pub returns-in_err-serve_read-clause-whole : goal.returns-in_err-serve_read-clause-whole
 returns-in_err-serve_read-clause-whole g c =
@@ -37,10 +37,10 @@ returns-then-not-branch-clause-answers g c =
     let p = g.W.Write.contents c.loop.writer in
     let n = g.W.Write.contents c.serve_read.new.writer in
     let asks : Asks (Ok false) left left' c.loop.buffers.line c.serve_read.new.buffers.line c.loop.session c.serve_read.new.session p n =
-        subst (λ (b : Bool). Asks (Ok b) left left' c.loop.buffers.line c.serve_read.new.buffers.line c.loop.session c.serve_read.new.session p n) over c.in_ok-serve_read.ensures
+    subst (λ (b : Bool). Asks (Ok b) left left' c.loop.buffers.line c.serve_read.new.buffers.line c.loop.session c.serve_read.new.session p n) over c.in_ok-serve_read.ensures
     in
     if_some _ (λ input e. (reading-ends input left left' c.loop.buffers.line c.serve_read.new.buffers.line c.args.session.now c.loop.session c.serve_read.new.session
-        (g.W.Write.contents c.args.writer.now) p n (c.loop.invariant.1 input e) c.serve_last.new.session (g.W.Write.contents c.serve_last.new.writer) c.serve_last.result asks c.serve_last.ensures).0)
+    (g.W.Write.contents c.args.writer.now) p n (c.loop.invariant.1 input e) c.serve_last.new.session (g.W.Write.contents c.serve_last.new.writer) c.serve_last.result asks c.serve_last.ensures).0)
 
 pub returns-then-not-branch-clause-whole : goal.returns-then-not-branch-clause-whole
 returns-then-not-branch-clause-whole g c =
@@ -50,10 +50,10 @@ returns-then-not-branch-clause-whole g c =
     let p = g.W.Write.contents c.loop.writer in
     let n = g.W.Write.contents c.serve_read.new.writer in
     let asks : Asks (Ok false) left left' c.loop.buffers.line c.serve_read.new.buffers.line c.loop.session c.serve_read.new.session p n =
-        subst (λ (b : Bool). Asks (Ok b) left left' c.loop.buffers.line c.serve_read.new.buffers.line c.loop.session c.serve_read.new.session p n) over c.in_ok-serve_read.ensures
+    subst (λ (b : Bool). Asks (Ok b) left left' c.loop.buffers.line c.serve_read.new.buffers.line c.loop.session c.serve_read.new.session p n) over c.in_ok-serve_read.ensures
     in
     if_some _ (λ input e. on_ok-from c.serve_last.result (left' ≡ Some []) (reading-ends input left left' c.loop.buffers.line c.serve_read.new.buffers.line c.args.session.now c.loop.session c.serve_read.new.session
-        (g.W.Write.contents c.args.writer.now) p n (c.loop.invariant.1 input e) c.serve_last.new.session (g.W.Write.contents c.serve_last.new.writer) c.serve_last.result asks c.serve_last.ensures).1)
+    (g.W.Write.contents c.args.writer.now) p n (c.loop.invariant.1 input e) c.serve_last.new.session (g.W.Write.contents c.serve_last.new.writer) c.serve_last.result asks c.serve_last.ensures).1)
 
 pub loop-preserved : goal.loop-preserved
 loop-preserved g c =
@@ -63,11 +63,10 @@ loop-preserved g c =
     let p = g.W.Write.contents c.loop.writer in
     let n = g.W.Write.contents c.serve_read.new.writer in
     let asks : Asks (Ok true) left left' c.loop.buffers.line c.serve_read.new.buffers.line c.loop.session c.serve_read.new.session p n =
-        subst (λ (b : Bool). Asks (Ok b) left left' c.loop.buffers.line c.serve_read.new.buffers.line c.loop.session c.serve_read.new.session p n) goes c.in_ok-serve_read.ensures
+    subst (λ (b : Bool). Asks (Ok b) left left' c.loop.buffers.line c.serve_read.new.buffers.line c.loop.session c.serve_read.new.session p n) goes c.in_ok-serve_read.ensures
     in
     let new = c.serve_read.new.piece in
-    let rest = drop (length new) c.loop.piece.items in
-    (
+    let rest = drop (length new) c.loop.piece.items in (
       omega (arith, c.loop.invariant.0, c.loop.piece.ok.0, length-take c.loop.piece.len (new ++ rest), length-append new rest, length-drop (length new) c.loop.piece.items),
       λ input e. reading-goes_on input left left' c.loop.buffers.line c.serve_read.new.buffers.line c.args.session.now c.loop.session c.serve_read.new.session
           (g.W.Write.contents c.args.writer.now) p n (c.loop.invariant.1 input e) asks,

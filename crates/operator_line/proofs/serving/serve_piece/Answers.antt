@@ -1,4 +1,4 @@
-use Rattle.std.proofs.Common.{◌≡◌, ℕ, List, Option, true, refl, sym, subst}
+use Rattle.std.proofs.Common.{ℕ, List, Option, true, sym, subst}
 use Rattle.std.proofs.lemmas.Result.{err_from_is_err_and}
 use Rattle.std.proofs.KnownBytes.{Keeps-refl}
 use Rattle.operator_line.proofs.Served.{IsSoFar, so_far-goes_on, so_far-fails, so_far-ends, so_far-flushes}
@@ -8,7 +8,7 @@ pub returns-in_err-serve_line : goal.returns-in_err-serve_line
 returns-in_err-serve_line g c front begun =
     let p = err_from_is_err_and c.from_residual.result c.from_residual.ensures.1 in
     rw (p.1, p.2) (so_far-fails front c.args.piece.now c.loop-front.rest.now c.in-Some.front.now c.in-Some.after.now c.loop-front.has_line c.loop-front.buffers.line c.args.session.now c.loop-front.session c.serve_line.new.session
-        (g.W.Write.contents c.args.writer.now) (g.W.Write.contents c.loop-front.writer) (g.W.Write.contents c.serve_line.new.writer) c.in-Some.ensures.0 c.in-Some.ensures.1 (c.loop-front.invariant front begun) _ c.serve_line.new.buffers.line c.in_err-serve_line.ensures.answers)
+    (g.W.Write.contents c.args.writer.now) (g.W.Write.contents c.loop-front.writer) (g.W.Write.contents c.serve_line.new.writer) c.in-Some.ensures.0 c.in-Some.ensures.1 (c.loop-front.invariant front begun) _ c.serve_line.new.buffers.line c.in_err-serve_line.ensures.answers)
 
 pub loop-front-preserved : goal.loop-front-preserved
 loop-front-preserved g c front begun =
@@ -17,7 +17,7 @@ loop-front-preserved g c front begun =
     let n = g.W.Write.contents c.serve_line.new.writer in
     subst (λ (l : Option (List ℕ)). IsSoFar front c.args.piece.now c.in-Some.after.now true l c.args.session.now c.serve_line.new.session o n) (sym c.in_ok-serve_line.ensures.begun)
     (so_far-goes_on front c.args.piece.now c.loop-front.rest.now c.in-Some.front.now c.in-Some.after.now c.loop-front.has_line c.loop-front.buffers.line c.args.session.now c.loop-front.session c.serve_line.new.session
-        o (g.W.Write.contents c.loop-front.writer) n c.in-Some.ensures.0 c.in-Some.ensures.1 (c.loop-front.invariant front begun) reply answered appended)
+    o (g.W.Write.contents c.loop-front.writer) n c.in-Some.ensures.0 c.in-Some.ensures.1 (c.loop-front.invariant front begun) reply answered appended)
 
 pub returns-then-has_line : goal.returns-then-has_line
 returns-then-has_line g c front begun =

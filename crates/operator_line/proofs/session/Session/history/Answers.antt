@@ -1,4 +1,4 @@
-use Rattle.std.proofs.Common.{rules, ◌≡◌, ℕ, List, [], ◌++◌, Some, OnOk, map, string_bytes, refl, ap, ◌∙◌}
+use Rattle.std.proofs.Common.{rules, ◌≡◌, ◌++◌, Some, OnOk, map, string_bytes, refl, ap, ◌∙◌}
 use Rattle.std.proofs.lemmas.Result.{on_ok_weaker}
 use Rattle.rollback_book.specs.Story.{remaining}
 use Rattle.rollback_book.specs.declared.step.StepRecord.{StepRecord}
@@ -14,6 +14,6 @@ returns-in-Some c =
     let opened : c.args.self.now ≡ Some story = search rules in
     let texts = texts-named c.history.result.now (remaining story.log) c.history.ensures.names in
     let told : OnOk c.accept_steps.result (Tells (history_reply story) (Some story) (string_bytes c.accept_steps.new.self.text) (Some story)) =
-        on_ok_weaker c.accept_steps.result (λ e. (e ∙ ap (λ l. l ++ list_reply (map (λ (r : StepRecord). step_text r.fact.name) c.history.result.now)) c.requires ∙ ap list_reply texts, refl)) c.accept_steps.ensures.ok
+    on_ok_weaker c.accept_steps.result (λ e. (e ∙ ap (λ l. l ++ list_reply (map (λ (r : StepRecord). step_text r.fact.name) c.history.result.now)) c.requires ∙ ap list_reply texts, refl)) c.accept_steps.ensures.ok
     in
     record { ok = rw opened told }

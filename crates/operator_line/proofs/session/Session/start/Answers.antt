@@ -1,9 +1,8 @@
-use Rattle.std.proofs.Common.{rules, ◌≡◌, ℕ, List, [], ◌++◌, Some, Err, OnOk, string_bytes, refl, sym, ap, ◌∙◌}
+use Rattle.std.proofs.Common.{rules, ◌≡◌, [], ◌++◌, Some, Err, OnOk, string_bytes, refl, sym, ap, ◌∙◌}
 use Rattle.std.proofs.lemmas.Result.{on_ok_weaker}
 use Rattle.json_tree.specs.Data.{Data}
 use Rattle.json_tree.specs.Reading.{source_of, read_json}
 use Rattle.json_tree.specs.View.{data_of}
-use Rattle.json_tree.specs.declared.fault.JsonFault.TheVariants.{NotJson, NotWhole}
 use Rattle.rollback_book.specs.Answers.{start_answer}
 use Rattle.rollback_book.specs.declared.log.Entry.TheVariants.{Start}
 use Rattle.operator_line.specs.Answers.{AnswersStarted, AnswersStart, AnswersInput, Tells}
@@ -21,11 +20,11 @@ returns-in-Err-clause-ok c =
     let text = string_bytes c.refuse_json.new.reply.text in
     let Read : Data → Type 0 = λ d. AnswersInput story c.args.exec.now.thread c.args.machine.now d text (Some story) in
     let told : OnOk c.refuse_json.result (AnswersStart story c.args.exec.now.thread c.args.machine.now c.args.input.now text (Some story)) =
-        json-refused c.args.input.now c.in-Err.fault c.refuse_json.result text (Some story) Read
-        (λ e. ap source_of (sym same) ∙ c.in-Err.ensures.not_json (ap (λ f. Err f) e))
-        (λ e. rw same at c.in-Err.ensures.not_whole (ap (λ f. Err f) e))
-        c.refuse_json.ensures.memory
-        (on_ok_weaker c.refuse_json.result (λ e. e ∙ ap (λ l. l ++ json_reply c.in-Err.fault) c.requires) c.refuse_json.ensures.ok)
+    json-refused c.args.input.now c.in-Err.fault c.refuse_json.result text (Some story) Read
+    (λ e. ap source_of (sym same) ∙ c.in-Err.ensures.not_json (ap (λ f. Err f) e))
+    (λ e. rw same at c.in-Err.ensures.not_whole (ap (λ f. Err f) e))
+    c.refuse_json.ensures.memory
+    (on_ok_weaker c.refuse_json.result (λ e. e ∙ ap (λ l. l ++ json_reply c.in-Err.fault) c.requires) c.refuse_json.ensures.ok)
     in
     rw opened told
 
@@ -48,6 +47,6 @@ returns-clause-ok c =
           w.in-Err-start.ensures.answer w.in-Err-start.ensures.err w.refuse_command.ensures.memory (on_ok_weaker w.refuse_command.result (λ e. e ∙ ap (λ l. l ++ refusal_reply w.in-Err-start.refusal) empty) w.refuse_command.ensures.ok))
     ] in
     let whole : OnOk c.match-start.result (AnswersStart story exec machine c.args.input.now text after) =
-        on_ok_weaker c.match-start.result (λ t. json-read c.args.input.now (data_of input) (λ told'. Tells told' (Some story) text after) (λ d. AnswersInput story exec machine d text after) is_read (record { input = input; is_read = refl; told = t })) told
+    on_ok_weaker c.match-start.result (λ t. json-read c.args.input.now (data_of input) (λ told'. Tells told' (Some story) text after) (λ d. AnswersInput story exec machine d text after) is_read (record { input = input; is_read = refl; told = t })) told
     in
     rw opened whole

@@ -1,4 +1,4 @@
-use Rattle.std.proofs.Common.{rules, ◌≡◌, ℕ, List, [], ◌++◌, Some, None, Err, OnOk, string_bytes, refl, sym, ap, ◌∙◌}
+use Rattle.std.proofs.Common.{rules, ◌≡◌, [], ◌++◌, Some, None, Err, OnOk, string_bytes, sym, ap, ◌∙◌}
 use Rattle.std.proofs.lemmas.Result.{on_ok_weaker}
 use Rattle.json_tree.specs.Data.{Data, list, items_of}
 use Rattle.json_tree.specs.Reading.{source_of, read_json}
@@ -15,11 +15,11 @@ returns-in-Err-clause-ok c =
     let text = string_bytes c.refuse_json.new.reply.text in
     let Read : Data → Type 0 = λ d. AnswersItems c.args.table c.args.schema d text None in
     let told : OnOk c.refuse_json.result (AnswersTable c.args.table c.args.schema c.args.items.now text None) =
-        json-refused c.args.items.now c.in-Err.fault c.refuse_json.result text None Read
-        (λ e. ap source_of (sym same) ∙ c.in-Err.ensures.not_json (ap (λ f. Err f) e))
-        (λ e. rw same at c.in-Err.ensures.not_whole (ap (λ f. Err f) e))
-        c.refuse_json.ensures.memory
-        (on_ok_weaker c.refuse_json.result (λ e. e ∙ ap (λ l. l ++ json_reply c.in-Err.fault) c.requires) c.refuse_json.ensures.ok)
+    json-refused c.args.items.now c.in-Err.fault c.refuse_json.result text None Read
+    (λ e. ap source_of (sym same) ∙ c.in-Err.ensures.not_json (ap (λ f. Err f) e))
+    (λ e. rw same at c.in-Err.ensures.not_whole (ap (λ f. Err f) e))
+    c.refuse_json.ensures.memory
+    (on_ok_weaker c.refuse_json.result (λ e. e ∙ ap (λ l. l ++ json_reply c.in-Err.fault) c.requires) c.refuse_json.ensures.ok)
     in
     rw closed told
 
@@ -31,9 +31,9 @@ returns-in-Err-open-clause-ok c =
     let ds = c.in-Ok-List.items in
     let is_read : read_json c.args.items.now ≡ Some (list (items_of ds)) = ap read_json (sym c.as_bytes.ensures.value) ∙ c.in-Ok-List.ensures.ok ∙ ap (λ j. Some (data_of j)) c.in-Ok-List.field-0-is in
     let told : OnOk c.refuse_by-in-Err-open.result (AnswersTable c.args.table c.args.schema c.args.items.now text None) =
-        on_ok_weaker c.refuse_by-in-Err-open.result
-        (λ e. json-read c.args.items.now (list (items_of ds)) (λ t. Tells t None text None) (λ d. AnswersItems c.args.table c.args.schema d text None) is_read
-            (items-refused c.args.table c.args.schema ds text c.in-Err-open.ensures.err (e ∙ ap (λ l. l ++ refused_by 23 1) empty)))
-        c.refuse_by-in-Err-open.ensures.ok
+    on_ok_weaker c.refuse_by-in-Err-open.result
+    (λ e. json-read c.args.items.now (list (items_of ds)) (λ t. Tells t None text None) (λ d. AnswersItems c.args.table c.args.schema d text None) is_read
+    (items-refused c.args.table c.args.schema ds text c.in-Err-open.ensures.err (e ∙ ap (λ l. l ++ refused_by 23 1) empty)))
+    c.refuse_by-in-Err-open.ensures.ok
     in
     rw closed told
