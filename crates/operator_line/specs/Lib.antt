@@ -8,3 +8,4 @@ pub mod Replies
 pub mod Replying
 pub mod Answers
 pub mod Serving
+mod AnswerRows

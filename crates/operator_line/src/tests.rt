@@ -61,7 +61,7 @@ fn reply_to(
 ) -> Result<Option<Vec<u8>>, AllocError> {
     let input = format!(in alloc; "{line}\n")?;
     let mut reader = input.as_bytes();
-    let mut writer = Vec::new(alloc);
+    let mut writer = Vec::with_capacity(alloc, 64)?;
     match serve(alloc, &mut reader, &mut writer, session) {
         Ok(()) => Ok(Some(writer)),
         Err(_) => Ok(None),
