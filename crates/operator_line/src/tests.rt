@@ -397,3 +397,21 @@ fn failing_writers(rt: HostRuntime) -> Result<(), Fail> {
     }
     Ok(())
 }
+
+#[test]
+fn a_writer_that_takes_nothing(rt: HostRuntime) -> Result<(), Fail> {
+    let alloc = rt.alloc();
+    let mut session = Session::new(alloc);
+    let mut reader = FIRST_PATH;
+    let mut writer = Narrow {
+        taken: Vec::new(alloc),
+        at_once: 0,
+        room: 1,
+    };
+    let result = serve(alloc, &mut reader, &mut writer, &mut session);
+    assert_eq!(rt; result, Err(ServeFault::Write));
+    assert!(rt; writer.taken.is_empty());
+    // the command whose reply can't be written stands
+    assert!(rt; session.book().is_some());
+    Ok(())
+}
