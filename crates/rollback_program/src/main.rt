@@ -1,6 +1,8 @@
 #![tactic(auto)]
 
 //! `rollback`: serves the lines of standard input on standard output.
+#[cfg(test)]
+mod line_tests;
 mod mode;
 mod running;
 #[cfg(test)]
