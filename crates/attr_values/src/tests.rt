@@ -79,6 +79,10 @@ fn rise<T: Ord>(rt: &impl Abort, rows: &[T]) {
     }
 }
 
+fn is_spelled(alloc: Global, input: &str, want: &str) -> Result<bool, Fail> {
+    Ok(number(input)?.write_text(alloc)?.as_str() == want)
+}
+
 #[test]
 fn reads_and_writes_numbers(rt: HostRuntime) -> Result<(), Fail> {
     let alloc = rt.alloc();
@@ -102,11 +106,7 @@ fn reads_and_writes_numbers(rt: HostRuntime) -> Result<(), Fail> {
             "-0.99999999999999999999999999999999999999",
         ),
     ] {
-        assert_eq!(rt;
-            number(input)?.write_text(alloc)?.as_str(),
-            want,
-            "at {input}"
-        );
+        assert!(rt; is_spelled(alloc, input, want)?, "at {input}");
     }
     Ok(())
 }
@@ -142,17 +142,13 @@ fn refuses_other_numbers(rt: HostRuntime) {
     }
 }
 
-fn is_spelled_as_read(alloc: Global, text: &str) -> Result<bool, Fail> {
-    Ok(number(text)?.write_text(alloc)?.as_str() == text)
-}
-
 #[test]
 fn keeps_the_bounds_of_numbers(rt: HostRuntime) -> Result<(), Fail> {
     let alloc = rt.alloc();
     let most = zeros(alloc, "1", 37, "")?;
-    assert!(rt; is_spelled_as_read(alloc, most.as_str())?);
+    assert!(rt; is_spelled(alloc, most.as_str(), most.as_str())?);
     let least = zeros(alloc, "0.", 99, "1")?;
-    assert!(rt; is_spelled_as_read(alloc, least.as_str())?);
+    assert!(rt; is_spelled(alloc, least.as_str(), least.as_str())?);
     Ok(())
 }
 
@@ -288,6 +284,14 @@ fn bounds_the_levels_of_values(rt: HostRuntime) -> Result<(), Fail> {
     for (open, close) in [("{\"L\":[", "]}"), ("{\"M\":{\"a\":", "}}")] {
         let deepest = nested(alloc, open, close, 32)?;
         assert!(rt; is_written_as(alloc, deepest.as_str(), deepest.as_str())?);
+    }
+    Ok(())
+}
+
+#[test]
+fn refuses_values_of_more_levels(rt: HostRuntime) -> Result<(), Fail> {
+    let alloc = rt.alloc();
+    for (open, close) in [("{\"L\":[", "]}"), ("{\"M\":{\"a\":", "}}")] {
         let deeper = nested(alloc, open, close, 33)?;
         assert_eq!(rt;
             refusal_of_value(alloc, deeper.as_str())?,
@@ -551,15 +555,24 @@ fn number_key(alloc: Global, text: &str) -> Result<Key, Fail> {
     key_in(alloc, &schema, text)
 }
 
+fn is_one_key(alloc: Global, text: &str, other: &str) -> Result<bool, Fail> {
+    Ok(number_key(alloc, text)? == number_key(alloc, other)?)
+}
+
+fn hash_in(alloc: Global, text: &str) -> Result<u64, Fail> {
+    let key = number_key(alloc, text)?;
+    Ok(hash_of(&key))
+}
+
 #[test]
 fn keys_are_one_by_value(rt: HostRuntime) -> Result<(), Fail> {
     let alloc = rt.alloc();
-    let one = number_key(alloc, "{\"id\":{\"N\":\"1\"}}")?;
-    let same = number_key(alloc, "{\"id\":{\"N\":\"1.0\"}}")?;
-    let other = number_key(alloc, "{\"id\":{\"N\":\"10\"}}")?;
-    assert!(rt; one == same);
-    assert!(rt; one != other);
-    assert_eq!(rt; hash_of(&one), hash_of(&same));
+    let one = "{\"id\":{\"N\":\"1\"}}";
+    let same = "{\"id\":{\"N\":\"1.0\"}}";
+    let other = "{\"id\":{\"N\":\"10\"}}";
+    assert!(rt; is_one_key(alloc, one, same)?);
+    assert!(rt; !is_one_key(alloc, one, other)?);
+    assert_eq!(rt; hash_in(alloc, one)?, hash_in(alloc, same)?);
     Ok(())
 }
 
