@@ -160,7 +160,7 @@ fn refuses_numbers_past_the_bounds(rt: HostRuntime) -> Result<(), Fail> {
     let small = zeros(alloc, "0.", 100, "1")?;
     assert_eq!(rt; Number::read(small.as_str()), Err(ItemFault::BadNumber));
     let none = zeros(alloc, "0.", 200, "")?;
-    assert_eq!(rt; Number::read(none.as_str()), Number::read("0"));
+    assert_eq!(rt; number(none.as_str())?, number("0")?);
     Ok(())
 }
 
@@ -328,40 +328,34 @@ fn orders_values(rt: HostRuntime) -> Result<(), Fail> {
     Ok(())
 }
 
-// Of each kind of container, `None` where the item has none, or memory is wanting.
-
-fn has_a_list(item: &Item) -> Option<bool> {
+fn has_a_list(item: &Item) -> Result<bool, Fail> {
     let Some(Value::L(list)) = item.get("l") else {
-        return None;
+        return Err(Fail::from("no list"));
     };
-    let copy = list.copy().ok()?;
-    Some(list.as_slice().len() == 1 && copy.as_slice().len() == 1)
+    let copy = list.copy()?;
+    Ok(list.as_slice().len() == 1 && copy.as_slice().len() == 1)
 }
 
-fn has_a_map(item: &Item) -> Option<bool> {
+fn has_a_map(item: &Item) -> Result<bool, Fail> {
     let Some(Value::M(map)) = item.get("m") else {
-        return None;
+        return Err(Fail::from("no map"));
     };
-    let copy = map.copy().ok()?;
-    Some(
-        map.len() == 1
-            && !map.is_empty()
-            && map.get("a") == Some(&Value::Bool(true))
-            && copy.get("b").is_none(),
-    )
+    let copy = map.copy()?;
+    let has_one = map.len() == 1 && !map.is_empty();
+    Ok(has_one && map.get("a") == Some(&Value::Bool(true)) && copy.get("b").is_none())
 }
 
-fn copy_of_texts(item: &Item) -> Option<Value> {
+fn copy_of_texts(item: &Item) -> Result<Value, Fail> {
     match item.get("s") {
-        Some(Value::Ss(texts)) => Some(Value::Ss(texts.copy().ok()?)),
-        _ => None,
+        Some(Value::Ss(texts)) => Ok(Value::Ss(texts.copy()?)),
+        _ => Err(Fail::from("no texts")),
     }
 }
 
-fn copy_of_numbers(item: &Item) -> Option<Value> {
+fn copy_of_numbers(item: &Item) -> Result<Value, Fail> {
     match item.get("n") {
-        Some(Value::Ns(numbers)) => Some(Value::Ns(numbers.copy().ok()?)),
-        _ => None,
+        Some(Value::Ns(numbers)) => Ok(Value::Ns(numbers.copy()?)),
+        _ => Err(Fail::from("no numbers")),
     }
 }
 
@@ -372,8 +366,8 @@ fn looks_into_lists_and_maps(rt: HostRuntime) -> Result<(), Fail> {
         alloc,
         "{\"l\":{\"L\":[{\"NULL\":true}]},\"m\":{\"M\":{\"a\":{\"BOOL\":true}}},\"n\":{\"NS\":[\"1\",\"2\"]},\"s\":{\"SS\":[\"x\"]}}",
     )?;
-    assert_eq!(rt; has_a_list(&item), Some(true));
-    assert_eq!(rt; has_a_map(&item), Some(true));
+    assert!(rt; has_a_list(&item)?);
+    assert!(rt; has_a_map(&item)?);
     Ok(())
 }
 
@@ -385,9 +379,9 @@ fn looks_into_sets(rt: HostRuntime) -> Result<(), Fail> {
         "{\"l\":{\"L\":[{\"NULL\":true}]},\"m\":{\"M\":{\"a\":{\"BOOL\":true}}},\"n\":{\"NS\":[\"1\",\"2\"]},\"s\":{\"SS\":[\"x\"]}}",
     )?;
     let texts = value_of(alloc, "{\"SS\":[\"x\"]}")?;
-    assert!(rt; copy_of_texts(&item) == Some(texts));
+    assert!(rt; copy_of_texts(&item)? == texts);
     let numbers = value_of(alloc, "{\"NS\":[\"2.0\",\"1\"]}")?;
-    assert!(rt; copy_of_numbers(&item) == Some(numbers));
+    assert!(rt; copy_of_numbers(&item)? == numbers);
     Ok(())
 }
 
