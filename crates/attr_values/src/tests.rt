@@ -24,7 +24,7 @@ fn item_of(alloc: Global, text: &str) -> Result<Item, Fail> {
 
 fn text_of(alloc: Global, value: &Value) -> Result<String, AllocError> {
     let json = write_value(alloc, value)?;
-    Ok(write_text(alloc, &json)?)
+    write_text(alloc, &json)
 }
 
 fn number(text: &str) -> Result<Number, Fail> {
@@ -59,13 +59,13 @@ fn schema_of_two(
 
 fn zeros(alloc: Global, before: &str, count: usize, after: &str) -> Result<String, AllocError> {
     let zeros = "0".repeat(alloc, count)?;
-    Ok([before, zeros.as_str(), after].concat(alloc)?)
+    [before, zeros.as_str(), after].concat(alloc)
 }
 
 fn nested(alloc: Global, open: &str, close: &str, levels: usize) -> Result<String, AllocError> {
     let opened = open.repeat(alloc, levels)?;
     let closed = close.repeat(alloc, levels)?;
-    Ok([opened.as_str(), "{\"NULL\":true}", closed.as_str()].concat(alloc)?)
+    [opened.as_str(), "{\"NULL\":true}", closed.as_str()].concat(alloc)
 }
 
 /// Asserts that the rows rise by each of their orders, and that no two are equal.
@@ -387,7 +387,7 @@ fn looks_into_sets(rt: HostRuntime) -> Result<(), Fail> {
 
 fn text_of_item(alloc: Global, item: &Item) -> Result<String, AllocError> {
     let json = write_item(alloc, item)?;
-    Ok(write_text(alloc, &json)?)
+    write_text(alloc, &json)
 }
 
 fn is_read_back(alloc: Global, item: &Item) -> Result<bool, Fail> {
