@@ -9,7 +9,7 @@ use Rattle.rollback_book.specs.Story.{Story}
 use Rattle.operator_line.specs.Lines.{grown, kept, within_limit, without_return, ended_line, last_line}
 use Rattle.operator_line.specs.Texts.{lines_of, lines_after, has_no_feed}
 use Rattle.operator_line.specs.Answers.{AnswersLine, AnswersLines}
-use Rattle.operator_line.specs.Serving.{AnswersUntil, AnswersBefore, AnswersPart, AnswersUpTo, ServesLine, ServesLast, ServesPiece, ServesRead, Serves}
+use Rattle.operator_line.specs.Serving.{AnswersUntil, AnswersBefore, AnswersPart, AnswersUpTo, AnswersRead, ServesLine, ServesLast, ServesPiece, ServesRead, Serves}
 use Rattle.operator_line.specs.declared.serving.ServeFault.{ServeFault}
 use Rattle.operator_line.specs.declared.serving.ServeFault.TheVariants.{Read, Write, Memory}
 
@@ -234,7 +234,7 @@ still text (Some rest) h = ap (λ l. Some l) h
 pub read-failed : (e : ServeFault) (front text input : List ℕ) (left line : Option (List ℕ)) (a t b : Option Story) (o p n : Option (List ℕ)) → AnswersUntil (lines_of input) (lines_after front text) a t o p
     → ServesRead (Err e) front text left line t b p n → Serves (Err e) input a b o n
 read-failed Write front text input left line a t b o p n until w = until-up_to (lines_of input) (lines_after front text) a t b o p n until w
-read-failed Read front text input left line a t b o p n until w = until-before (lines_of input) (lines_after front text) a t b o p n until w
+read-failed Read front text input left line a t b o p n until w = until-before (lines_of input) (lines_after front text) a t b o p n until (none-before (lines_after front text) t b p n w.1 w.2)
 read-failed Memory front text input left line a t b o p n until w = until-before (lines_of input) (lines_after front text) a t b o p n until w
 
 pub if_some : {P : List ℕ → Type 0} → (o : Option (List ℕ)) → ((x : List ℕ) → o ≡ Some x → P x) → IfSome o P
@@ -327,6 +327,17 @@ module _ (input : List ℕ) (left left' line line' : Option (List ℕ)) (s t u :
   pub reading-fails : (e : ServeFault) → Asks (Err e) left left' line line' t u p n → Serves (Err e) input s u o n
   reading-fails e asks = read-failed e soon.tail soon.rest input left' line' s t u o p n soon.until (asks soon.tail soon.rest soon.line_is soon.left_is)
 
+  pub reading-failed : Asks (Err Read) left left' line line' t u p n → AnswersRead input left' s u o n
+  reading-failed asks =
+      let (left_is, same, keeps) = asks soon.tail soon.rest soon.line_is soon.left_is in
+      record {
+        begun = soon.tail;
+        rest = soon.rest;
+        left_is = left_is;
+        until = until-kept (lines_of input) (lines_after soon.tail soon.rest) s u o p n
+            (subst (λ (x : Option Story). AnswersUntil (lines_of input) (lines_after soon.tail soon.rest) s x o p) (sym same) soon.until) keeps;
+      }
+
   pub reading-ends : (v : Option Story) (m : Option (List ℕ)) (result : Result Unit ServeFault) → Asks (Ok false) left left' line line' t u p n → ServesLast result (last_line line') u v n m
       → Serves result input s v o m × (left' ≡ Some [])
   reading-ends v m result asks last =
@@ -355,3 +366,18 @@ failed-answers r e is o s u w n h = if_some o (λ input f. subst (λ (x : Result
 
 pub failed-whole : (r : Result Unit ServeFault) (e : ServeFault) → r ≡ Err e → (o : Option (List ℕ)) (P : Type 0) → IfSome o (λ _. OnOk r P)
 failed-whole r e is o P = if_some o (λ _ _. subst (λ (x : Result Unit ServeFault). OnOk x P) (sym is) tt)
+
+-- ---- a reader that failed
+
+pub reading-read : (input : List ℕ) (left line : Option (List ℕ)) (s t : Option Story) (o n : Option (List ℕ)) → IsReading input left line s t o n → AnswersRead input left s t o n
+reading-read input left line s t o n soon = record { begun = soon.tail; rest = soon.rest; left_is = soon.left_is; until = soon.until }
+
+pub failed-read : {P : List ℕ → Type 0} → (r : Result Unit ServeFault) (e : ServeFault) → r ≡ Err e → (o : Option (List ℕ)) → ((input : List ℕ) → o ≡ Some input → e ≡ Read → P input) → r ≡ Err Read → IfSome o P
+failed-read r e is o h read = let same : e ≡ Read = cc in if_some o (λ input f. h input f same)
+
+by-line : (l : Option (Option (List ℕ))) (a b : Option Story) (o n : Option (List ℕ)) → ServesLast (Err Read) l a b o n → ⊥
+by-line None a b o n w = w
+by-line (Some line) a b o n w = w
+
+pub last-reads_not : (r : Result Unit ServeFault) (l : Option (Option (List ℕ))) (a b : Option Story) (o n : Option (List ℕ)) → ServesLast r l a b o n → r ≡ Err Read → ⊥
+last-reads_not r l a b o n w e = by-line l a b o n (subst (λ (x : Result Unit ServeFault). ServesLast x l a b o n) e w)

@@ -1,5 +1,5 @@
 -- Worked rows of lines and replies, by computation.
-use Rattle.std.specs.Prelude.{◌≡◌, ℕ, List, [], ◌∷◌, Some, refl, codes}
+use Rattle.std.specs.Prelude.{◌≡◌, ℕ, [], ◌∷◌, Some, refl, codes}
 use Rattle.std.specs.Fmt.{digits}
 use Rattle.step_names.specs.Thread.{execution}
 use Rattle.step_names.specs.declared.step.StepName.{StepName}

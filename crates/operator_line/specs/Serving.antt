@@ -38,6 +38,13 @@ pub record AnswersUpTo (lines : List (Option (List ℕ))) (before : Option Story
   pub until : AnswersUntil lines (line ∷ later) before between old contents
   pub part : AnswersPart line between after contents new
 
+-- Where the reader failed: this is left to read, and all lines are answered before the one at hand, which has begun.
+pub record AnswersRead (input : List ℕ) (left : Option (List ℕ)) (before : Option Story) (after : Option Story) (old : Option (List ℕ)) (new : Option (List ℕ)) : Type 0 where
+  pub begun : List ℕ
+  pub rest : List ℕ
+  pub left_is : left ≡ Some rest
+  pub until : AnswersUntil (lines_of input) (lines_after begun rest) before after old new
+
 -- how serving ends
 abbrev pub Serves : Result Unit ServeFault → List ℕ → Option Story → Option Story → Option (List ℕ) → Option (List ℕ) → Type 0
 Serves (Ok _) input before after old new = AnswersUntil (lines_of input) [] before after old new
@@ -82,5 +89,5 @@ ServesRead (Ok true) front text left line before after old new =
     (tail : List ℕ) × (rest : List ℕ) × (left ≡ Some rest) × (line ≡ kept tail) × AnswersUntil (lines_after front text) (lines_after tail rest) before after old new
 ServesRead (Ok false) front text left line before after old new = (text ≡ []) × (left ≡ Some []) × (line ≡ kept front) × (after ≡ before) × Keeps old new
 ServesRead (Err Write) front text left line before after old new = AnswersUpTo (lines_after front text) before after old new
-ServesRead (Err Read) front text left line before after old new = AnswersBefore (lines_after front text) before after old new
+ServesRead (Err Read) front text left line before after old new = (left ≡ Some text) × (after ≡ before) × Keeps old new
 ServesRead (Err Memory) front text left line before after old new = AnswersBefore (lines_after front text) before after old new

@@ -2,7 +2,7 @@
 ghost use Rattle.std.specs.Prelude.{◌≡◌, ◌<◌, ◌≤◌, ℕ, List, ◌∷◌, ◌++◌, [], true, false, Some, None, Ok, Err, IfSome, IfErr, IsTrue, length, slice_index, take, MatchOption, OnOk};
 ghost use Rattle.std.specs.Io.KnownBytes.{Keeps};
 ghost use Rattle.operator_line.specs.Lines.{grown, ended_line, last_line, bytes_of, kept};
-ghost use Rattle.operator_line.specs.Serving.{ServesLast, ServesLine, ServesPiece, ServesRead, Serves, WritesReply};
+ghost use Rattle.operator_line.specs.Serving.{AnswersRead, ServesLast, ServesLine, ServesPiece, ServesRead, Serves, WritesReply};
 ghost use Rattle.operator_line.specs.Texts.{has_no_feed};
 
 use crate::line::{Line, LineBuffer};
@@ -52,6 +52,8 @@ pub fn serve<R: Read, W: Write>(
 ) -> Result<(), ServeFault>
     ensures answers { IfSome (R.remaining reader.old) (λ input.
         Serves result input session.old session.new (W.contents writer.old) (W.contents writer.new)) }
+    ensures read { result ≡ Err ServeFault.Read → IfSome (R.remaining reader.old) (λ input.
+        AnswersRead input (R.remaining reader.new) session.old session.new (W.contents writer.old) (W.contents writer.new)) }
     ensures whole { IfSome (R.remaining reader.old) (λ _. OnOk result (R.remaining reader.new ≡ Some [])) }
 {
     let Ok(mut piece) = vec![in alloc; 0u8; PIECE] else {

@@ -2,7 +2,8 @@ use Rattle.std.proofs.Common.{◌≡◌, [], ◌++◌, Bool, true, false, Some, 
 use lib.ListN.{length-take, length-drop}
 use Rattle.std.proofs.lemmas.Result.{err_from_is_err_and}
 use Rattle.std.proofs.KnownBytes.{Keeps-refl}
-use Rattle.operator_line.proofs.Served.{Asks, none-before, if_some, reading-begins, reading-goes_on, reading-fails, reading-ends, reading-stops, on_ok-from, failed-answers, failed-whole}
+use Rattle.operator_line.proofs.Served.{Asks, none-before, if_some, reading-begins, reading-goes_on, reading-fails, reading-ends, reading-stops, on_ok-from, failed-answers, failed-read, failed-whole, last-reads_not, reading-failed, reading-read}
+use Rattle.operator_line.specs.declared.serving.ServeFault.{ServeFault}
 use Rattle.operator_line.proofs.serving.serve.Goals as goal
 
 pub returns-in_default-clause-answers : goal.returns-in_default-clause-answers
@@ -10,6 +11,9 @@ returns-in_default-clause-answers g c = if_some _ (λ input e. none-before _ _ _
 
 pub returns-in_default-clause-whole : goal.returns-in_default-clause-whole
 returns-in_default-clause-whole g c = if_some _ (λ _ _. tt)
+
+pub returns-in_default-clause-read : goal.returns-in_default-clause-read
+returns-in_default-clause-read g c = λ e. cc
 
 pub loop-init : goal.loop-init
 loop-init g c = (omega (arith, c.in-Ok.ensures.len, c.in-Ok.piece.ok.0), λ input e. reading-begins input _ _ _ _ e c.new.ensures)
@@ -28,6 +32,24 @@ pub returns-in_err-serve_read-clause-whole : goal.returns-in_err-serve_read-clau
 returns-in_err-serve_read-clause-whole g c =
     let p = err_from_is_err_and c.from_residual.result c.from_residual.ensures.1 in
     failed-whole c.from_residual.result _ (p.1 ∙ ap (λ x. Err x) p.2) _ _
+
+pub returns-in_err-serve_read-clause-read : goal.returns-in_err-serve_read-clause-read
+returns-in_err-serve_read-clause-read g c =
+    let p = err_from_is_err_and c.from_residual.result c.from_residual.ensures.1 in
+    let left = g.R.Read.remaining c.loop.reader in
+    let left' = g.R.Read.remaining c.serve_read.new.reader in
+    let w = g.W.Write.contents c.loop.writer in
+    let n = g.W.Write.contents c.serve_read.new.writer in
+    failed-read c.from_residual.result _ (p.1 ∙ ap (λ x. Err x) p.2) _
+    (λ input f same. reading-failed input left left' c.loop.buffers.line c.serve_read.new.buffers.line c.args.session.now c.loop.session c.serve_read.new.session
+    (g.W.Write.contents c.args.writer.now) w n (c.loop.invariant.1 input f)
+    (subst (λ (x : ServeFault). Asks (Err x) left left' c.loop.buffers.line c.serve_read.new.buffers.line c.loop.session c.serve_read.new.session w n) same c.in_err-serve_read.ensures))
+
+pub returns-then-not-branch-clause-read : goal.returns-then-not-branch-clause-read
+returns-then-not-branch-clause-read g c = λ e. absurd (last-reads_not c.serve_last.result _ _ _ _ _ c.serve_last.ensures e)
+
+pub returns-clause-read : goal.returns-clause-read
+returns-clause-read g c = λ e. if_some _ (λ input f. reading-read input _ _ _ _ _ _ (c.loop.invariant.1 input f))
 
 pub returns-then-not-branch-clause-answers : goal.returns-then-not-branch-clause-answers
 returns-then-not-branch-clause-answers g c =
