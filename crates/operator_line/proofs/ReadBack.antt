@@ -11,7 +11,8 @@ use Rattle.step_names.proofs.Numbers.{number_reads}
 use Rattle.rollback_book.specs.declared.log.KeyAttribute.{KeyAttribute}
 use Rattle.rollback_book.specs.declared.log.KeyType.{KeyType}
 use Rattle.rollback_book.specs.declared.log.KeyType.TheVariants.{S, N}
-use Rattle.operator_line.specs.Grammar.{Spoken, table, define, start, step, undo, show, items, history, is_text, is_table_name, is_table_name_byte, thread_of, step_of, type_of, key_name_of, key_of, first_word, table_by, table_of, define_of, start_of, text_command}
+use Rattle.asl_machine.specs.Fields.{is_text}
+use Rattle.operator_line.specs.Grammar.{Spoken, table, define, start, step, undo, show, items, history, is_table_name, is_table_name_byte, thread_of, step_of, type_of, key_name_of, key_of, first_word, table_by, table_of, define_of, start_of, text_command}
 use Rattle.operator_line.specs.Spelled.{type_text, key_text, items_text, is_key_name, IsExecution, IsSort, IsProper, line_of}
 use Rattle.operator_line.specs.GrammarLaws.{LineIsRead}
 use Rattle.operator_line.proofs.Cuts.{cut_some}

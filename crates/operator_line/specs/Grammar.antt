@@ -11,7 +11,7 @@ use Rattle.std.specs.Prelude.{◌≡◌, ℕ, ◌==◌, Bool, ◌&&◌, ◌||◌
 use Rattle.std.specs.List.{list_all}
 use Rattle.std.specs.Option.{option_map_or}
 use Rattle.std.specs.Str.{is_utf8}
-use lib.Pointwise.{pointwise}
+use Rattle.asl_machine.specs.Fields.{is_text}
 use Rattle.step_names.specs.Thread.{Thread, execution, is_name, is_name_byte}
 use Rattle.step_names.specs.Grammar.{read_number}
 use Rattle.step_names.specs.declared.step.StepName.{StepName}
@@ -34,10 +34,6 @@ pub data Spoken : Type 0 where
   show : Thread → Spoken
   items : Spoken
   history : Spoken
-
--- whether two texts have the same bytes
-abbrev pub is_text : List ℕ → List ℕ → Bool
-is_text = pointwise ◌==◌
 
 -- one part after another: nothing where one of them is nothing
 infixl 10 ◌>>=◌

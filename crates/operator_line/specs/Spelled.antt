@@ -6,7 +6,8 @@ use Rattle.step_names.specs.Written.{thread_text, step_text}
 use Rattle.rollback_book.specs.declared.log.KeyAttribute.{KeyAttribute}
 use Rattle.rollback_book.specs.declared.log.KeyType.{KeyType}
 use Rattle.rollback_book.specs.declared.log.KeyType.TheVariants.{S, N}
-use Rattle.operator_line.specs.Grammar.{Spoken, table, define, start, step, undo, show, items, history, is_table_name, is_text, first_word, key_of}
+use Rattle.asl_machine.specs.Fields.{is_text}
+use Rattle.operator_line.specs.Grammar.{Spoken, table, define, start, step, undo, show, items, history, is_table_name, first_word, key_of}
 
 abbrev pub type_text : KeyType → List ℕ
 type_text S = codes "S"

@@ -373,3 +373,38 @@ fn steps_out_of_turn(rt: HostRuntime) -> Result<(), Fail> {
     assert!(rt; replay(alloc, &[])?.is_some());
     Ok(())
 }
+
+// ---- a refused growth
+
+/// Commands after which the log has an undoing between its steps.
+const UNDONE: &[Command] = &[
+    Command::Define("two", TWO),
+    Command::Start("a", "two"),
+    Command::Start("b", "two"),
+    Command::Step("a"),
+    Command::Undo("a#1"),
+    Command::Step("b"),
+];
+
+/// Whichever growth is refused, want of memory is answered, and the steps and frames are given when they are asked for again.
+#[test]
+fn refused_growths_are_told(rt: HostRuntime) -> Result<(), Fail> {
+    let alloc = rt.alloc();
+    let mut book = open(alloc)?;
+    for command in UNDONE {
+        drop(answer(&rt, alloc, &mut book, *command)?);
+    }
+    let (_begin, log) = book.entries();
+    let steps = match remaining(alloc, log) {
+        Ok(steps) => steps,
+        Err(_refused) => remaining(alloc, log)?,
+    };
+    has_steps(&rt, &book, steps.as_slice());
+    let plain = match replay(alloc, log) {
+        Ok(plain) => plain,
+        Err(_refused) => replay(alloc, log)?,
+    };
+    let plain = plain.ok_or("a step can't be taken")?;
+    has_steps(&rt, &book, plain.steps.as_slice());
+    has_frames(&rt, alloc, &book, &plain.frames)
+}

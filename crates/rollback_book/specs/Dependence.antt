@@ -1,7 +1,7 @@
 -- On which earlier steps a step depends directly (Danos and Krivine, "Reversible Communicating Systems", 2004:
 -- causality; the items that steps share are added).
-use Rattle.std.specs.Prelude.{ℕ, ◌-◌, Bool, true, false, ◌&&◌, ◌||◌, ◌==◌, List, Option, None, Some}
-use lib.Pointwise.{pointwise}
+use Rattle.std.specs.Prelude.{◌-◌, Bool, true, false, ◌&&◌, ◌||◌, Option, None, Some}
+use Rattle.asl_machine.specs.Fields.{is_text}
 use Rattle.step_names.specs.Thread.{Thread}
 use Rattle.step_names.specs.Under.{is_under}
 use Rattle.step_names.specs.declared.step.StepName.{StepName}
@@ -13,12 +13,9 @@ use Rattle.rollback_book.specs.declared.step.Fact.{Fact}
 use Rattle.rollback_book.specs.declared.step.Kind.{Kind}
 use Rattle.rollback_book.specs.declared.step.Kind.TheVariants.{Start, Plain, Call, Fork, Join, Terminate}
 
-abbrev pub is_same_text : List ℕ → List ℕ → Bool
-is_same_text = pointwise ◌==◌
-
 -- the step brought the thread forth: as the start of its execution, or as a fork that it lies under
 abbrev pub brings_forth : Kind → StepName → Thread → Bool
-brings_forth Start name t = is_same_text name.thread.exec t.exec
+brings_forth Start name t = is_text name.thread.exec t.exec
 brings_forth Fork name t = is_under t name.thread name.no
 brings_forth Plain name t = false
 brings_forth Call name t = false
@@ -42,7 +39,7 @@ is_write Read = false
 abbrev pub conflicts : Option Access → Option Access → Bool
 conflicts None b = false
 conflicts (Some a) None = false
-conflicts (Some a) (Some b) = is_same_text a.key b.key && (is_write a.mode || is_write b.mode)
+conflicts (Some a) (Some b) = is_text a.key b.key && (is_write a.mode || is_write b.mode)
 
 -- a later step b depends directly on an earlier step a
 abbrev pub depends_directly : Fact → Fact → Bool

@@ -5,8 +5,8 @@ ghost use Rattle.step_names.specs.Order.{thread_cmp};
 
 use crate::{LONGEST_STEP, LONGEST_THREAD, NameFault, NameRoom, StepName, ThreadName};
 use std::alloc::{AllocError, Global};
+use std::cmp::Ordering;
 use std::collections::BTreeMap;
-use std::process::Abort;
 use std::test::Fail;
 
 /// A map by names is one by their values.
@@ -21,48 +21,47 @@ fn note(counts: &mut BTreeMap<ThreadName, u32>, name: ThreadName) -> Result<u32,
     Ok(count)
 }
 
-fn thread_is(rt: &impl Abort, alloc: Global, text: &str, exec: &str, path: &[(u32, u32)]) {
+/// Whether the text is read as this thread and is written for it again, or memory is wanted.
+fn is_thread(alloc: Global, text: &str, exec: &str, path: &[(u32, u32)]) -> bool {
     match ThreadName::read(alloc, text) {
         Ok(name) => {
-            assert_eq!(rt; name.exec(), exec);
-            assert!(rt; name.path() == path, "the path of {text}");
-            assert_eq!(rt; name.is_execution(), path.is_empty());
-            assert_eq!(rt; name.text_len(), text.len());
-            if let Ok(written) = name.write_text(alloc) {
-                assert_eq!(rt; written.as_str(), text);
-            }
+            name.exec() == exec
+                && name.path() == path
+                && name.is_execution() == path.is_empty()
+                && name.text_len() == text.len()
+                && is_written(&name.write_text(alloc), text)
         }
-        Err(fault) => assert_eq!(rt; fault, NameFault::Memory, "{text}"),
+        Err(fault) => fault == NameFault::Memory,
     }
 }
 
-fn no_thread(rt: &impl Abort, alloc: Global, text: &str) {
-    match ThreadName::read(alloc, text) {
-        Ok(_) => assert!(rt; false, "{text} is no thread"),
-        Err(fault) => assert_eq!(rt; fault, NameFault::BadName, "{text}"),
-    }
-}
-
-fn step_is(rt: &impl Abort, alloc: Global, text: &str, exec: &str, path: &[(u32, u32)], no: u32) {
+/// Whether the text is read as this step and is written for it again, or memory is wanted.
+fn is_step(alloc: Global, text: &str, exec: &str, path: &[(u32, u32)], no: u32) -> bool {
     match StepName::read(alloc, text) {
         Ok(name) => {
-            assert_eq!(rt; name.thread.exec(), exec);
-            assert!(rt; name.thread.path() == path, "the path of {text}");
-            assert_eq!(rt; name.no, no);
-            assert_eq!(rt; name.text_len(), text.len());
-            if let Ok(written) = name.write_text(alloc) {
-                assert_eq!(rt; written.as_str(), text);
-            }
+            name.thread.exec() == exec
+                && name.thread.path() == path
+                && name.no == no
+                && name.text_len() == text.len()
+                && is_written(&name.write_text(alloc), text)
         }
-        Err(fault) => assert_eq!(rt; fault, NameFault::Memory, "{text}"),
+        Err(fault) => fault == NameFault::Memory,
     }
 }
 
-fn no_step(rt: &impl Abort, alloc: Global, text: &str) {
-    match StepName::read(alloc, text) {
-        Ok(_) => assert!(rt; false, "{text} is no step"),
-        Err(fault) => assert_eq!(rt; fault, NameFault::BadName, "{text}"),
+fn is_written(written: &Result<String, AllocError>, text: &str) -> bool {
+    match written {
+        Ok(written) => written.as_str() == text,
+        Err(_) => true,
     }
+}
+
+fn is_no_thread(alloc: Global, text: &str) -> bool {
+    ThreadName::read(alloc, text).err() == Some(NameFault::BadName)
+}
+
+fn is_no_step(alloc: Global, text: &str) -> bool {
+    StepName::read(alloc, text).err() == Some(NameFault::BadName)
 }
 
 fn thread(alloc: Global, text: &str) -> Result<ThreadName, Fail> {
@@ -73,152 +72,177 @@ fn step(alloc: Global, text: &str) -> Result<StepName, Fail> {
     Ok(StepName::read(alloc, text)?)
 }
 
+const LONGEST: &str = "abcdefghijklmnopqrstuvwxyzABCDEFGHIJKLMNOPQRSTUVWXYZ0123456789_-";
+
+const THREADS: &[(&str, &str, &[(u32, u32)])] = &[
+    ("E", "E", &[]),
+    ("E/2.0", "E", &[(2, 0)]),
+    ("E/2.0/5.1", "E", &[(2, 0), (5, 1)]),
+    ("_a-Z09", "_a-Z09", &[]),
+    ("E/4294967295.4294967295", "E", &[(4294967295, 4294967295)]),
+    (LONGEST, LONGEST, &[]),
+];
+
+const NO_THREADS: [&str; 23] = [
+    "",
+    "a.b",
+    "a b",
+    "é",
+    "E/0.0",
+    "E/02.0",
+    "E/2.00",
+    "E/4294967296.0",
+    "E/2.4294967296",
+    "E/",
+    "E/2",
+    "E/2.",
+    "E/.0",
+    "E/2.0/",
+    "E//2.0",
+    "/2.0",
+    "E/2.0.1",
+    "E/+2.0",
+    "E/2.+0",
+    "E/2.a",
+    "E#0",
+    "E/99999999999999999999.0",
+    "abcdefghijklmnopqrstuvwxyzABCDEFGHIJKLMNOPQRSTUVWXYZ0123456789_-x",
+];
+
 #[test]
 fn reads_threads(rt: HostRuntime) {
     let alloc = rt.alloc();
-    thread_is(&rt, alloc, "E", "E", &[]);
-    thread_is(&rt, alloc, "E/2.0", "E", &[(2, 0)]);
-    thread_is(&rt, alloc, "E/2.0/5.1", "E", &[(2, 0), (5, 1)]);
-    thread_is(&rt, alloc, "_a-Z09", "_a-Z09", &[]);
-    let greatest = [(4294967295, 4294967295)];
-    thread_is(&rt, alloc, "E/4294967295.4294967295", "E", &greatest);
-    let long = "abcdefghijklmnopqrstuvwxyzABCDEFGHIJKLMNOPQRSTUVWXYZ0123456789_-";
-    assert_eq!(rt; long.len(), 64);
-    thread_is(&rt, alloc, long, long, &[]);
-    let bad = [
-        "",
-        "a.b",
-        "a b",
-        "é",
-        "E/0.0",
-        "E/02.0",
-        "E/2.00",
-        "E/4294967296.0",
-        "E/2.4294967296",
-        "E/",
-        "E/2",
-        "E/2.",
-        "E/.0",
-        "E/2.0/",
-        "E//2.0",
-        "/2.0",
-        "E/2.0.1",
-        "E/+2.0",
-        "E/2.+0",
-        "E/2.a",
-        "E#0",
-        "E/99999999999999999999.0",
-        "abcdefghijklmnopqrstuvwxyzABCDEFGHIJKLMNOPQRSTUVWXYZ0123456789_-x",
-    ];
-    for text in bad {
-        no_thread(&rt, alloc, text);
+    assert_eq!(rt; LONGEST.len(), 64);
+    for (text, exec, path) in THREADS {
+        assert!(rt; is_thread(alloc, text, exec, path), "at {text}");
+    }
+    for text in NO_THREADS {
+        assert!(rt; is_no_thread(alloc, text), "at {text}");
     }
 }
+
+const STEPS: &[(&str, &str, &[(u32, u32)], u32)] = &[
+    ("E#0", "E", &[], 0),
+    ("E/2.0#10", "E", &[(2, 0)], 10),
+    ("E/2.0/5.1#4294967295", "E", &[(2, 0), (5, 1)], 4294967295),
+];
+
+const NO_STEPS: [&str; 15] = [
+    "",
+    "E",
+    "E#",
+    "#1",
+    "E#01",
+    "E#00",
+    "E#4294967296",
+    "E#1#2",
+    "E##1",
+    "E# 1",
+    "E#+1",
+    "E#-1",
+    "E/2#1",
+    "E/0.0#1",
+    "é#1",
+];
 
 #[test]
 fn reads_steps(rt: HostRuntime) {
     let alloc = rt.alloc();
-    step_is(&rt, alloc, "E#0", "E", &[], 0);
-    step_is(&rt, alloc, "E/2.0#10", "E", &[(2, 0)], 10);
-    step_is(
-        &rt,
-        alloc,
-        "E/2.0/5.1#4294967295",
-        "E",
-        &[(2, 0), (5, 1)],
-        4294967295,
-    );
-    let bad = [
-        "",
-        "E",
-        "E#",
-        "#1",
-        "E#01",
-        "E#00",
-        "E#4294967296",
-        "E#1#2",
-        "E##1",
-        "E# 1",
-        "E#+1",
-        "E#-1",
-        "E/2#1",
-        "E/0.0#1",
-        "é#1",
-    ];
-    for text in bad {
-        no_step(&rt, alloc, text);
+    for (text, exec, path, no) in STEPS {
+        assert!(rt; is_step(alloc, text, exec, path, *no), "at {text}");
+    }
+    for text in NO_STEPS {
+        assert!(rt; is_no_step(alloc, text), "at {text}");
+    }
+}
+
+/// A text with this front, and so many times this after it.
+fn repeated(alloc: Global, front: &str, again: &str, count: u32) -> Result<String, AllocError> {
+    let mut text = String::from_str(alloc, front)?;
+    for _ in 0..count {
+        text.push_str(again)?;
+    }
+    Ok(text)
+}
+
+/// The branches of a thread under so many forks, and whether it can have a child; none where it has no name.
+fn depth(alloc: Global, forks: u32) -> Result<Option<(usize, bool)>, AllocError> {
+    match ThreadName::read(alloc, &repeated(alloc, "E", "/1.0", forks)?) {
+        Ok(thread) => {
+            let has_child = thread.child(alloc, 1, 0).is_ok();
+            Ok(Some((thread.path().len(), has_child)))
+        }
+        Err(_) => Ok(None),
     }
 }
 
 #[test]
 fn keeps_depth(rt: HostRuntime) -> Result<(), Fail> {
     let alloc = rt.alloc();
-    let mut text = String::from_str(alloc, "E")?;
-    for _ in 0..31 {
-        text.push_str("/1.0")?;
-    }
-    let deep = thread(alloc, text.as_str())?;
-    assert_eq!(rt; deep.path().len(), 31);
-    assert!(rt; deep.child(alloc, 1, 0).is_err());
-    text.push_str("/1.0")?;
-    no_thread(&rt, alloc, text.as_str());
-    text.push_str("#1")?;
-    no_step(&rt, alloc, text.as_str());
+    assert!(rt; depth(alloc, 30)? == Some((30, true)));
+    assert!(rt; depth(alloc, 31)? == Some((31, false)));
+    let mut deeper = repeated(alloc, "E", "/1.0", 32)?;
+    assert!(rt; is_no_thread(alloc, &deeper));
+    deeper.push_str("#1")?;
+    assert!(rt; is_no_step(alloc, &deeper));
     Ok(())
+}
+
+fn is_name(alloc: Global, exec: &str) -> Result<bool, AllocError> {
+    Ok(ThreadName::new(String::from_str(alloc, exec)?).is_some())
+}
+
+/// Whether a branch of the execution is this thread, and its copy too.
+fn is_child(alloc: Global, exec: &str, fork: u32, branch: u32, text: &str) -> Result<bool, Fail> {
+    let child = thread(alloc, exec)?.child(alloc, fork, branch)?;
+    Ok(child == thread(alloc, text)? && child.copy()? == child)
+}
+
+fn is_copied(alloc: Global, text: &str) -> Result<bool, Fail> {
+    let name = step(alloc, text)?;
+    Ok(name.copy()? == name)
+}
+
+/// The names of a step and of its thread behind another text.
+fn written_after(alloc: Global, front: &str, text: &str) -> Result<String, Fail> {
+    let name = step(alloc, text)?;
+    let mut out = String::from_str(alloc, front)?;
+    name.write_to(&mut out)?;
+    name.thread.write_to(&mut out)?;
+    Ok(out)
 }
 
 #[test]
 fn makes_names(rt: HostRuntime) -> Result<(), Fail> {
     let alloc = rt.alloc();
-    let own = ThreadName::new(String::from_str(alloc, "E")?).ok_or("E is a name")?;
-    assert!(rt; own.is_execution());
-    assert!(rt; ThreadName::new(String::from_str(alloc, "E/1.0")?).is_none());
-    assert!(rt; ThreadName::new(String::new(alloc)).is_none());
-    let child = own.child(alloc, 2, 0)?;
-    assert!(rt; child == thread(alloc, "E/2.0")?);
-    assert!(rt; child.copy()? == child);
-    match own.child(alloc, 0, 0) {
-        Ok(_) => assert!(rt; false, "steps that fork are numbered from 1"),
-        Err(fault) => assert_eq!(rt; fault, NameFault::BadName),
-    }
-    let name = StepName {
-        thread: child,
-        no: 7,
-    };
-    assert!(rt; name.copy()? == name);
-    let mut out = String::from_str(alloc, "ok ")?;
-    name.write_to(&mut out)?;
-    out.push(' ')?;
-    name.thread.write_to(&mut out)?;
-    assert_eq!(rt; out.as_str(), "ok E/2.0#7 E/2.0");
+    assert!(rt; is_name(alloc, "E")?);
+    assert!(rt; !is_name(alloc, "E/1.0")?);
+    assert!(rt; !is_name(alloc, "")?);
+    assert!(rt; is_child(alloc, "E", 2, 0, "E/2.0")?);
+    // steps that fork are numbered from 1
+    let none = thread(alloc, "E")?.child(alloc, 0, 0).err();
+    assert!(rt; none == Some(NameFault::BadName));
+    assert!(rt; is_copied(alloc, "E/2.0#7")?);
+    let written = written_after(alloc, "ok ", "E/2.0#7")?;
+    assert_eq!(rt; written.as_str(), "ok E/2.0#7E/2.0");
     Ok(())
+}
+
+/// Whether the longest thread is read and written, and the longest step is written in the room for it.
+fn is_longest(alloc: Global, exec: &str) -> Result<bool, Fail> {
+    let mut text = repeated(alloc, exec, "/4294967295.4294967295", 31)?;
+    let path = [(4294967295, 4294967295); 31];
+    let reads = text.len() == LONGEST_THREAD && is_thread(alloc, &text, exec, path.as_slice());
+    text.push_str("#4294967295")?;
+    let name = step(alloc, &text)?;
+    let mut out = String::with_capacity(alloc, LONGEST_STEP)?;
+    name.write_to(&mut out)?;
+    Ok(reads && text.len() == LONGEST_STEP && out == text)
 }
 
 #[test]
 fn writes_the_longest(rt: HostRuntime) -> Result<(), Fail> {
-    let alloc = rt.alloc();
-    let mut text = String::new(alloc);
-    for _ in 0..64 {
-        text.push('x')?;
-    }
-    let exec = text.clone()?;
-    for _ in 0..31 {
-        text.push_str("/4294967295.4294967295")?;
-    }
-    assert_eq!(rt; text.len(), LONGEST_THREAD);
-    thread_is(
-        &rt,
-        alloc,
-        text.as_str(),
-        exec.as_str(),
-        &[(4294967295, 4294967295); 31],
-    );
-    text.push_str("#4294967295")?;
-    assert_eq!(rt; text.len(), LONGEST_STEP);
-    let name = step(alloc, text.as_str())?;
-    let mut out = String::with_capacity(alloc, LONGEST_STEP)?;
-    name.write_to(&mut out)?;
-    assert_eq!(rt; out.as_str(), text.as_str());
+    assert!(rt; is_longest(rt.alloc(), LONGEST)?);
     Ok(())
 }
 
@@ -258,52 +282,72 @@ fn lies_under(rt: HostRuntime) -> Result<(), Fail> {
     Ok(())
 }
 
+/// Names of steps in their order.
+const ORDERED: [&str; 17] = [
+    "-#1",
+    "1#1",
+    "10#1",
+    "2#1",
+    "E#0",
+    "E#1",
+    "E#2",
+    "E#10",
+    "E/2.0#1",
+    "E/2.0/1.0#1",
+    "E/2.0/10.0#1",
+    "E/2.1#1",
+    "E/2.10#1",
+    "E/10.0#1",
+    "EE#0",
+    "_#1",
+    "e#1",
+];
+
+/// Whether this is the order of the steps, as all comparisons tell it.
+fn is_ordered(alloc: Global, left: &str, right: &str, order: Ordering) -> Result<bool, Fail> {
+    let (a, b) = (step(alloc, left)?, step(alloc, right)?);
+    let threads = a.thread.cmp(&b.thread);
+    Ok(
+        a.cmp(&b) == order
+            && (a == b) == order.is_eq()
+            && (a < b) == order.is_lt()
+            && (a.thread < b.thread) == threads.is_lt(),
+    )
+}
+
 #[test]
 fn orders_names(rt: HostRuntime) -> Result<(), Fail> {
-    let alloc = rt.alloc();
-    let rows = [
-        "-#1",
-        "1#1",
-        "10#1",
-        "2#1",
-        "E#0",
-        "E#1",
-        "E#2",
-        "E#10",
-        "E/2.0#1",
-        "E/2.0/1.0#1",
-        "E/2.0/10.0#1",
-        "E/2.1#1",
-        "E/2.10#1",
-        "E/10.0#1",
-        "EE#0",
-        "_#1",
-        "e#1",
-    ];
-    for (i, low) in rows.iter().enumerate() {
-        for (j, high) in rows.iter().enumerate() {
-            let (a, b) = (step(alloc, low)?, step(alloc, high)?);
-            assert_eq!(rt; a.cmp(&b), i.cmp(&j), "{low} and {high}");
-            assert_eq!(rt; a == b, i == j, "{low} and {high}");
-            assert_eq!(rt; a < b, i < j, "{low} and {high}");
-            assert_eq!(rt; a.thread < b.thread, a.thread.cmp(&b.thread).is_lt());
+    for (i, left) in ORDERED.iter().enumerate() {
+        for (j, right) in ORDERED.iter().enumerate() {
+            assert!(rt;
+                is_ordered(rt.alloc(), left, right, i.cmp(&j))?,
+                "{left} and {right}"
+            );
         }
     }
     Ok(())
 }
 
+/// How many of the names are this one, as a map by names counts them.
+fn count_of(alloc: Global, names: &[&str], text: &str) -> Result<Option<u32>, Fail> {
+    let mut counts = BTreeMap::new(alloc);
+    for name in names {
+        note(&mut counts, thread(alloc, name)?)?;
+    }
+    Ok(counts.get(&thread(alloc, text)?).copied())
+}
+
 #[test]
 fn keys_a_map(rt: HostRuntime) -> Result<(), Fail> {
-    let alloc = rt.alloc();
-    let mut counts = BTreeMap::new(alloc);
-    for text in ["E/2.0", "E", "E/2.0", "F", "E/2.0"] {
-        let name = thread(alloc, text)?;
-        note(&mut counts, name)?;
+    let names = ["E/2.0", "E", "E/2.0", "F", "E/2.0"];
+    for (text, want) in [
+        ("E/2.0", Some(3)),
+        ("E", Some(1)),
+        ("F", Some(1)),
+        ("G", None),
+    ] {
+        assert_eq!(rt; count_of(rt.alloc(), &names, text)?, want);
     }
-    assert_eq!(rt; counts.len(), 3);
-    assert_eq!(rt; counts.get(&thread(alloc, "E/2.0")?).copied(), Some(3));
-    assert_eq!(rt; counts.get(&thread(alloc, "E")?).copied(), Some(1));
-    assert_eq!(rt; counts.get(&thread(alloc, "G")?).copied(), None);
     Ok(())
 }
 

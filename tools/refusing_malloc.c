@@ -1,0 +1,49 @@
+// An allocator in front of the C library's that refuses one request: the one whose number, from 1, the variable REFUSE has.
+// When the program ends, the count of its requests is written to the open file 3.
+#include <errno.h>
+#include <stdio.h>
+#include <stdlib.h>
+#include <unistd.h>
+
+extern void *__libc_malloc(size_t size);
+extern void *__libc_calloc(size_t count, size_t size);
+extern void *__libc_realloc(void *block, size_t size);
+extern void *__libc_memalign(size_t alignment, size_t size);
+
+static unsigned long refused, requests;
+
+// What asks before the program begins is the loader, whose requests don't count.
+__attribute__((constructor)) static void begin(void) {
+    const char *number = getenv("REFUSE");
+    refused = number ? strtoul(number, NULL, 10) : 0;
+    requests = 0;
+}
+
+__attribute__((destructor)) static void end(void) {
+    char text[32];
+    int length = snprintf(text, sizeof text, "%lu\n", requests);
+    if (write(3, text, (size_t)length) != length) _exit(125);
+}
+
+static int is_refused(void) {
+    unsigned long number = __atomic_add_fetch(&requests, 1, __ATOMIC_SEQ_CST);
+    if (number != refused) return 0;
+    errno = ENOMEM;
+    return 1;
+}
+
+void *malloc(size_t size) { return is_refused() ? NULL : __libc_malloc(size); }
+
+void *calloc(size_t count, size_t size) { return is_refused() ? NULL : __libc_calloc(count, size); }
+
+void *realloc(void *block, size_t size) { return is_refused() ? NULL : __libc_realloc(block, size); }
+
+void *aligned_alloc(size_t alignment, size_t size) { return is_refused() ? NULL : __libc_memalign(alignment, size); }
+
+int posix_memalign(void **block, size_t alignment, size_t size) {
+    if (is_refused()) return ENOMEM;
+    void *made = __libc_memalign(alignment, size);
+    if (!made) return ENOMEM;
+    *block = made;
+    return 0;
+}
