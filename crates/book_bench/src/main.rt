@@ -37,7 +37,7 @@ fn book_of_pass(alloc: Global, machine: &Text) -> anyhow::Result<Book> {
     defined.then_some(book).context("the machine is refused")
 }
 
-fn executions(alloc: Global, count: u32) -> anyhow::Result<Vec<ThreadName>> {
+fn named(alloc: Global, count: u32) -> anyhow::Result<Vec<ThreadName>> {
     let mut names = Vec::new(alloc);
     for i in 0..count {
         let text = format!(in alloc; "execution-{i}")?;
@@ -145,29 +145,37 @@ fn time_undos(
     Ok(rate(calls, began.elapsed(rt)?))
 }
 
-fn time_all(rt: &impl Runtime, alloc: Global, steps: u32) -> anyhow::Result<()> {
-    let machine = Text::new(alloc, "p")?;
-    let mut book = book_of_pass(alloc, &machine)?;
-    let names = executions(alloc, steps / 2)?;
-    let starts = time_starts(rt, alloc, &mut book, &names, &machine)?;
-    let moves = time_steps(rt, alloc, &mut book, &names)?;
+// Each value that is dropped is owned by a function with few ways out, which keeps the proofs short.
+
+fn time_calls(
+    rt: &impl Runtime,
+    alloc: Global,
+    book: &mut Book,
+    names: &[ThreadName],
+    machine: &Text,
+) -> anyhow::Result<()> {
+    let starts = time_starts(rt, alloc, book, names, machine)?;
+    let moves = time_steps(rt, alloc, book, names)?;
     let kept = book.history().len();
-    let shows = time_shows(rt, &book, &names)?;
-    let undos = time_undos(rt, alloc, &mut book, &names)?;
+    let shows = time_shows(rt, book, names)?;
+    let undos = time_undos(rt, alloc, book, names)?;
     println!(rt;
         "{kept} steps, calls a second: start {starts}, step {moves}, show {shows}, undo {undos}"
     )?;
     Ok(())
 }
 
-fn run_once(rt: &impl Runtime, alloc: Global) -> anyhow::Result<()> {
-    let machine = Text::new(alloc, "p")?;
-    let mut book = book_of_pass(alloc, &machine)?;
-    let names = executions(alloc, 8)?;
-    let starts = start_all(alloc, &mut book, &names, &machine);
-    let moves = step_all(alloc, &mut book, &names);
-    let shows = show_all(&book, &names);
-    let undos = undo_both(alloc, &mut book, &names)?;
+fn count_calls(
+    rt: &impl Runtime,
+    alloc: Global,
+    book: &mut Book,
+    names: &[ThreadName],
+    machine: &Text,
+) -> anyhow::Result<()> {
+    let starts = start_all(alloc, book, names, machine);
+    let moves = step_all(alloc, book, names);
+    let shows = show_all(book, names);
+    let undos = undo_both(alloc, book, names)?;
     let left = book.history().len();
     println!(rt;
         "{starts} starts, {moves} steps, {shows} shows, {undos} undos, {left} steps left"
@@ -175,14 +183,39 @@ fn run_once(rt: &impl Runtime, alloc: Global) -> anyhow::Result<()> {
     Ok(())
 }
 
+fn with_book(
+    rt: &impl Runtime,
+    alloc: Global,
+    names: &[ThreadName],
+    is_timed: bool,
+) -> anyhow::Result<()> {
+    let machine = Text::new(alloc, "p")?;
+    let mut book = book_of_pass(alloc, &machine)?;
+    if is_timed {
+        time_calls(rt, alloc, &mut book, names, &machine)
+    } else {
+        count_calls(rt, alloc, &mut book, names, &machine)
+    }
+}
+
+fn run(rt: &impl Runtime, alloc: Global, executions: u32, is_timed: bool) -> anyhow::Result<()> {
+    let names = named(alloc, executions)?;
+    with_book(rt, alloc, names.as_slice(), is_timed)
+}
+
+fn time_all(rt: &impl Runtime, alloc: Global, steps: u32) -> anyhow::Result<()> {
+    for part in [16, 4, 1] {
+        run(rt, alloc, steps / part / 2, true)?;
+    }
+    Ok(())
+}
+
 fn main(rt: HostRuntime) -> anyhow::Result<()> {
     let alloc = rt.alloc();
-    run_once(&rt, alloc)?;
+    run(&rt, alloc, 8, false)?;
     if let Some(steps) = env::args(&rt)?.nth(1) {
         let steps: u32 = steps.parse().context("the number of steps")?;
-        for part in [16, 4, 1] {
-            time_all(&rt, alloc, steps / part)?;
-        }
+        time_all(&rt, alloc, steps)?;
     }
     Ok(())
 }

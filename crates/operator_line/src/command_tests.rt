@@ -2,6 +2,7 @@
 use crate::command::{Command, CommandFault};
 use rollback_book::{KeyAttribute, KeyType};
 use std::alloc::{AllocError, Global};
+use std::process::Abort;
 use std::test::Fail;
 
 /// What a line is read as: the command and its parts with a bar between them, `bad` or `memory`.
@@ -66,146 +67,203 @@ fn key(alloc: Global, key: &KeyAttribute) -> Result<String, AllocError> {
     }
 }
 
-#[test]
-fn commands(rt: HostRuntime) -> Result<(), Fail> {
-    let rows = [
-        ("define p {\"a\": 1}", "define|p|{\"a\": 1}"),
-        ("define p ", "define|p|"),
-        ("define p  x", "define|p| x"),
-        ("start a p {}", "start|a|p|{}"),
-        ("start 0-_ P {} []", "start|0-_|P|{} []"),
-        ("step a", "step|a"),
-        ("undo a#0", "undo|a#0"),
-        ("undo a#4294967295", "undo|a#4294967295"),
-        ("show a", "show|a"),
-        ("items", "items"),
-        ("history", "history"),
-    ];
+/// Compares what a line is read as with its row.
+fn expect_parts(rt: &impl Abort, told: &str, parts: &str, line: &str) {
+    assert_eq!(rt; told, parts, "at {line}");
+}
+
+fn expect_read(rt: &impl Abort, alloc: Global, line: &str, parts: &str) -> Result<(), Fail> {
+    let told = told(alloc, line.as_bytes())?;
+    expect_parts(rt, told.as_str(), parts, line);
+    Ok(())
+}
+
+/// Reads each line and compares its parts.
+fn expect_rows(rt: &impl Abort, alloc: Global, rows: &[(&str, &str)]) -> Result<(), Fail> {
     for (line, parts) in rows {
-        assert_eq!(rt;
-            told(rt.alloc(), line.as_bytes())?.as_str(),
-            parts,
-            "at {line}"
-        );
+        expect_read(rt, alloc, line, parts)?;
     }
     Ok(())
 }
+
+/// Reads each line, of which none is a command.
+fn expect_bad(rt: &impl Abort, alloc: Global, lines: &[&str]) -> Result<(), Fail> {
+    for line in lines {
+        expect_read(rt, alloc, line, "bad")?;
+    }
+    Ok(())
+}
+
+const COMMANDS: [(&str, &str); 11] = [
+    ("define p {\"a\": 1}", "define|p|{\"a\": 1}"),
+    ("define p ", "define|p|"),
+    ("define p  x", "define|p| x"),
+    ("start a p {}", "start|a|p|{}"),
+    ("start 0-_ P {} []", "start|0-_|P|{} []"),
+    ("step a", "step|a"),
+    ("undo a#0", "undo|a#0"),
+    ("undo a#4294967295", "undo|a#4294967295"),
+    ("show a", "show|a"),
+    ("items", "items"),
+    ("history", "history"),
+];
+
+#[test]
+fn commands(rt: HostRuntime) -> Result<(), Fail> {
+    expect_rows(&rt, rt.alloc(), COMMANDS.as_slice())
+}
+
+const TABLES: [(&str, &str); 10] = [
+    ("table items id:S []", "table|items|id:S||[]"),
+    ("table items id:N ", "table|items|id:N||"),
+    (
+        "table i.t-e_m.s id:S sort:N []",
+        "table|i.t-e_m.s|id:S|sort:N|[]",
+    ),
+    ("table t id:S sort:N  []", "table|t|id:S|sort:N| []"),
+    ("table t ключ:S []", "table|t|ключ:S||[]"),
+    ("table t id:S a:b:N []", "table|t|id:S||a:b:N []"),
+    ("table t id:S id:X []", "table|t|id:S||id:X []"),
+    ("table t id:S [a:N []", "table|t|id:S||[a:N []"),
+    ("table t id:S :N []", "table|t|id:S||:N []"),
+    ("table t id:S a[:N []", "table|t|id:S|a[:N|[]"),
+];
 
 #[test]
 fn tables(rt: HostRuntime) -> Result<(), Fail> {
-    let rows = [
-        ("table items id:S []", "table|items|id:S||[]"),
-        ("table items id:N ", "table|items|id:N||"),
-        (
-            "table i.t-e_m.s id:S sort:N []",
-            "table|i.t-e_m.s|id:S|sort:N|[]",
-        ),
-        ("table t id:S sort:N  []", "table|t|id:S|sort:N| []"),
-        ("table t ключ:S []", "table|t|ключ:S||[]"),
-        ("table t id:S a:b:N []", "table|t|id:S||a:b:N []"),
-        ("table t id:S id:X []", "table|t|id:S||id:X []"),
-        ("table t id:S [a:N []", "table|t|id:S||[a:N []"),
-        ("table t id:S :N []", "table|t|id:S||:N []"),
-        ("table t id:S a[:N []", "table|t|id:S|a[:N|[]"),
-    ];
-    for (line, parts) in rows {
-        assert_eq!(rt;
-            told(rt.alloc(), line.as_bytes())?.as_str(),
-            parts,
-            "at {line}"
-        );
-    }
-    Ok(())
+    expect_rows(&rt, rt.alloc(), TABLES.as_slice())
 }
+
+const BAD_TABLES: [&str; 16] = [
+    "table",
+    "table items",
+    "table items id:S",
+    "table items id []",
+    "table items id: []",
+    "table items id:B []",
+    "table items id:SS []",
+    "table items :S []",
+    "table items [id:S []",
+    "table items id:S id:N []",
+    "table items id:S id:S []",
+    "table items id:S b:N",
+    "table  items id:S []",
+    "table items  id:S []",
+    "table ite/ms id:S []",
+    "tables items id:S []",
+];
 
 #[test]
 fn bad_tables(rt: HostRuntime) -> Result<(), Fail> {
-    let rows = [
-        "table",
-        "table items",
-        "table items id:S",
-        "table items id []",
-        "table items id: []",
-        "table items id:B []",
-        "table items id:SS []",
-        "table items :S []",
-        "table items [id:S []",
-        "table items id:S id:N []",
-        "table items id:S id:S []",
-        "table items id:S b:N",
-        "table  items id:S []",
-        "table items  id:S []",
-        "table ite/ms id:S []",
-        "tables items id:S []",
-    ];
-    for line in rows {
-        assert_eq!(rt;
-            told(rt.alloc(), line.as_bytes())?.as_str(),
-            "bad",
-            "at {line}"
-        );
-    }
-    Ok(())
+    expect_bad(&rt, rt.alloc(), BAD_TABLES.as_slice())
 }
+
+const BAD_LINES: [&str; 35] = [
+    "",
+    " ",
+    " items",
+    "items ",
+    "Items",
+    "history x",
+    "step",
+    "step ",
+    "step  a",
+    "step a ",
+    "step a b",
+    "step a.b",
+    "step a#1",
+    "step a/1.0",
+    "show a/1.0",
+    "undo a",
+    "undo a#",
+    "undo #1",
+    "undo a#01",
+    "undo a#+1",
+    "undo a#1#2",
+    "undo a#4294967296",
+    "undo a/1.0#1",
+    "define",
+    "define p",
+    "define  p {}",
+    "define p.q {}",
+    "start a p",
+    "start a  p {}",
+    "start a/1.0 p {}",
+    "start a p.q {}",
+    "plan a#0",
+    "rollback a#0",
+    "drive 1",
+    "hold a#0",
+];
 
 #[test]
 fn bad_lines(rt: HostRuntime) -> Result<(), Fail> {
-    let rows = [
-        "",
-        " ",
-        " items",
-        "items ",
-        "Items",
-        "history x",
-        "step",
-        "step ",
-        "step  a",
-        "step a ",
-        "step a b",
-        "step a.b",
-        "step a#1",
-        "step a/1.0",
-        "show a/1.0",
-        "undo a",
-        "undo a#",
-        "undo #1",
-        "undo a#01",
-        "undo a#+1",
-        "undo a#1#2",
-        "undo a#4294967296",
-        "undo a/1.0#1",
-        "define",
-        "define p",
-        "define  p {}",
-        "define p.q {}",
-        "start a p",
-        "start a  p {}",
-        "start a/1.0 p {}",
-        "start a p.q {}",
-        "plan a#0",
-        "rollback a#0",
-        "drive 1",
-        "hold a#0",
-    ];
-    for line in rows {
-        assert_eq!(rt;
-            told(rt.alloc(), line.as_bytes())?.as_str(),
-            "bad",
-            "at {line}"
-        );
-    }
-    Ok(())
+    expect_bad(&rt, rt.alloc(), BAD_LINES.as_slice())
+}
+
+/// Whether a line is read as these parts.
+fn is_read(alloc: Global, line: &[u8], parts: &[u8]) -> Result<bool, AllocError> {
+    Ok(told(alloc, line)?.as_bytes() == parts)
 }
 
 #[test]
 fn bytes_beside_utf8(rt: HostRuntime) -> Result<(), Fail> {
     let alloc = rt.alloc();
-    for line in [
-        b"define p \xff".as_slice(),
-        b"\xc3".as_slice(),
-        b"items\x80".as_slice(),
-    ] {
-        assert_eq!(rt; told(alloc, line)?.as_str(), "bad");
+    assert!(rt; is_read(alloc, b"define p \xff", b"bad")?);
+    assert!(rt; is_read(alloc, b"\xc3", b"bad")?);
+    assert!(rt; is_read(alloc, b"items\x80", b"bad")?);
+    Ok(())
+}
+
+/// The letters of names, each once.
+const LETTERS: [u8; 64] = *b"abcdefghijklmnopqrstuvwxyz-ABCDEFGHIJKLMNOPQRSTUVWXYZ_0123456789";
+
+/// A text with a name of so many bytes in it.
+fn with_name(alloc: Global, front: &str, count: usize, back: &str) -> Result<Vec<u8>, AllocError> {
+    let mut text = Vec::new(alloc);
+    text.extend_from_slice(front.as_bytes())?;
+    for i in 0..count {
+        text.push(LETTERS[i % 64])?;
+    }
+    text.extend_from_slice(back.as_bytes())?;
+    Ok(text)
+}
+
+/// Whether a line with a long name is read as these parts, that name among them.
+fn is_long_read(
+    alloc: Global,
+    count: usize,
+    line: (&str, &str),
+    parts: (&str, &str),
+) -> Result<bool, AllocError> {
+    let line = with_name(alloc, line.0, count, line.1)?;
+    let parts = with_name(alloc, parts.0, count, parts.1)?;
+    is_read(alloc, line.as_slice(), parts.as_slice())
+}
+
+/// Whether a line with a name that is too long is none.
+fn is_long_bad(alloc: Global, front: &str, count: usize, back: &str) -> Result<bool, AllocError> {
+    let line = with_name(alloc, front, count, back)?;
+    is_read(alloc, line.as_slice(), b"bad")
+}
+
+/// Lines with a name of one byte more: what stands before it, its bytes, and what stands behind it.
+const TOO_LONG: [(&str, usize, &str); 6] = [
+    ("show ", 65, ""),
+    ("step ", 65, ""),
+    ("undo ", 65, "#1"),
+    ("define ", 65, " 1"),
+    ("start a ", 65, " 1"),
+    ("table ", 256, " id:S []"),
+];
+
+fn expect_too_long(
+    rt: &impl Abort,
+    alloc: Global,
+    rows: &[(&str, usize, &str)],
+) -> Result<(), Fail> {
+    for (front, count, back) in rows {
+        assert!(rt; is_long_bad(alloc, front, *count, back)?, "at {front}");
     }
     Ok(())
 }
@@ -213,24 +271,7 @@ fn bytes_beside_utf8(rt: HostRuntime) -> Result<(), Fail> {
 #[test]
 fn long_names(rt: HostRuntime) -> Result<(), Fail> {
     let alloc = rt.alloc();
-    let name = "abcdefghijklmnopqrstuvwxyz-ABCDEFGHIJKLMNOPQRSTUVWXYZ_0123456789";
-    let line = format!(in alloc; "show {name}")?;
-    let parts = format!(in alloc; "show|{name}")?;
-    assert_eq!(rt; told(alloc, line.as_bytes())?.as_str(), parts.as_str());
-    for line in [
-        format!(in alloc; "step {name}0")?,
-        format!(in alloc; "undo {name}0#1")?,
-        format!(in alloc; "define {name}0 1")?,
-        format!(in alloc; "start a {name}0 1")?,
-    ] {
-        assert_eq!(rt; told(alloc, line.as_bytes())?.as_str(), "bad");
-    }
-    let three = format!(in alloc; "{name}{name}{name}")?;
-    let front = &name[..63];
-    let line = format!(in alloc; "table {three}{front} id:S []")?;
-    let parts = format!(in alloc; "table|{three}{front}|id:S||[]")?;
-    assert_eq!(rt; told(alloc, line.as_bytes())?.as_str(), parts.as_str());
-    let line = format!(in alloc; "table {three}{name} id:S []")?;
-    assert_eq!(rt; told(alloc, line.as_bytes())?.as_str(), "bad");
-    Ok(())
+    assert!(rt; is_long_read(alloc, 64, ("show ", ""), ("show|", ""))?);
+    assert!(rt; is_long_read(alloc, 255, ("table ", " id:S []"), ("table|", "|id:S||[]"))?);
+    expect_too_long(&rt, alloc, TOO_LONG.as_slice())
 }

@@ -77,24 +77,54 @@ fn time_fills(
     Ok(rate(objects, start.elapsed(rt)?))
 }
 
-fn time_all(rt: &impl Runtime, alloc: Global, count: u32, rounds: u32) -> anyhow::Result<()> {
+// Each value that is dropped is owned by a function with few ways out, which keeps the proofs short.
+
+fn template(alloc: Global) -> anyhow::Result<Template> {
+    let json = read(alloc, TEMPLATE.as_bytes())?;
+    Ok(Template::read(alloc, &json, false)?)
+}
+
+fn picks(rt: &impl Runtime, alloc: Global, root: &Json, rounds: u32) -> anyhow::Result<u128> {
     let path = RefPath::read(alloc, PATH)?;
-    let template = Template::read(alloc, &read(alloc, TEMPLATE.as_bytes())?, false)?;
+    time_picks(rt, root, &path, rounds)
+}
+
+fn fills(rt: &impl Runtime, alloc: Global, root: &Json, rounds: u32) -> anyhow::Result<u128> {
+    let template = template(alloc)?;
+    time_fills(rt, alloc, root, &template, rounds)
+}
+
+fn places(rt: &impl Runtime, alloc: Global, root: Json, rounds: u32) -> anyhow::Result<u128> {
+    let path = RefPath::read(alloc, PATH)?;
+    time_places(rt, alloc, root, &path, rounds)
+}
+
+fn time_all(rt: &impl Runtime, alloc: Global, count: u32, rounds: u32) -> anyhow::Result<()> {
     let root = tree(alloc, count)?;
-    let picks = time_picks(rt, &root, &path, rounds)?;
-    let fills = time_fills(rt, alloc, &root, &template, rounds)?;
-    let places = time_places(rt, alloc, root, &path, rounds)?;
+    let picks = picks(rt, alloc, &root, rounds)?;
+    let fills = fills(rt, alloc, &root, rounds)?;
+    let places = places(rt, alloc, root, rounds)?;
     println!(rt; "{count} values: {picks} picks/s, {places} places/s, {fills} fills/s")?;
     Ok(())
 }
 
-fn main(rt: HostRuntime) -> anyhow::Result<()> {
-    let alloc = rt.alloc();
+// The tree with a value placed in it, and whether it is picked again.
+fn picked(alloc: Global) -> anyhow::Result<(Json, bool)> {
     let path = RefPath::read(alloc, PATH)?;
-    let template = Template::read(alloc, &read(alloc, TEMPLATE.as_bytes())?, false)?;
     let root = placed(alloc, tree(alloc, 10_000)?, &path, Json::Whole(4));
     let found = path.pick(&root) == Some(&Json::Whole(4));
-    let filled = write_text(alloc, &template.fill(alloc, &root, None)?)?;
+    Ok((root, found))
+}
+
+fn filled(alloc: Global, root: &Json) -> anyhow::Result<String> {
+    let filled = template(alloc)?.fill(alloc, root, None)?;
+    Ok(write_text(alloc, &filled)?)
+}
+
+fn main(rt: HostRuntime) -> anyhow::Result<()> {
+    let alloc = rt.alloc();
+    let (root, found) = picked(alloc)?;
+    let filled = filled(alloc, &root)?;
     println!(rt; "picked what was placed: {found}, filled {filled}")?;
     if let Some(rounds) = env::args(&rt)?.nth(1) {
         let rounds: u32 = rounds.parse().context("the number of rounds")?;

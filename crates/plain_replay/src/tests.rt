@@ -1,8 +1,9 @@
 use crate::forward::run;
-use crate::{Step, remaining, replay};
-use json_tree::{JsonList, Text, depth, read};
+use crate::{Replayed, Step, remaining, replay};
+use json_tree::{JsonList, Text, read};
 use rollback_book::{
     Begin, Book, Entry, Frame, KeyAttribute, KeySchema, KeyType, Kind, Readiness, Refusal, Saved,
+    StepRecord,
 };
 use serde_json::Value;
 use std::alloc::{AllocError, Global};
@@ -42,14 +43,24 @@ fn has_frames(
     frames: &BTreeMap<ThreadName, Frame>,
 ) -> Result<(), Fail> {
     for thread in ["a", "b", "c", "d", "e"] {
-        let thread = ThreadName::read(alloc, thread)?;
-        match (book.show(&thread), frames.get(&thread)) {
-            (Ok(shown), Some(frame)) => assert_eq!(rt; debug(alloc, shown)?, debug(alloc, frame)?),
-            (Err(_), None) => {}
-            _ => assert!(rt; false, "a thread is only in one"),
-        }
+        let is_same = has_frame(alloc, book, frames, thread)?;
+        assert!(rt; is_same, "{thread} has another frame, or is only in one");
     }
     Ok(())
+}
+
+fn has_frame(
+    alloc: Global,
+    book: &Book,
+    frames: &BTreeMap<ThreadName, Frame>,
+    thread: &str,
+) -> Result<bool, Fail> {
+    let thread = ThreadName::read(alloc, thread)?;
+    match (book.show(&thread).ok(), frames.get(&thread)) {
+        (Some(shown), Some(frame)) => Ok(is_same_frame(alloc, shown, frame)?),
+        (None, None) => Ok(true),
+        _ => Ok(false),
+    }
 }
 
 /// Each record has the frame that its thread has in the run of the steps before it.
@@ -58,20 +69,31 @@ fn is_saved(rt: &impl Abort, alloc: Global, book: &Book) -> Result<(), Fail> {
     let steps = remaining(alloc, log)?;
     for (i, record) in book.history().iter().enumerate() {
         let before = steps.get(..i).ok_or("too few steps")?;
-        let frames = run(alloc, log, before)?.ok_or("a step can't be taken")?;
-        match (frames.get(&record.fact.name.thread), &record.saved) {
-            (None, Saved::Started) => assert!(rt; record.fact.kind == Kind::Start),
-            (Some(frame), Saved::Framed(saved)) => {
-                assert_eq!(rt; debug(alloc, saved)?, debug(alloc, frame)?);
-            }
-            _ => assert!(rt; false, "another frame is saved"),
-        }
+        let is_same = is_saved_after(alloc, log, before, record)?;
+        assert!(rt; is_same, "another frame is saved at {i}");
     }
     Ok(())
 }
 
-fn debug(alloc: Global, frame: &Frame) -> Result<String, AllocError> {
-    format!(in alloc; "{frame:?}")
+fn is_saved_after(
+    alloc: Global,
+    log: &[Entry],
+    before: &[Step],
+    record: &StepRecord,
+) -> Result<bool, Fail> {
+    let frames = run(alloc, log, before)?.ok_or("a step can't be taken")?;
+    match (frames.get(&record.fact.name.thread), &record.saved) {
+        (None, Saved::Started) => Ok(record.fact.kind == Kind::Start),
+        (Some(frame), Saved::Framed(saved)) => Ok(is_same_frame(alloc, saved, frame)?),
+        _ => Ok(false),
+    }
+}
+
+/// Frames can't be compared, but what is written of them can.
+fn is_same_frame(alloc: Global, one: &Frame, other: &Frame) -> Result<bool, AllocError> {
+    let one = format!(in alloc; "{one:?}")?;
+    let other = format!(in alloc; "{other:?}")?;
+    Ok(one == other)
 }
 
 // ---- commands
@@ -86,15 +108,29 @@ enum Command {
     UndoLast,
 }
 
-fn define(
+/// Gives a command, and writes its answer.
+fn answer(
+    rt: &impl Abort,
     alloc: Global,
     book: &mut Book,
-    name: &str,
-    text: &str,
-) -> Result<Result<(), Refusal>, Fail> {
+    command: Command,
+) -> Result<String, Fail> {
+    match command {
+        Command::Define(name, text) => define(alloc, book, name, text),
+        Command::Start(exec, machine) => start(rt, alloc, book, exec, machine),
+        Command::Step(thread) => step(alloc, book, thread),
+        Command::Undo(name) => undo(alloc, book, name),
+        Command::UndoLast => undo_last(alloc, book),
+    }
+}
+
+fn define(alloc: Global, book: &mut Book, name: &str, text: &str) -> Result<String, Fail> {
     let name = Text::new(alloc, name)?;
     let definition = Value::from_str(alloc, text)?;
-    Ok(book.define(alloc, &name, &definition))
+    match book.define(alloc, &name, &definition) {
+        Ok(()) => Ok(String::from_str(alloc, "defined")?),
+        Err(refusal) => Ok(refused(alloc, &refusal)?),
+    }
 }
 
 fn start(
@@ -103,78 +139,83 @@ fn start(
     book: &mut Book,
     exec: &str,
     machine: &str,
-) -> Result<Result<StepName, Refusal>, Fail> {
+) -> Result<String, Fail> {
     let exec = ThreadName::read(alloc, exec)?;
     let machine = Text::new(alloc, machine)?;
-    let input = read(alloc, b"{\"n\":[1]}")?;
-    assert!(rt; exec.is_execution());
-    assert!(rt; depth(&input) <= 127);
-    Ok(book.start(alloc, &exec, &machine, input))
+    start_named(rt, alloc, book, &exec, &machine)
 }
 
-fn step(alloc: Global, book: &mut Book, thread: &str) -> Result<Result<StepName, Refusal>, Fail> {
-    let thread = ThreadName::read(alloc, thread)?;
-    Ok(book.step(alloc, &thread).map(|moved| moved.name))
-}
-
-fn undo(alloc: Global, book: &mut Book, step: &str) -> Result<Result<StepName, Refusal>, Fail> {
-    let step = StepName::read(alloc, step)?;
-    let room = book.room(alloc, &step)?;
-    Ok(book.undo(room))
-}
-
-fn undo_last(alloc: Global, book: &mut Book) -> Result<Result<StepName, Refusal>, Fail> {
-    let room = match book.history().last() {
-        Some(record) => book.room(alloc, &record.fact.name)?,
-        None => return Ok(Err(Refusal::NoStep)),
-    };
-    Ok(book.undo(room))
-}
-
-/// Gives a command, and writes its answer.
-fn answer(
+fn start_named(
     rt: &impl Abort,
     alloc: Global,
     book: &mut Book,
-    command: Command,
+    exec: &ThreadName,
+    machine: &Text,
 ) -> Result<String, Fail> {
-    let named = match command {
-        Command::Define(name, text) => match define(alloc, book, name, text)? {
-            Ok(()) => return Ok(String::from_str(alloc, "defined")?),
-            Err(refusal) => Err(refusal),
-        },
-        Command::Start(exec, machine) => start(rt, alloc, book, exec, machine)?,
-        Command::Step(thread) => step(alloc, book, thread)?,
-        Command::Undo(name) => undo(alloc, book, name)?,
-        Command::UndoLast => undo_last(alloc, book)?,
-    };
-    match named {
-        Ok(name) => Ok(name.write_text(alloc)?),
+    assert!(rt; exec.is_execution());
+    let input = read(alloc, b"{\"n\":[1]}")?;
+    let started = book.start(alloc, exec, machine, input);
+    Ok(named(alloc, &started)?)
+}
+
+fn step(alloc: Global, book: &mut Book, thread: &str) -> Result<String, Fail> {
+    let thread = ThreadName::read(alloc, thread)?;
+    match book.step(alloc, &thread) {
+        Ok(moved) => Ok(moved.name.write_text(alloc)?),
         Err(refusal) => Ok(refused(alloc, &refusal)?),
     }
 }
 
-/// A refusal by its number.
+fn undo(alloc: Global, book: &mut Book, step: &str) -> Result<String, Fail> {
+    let step = StepName::read(alloc, step)?;
+    let room = book.room(alloc, &step)?;
+    let undone = book.undo(room);
+    Ok(named(alloc, &undone)?)
+}
+
+fn undo_last(alloc: Global, book: &mut Book) -> Result<String, Fail> {
+    let room = match book.history().last() {
+        Some(record) => book.room(alloc, &record.fact.name)?,
+        None => return Ok(refused(alloc, &Refusal::NoStep)?),
+    };
+    let undone = book.undo(room);
+    Ok(named(alloc, &undone)?)
+}
+
+/// The name of a step, or the refusal by its number.
+fn named(alloc: Global, answer: &Result<StepName, Refusal>) -> Result<String, AllocError> {
+    match answer {
+        Ok(name) => name.write_text(alloc),
+        Err(refusal) => refused(alloc, refusal),
+    }
+}
+
+/// A refusal by its number, and the step that it tells.
 fn refused(alloc: Global, refusal: &Refusal) -> Result<String, AllocError> {
+    let number = number(refusal);
     match refusal {
-        Refusal::NoMachine => String::from_str(alloc, "no 1"),
-        Refusal::MachineTaken => String::from_str(alloc, "no 2"),
-        Refusal::BadMachine(_) => String::from_str(alloc, "no 3"),
-        Refusal::ExecTaken => String::from_str(alloc, "no 4"),
-        Refusal::NoThread => String::from_str(alloc, "no 5"),
-        Refusal::NotReady(Readiness::Done) => String::from_str(alloc, "no 6 done"),
-        Refusal::NotReady(_) => String::from_str(alloc, "no 6"),
-        Refusal::NoStep => String::from_str(alloc, "no 7"),
-        Refusal::HasDependents(step) => {
+        Refusal::HasDependents(step) | Refusal::NotLast(step) => {
             let step = step.write_text(alloc)?;
-            format!(in alloc; "no 8 {step}")
+            format!(in alloc; "{number} {step}")
         }
-        Refusal::Full => String::from_str(alloc, "no 10"),
-        Refusal::Memory => String::from_str(alloc, "no 11"),
-        Refusal::NotLast(step) => {
-            let step = step.write_text(alloc)?;
-            format!(in alloc; "no 14 {step}")
-        }
+        _ => String::from_str(alloc, number),
+    }
+}
+
+fn number(refusal: &Refusal) -> &'static str {
+    match refusal {
+        Refusal::NoMachine => "no 1",
+        Refusal::MachineTaken => "no 2",
+        Refusal::BadMachine(_) => "no 3",
+        Refusal::ExecTaken => "no 4",
+        Refusal::NoThread => "no 5",
+        Refusal::NotReady(Readiness::Done) => "no 6 done",
+        Refusal::NotReady(_) => "no 6",
+        Refusal::NoStep => "no 7",
+        Refusal::HasDependents(_) => "no 8",
+        Refusal::Full => "no 10",
+        Refusal::Memory => "no 11",
+        Refusal::NotLast(_) => "no 14",
     }
 }
 
@@ -201,17 +242,35 @@ fn open(alloc: Global) -> Result<Book, Fail> {
 /// Gives the commands one after another, and compares each answer, and the book after it with the plain program.
 fn expect(rt: &impl Abort, alloc: Global, rows: &[(Command, &str)]) -> Result<(), Fail> {
     let mut book = open(alloc)?;
+    expect_rows(rt, alloc, &mut book, rows)
+}
+
+fn expect_rows(
+    rt: &impl Abort,
+    alloc: Global,
+    book: &mut Book,
+    rows: &[(Command, &str)],
+) -> Result<(), Fail> {
     for (command, wanted) in rows {
         let entries = book.entries().1.len();
-        let answer = answer(rt, alloc, &mut book, *command)?;
-        assert_eq!(rt; answer.as_str(), *wanted);
-        assert_eq!(rt;
-            book.entries().1.len() == entries,
-            wanted.starts_with("no ")
-        );
-        is_plain(rt, alloc, &book)?;
-        is_saved(rt, alloc, &book)?;
+        expect_answer(rt, alloc, book, *command, wanted)?;
+        let is_kept = book.entries().1.len() == entries;
+        assert_eq!(rt; is_kept, wanted.starts_with("no "));
+        is_plain(rt, alloc, book)?;
+        is_saved(rt, alloc, book)?;
     }
+    Ok(())
+}
+
+fn expect_answer(
+    rt: &impl Abort,
+    alloc: Global,
+    book: &mut Book,
+    command: Command,
+    wanted: &str,
+) -> Result<(), Fail> {
+    let answer = answer(rt, alloc, book, command)?;
+    assert_eq!(rt; answer.as_str(), wanted);
     Ok(())
 }
 
@@ -319,27 +378,42 @@ fn draw(state: &mut u64) -> usize {
     (*state >> 33) as usize
 }
 
-/// Gives 400 commands, compares the book with the plain program after each, and answers how many were refused.
-fn refused_of_400(rt: &impl Abort, alloc: Global, seed: u64) -> Result<u32, Fail> {
-    let mut book = open(alloc)?;
+/// Gives a command, compares the book with the plain program after it, and tells whether it was refused.
+fn is_refused(
+    rt: &impl Abort,
+    alloc: Global,
+    book: &mut Book,
+    command: Command,
+) -> Result<bool, Fail> {
+    let entries = book.entries().1.len();
+    let is_refused = answer(rt, alloc, book, command)?.starts_with("no ");
+    let is_kept = book.entries().1.len() == entries;
+    assert_eq!(rt; is_kept, is_refused);
+    is_plain(rt, alloc, book)?;
+    Ok(is_refused)
+}
+
+/// Gives 400 commands, and answers how many were refused.
+fn refused_of_400(rt: &impl Abort, alloc: Global, book: &mut Book, seed: u64) -> Result<u32, Fail> {
     let mut state = seed;
     let mut refused = 0u32;
     for _ in 0..400 {
         let command = MIXED.get(draw(&mut state) % 25).ok_or("no such command")?;
-        let entries = book.entries().1.len();
-        let answer = answer(rt, alloc, &mut book, *command)?;
-        let is_refused = answer.starts_with("no ");
-        assert_eq!(rt; book.entries().1.len() == entries, is_refused);
+        let is_refused = is_refused(rt, alloc, book, *command)?;
         refused = refused.saturating_add(is_refused as u32);
-        is_plain(rt, alloc, &book)?;
     }
     Ok(refused)
+}
+
+fn refused_of_new(rt: &impl Abort, alloc: Global, seed: u64) -> Result<u32, Fail> {
+    let mut book = open(alloc)?;
+    refused_of_400(rt, alloc, &mut book, seed)
 }
 
 #[test]
 fn mixed_commands(rt: HostRuntime) -> Result<(), Fail> {
     for seed in [1, 2026] {
-        let refused = refused_of_400(&rt, rt.alloc(), seed)?;
+        let refused = refused_of_new(&rt, rt.alloc(), seed)?;
         assert!(rt;
             (100..=300).contains(&refused),
             "{refused} of 400 were refused"
@@ -357,20 +431,32 @@ fn moved(alloc: Global, name: &str) -> Result<Entry, Fail> {
     })
 }
 
+fn moves(alloc: Global, names: &[&str]) -> Result<Vec<Entry>, Fail> {
+    let mut log = Vec::new(alloc);
+    for name in names {
+        log.push(moved(alloc, name)?)?;
+    }
+    Ok(log)
+}
+
+fn steps_of(alloc: Global, log: &[Entry]) -> Result<usize, AllocError> {
+    Ok(remaining(alloc, log)?.len())
+}
+
+fn can_be_taken(alloc: Global, log: &[Entry]) -> Result<bool, AllocError> {
+    Ok(replay(alloc, log)?.is_some())
+}
+
 /// A step that isn't the next of its thread can't be taken, and neither can one of a thread that isn't there.
 #[test]
 fn steps_out_of_turn(rt: HostRuntime) -> Result<(), Fail> {
     let alloc = rt.alloc();
     for names in [["a#1", "a#2"], ["a#2", "a#1"]] {
-        let mut log = Vec::new(alloc);
-        for name in names {
-            log.push(moved(alloc, name)?)?;
-        }
-        let steps = remaining(alloc, log.as_slice())?;
-        assert_eq!(rt; steps.len(), 2);
-        assert!(rt; replay(alloc, log.as_slice())?.is_none());
+        let log = moves(alloc, &names)?;
+        assert_eq!(rt; steps_of(alloc, log.as_slice())?, 2);
+        assert!(rt; !can_be_taken(alloc, log.as_slice())?);
     }
-    assert!(rt; replay(alloc, &[])?.is_some());
+    assert!(rt; can_be_taken(alloc, &[])?);
     Ok(())
 }
 
@@ -386,25 +472,43 @@ const UNDONE: &[Command] = &[
     Command::Step("b"),
 ];
 
+fn give_undone(rt: &impl Abort, alloc: Global, book: &mut Book) -> Result<(), Fail> {
+    for command in UNDONE {
+        drop(answer(rt, alloc, book, *command)?);
+    }
+    Ok(())
+}
+
+/// The steps, asked for again where a growth is refused.
+fn remaining_at_last(alloc: Global, log: &[Entry]) -> Result<Vec<Step>, AllocError> {
+    match remaining(alloc, log) {
+        Ok(steps) => Ok(steps),
+        Err(_refused) => remaining(alloc, log),
+    }
+}
+
+/// The steps and frames, asked for again where a growth is refused.
+fn replay_at_last(alloc: Global, log: &[Entry]) -> Result<Replayed, Fail> {
+    let plain = match replay(alloc, log) {
+        Ok(plain) => plain,
+        Err(_refused) => replay(alloc, log)?,
+    };
+    Ok(plain.ok_or("a step can't be taken")?)
+}
+
+fn is_told(rt: &impl Abort, alloc: Global, book: &Book) -> Result<(), Fail> {
+    let (_begin, log) = book.entries();
+    has_steps(rt, book, remaining_at_last(alloc, log)?.as_slice());
+    let plain = replay_at_last(alloc, log)?;
+    has_steps(rt, book, plain.steps.as_slice());
+    has_frames(rt, alloc, book, &plain.frames)
+}
+
 /// Whichever growth is refused, want of memory is answered, and the steps and frames are given when they are asked for again.
 #[test]
 fn refused_growths_are_told(rt: HostRuntime) -> Result<(), Fail> {
     let alloc = rt.alloc();
     let mut book = open(alloc)?;
-    for command in UNDONE {
-        drop(answer(&rt, alloc, &mut book, *command)?);
-    }
-    let (_begin, log) = book.entries();
-    let steps = match remaining(alloc, log) {
-        Ok(steps) => steps,
-        Err(_refused) => remaining(alloc, log)?,
-    };
-    has_steps(&rt, &book, steps.as_slice());
-    let plain = match replay(alloc, log) {
-        Ok(plain) => plain,
-        Err(_refused) => replay(alloc, log)?,
-    };
-    let plain = plain.ok_or("a step can't be taken")?;
-    has_steps(&rt, &book, plain.steps.as_slice());
-    has_frames(&rt, alloc, &book, &plain.frames)
+    give_undone(&rt, alloc, &mut book)?;
+    is_told(&rt, alloc, &book)
 }

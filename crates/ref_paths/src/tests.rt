@@ -64,7 +64,7 @@ fn is_picked(alloc: Global, text: &str, want: &str) -> Result<bool, Fail> {
 
 fn picks_some(alloc: Global, text: &str) -> Result<bool, Fail> {
     let root = json(alloc, PICKED_FROM)?;
-    Ok(path(alloc, text)?.pick(&root).is_some())
+    Ok(!picked(alloc, &root, text)?.is_empty())
 }
 
 #[test]
@@ -165,12 +165,22 @@ fn is_returned(
     )
 }
 
-fn is_placed(alloc: Global, root: &str, text: &str, value: &str, want: &str) -> Result<bool, Fail> {
-    let path = path(alloc, text)?;
-    match place(alloc, json(alloc, root)?, &path, json(alloc, value)?) {
+fn is_placed_by(
+    alloc: Global,
+    root: &str,
+    path: &RefPath,
+    value: &str,
+    want: &str,
+) -> Result<bool, Fail> {
+    match place(alloc, json(alloc, root)?, path, json(alloc, value)?) {
         Ok(placed) => Ok(write_text(alloc, &placed)?.as_str() == want),
         Err(fault) => Ok(want.is_empty() && is_returned(alloc, &fault, root, value)?),
     }
+}
+
+fn is_placed(alloc: Global, root: &str, text: &str, value: &str, want: &str) -> Result<bool, Fail> {
+    let path = path(alloc, text)?;
+    is_placed_by(alloc, root, &path, value, want)
 }
 
 #[test]
@@ -445,28 +455,26 @@ const FILLED_OF_ITEMS: &[(&str, &str)] = &[
     ("{\"v.$\":\"$.b\"}", ""),
 ];
 
-fn fills_of_item(
-    alloc: Global,
-    text: &str,
-    item: Option<(u32, &Json)>,
-    want: &str,
-) -> Result<bool, Fail> {
+fn fills_of_item(alloc: Global, text: &str, item: &Json, want: &str) -> Result<bool, Fail> {
     let input = json(alloc, "{\"a\":5}")?;
     let template = template(alloc, text, true)?;
-    Ok(is_filled(alloc, &template, &input, item, want)?)
+    let with_item = Some((4294967295, item));
+    Ok(
+        is_filled(alloc, &template, &input, with_item, want)?
+            && is_filled(alloc, &template, &input, None, "")?,
+    )
+}
+
+fn fills_only_of_item(alloc: Global, text: &str, want: &str) -> Result<bool, Fail> {
+    let item = json(alloc, "{\"a\":[6],\"b b\":7}")?;
+    fills_of_item(alloc, text, &item, want)
 }
 
 #[test]
 fn fills_templates_of_items(rt: HostRuntime) -> Result<(), Fail> {
     let alloc = rt.alloc();
-    let item = json(alloc, "{\"a\":[6],\"b b\":7}")?;
     for &(text, want) in FILLED_OF_ITEMS {
-        let with_item = fills_of_item(alloc, text, Some((4294967295, &item)), want)?;
-        assert!(rt; with_item, "at {text}");
-        assert!(rt;
-            fills_of_item(alloc, text, None, "")?,
-            "without an item, at {text}"
-        );
+        assert!(rt; fills_only_of_item(alloc, text, want)?, "at {text}");
     }
     Ok(())
 }
@@ -519,26 +527,44 @@ fn is_refused(
     }
 }
 
-fn is_template_of_items(alloc: Global, text: &str) -> Result<bool, JsonFault> {
-    Ok(Template::read(alloc, &read(alloc, text.as_bytes())?, true).is_ok())
+fn is_never_read(
+    alloc: Global,
+    text: &str,
+    field: &str,
+    is_left_out: bool,
+) -> Result<bool, JsonFault> {
+    Ok(
+        is_refused(alloc, text, false, field, is_left_out)?
+            && is_refused(alloc, text, true, field, is_left_out)?,
+    )
+}
+
+/// Templates with a path into the item, which stand only where there is one.
+const ONLY_OF_ITEMS: &[&str] = &[
+    "{\"x.$\":\"$$.Map.Item.Index\"}",
+    "{\"x.$\":\"$$.Map.Item.Value\"}",
+    "{\"x.$\":\"$$.Map.Item.Value.a\"}",
+];
+
+fn is_only_of_items(alloc: Global, text: &str) -> Result<bool, JsonFault> {
+    let json = read(alloc, text.as_bytes())?;
+    Ok(Template::read(alloc, &json, true).is_ok() && is_refused(alloc, text, false, "x.$", true)?)
 }
 
 #[test]
 fn refuses_other_templates(rt: HostRuntime) -> Result<(), Fail> {
     let alloc = rt.alloc();
     for &(text, field, is_left_out) in NO_TEMPLATES {
-        for item_paths in [false, true] {
-            let is_refused = is_refused(alloc, text, item_paths, field, is_left_out)?;
-            assert!(rt; is_refused, "at {text}");
-        }
+        assert!(rt;
+            is_never_read(alloc, text, field, is_left_out)?,
+            "at {text}"
+        );
     }
-    for text in [
-        "{\"x.$\":\"$$.Map.Item.Index\"}",
-        "{\"x.$\":\"$$.Map.Item.Value\"}",
-        "{\"x.$\":\"$$.Map.Item.Value.a\"}",
-    ] {
-        assert!(rt; is_refused(alloc, text, false, "x.$", true)?, "at {text}");
-        assert!(rt; is_template_of_items(alloc, text)?, "of an item, at {text}");
+    for &text in ONLY_OF_ITEMS {
+        assert!(rt;
+            is_only_of_items(alloc, text)?,
+            "of an item alone, at {text}"
+        );
     }
     Ok(())
 }
