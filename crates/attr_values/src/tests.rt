@@ -83,57 +83,62 @@ fn is_spelled(alloc: Global, input: &str, want: &str) -> Result<bool, Fail> {
     Ok(number(input)?.write_text(alloc)?.as_str() == want)
 }
 
+/// Numbers, each with the text that is written of it.
+const NUMBERS: &[(&str, &str)] = &[
+    ("0", "0"),
+    ("-0", "0"),
+    ("-0.0", "0"),
+    ("00", "0"),
+    ("001.10", "1.1"),
+    ("0.5", "0.5"),
+    ("-1.1", "-1.1"),
+    ("10", "10"),
+    ("10.00", "10"),
+    ("-0.001", "-0.001"),
+    (
+        "99999999999999999999999999999999999999",
+        "99999999999999999999999999999999999999",
+    ),
+    (
+        "-0.99999999999999999999999999999999999999",
+        "-0.99999999999999999999999999999999999999",
+    ),
+];
+
 #[test]
 fn reads_and_writes_numbers(rt: HostRuntime) -> Result<(), Fail> {
     let alloc = rt.alloc();
-    for (input, want) in [
-        ("0", "0"),
-        ("-0", "0"),
-        ("-0.0", "0"),
-        ("00", "0"),
-        ("001.10", "1.1"),
-        ("0.5", "0.5"),
-        ("-1.1", "-1.1"),
-        ("10", "10"),
-        ("10.00", "10"),
-        ("-0.001", "-0.001"),
-        (
-            "99999999999999999999999999999999999999",
-            "99999999999999999999999999999999999999",
-        ),
-        (
-            "-0.99999999999999999999999999999999999999",
-            "-0.99999999999999999999999999999999999999",
-        ),
-    ] {
+    for &(input, want) in NUMBERS {
         assert!(rt; is_spelled(alloc, input, want)?, "at {input}");
     }
     Ok(())
 }
 
+const NO_NUMBERS: &[&str] = &[
+    "",
+    "-",
+    ".",
+    "1.",
+    ".5",
+    "-.5",
+    "+1",
+    "1e2",
+    "1E2",
+    " 1",
+    "1 ",
+    "1.2.3",
+    "--1",
+    "0x1",
+    "\u{663}",
+    "1_0",
+    "NaN",
+    "100000000000000000000000000000000000000",
+    "123456789012345678901234567890123456789",
+];
+
 #[test]
 fn refuses_other_numbers(rt: HostRuntime) {
-    for input in [
-        "",
-        "-",
-        ".",
-        "1.",
-        ".5",
-        "-.5",
-        "+1",
-        "1e2",
-        "1E2",
-        " 1",
-        "1 ",
-        "1.2.3",
-        "--1",
-        "0x1",
-        "\u{663}",
-        "1_0",
-        "NaN",
-        "100000000000000000000000000000000000000",
-        "123456789012345678901234567890123456789",
-    ] {
+    for &input in NO_NUMBERS {
         assert_eq!(rt;
             Number::read(input),
             Err(ItemFault::BadNumber),
@@ -207,30 +212,33 @@ fn is_copied(alloc: Global, input: &str) -> Result<bool, Fail> {
     Ok(value.copy()? == value)
 }
 
+/// Values, each with the text that is written of it.
+const VALUES: &[(&str, &str)] = &[
+    ("{\"S\":\"\"}", "{\"S\":\"\"}"),
+    ("{\"S\":\"a\\u00e9\"}", "{\"S\":\"a\u{e9}\"}"),
+    ("{\"N\":\"001.10\"}", "{\"N\":\"1.1\"}"),
+    ("{\"BOOL\":false}", "{\"BOOL\":false}"),
+    ("{\"NULL\":true}", "{\"NULL\":true}"),
+    ("{\"L\":[]}", "{\"L\":[]}"),
+    (
+        "{\"L\":[{\"S\":\"b\"},{\"N\":\"1.0\"},{\"S\":\"a\"}]}",
+        "{\"L\":[{\"S\":\"b\"},{\"N\":\"1\"},{\"S\":\"a\"}]}",
+    ),
+    (
+        "{\"M\":{\"b\":{\"NULL\":true},\"\":{\"M\":{}}}}",
+        "{\"M\":{\"\":{\"M\":{}},\"b\":{\"NULL\":true}}}",
+    ),
+    ("{\"SS\":[\"b\",\"a\",\"\"]}", "{\"SS\":[\"\",\"a\",\"b\"]}"),
+    (
+        "{\"NS\":[\"10\",\"9.0\",\"-1\"]}",
+        "{\"NS\":[\"-1\",\"9\",\"10\"]}",
+    ),
+];
+
 #[test]
 fn reads_and_writes_values(rt: HostRuntime) -> Result<(), Fail> {
     let alloc = rt.alloc();
-    for (input, want) in [
-        ("{\"S\":\"\"}", "{\"S\":\"\"}"),
-        ("{\"S\":\"a\\u00e9\"}", "{\"S\":\"a\u{e9}\"}"),
-        ("{\"N\":\"001.10\"}", "{\"N\":\"1.1\"}"),
-        ("{\"BOOL\":false}", "{\"BOOL\":false}"),
-        ("{\"NULL\":true}", "{\"NULL\":true}"),
-        ("{\"L\":[]}", "{\"L\":[]}"),
-        (
-            "{\"L\":[{\"S\":\"b\"},{\"N\":\"1.0\"},{\"S\":\"a\"}]}",
-            "{\"L\":[{\"S\":\"b\"},{\"N\":\"1\"},{\"S\":\"a\"}]}",
-        ),
-        (
-            "{\"M\":{\"b\":{\"NULL\":true},\"\":{\"M\":{}}}}",
-            "{\"M\":{\"\":{\"M\":{}},\"b\":{\"NULL\":true}}}",
-        ),
-        ("{\"SS\":[\"b\",\"a\",\"\"]}", "{\"SS\":[\"\",\"a\",\"b\"]}"),
-        (
-            "{\"NS\":[\"10\",\"9.0\",\"-1\"]}",
-            "{\"NS\":[\"-1\",\"9\",\"10\"]}",
-        ),
-    ] {
+    for &(input, want) in VALUES {
         assert!(rt; is_written_as(alloc, input, want)?, "at {input}");
         assert!(rt; is_one_value(alloc, input, want)?, "at {input}");
         assert!(rt; is_copied(alloc, input)?, "at {input}");
@@ -243,36 +251,39 @@ fn refusal_of_value(alloc: Global, text: &str) -> Result<Option<ItemFault>, Fail
     Ok(read_value(alloc, &json).err())
 }
 
+/// Texts of JSON that are no values, each with its fault.
+const NO_VALUES: &[(&str, ItemFault)] = &[
+    ("null", ItemFault::BadValue),
+    ("[]", ItemFault::BadValue),
+    ("{}", ItemFault::BadValue),
+    ("{\"X\":1}", ItemFault::BadValue),
+    ("{\"s\":\"a\"}", ItemFault::BadValue),
+    ("{\"B\":\"YQ==\"}", ItemFault::BadValue),
+    ("{\"S\":\"a\",\"N\":\"1\"}", ItemFault::BadValue),
+    ("{\"S\":1}", ItemFault::BadValue),
+    ("{\"N\":1}", ItemFault::BadValue),
+    ("{\"N\":\"\"}", ItemFault::BadNumber),
+    ("{\"N\":\"1e2\"}", ItemFault::BadNumber),
+    ("{\"BOOL\":\"true\"}", ItemFault::BadValue),
+    ("{\"NULL\":false}", ItemFault::BadValue),
+    ("{\"L\":{}}", ItemFault::BadValue),
+    ("{\"L\":[1]}", ItemFault::BadValue),
+    ("{\"L\":[{\"N\":\"x\"},1]}", ItemFault::BadNumber),
+    ("{\"M\":[]}", ItemFault::BadValue),
+    ("{\"M\":{\"a\":\"b\"}}", ItemFault::BadValue),
+    ("{\"SS\":[]}", ItemFault::BadValue),
+    ("{\"SS\":[\"a\",\"b\",\"a\"]}", ItemFault::BadValue),
+    ("{\"SS\":[\"a\",1]}", ItemFault::BadValue),
+    ("{\"NS\":[]}", ItemFault::BadValue),
+    ("{\"NS\":[\"1\",\"1.0\"]}", ItemFault::BadValue),
+    ("{\"NS\":[\"1\",\".5\"]}", ItemFault::BadNumber),
+    ("{\"NS\":[1]}", ItemFault::BadValue),
+];
+
 #[test]
 fn refuses_other_values(rt: HostRuntime) -> Result<(), Fail> {
     let alloc = rt.alloc();
-    for (input, want) in [
-        ("null", ItemFault::BadValue),
-        ("[]", ItemFault::BadValue),
-        ("{}", ItemFault::BadValue),
-        ("{\"X\":1}", ItemFault::BadValue),
-        ("{\"s\":\"a\"}", ItemFault::BadValue),
-        ("{\"B\":\"YQ==\"}", ItemFault::BadValue),
-        ("{\"S\":\"a\",\"N\":\"1\"}", ItemFault::BadValue),
-        ("{\"S\":1}", ItemFault::BadValue),
-        ("{\"N\":1}", ItemFault::BadValue),
-        ("{\"N\":\"\"}", ItemFault::BadNumber),
-        ("{\"N\":\"1e2\"}", ItemFault::BadNumber),
-        ("{\"BOOL\":\"true\"}", ItemFault::BadValue),
-        ("{\"NULL\":false}", ItemFault::BadValue),
-        ("{\"L\":{}}", ItemFault::BadValue),
-        ("{\"L\":[1]}", ItemFault::BadValue),
-        ("{\"L\":[{\"N\":\"x\"},1]}", ItemFault::BadNumber),
-        ("{\"M\":[]}", ItemFault::BadValue),
-        ("{\"M\":{\"a\":\"b\"}}", ItemFault::BadValue),
-        ("{\"SS\":[]}", ItemFault::BadValue),
-        ("{\"SS\":[\"a\",\"b\",\"a\"]}", ItemFault::BadValue),
-        ("{\"SS\":[\"a\",1]}", ItemFault::BadValue),
-        ("{\"NS\":[]}", ItemFault::BadValue),
-        ("{\"NS\":[\"1\",\"1.0\"]}", ItemFault::BadValue),
-        ("{\"NS\":[\"1\",\".5\"]}", ItemFault::BadNumber),
-        ("{\"NS\":[1]}", ItemFault::BadValue),
-    ] {
+    for &(input, want) in NO_VALUES {
         assert_eq!(rt; refusal_of_value(alloc, input)?, Some(want), "at {input}");
     }
     Ok(())
