@@ -4,7 +4,6 @@ use Rattle.std.specs.Prelude.{ℕ, ◌==◌, List, [], ◌∷◌, Bool, true, fa
 use lib.Pointwise.{pointwise}
 use Rattle.serde_json.specs.Data.{Data, Members, no_members, member}
 use Rattle.serde_json.specs.Find.{get, as_str, as_object}
-use Rattle.asl_machine.specs.declared.fields.TheConstants.{LEFT_OUT, COMPARISONS_LEFT_OUT}
 use Rattle.asl_machine.specs.declared.fields.Standing.{Standing}
 use Rattle.asl_machine.specs.declared.fields.Standing.TheVariants.{Known, Unsupported, Unknown}
 use Rattle.asl_machine.specs.declared.fields.Place.{Place}
@@ -29,9 +28,20 @@ names_left_out_at Top = []
 names_left_out_at Pass = codes "InputPath" ∷ codes "Parameters" ∷ codes "ResultPath" ∷ codes "OutputPath" ∷ []
 names_left_out_at Succeed = codes "InputPath" ∷ codes "OutputPath" ∷ []
 
+-- fields of the language that are left out wherever they stand
+abbrev pub names_left_out_anywhere : List (List ℕ)
+names_left_out_anywhere =
+    codes "Assign" ∷ codes "Output" ∷ codes "Arguments" ∷ codes "Items" ∷ codes "Condition" ∷ codes "ItemReader" ∷ codes "ItemBatcher" ∷ codes "ResultWriter" ∷ codes "Label" ∷ codes "MaxConcurrencyPath" ∷ codes "ToleratedFailureCount" ∷ codes "ToleratedFailureCountPath" ∷ codes "ToleratedFailurePercentage" ∷ codes "ToleratedFailurePercentagePath" ∷ codes "ErrorPath" ∷ codes "CausePath" ∷ codes "Credentials" ∷ []
+
+-- comparisons of a Choice rule that are left out ("Data-Test Expression")
+abbrev pub comparisons_left_out : List (List ℕ)
+comparisons_left_out =
+    codes "StringEqualsPath" ∷ codes "StringLessThanPath" ∷ codes "StringGreaterThanPath" ∷ codes "StringLessThanEqualsPath" ∷ codes "StringGreaterThanEqualsPath" ∷ codes "NumericEqualsPath" ∷ codes "NumericLessThanPath" ∷ codes "NumericGreaterThanPath" ∷ codes "NumericLessThanEqualsPath" ∷ codes "NumericGreaterThanEqualsPath" ∷ codes "BooleanEqualsPath" ∷ codes "TimestampEquals" ∷ codes "TimestampLessThan" ∷ codes "TimestampGreaterThan" ∷ codes "TimestampLessThanEquals" ∷ codes "TimestampGreaterThanEquals" ∷ codes "TimestampEqualsPath" ∷ codes "TimestampLessThanPath" ∷ codes "TimestampGreaterThanPath" ∷ codes "TimestampLessThanEqualsPath" ∷ codes "TimestampGreaterThanEqualsPath" ∷ codes "IsTimestamp" ∷ codes "StringMatches" ∷ []
+
 -- the language has a field of this name, or a comparison of a Choice rule, that is left out wherever it stands
 abbrev pub is_left_out_anywhere : List ℕ → Bool
-is_left_out_anywhere name = list_any (λ left_out. is_text left_out.now name) LEFT_OUT || list_any (λ left_out. is_text left_out.now name) COMPARISONS_LEFT_OUT
+is_left_out_anywhere name =
+    list_any (λ left_out. is_text left_out name) names_left_out_anywhere || list_any (λ left_out. is_text left_out name) comparisons_left_out
 
 abbrev pub is_left_out : Place → List ℕ → Bool
 is_left_out place name = list_any (λ left_out. is_text left_out name) (names_left_out_at place) || is_left_out_anywhere name
