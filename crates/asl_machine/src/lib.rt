@@ -8,6 +8,8 @@ mod machine;
 mod read;
 mod shared;
 mod state;
+#[cfg(test)]
+mod tests;
 
 pub use fault::MachineFault;
 pub use level::{Level, LevelPath, LevelStep};

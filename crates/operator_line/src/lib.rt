@@ -11,6 +11,8 @@ mod reply;
 mod serving;
 mod session;
 #[cfg(test)]
+mod stream_tests;
+#[cfg(test)]
 mod tests;
 mod words;
 
