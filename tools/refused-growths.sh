@@ -49,8 +49,7 @@ failed=0
 while read -r crate test; do
     refuse_each "$crate" "tests::$test" || failed=1
 done <<'TESTS'
-step_names reads_threads
-step_names reads_steps
+step_names refused_growths_are_told
 json_tree answers_want_of_memory
 attr_values answers_want_of_memory
 ref_paths answers_want_of_memory

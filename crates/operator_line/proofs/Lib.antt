@@ -7,3 +7,5 @@ pub mod Utf8
 pub mod Served
 pub mod Replied
 pub mod Json
+pub mod Feeds
+pub mod Refused

@@ -24,7 +24,6 @@ use Rattle.rollback_book.specs.declared.step.Moved.{Moved}
 use Rattle.operator_line.specs.Grammar as spoken
 use Rattle.operator_line.specs.Grammar.{Spoken, command_of}
 use Rattle.operator_line.specs.Replies.{done_reply, step_reply, moved_reply, list_reply, frame_reply, refused, refused_by, refusal_reply, memory_reply}
-use Rattle.operator_line.specs.Texts.{lines_of}
 
 -- this is told, and this is the book then: such is the reply, and the book afterwards
 abbrev pub Tells : List ℕ → Option Story → List ℕ → Option Story → Type 0
@@ -156,7 +155,3 @@ AnswersLines before [] output after = Tells [] before output after
 AnswersLines before (line ∷ lines) output after =
     (reply : List ℕ) × (between : Option Story) × (rest : List ℕ)
     × AnswersLine before line reply between × AnswersLines between lines rest after × (output ≡ reply ++ rest)
-
--- this output answers this whole input
-abbrev pub Answers : Option Story → List ℕ → List ℕ → Option Story → Type 0
-Answers before input output after = AnswersLines before (lines_of input) output after

@@ -7,5 +7,6 @@ pub mod Texts
 pub mod Replies
 pub mod Replying
 pub mod Answers
+pub mod LineLaws
 pub mod Serving
 mod AnswerRows

@@ -17,7 +17,7 @@ mod tests;
 mod words;
 
 pub use command::{Command, CommandFault, Execution};
-pub use laws::lines_are_spelled;
+pub use laws::{lines_are_spelled, refused_lines_change_nothing};
 pub use line::{Line, LineBuffer};
 pub use serving::{ServeFault, serve};
 pub use session::Session;

@@ -8,6 +8,7 @@ ghost use Rattle.operator_line.specs.Texts.{has_no_feed};
 use crate::line::{Line, LineBuffer};
 use crate::reply::Reply;
 use crate::session::Session;
+use memchr::memchr;
 use std::alloc::{AllocError, Global};
 use std::io::{ErrorKind, Read, Write};
 use thiserror::Error;
@@ -138,12 +139,10 @@ fn line_len(bytes: &[u8]) -> usize
     ensures before { IsTrue (has_no_feed (take result bytes.now)) }
     ensures feed { result < length bytes.now → slice_index bytes.now result ≡ 10 }
 {
-    for (i, byte) in bytes.iter().enumerate() {
-        if *byte == b'\n' {
-            return i;
-        }
+    match memchr(b'\n', bytes) {
+        Some(end) => end,
+        None => bytes.len(),
     }
-    bytes.len()
 }
 
 /// Answers the line that these bytes end, before a line feed.

@@ -159,7 +159,7 @@ tied_start begin log w rs capacity more thread frame kept entry h s grown =
     let bounded = room.1 in
     record {
       runs = ap₂ run_saving base steps ∙ to_run (remaining log ++ started thread s.machine s.input ∷ []) (base_of log) _ _ ran ∙ ap Some result;
-      legal = legal-more log entry h.legal (subst (IsAccepted log) (sym s.entry_is) (s.answer, s.execution));
+      legal = legal-more log entry h.legal (subst (IsAccepted log) (sym s.entry_is) (s.answer, s.execution, s.shallow));
       room = omega (arith, grown, len_log, len_rs);
       few = omega (arith, few, len_rs);
       bounded = omega (arith, bounded, len_log, len_rs);

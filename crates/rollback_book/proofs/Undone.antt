@@ -158,6 +158,7 @@ module _ (log : List Entry) (w : World) (rs : List StepRecord) (h : IsTied no_be
         entry_is = refl;
         answer = a.0;
         execution = a.1;
+        shallow = a.2;
       } in
       record {
         definition = d.0;

@@ -3,7 +3,7 @@ use Rattle.std.specs.Prelude.{◌≡◌, ℕ, ◌+◌, ◌||◌, List, [], ◌�
 use Rattle.std.specs.List.{find}
 use Rattle.serde_json.specs.Data.{Data}
 use Rattle.asl_machine.specs.Reading.{definition_of}
-use Rattle.asl_machine.specs.Refusal.{Refuses}
+use Rattle.asl_machine.specs.Refusal.{Names}
 use Rattle.asl_machine.specs.Faults.{DefinitionFault}
 use Rattle.step_names.specs.Thread.{Thread}
 use Rattle.step_names.specs.declared.step.StepName.{StepName}
@@ -39,7 +39,7 @@ is_full_for_define log = nat_le 1000000 (length log + length (remaining log))
 
 -- a definition that isn't read is no machine's, for the fault that is told, or memory was refused
 abbrev pub IsReadRefusal : Data → Refusal → Type 0
-IsReadRefusal d (BadMachine fault) = (definition_of d ≡ None) × Refuses fault (DefinitionFault d fault)
+IsReadRefusal d (BadMachine fault) = (definition_of d ≡ None) × Names fault (DefinitionFault d fault)
 IsReadRefusal d Memory = Unit {0}
 IsReadRefusal d MachineTaken = ⊥
 IsReadRefusal d Full = ⊥

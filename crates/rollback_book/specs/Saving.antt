@@ -6,6 +6,8 @@ use Rattle.std.specs.BTreeMap.{BTreeMap, get}
 use Rattle.step_names.specs.Thread.{Thread}
 use Rattle.step_names.specs.Order.{thread_cmp}
 use Rattle.step_names.specs.declared.step.StepName.{StepName}
+use Rattle.json_tree.specs.Data.{depth}
+use Rattle.json_tree.specs.View.{data_of}
 use Rattle.json_tree.specs.declared.tree.Json.{Json}
 use Rattle.asl_machine.specs.Definition.{Definition}
 use Rattle.asl_machine.specs.declared.state.State.{State}
@@ -82,6 +84,7 @@ pub record IsStartOf (log : List Entry) (thread : Thread) (frame : Frame) (kept 
   pub entry_is : entry ≡ StartEntry thread machine input
   pub answer : start_answer log thread machine ≡ Ok (start_name thread)
   pub execution : thread.path ≡ []
+  pub shallow : depth (data_of input) ≤ 127
 
 -- what a step that is accepted puts into the book
 pub record IsStepOf (log : List Entry) (thread : Thread) (frame : Frame) (fact : Fact) (entry : Entry) : Type 0 where

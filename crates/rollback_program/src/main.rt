@@ -11,7 +11,7 @@ mod tests;
 use mode::{Mode, mode_of};
 use running::run;
 use std::env;
-use std::io::{BufWriter, Write};
+use std::io::BufWriter;
 use std::process::ExitCode;
 
 fn main(rt: HostRuntime) -> ExitCode {
@@ -25,11 +25,7 @@ fn main(rt: HostRuntime) -> ExitCode {
     };
     let mut faults = rt.stderr();
     let status = match BufWriter::new(alloc, rt.stdout()) {
-        Ok(mut writer) => {
-            let status = run(alloc, mode, &mut rt.stdin(), &mut writer, &mut faults);
-            let _ = writer.flush();
-            status
-        }
+        Ok(mut writer) => run(alloc, mode, &mut rt.stdin(), &mut writer, &mut faults),
         Err(_) => run(
             alloc,
             Mode::Memory,

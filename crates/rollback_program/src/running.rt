@@ -1,10 +1,12 @@
 // Running in a mode, over any streams.
-ghost use Rattle.std.specs.Prelude.{◌≡◌, ◌⊎◌};
-ghost use Rattle.rollback_program.specs.Status.{IsStatus};
+ghost use Rattle.std.specs.Prelude.{◌≡◌, ◌⊎◌, IfSome, OnOk};
+ghost use Rattle.std.specs.Io.KnownBytes.{Appends};
+ghost use Rattle.rollback_program.specs.Status.{IsServed, IsStatus, status_of};
 
 use crate::mode::Mode;
 use operator_line::{ServeFault, Session, serve};
 use std::alloc::Global;
+use std::io;
 use std::io::{Read, Write};
 
 /// The input ended, or help was asked for.
@@ -16,6 +18,12 @@ pub const USAGE: u8 = 2;
 /// The input can't be read, the output can't be written, or memory was refused.
 pub const FAILED: u8 = 4;
 
+const INPUT: &[u8] = b"rollback: input\n";
+
+const OUTPUT: &[u8] = b"rollback: output\n";
+
+const MEMORY: &[u8] = b"rollback: memory\n";
+
 /// Does what the mode asks for, and answers the program's status. A fault is told on `faults`.
 pub fn run<R: Read, W: Write, E: Write>(
     alloc: Global,
@@ -24,20 +32,28 @@ pub fn run<R: Read, W: Write, E: Write>(
     writer: &mut W,
     faults: &mut E,
 ) -> u8
-    ensures { IsStatus mode result }
+    ensures { IsStatus mode (R.remaining reader.old) result (W.contents writer.old) (W.contents writer.new) }
 {
     match mode {
         Mode::Serve => serve_streams(alloc, reader, writer, faults),
-        Mode::Help(text) => match writer.write_all(text.as_bytes()) {
+        Mode::Help(text) => match show(writer, text.as_str()) {
             Ok(()) => ENDED,
-            Err(_) => fail(faults, b"rollback: output\n"),
+            Err(_) => fail(faults, OUTPUT),
         },
         Mode::Usage => {
             let _ = faults.write_all(b"usage: rollback\n");
             USAGE
         }
-        Mode::Memory => fail(faults, b"rollback: memory\n"),
+        Mode::Memory => fail(faults, MEMORY),
     }
+}
+
+/// Shows a text, which is at its place only once it is flushed.
+fn show<W: Write>(writer: &mut W, text: &str) -> io::Result<()>
+    ensures { OnOk result (Appends (W.contents writer.old) (W.contents writer.new) text.now) }
+{
+    writer.write_all(text.as_bytes())?;
+    writer.flush()
 }
 
 fn serve_streams<R: Read, W: Write, E: Write>(
@@ -46,14 +62,23 @@ fn serve_streams<R: Read, W: Write, E: Write>(
     writer: &mut W,
     faults: &mut E,
 ) -> u8
-    ensures { (result ≡ 0) ⊎ (result ≡ 4) }
+    ensures served { IfSome (R.remaining reader.old) (λ input. IsServed result input (W.contents writer.old) (W.contents writer.new)) }
+    ensures status { (result ≡ 0) ⊎ (result ≡ 4) }
 {
     let mut session = Session::new(alloc);
-    match serve(alloc, reader, writer, &mut session) {
+    let outcome = serve(alloc, reader, writer, &mut session);
+    tell(outcome, faults)
+}
+
+/// The status of what serving ended with, which is told where it is a fault.
+fn tell<E: Write>(outcome: Result<(), ServeFault>, faults: &mut E) -> u8
+    ensures { result ≡ status_of outcome }
+{
+    match outcome {
         Ok(()) => ENDED,
-        Err(ServeFault::Read) => fail(faults, b"rollback: input\n"),
-        Err(ServeFault::Write) => fail(faults, b"rollback: output\n"),
-        Err(ServeFault::Memory) => fail(faults, b"rollback: memory\n"),
+        Err(ServeFault::Read) => fail(faults, INPUT),
+        Err(ServeFault::Write) => fail(faults, OUTPUT),
+        Err(ServeFault::Memory) => fail(faults, MEMORY),
     }
 }
 

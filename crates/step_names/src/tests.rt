@@ -21,39 +21,58 @@ fn note(counts: &mut BTreeMap<ThreadName, u32>, name: ThreadName) -> Result<u32,
     Ok(count)
 }
 
-/// Whether the text is read as this thread and is written for it again, or memory is wanted.
-fn is_thread(alloc: Global, text: &str, exec: &str, path: &[(u32, u32)]) -> bool {
+/// What becomes of a text: it has its reading and its writing, or another, or memory is wanted for one of them.
+#[derive(Clone, Copy, PartialEq, Eq)]
+enum Outcome {
+    Right,
+    Wrong,
+    NoMemory,
+}
+
+fn right_if(is_right: bool) -> Outcome {
+    if is_right {
+        Outcome::Right
+    } else {
+        Outcome::Wrong
+    }
+}
+
+/// Whether the text is read as this thread and is written for it again.
+fn thread_outcome(alloc: Global, text: &str, exec: &str, path: &[(u32, u32)]) -> Outcome {
     match ThreadName::read(alloc, text) {
-        Ok(name) => {
-            name.exec() == exec
-                && name.path() == path
-                && name.is_execution() == path.is_empty()
-                && name.text_len() == text.len()
-                && is_written(&name.write_text(alloc), text)
+        Ok(name) if name.exec() == exec && name.path() == path && name.text_len() == text.len() => {
+            written(&name.write_text(alloc), text)
         }
-        Err(fault) => fault == NameFault::Memory,
+        Err(NameFault::Memory) => Outcome::NoMemory,
+        _ => Outcome::Wrong,
     }
 }
 
-/// Whether the text is read as this step and is written for it again, or memory is wanted.
-fn is_step(alloc: Global, text: &str, exec: &str, path: &[(u32, u32)], no: u32) -> bool {
+/// Whether the text is read as this step and is written for it again.
+fn step_outcome(alloc: Global, text: &str, exec: &str, path: &[(u32, u32)], no: u32) -> Outcome {
     match StepName::read(alloc, text) {
-        Ok(name) => {
-            name.thread.exec() == exec
-                && name.thread.path() == path
-                && name.no == no
-                && name.text_len() == text.len()
-                && is_written(&name.write_text(alloc), text)
+        Ok(name) if is_step_of(&name, exec, path, no) && name.text_len() == text.len() => {
+            written(&name.write_text(alloc), text)
         }
-        Err(fault) => fault == NameFault::Memory,
+        Err(NameFault::Memory) => Outcome::NoMemory,
+        _ => Outcome::Wrong,
     }
 }
 
-fn is_written(written: &Result<String, AllocError>, text: &str) -> bool {
+fn is_step_of(name: &StepName, exec: &str, path: &[(u32, u32)], no: u32) -> bool {
+    name.thread.exec() == exec && name.thread.path() == path && name.no == no
+}
+
+fn written(written: &Result<String, AllocError>, text: &str) -> Outcome {
     match written {
-        Ok(written) => written.as_str() == text,
-        Err(_) => true,
+        Ok(written) => right_if(written.as_str() == text),
+        Err(_) => Outcome::NoMemory,
     }
+}
+
+/// Whether the thread of this text has branches, or is an execution's own.
+fn is_execution(alloc: Global, text: &str) -> Result<bool, Fail> {
+    Ok(thread(alloc, text)?.is_execution())
 }
 
 fn is_no_thread(alloc: Global, text: &str) -> bool {
@@ -114,7 +133,8 @@ fn reads_threads(rt: HostRuntime) {
     let alloc = rt.alloc();
     assert_eq!(rt; LONGEST.len(), 64);
     for (text, exec, path) in THREADS {
-        assert!(rt; is_thread(alloc, text, exec, path), "at {text}");
+        let found = thread_outcome(alloc, text, exec, path);
+        assert!(rt; found == Outcome::Right, "at {text}");
     }
     for text in NO_THREADS {
         assert!(rt; is_no_thread(alloc, text), "at {text}");
@@ -149,11 +169,39 @@ const NO_STEPS: [&str; 15] = [
 fn reads_steps(rt: HostRuntime) {
     let alloc = rt.alloc();
     for (text, exec, path, no) in STEPS {
-        assert!(rt; is_step(alloc, text, exec, path, *no), "at {text}");
+        let found = step_outcome(alloc, text, exec, path, *no);
+        assert!(rt; found == Outcome::Right, "at {text}");
     }
     for text in NO_STEPS {
         assert!(rt; is_no_step(alloc, text), "at {text}");
     }
+}
+
+/// For tools/refused-growths.sh: a text is refused for memory where a growth is, and else has its name.
+#[test]
+fn refused_growths_are_told(rt: HostRuntime) {
+    let alloc = rt.alloc();
+    for (text, exec, path) in THREADS {
+        let found = thread_outcome(alloc, text, exec, path);
+        assert!(rt; found != Outcome::Wrong, "at {text}");
+    }
+    for (text, exec, path, no) in STEPS {
+        let found = step_outcome(alloc, text, exec, path, *no);
+        assert!(rt; found != Outcome::Wrong, "at {text}");
+    }
+    for text in ["E/", "E/0.0", "E#1#2"] {
+        assert!(rt;
+            is_no_thread(alloc, text) && is_no_step(alloc, text),
+            "at {text}"
+        );
+    }
+}
+
+#[test]
+fn tells_executions(rt: HostRuntime) -> Result<(), Fail> {
+    assert!(rt; is_execution(rt.alloc(), "E")?);
+    assert!(rt; !is_execution(rt.alloc(), "E/2.0")?);
+    Ok(())
 }
 
 /// A text with this front, and so many times this after it.
@@ -232,7 +280,8 @@ fn makes_names(rt: HostRuntime) -> Result<(), Fail> {
 fn is_longest(alloc: Global, exec: &str) -> Result<bool, Fail> {
     let mut text = repeated(alloc, exec, "/4294967295.4294967295", 31)?;
     let path = [(4294967295, 4294967295); 31];
-    let reads = text.len() == LONGEST_THREAD && is_thread(alloc, &text, exec, path.as_slice());
+    let reads = thread_outcome(alloc, &text, exec, path.as_slice()) == Outcome::Right
+        && text.len() == LONGEST_THREAD;
     text.push_str("#4294967295")?;
     let name = step(alloc, &text)?;
     let mut out = String::with_capacity(alloc, LONGEST_STEP)?;

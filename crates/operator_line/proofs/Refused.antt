@@ -1,0 +1,109 @@
+-- A line that is refused leaves the book as it was: each answer that changes it begins with `ok`.
+use Rattle.std.proofs.Common.{◌≡◌, ℕ, Bool, true, false, List, [], ◌∷◌, ◌++◌, Option, None, Some, refl, sym, ap, ◌∙◌, inl, inr}
+use Rattle.std.proofs.lemmas.Bool.{true≢false}
+use Rattle.std.specs.Prelude.{◌⊎◌, option_and_then, Result, Ok, Err}
+use Rattle.serde_json.specs.Data as source
+use Rattle.serde_json.specs.Read as source_text
+use Rattle.json_tree.specs.Data.{Data, null, boolean, whole, text, list, fields, no_items, item}
+use Rattle.json_tree.specs.Reading.{source_of, whole_of}
+use Rattle.step_names.specs.declared.step.StepName.{StepName}
+use Rattle.rollback_book.specs.Story.{Story, world_of}
+use Rattle.rollback_book.specs.Answers.{start_answer, step_answer, undo_answer}
+use Rattle.rollback_book.specs.declared.frame.Frame.{Frame}
+use Rattle.rollback_book.specs.declared.log.Entry.{Entry}
+use Rattle.rollback_book.specs.declared.log.KeySchema.{KeySchema}
+use Rattle.rollback_book.specs.declared.refusal.Refusal.{Refusal}
+use Rattle.rollback_book.specs.declared.step.Moved.{Moved}
+use Rattle.operator_line.specs.Grammar as spoken
+use Rattle.operator_line.specs.Grammar.{Spoken, command_of}
+use Rattle.operator_line.specs.Answers.{Tells, OfWhole, OfSource, AnswersItems, AnswersDefine, AnswersStarted, AnswersStep, AnswersUndo, AnswersShow, AnswersOpen, AnswersClosed, AnswersSpoken, AnswersText, AnswersLine}
+use Rattle.operator_line.specs.LineLaws.{is_refusal}
+
+-- what changes nothing where it is refused
+abbrev Unchanging : (List ℕ → Option Story → Type 0) → Option Story → Type 0
+Unchanging Answer before = (reply : List ℕ) (after : Option Story) → Answer reply after → is_refusal reply ≡ true → after ≡ before
+
+-- what tells no refusal
+accepts : (told : List ℕ) (book before : Option Story) → is_refusal told ≡ false → Unchanging (Tells told book) before
+accepts told book before ok reply after h refused = absurd (true≢false (sym refused ∙ ap is_refusal h.0 ∙ ok))
+
+keeps : (told : List ℕ) (before : Option Story) → Unchanging (Tells told before) before
+keeps told before reply after h refused = h.1
+
+of_whole : (d : Option Data) (Refused : List ℕ → List ℕ → Option Story → Type 0) (Read : Data → List ℕ → Option Story → Type 0) (before : Option Story)
+  → ((told : List ℕ) → Unchanging (Refused told) before) → ((e : Data) → Unchanging (Read e) before)
+  → Unchanging (λ reply after. OfWhole d (λ told. Refused told reply after) (λ e. Read e reply after)) before
+of_whole None Refused Read before r h = r _
+of_whole (Some d) Refused Read before r h = h d
+
+of_source : (d : Option source.Data) (Refused : List ℕ → List ℕ → Option Story → Type 0) (Read : Data → List ℕ → Option Story → Type 0) (before : Option Story)
+  → ((told : List ℕ) → Unchanging (Refused told) before) → ((e : Data) → Unchanging (Read e) before)
+  → Unchanging (λ reply after. OfSource d (λ told. Refused told reply after) (λ e. Read e reply after)) before
+of_source None Refused Read before r h = r _
+of_source (Some d) Refused Read before r h = of_whole (whole_of d) Refused Read before r h
+
+items_keep : (name : List ℕ) (schema : KeySchema) (d : Data) → Unchanging (AnswersItems name schema d) None
+items_keep name schema (list no_items) = accepts _ _ _ refl
+items_keep name schema (list (item d ds)) = keeps _ _
+items_keep name schema null = keeps _ _
+items_keep name schema (boolean b) = keeps _ _
+items_keep name schema (whole z) = keeps _ _
+items_keep name schema (text s) = keeps _ _
+items_keep name schema (fields ms) = keeps _ _
+
+define_keeps : (story : Story) (name : List ℕ) (d : Option source.Data) → Unchanging (AnswersDefine story name d) (Some story)
+define_keeps story name None reply after h refused = h.1
+define_keeps story name (Some d) reply after (inl h) refused = accepts _ _ _ refl reply after h.told refused
+define_keeps story name (Some d) reply after (inr h) refused = keeps _ _ reply after h.told refused
+
+started_keeps : (story : Story) (entry : Entry) (answer : Result StepName Refusal) → Unchanging (AnswersStarted story entry answer) (Some story)
+started_keeps story entry (Ok name) = accepts _ _ _ refl
+started_keeps story entry (Err refusal) = keeps _ _
+
+step_keeps : (story : Story) (answer : Result Moved Refusal) → Unchanging (AnswersStep story answer) (Some story)
+step_keeps story (Ok m) = accepts _ _ _ refl
+step_keeps story (Err refusal) = keeps _ _
+
+undo_keeps : (story : Story) (name : StepName) (answer : Result StepName Refusal) → Unchanging (AnswersUndo story name answer) (Some story)
+undo_keeps story name (Ok undone) = accepts _ _ _ refl
+undo_keeps story name (Err refusal) = keeps _ _
+
+show_keeps : (story : Story) (found : Option Frame) → Unchanging (AnswersShow story found) (Some story)
+show_keeps story None = keeps _ _
+show_keeps story (Some f) = keeps _ _
+
+open_keeps : (story : Story) (command : Spoken) → Unchanging (AnswersOpen story command) (Some story)
+open_keeps story (spoken.table name schema json) = keeps _ _
+open_keeps story (spoken.define name json) = define_keeps story name (source_text.read json)
+open_keeps story (spoken.start exec machine json) =
+    of_source (source_of json) _ _ (Some story) (λ told. keeps told (Some story)) (λ d reply after h. started_keeps story _ (start_answer story.log exec machine) reply after h.told)
+open_keeps story (spoken.step thread) = step_keeps story (step_answer story.log thread)
+open_keeps story (spoken.undo name) = undo_keeps story name (undo_answer story.log name)
+open_keeps story (spoken.show thread) = show_keeps story ((world_of story.log).frames thread)
+open_keeps story spoken.items = keeps _ _
+open_keeps story spoken.history = keeps _ _
+
+closed_keeps : (command : Spoken) → Unchanging (AnswersClosed command) None
+closed_keeps (spoken.table name schema json) =
+    of_source (source_of json) _ _ None (λ told. keeps told None) (λ d. items_keep name schema d)
+closed_keeps (spoken.define name json) = keeps _ _
+closed_keeps (spoken.start exec machine json) = keeps _ _
+closed_keeps (spoken.step thread) = keeps _ _
+closed_keeps (spoken.undo name) = keeps _ _
+closed_keeps (spoken.show thread) = keeps _ _
+closed_keeps spoken.items = keeps _ _
+closed_keeps spoken.history = keeps _ _
+
+spoken_keeps : (before : Option Story) (command : Option Spoken) → Unchanging (AnswersSpoken before command) before
+spoken_keeps before None = keeps _ _
+spoken_keeps None (Some command) = closed_keeps command
+spoken_keeps (Some story) (Some command) = open_keeps story command
+
+text_keeps : (before : Option Story) (line : Option (List ℕ)) → Unchanging (AnswersText before line) before
+text_keeps before line reply after (inl h) refused = h.1
+text_keeps before line reply after (inr h) refused = spoken_keeps before (option_and_then command_of line) reply after h refused
+
+pub refused_changes_nothing : (before after : Option Story) (line : Option (List ℕ)) (reply : List ℕ) → AnswersLine before line reply after → is_refusal reply ≡ true → after ≡ before
+refused_changes_nothing before after None reply h refused = text_keeps before None reply after h refused
+refused_changes_nothing before after (Some []) reply h refused = h.1
+refused_changes_nothing before after (Some (b ∷ line)) reply h refused = text_keeps before (Some (b ∷ line)) reply after h refused
