@@ -14,4 +14,4 @@ none_before bytes (suc k) within h =
     let here = false_from_ne_true (slice_index bytes k == 10) (h k (omega arith) (omega arith)) in
     let one_more : k + 1 ≡ suc k = omega arith in
     subst (λ n. has_no_feed (take n bytes) ≡ true) one_more
-      (list_all_more (λ b. not (b == 10)) bytes k 0 (omega (arith, within)) ∙ ap (λ b. b && not (slice_index bytes k == 10)) before ∙ ap not here)
+    (list_all_more (λ b. not (b == 10)) bytes k 0 (omega (arith, within)) ∙ ap (λ b. b && not (slice_index bytes k == 10)) before ∙ ap not here)

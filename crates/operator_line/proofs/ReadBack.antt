@@ -12,7 +12,7 @@ use Rattle.rollback_book.specs.declared.log.KeyAttribute.{KeyAttribute}
 use Rattle.rollback_book.specs.declared.log.KeyType.{KeyType}
 use Rattle.rollback_book.specs.declared.log.KeyType.TheVariants.{S, N}
 use Rattle.asl_machine.specs.Fields.{is_text}
-use Rattle.operator_line.specs.Grammar.{Spoken, table, define, start, step, undo, show, items, history, is_table_name, is_table_name_byte, thread_of, step_of, type_of, key_name_of, key_of, first_word, table_by, table_of, define_of, start_of, text_command}
+use Rattle.operator_line.specs.Grammar.{Spoken, table, define, start, step, undo, show, items, history, is_table_name, is_table_name_byte, thread_in, step_in, type_in, key_name_in, key_in, first_word, table_by, table_of, define_of, start_of, text_command}
 use Rattle.operator_line.specs.Spelled.{type_text, key_text, items_text, is_key_name, IsExecution, IsSort, IsProper, line_of}
 use Rattle.operator_line.specs.GrammarLaws.{LineIsRead}
 use Rattle.operator_line.proofs.Cuts.{cut_some}
@@ -29,28 +29,28 @@ table_name_lacks name h =
 execution_is : (thread : Thread) → IsExecution thread → execution thread.exec ≡ thread
 execution_is thread kept = ap (λ (path : List (ℕ × ℕ)). let t : Thread = record { exec = thread.exec; path = path } in t) (sym kept.1)
 
-thread_reads : (thread : Thread) → IsExecution thread → thread_of (thread_text thread) ≡ Some thread
+thread_reads : (thread : Thread) → IsExecution thread → thread_in (thread_text thread) ≡ Some thread
 thread_reads thread kept =
-    subst (λ (t : Thread). thread_of (thread_text t) ≡ Some t) (execution_is thread kept) (ap thread_of (append-nil thread.exec) ∙ rw kept.0)
+    subst (λ (t : Thread). thread_in (thread_text t) ≡ Some t) (execution_is thread kept) (ap thread_in (append-nil thread.exec) ∙ rw kept.0)
 
 thread_lacks : (c : ℕ) (thread : Thread) → is_name_byte c ≡ false → IsExecution thread → lacks c (thread_text thread) ≡ true
 thread_lacks c thread apart kept =
     subst (λ (t : Thread). lacks c (thread_text t) ≡ true) (execution_is thread kept) (ap (lacks c) (append-nil thread.exec) ∙ name_lacks c thread.exec apart kept.0)
 
-step_reads : (named : StepName) → IsProper (undo named) → step_of (step_text named) ≡ Some named
+step_reads : (named : StepName) → IsProper (undo named) → step_in (step_text named) ≡ Some named
 step_reads named kept =
     rw (cut_some 35 (thread_text named.thread) (decimal named.no) (thread_lacks 35 named.thread refl kept.0), thread_reads named.thread kept.0, number_reads named.no kept.1)
 
 -- ---- keys
 
-key_name_parts : (name : List ℕ) → is_key_name name ≡ true → (key_name_of name ≡ Some name) × (lacks 32 name ≡ true) × (lacks 58 name ≡ true)
+key_name_parts : (name : List ℕ) → is_key_name name ≡ true → (key_name_in name ≡ Some name) × (lacks 32 name ≡ true) × (lacks 58 name ≡ true)
 key_name_parts [] h = cc
 key_name_parts (b ∷ name) h =
     let s = and_parts (not (b == 91)) (lacks 32 (b ∷ name) && lacks 58 (b ∷ name)) h in
     let t = and_parts (lacks 32 (b ∷ name)) (lacks 58 (b ∷ name)) s.1 in
     (rw (not-true (b == 91) s.0), t.0, t.1)
 
-type_reads : (kind : KeyType) → type_of (type_text kind) ≡ Some kind
+type_reads : (kind : KeyType) → type_in (type_text kind) ≡ Some kind
 type_reads S = refl
 type_reads N = refl
 
@@ -58,7 +58,7 @@ type_lacks : (kind : KeyType) → lacks 32 (58 ∷ type_text kind) ≡ true
 type_lacks S = refl
 type_lacks N = refl
 
-key_reads : (key : KeyAttribute) → is_key_name key.name ≡ true → key_of (key_text key) ≡ Some key
+key_reads : (key : KeyAttribute) → is_key_name key.name ≡ true → key_in (key_text key) ≡ Some key
 key_reads key h =
     let parts = key_name_parts key.name h in
     rw (cut_some 58 key.name (type_text key.kind) parts.2, parts.0, type_reads key.kind)
@@ -67,12 +67,12 @@ key_lacks : (key : KeyAttribute) → is_key_name key.name ≡ true → lacks 32 
 key_lacks key h = lacks-append 32 key.name (58 ∷ type_text key.kind) (key_name_parts key.name h).1 (type_lacks key.kind)
 
 sort_reads : (name : List ℕ) (partition : KeyAttribute) (sort : Option KeyAttribute) (json : List ℕ) → IsSort partition sort json
-    → table_by name partition (key_of (first_word (items_text sort json))) (items_text sort json) ≡ Some (table name (record { partition = partition; sort = sort }) json)
+    → table_by name partition (key_in (first_word (items_text sort json))) (items_text sort json) ≡ Some (table name (record { partition = partition; sort = sort }) json)
 sort_reads name partition None json kept = rw kept
 sort_reads name partition (Some sort) json kept =
     let cut = cut_some 32 (key_text sort) json (key_lacks sort kept.0) in
     let first : first_word (key_text sort ++ 32 ∷ json) ≡ key_text sort = rw cut in
-    ap (λ (key : Option KeyAttribute). table_by name partition key (key_text sort ++ 32 ∷ json)) (ap key_of first ∙ key_reads sort kept.0)
+    ap (λ (key : Option KeyAttribute). table_by name partition key (key_text sort ++ 32 ∷ json)) (ap key_in first ∙ key_reads sort kept.0)
     ∙ rw (cut, not-true (is_text sort.name partition.name) kept.1)
 
 -- ---- lines

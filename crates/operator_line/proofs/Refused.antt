@@ -31,14 +31,14 @@ keeps : (told : List ℕ) (before : Option Story) → Unchanging (Tells told bef
 keeps told before reply after h refused = h.1
 
 of_whole : (d : Option Data) (Refused : List ℕ → List ℕ → Option Story → Type 0) (Read : Data → List ℕ → Option Story → Type 0) (before : Option Story)
-  → ((told : List ℕ) → Unchanging (Refused told) before) → ((e : Data) → Unchanging (Read e) before)
-  → Unchanging (λ reply after. OfWhole d (λ told. Refused told reply after) (λ e. Read e reply after)) before
+    → ((told : List ℕ) → Unchanging (Refused told) before) → ((e : Data) → Unchanging (Read e) before)
+    → Unchanging (λ reply after. OfWhole d (λ told. Refused told reply after) (λ e. Read e reply after)) before
 of_whole None Refused Read before r h = r _
 of_whole (Some d) Refused Read before r h = h d
 
 of_source : (d : Option source.Data) (Refused : List ℕ → List ℕ → Option Story → Type 0) (Read : Data → List ℕ → Option Story → Type 0) (before : Option Story)
-  → ((told : List ℕ) → Unchanging (Refused told) before) → ((e : Data) → Unchanging (Read e) before)
-  → Unchanging (λ reply after. OfSource d (λ told. Refused told reply after) (λ e. Read e reply after)) before
+    → ((told : List ℕ) → Unchanging (Refused told) before) → ((e : Data) → Unchanging (Read e) before)
+    → Unchanging (λ reply after. OfSource d (λ told. Refused told reply after) (λ e. Read e reply after)) before
 of_source None Refused Read before r h = r _
 of_source (Some d) Refused Read before r h = of_whole (whole_of d) Refused Read before r h
 

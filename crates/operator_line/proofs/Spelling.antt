@@ -15,7 +15,7 @@ use Rattle.rollback_book.specs.declared.log.KeyAttribute.{KeyAttribute}
 use Rattle.rollback_book.specs.declared.log.KeyType.{KeyType}
 use Rattle.rollback_book.specs.declared.log.KeyType.TheVariants.{S, N}
 use Rattle.asl_machine.specs.Fields.{is_text}
-use Rattle.operator_line.specs.Grammar.{Spoken, table, step, undo, show, items, history, cut_at, is_table_name, thread_of, step_of, type_of, key_name_of, key_of, first_word, table_by, table_of, define_of, start_of, command_by, text_command}
+use Rattle.operator_line.specs.Grammar.{Spoken, table, step, undo, show, items, history, cut_at, is_table_name, thread_in, step_in, type_in, key_name_in, key_in, first_word, table_by, table_of, define_of, start_of, command_by, text_command}
 use Rattle.operator_line.specs.Spelled.{type_text, key_text, items_text, is_key_name, IsExecution, IsSort, IsProper, line_of}
 use Rattle.operator_line.specs.GrammarLaws.{LineSaysOne, LineIsSpelled}
 
@@ -60,15 +60,15 @@ cut_back c (b ∷ bs) p h = by_test (b == c) refl (cut_at c bs) (λ q e. cut_bac
 
 -- ---- words
 
-pub thread_says : (word : List ℕ) (thread : Thread) → thread_of word ≡ Some thread → IsExecution thread × (word ≡ thread_text thread)
+pub thread_says : (word : List ℕ) (thread : Thread) → thread_in word ≡ Some thread → IsExecution thread × (word ≡ thread_text thread)
 thread_says word thread h =
     let found = test_found (is_name word) (execution word) thread h in
     subst (λ (t : Thread). IsExecution t × (word ≡ thread_text t)) found.1 ((found.0, refl), sym (append-nil word))
 
-pub step_says : (word : List ℕ) (named : StepName) → step_of word ≡ Some named → IsProper (undo named) × (word ≡ step_text named)
+pub step_says : (word : List ℕ) (named : StepName) → step_in word ≡ Some named → IsProper (undo named) × (word ≡ step_text named)
 step_says word named h =
     let cut = bind_found (cut_at 35 word) _ named h in
-    let exec = bind_found (thread_of cut.0.0) _ named cut.2 in
+    let exec = bind_found (thread_in cut.0.0) _ named cut.2 in
     let number = bind_found (read_number cut.0.1) _ named exec.2 in
     let thread = thread_says cut.0.0 exec.0 exec.1 in
     let joined : word ≡ thread_text exec.0 ++ 35 ∷ decimal number.0 =
@@ -89,7 +89,7 @@ define_says text command h =
 pub start_says : (text : List ℕ) (command : Spoken) → start_of text ≡ Some command → IsProper command × (codes "start " ++ text ≡ line_of command)
 start_says text command h =
     let cut = bind_found (cut_at 32 text) _ command h in
-    let exec = bind_found (thread_of cut.0.0) _ command cut.2 in
+    let exec = bind_found (thread_in cut.0.0) _ command cut.2 in
     let rest = bind_found (cut_at 32 cut.0.1) _ command exec.2 in
     let name = bind_found (cond (is_name rest.0.0) (Some rest.0.0) None) _ command rest.2 in
     let word = test_found (is_name rest.0.0) rest.0.0 name.0 name.1 in
@@ -106,7 +106,7 @@ lacks_front c (x ∷ xs) ys h =
     let s = and_parts (not (x == c)) (lacks c (xs ++ ys)) h in
     and_from (not (x == c)) (lacks c xs) s.0 (lacks_front c xs ys s.1)
 
-key_name_says : (name kept : List ℕ) → key_name_of name ≡ Some kept → lacks 32 name ≡ true → lacks 58 name ≡ true → (is_key_name kept ≡ true) × (name ≡ kept)
+key_name_says : (name kept : List ℕ) → key_name_in name ≡ Some kept → lacks 32 name ≡ true → lacks 58 name ≡ true → (is_key_name kept ≡ true) × (name ≡ kept)
 key_name_says [] kept h space colon = cc
 key_name_says (b ∷ name) kept h space colon = by_test (b == 91) refl h
   where
@@ -117,17 +117,17 @@ key_name_says (b ∷ name) kept h space colon = by_test (b == 91) refl h
         let proper : is_key_name (b ∷ name) ≡ true = rw e (and_from (lacks 32 (b ∷ name)) (lacks 58 (b ∷ name)) space colon) in
         (subst (λ (w : List ℕ). is_key_name w ≡ true) same proper, same)
 
-type_says : (text : List ℕ) (kind : KeyType) → type_of text ≡ Some kind → text ≡ type_text kind
+type_says : (text : List ℕ) (kind : KeyType) → type_in text ≡ Some kind → text ≡ type_text kind
 type_says text kind h = elim (choice_found (is_text text (codes "S")) (Some S) _ kind h) [
   | inl w ↦ (bytes_decides text (codes "S")).0 w.0 ∙ ap type_text (same_some S kind w.1)
   | inr k ↦ let w = test_found (is_text text (codes "N")) N kind k in (bytes_decides text (codes "N")).0 w.0 ∙ ap type_text w.1
 ]
 
-pub key_says : (word : List ℕ) (key : KeyAttribute) → lacks 32 word ≡ true → key_of word ≡ Some key → (is_key_name key.name ≡ true) × (word ≡ key_text key)
+pub key_says : (word : List ℕ) (key : KeyAttribute) → lacks 32 word ≡ true → key_in word ≡ Some key → (is_key_name key.name ≡ true) × (word ≡ key_text key)
 key_says word key space h =
     let cut = bind_found (cut_at 58 word) _ key h in
-    let name = bind_found (key_name_of cut.0.0) _ key cut.2 in
-    let kind = bind_found (type_of cut.0.1) _ key name.2 in
+    let name = bind_found (key_name_in cut.0.0) _ key cut.2 in
+    let kind = bind_found (type_in cut.0.1) _ key name.2 in
     let back = cut_back 58 word cut.0 cut.1 in
     let front : lacks 32 cut.0.0 ≡ true = lacks_front 32 cut.0.0 (58 ∷ cut.0.1) (sym (ap (lacks 32) back.0) ∙ space) in
     let named = key_name_says cut.0.0 name.0 name.1 front back.1 in
@@ -142,7 +142,7 @@ untest_found false a b h = (refl, same_some a b h)
 first_of : (text : List ℕ) (p : List ℕ × List ℕ) → cut_at 32 text ≡ Some p → first_word text ≡ p.0
 first_of text p h = rw h
 
-sort_says : (name : List ℕ) (partition : KeyAttribute) (sort : Option KeyAttribute) (text : List ℕ) (command : Spoken) → key_of (first_word text) ≡ sort
+sort_says : (name : List ℕ) (partition : KeyAttribute) (sort : Option KeyAttribute) (text : List ℕ) (command : Spoken) → key_in (first_word text) ≡ sort
     → table_by name partition sort text ≡ Some command
     → (json : List ℕ) × (table name (record { partition = partition; sort = sort }) json ≡ command) × IsSort partition sort json × (text ≡ items_text sort json)
 sort_says name partition None text command e h = (text, same_some _ command h, e, refl)
@@ -151,7 +151,7 @@ sort_says name partition (Some sort) text command e h =
     let back = cut_back 32 text cut.0 cut.1 in
     let first = first_of text cut.0 cut.1 in
     let apart = untest_found (is_text sort.name partition.name) _ command cut.2 in
-    let key = key_says cut.0.0 sort back.1 (sym (ap key_of first) ∙ e) in
+    let key = key_says cut.0.0 sort back.1 (sym (ap key_in first) ∙ e) in
     (cut.0.1, apart.1, (key.0, ap not apart.0), back.0 ∙ ap (λ (w : List ℕ). w ++ 32 ∷ cut.0.1) key.1)
 
 pub table_says : (text : List ℕ) (command : Spoken) → table_of text ≡ Some command → IsProper command × (codes "table " ++ text ≡ line_of command)
@@ -160,32 +160,32 @@ table_says text command h =
     let name = bind_found (cond (is_table_name cut.0.0) (Some cut.0.0) None) _ command cut.2 in
     let word = test_found (is_table_name cut.0.0) cut.0.0 name.0 name.1 in
     let rest = bind_found (cut_at 32 cut.0.1) _ command name.2 in
-    let partition = bind_found (key_of rest.0.0) _ command rest.2 in
-    let sort = sort_says name.0 partition.0 (key_of (first_word rest.0.1)) rest.0.1 command refl partition.2 in
+    let partition = bind_found (key_in rest.0.0) _ command rest.2 in
+    let sort = sort_says name.0 partition.0 (key_in (first_word rest.0.1)) rest.0.1 command refl partition.2 in
     let back = cut_back 32 cut.0.1 rest.0 rest.1 in
     let key = key_says rest.0.0 partition.0 back.1 partition.1 in
-    let after : cut.0.1 ≡ key_text partition.0 ++ 32 ∷ items_text (key_of (first_word rest.0.1)) sort.0 =
+    let after : cut.0.1 ≡ key_text partition.0 ++ 32 ∷ items_text (key_in (first_word rest.0.1)) sort.0 =
     back.0 ∙ ap (λ (w : List ℕ). w ++ 32 ∷ rest.0.1) key.1 ∙ ap (λ (w : List ℕ). key_text partition.0 ++ 32 ∷ w) sort.3 in
-    let joined : text ≡ name.0 ++ 32 ∷ (key_text partition.0 ++ 32 ∷ items_text (key_of (first_word rest.0.1)) sort.0) =
+    let joined : text ≡ name.0 ++ 32 ∷ (key_text partition.0 ++ 32 ∷ items_text (key_in (first_word rest.0.1)) sort.0) =
     (cut_back 32 text cut.0 cut.1).0 ∙ ap (λ (w : List ℕ). w ++ 32 ∷ cut.0.1) word.1 ∙ ap (λ (w : List ℕ). name.0 ++ 32 ∷ w) after in
     subst (λ (s : Spoken). IsProper s × (codes "table " ++ text ≡ line_of s)) sort.1
     ((subst (λ (w : List ℕ). is_table_name w ≡ true) word.1 word.0, key.0, sort.2), ap (λ (w : List ℕ). codes "table " ++ w) joined)
 
-step_line : (text : List ℕ) (command : Spoken) → option_map step (thread_of text) ≡ Some command → IsProper command × (codes "step " ++ text ≡ line_of command)
+step_line : (text : List ℕ) (command : Spoken) → option_map step (thread_in text) ≡ Some command → IsProper command × (codes "step " ++ text ≡ line_of command)
 step_line text command h =
-    let found = map_found (thread_of text) step command h in
+    let found = map_found (thread_in text) step command h in
     let thread = thread_says text found.0 found.1 in
     subst (λ (s : Spoken). IsProper s × (codes "step " ++ text ≡ line_of s)) found.2 (thread.0, ap (λ (w : List ℕ). codes "step " ++ w) thread.1)
 
-undo_line : (text : List ℕ) (command : Spoken) → option_map undo (step_of text) ≡ Some command → IsProper command × (codes "undo " ++ text ≡ line_of command)
+undo_line : (text : List ℕ) (command : Spoken) → option_map undo (step_in text) ≡ Some command → IsProper command × (codes "undo " ++ text ≡ line_of command)
 undo_line text command h =
-    let found = map_found (step_of text) undo command h in
+    let found = map_found (step_in text) undo command h in
     let named = step_says text found.0 found.1 in
     subst (λ (s : Spoken). IsProper s × (codes "undo " ++ text ≡ line_of s)) found.2 (named.0, ap (λ (w : List ℕ). codes "undo " ++ w) named.1)
 
-show_line : (text : List ℕ) (command : Spoken) → option_map show (thread_of text) ≡ Some command → IsProper command × (codes "show " ++ text ≡ line_of command)
+show_line : (text : List ℕ) (command : Spoken) → option_map show (thread_in text) ≡ Some command → IsProper command × (codes "show " ++ text ≡ line_of command)
 show_line text command h =
-    let found = map_found (thread_of text) show command h in
+    let found = map_found (thread_in text) show command h in
     let thread = thread_says text found.0 found.1 in
     subst (λ (s : Spoken). IsProper s × (codes "show " ++ text ≡ line_of s)) found.2 (thread.0, ap (λ (w : List ℕ). codes "show " ++ w) thread.1)
 
@@ -200,11 +200,11 @@ command_says keyword text command h = elim (choice_found (is_text keyword (codes
     | inl w ↦ by_word keyword text (codes "define") command w.0 (define_says text command w.1)
     | inr h2 ↦ elim (choice_found (is_text keyword (codes "start")) (start_of text) _ command h2) [
       | inl w ↦ by_word keyword text (codes "start") command w.0 (start_says text command w.1)
-      | inr h3 ↦ elim (choice_found (is_text keyword (codes "step")) (option_map step (thread_of text)) _ command h3) [
+      | inr h3 ↦ elim (choice_found (is_text keyword (codes "step")) (option_map step (thread_in text)) _ command h3) [
         | inl w ↦ by_word keyword text (codes "step") command w.0 (step_line text command w.1)
-        | inr h4 ↦ elim (choice_found (is_text keyword (codes "undo")) (option_map undo (step_of text)) _ command h4) [
+        | inr h4 ↦ elim (choice_found (is_text keyword (codes "undo")) (option_map undo (step_in text)) _ command h4) [
           | inl w ↦ by_word keyword text (codes "undo") command w.0 (undo_line text command w.1)
-          | inr h5 ↦ elim (choice_found (is_text keyword (codes "show")) (option_map show (thread_of text)) _ command h5) [
+          | inr h5 ↦ elim (choice_found (is_text keyword (codes "show")) (option_map show (thread_in text)) _ command h5) [
             | inl w ↦ by_word keyword text (codes "show") command w.0 (show_line text command w.1)
             | inr h6 ↦ cc
           ]

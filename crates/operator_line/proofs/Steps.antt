@@ -6,7 +6,7 @@ use Rattle.step_names.specs.Thread.{execution, is_name, is_name_byte}
 use Rattle.step_names.specs.Grammar.{read_thread, read_step}
 use Rattle.step_names.proofs.Parts.{passing_lacks, lacks_split}
 use Rattle.step_names.proofs.Steps.{step_cut}
-use Rattle.operator_line.specs.Grammar.{cut_at, step_of}
+use Rattle.operator_line.specs.Grammar.{cut_at, step_in}
 use Rattle.operator_line.proofs.Cuts.{cut_split}
 
 -- the bytes of a NAME
@@ -18,5 +18,5 @@ name_bytes word h =
 named_thread : (exec : List ℕ) → is_name exec ≡ true → read_thread exec ≡ Some (execution exec)
 named_thread exec h = rw (lacks_split 47 exec (passing_lacks is_name_byte 47 exec refl (name_bytes exec h)), h)
 
-pub step_read : (word exec number : List ℕ) → cut_at 35 word ≡ Some (exec, number) → is_name exec ≡ true → read_step word ≡ step_of word
+pub step_read : (word exec number : List ℕ) → cut_at 35 word ≡ Some (exec, number) → is_name exec ≡ true → read_step word ≡ step_in word
 step_read word exec number cut h = step_cut word exec number (cut_split 35 word (exec, number) cut) ∙ rw (named_thread exec h, cut, h)

@@ -50,8 +50,8 @@ abbrev pub first_word : List ℕ → List ℕ
 first_word text = option_map_or (λ parts. parts.0) (cut_at 32 text) text
 
 -- NAME
-abbrev pub name_of : List ℕ → Option (List ℕ)
-name_of word = if is_name word then Some word else None
+abbrev pub name_in : List ℕ → Option (List ℕ)
+name_in word = if is_name word then Some word else None
 
 -- a byte of a NAME, or `.`
 abbrev pub is_table_name_byte : ℕ → Bool
@@ -61,36 +61,36 @@ is_table_name_byte b = is_name_byte b || b == 46
 abbrev pub is_table_name : List ℕ → Bool
 is_table_name word = nat_le 1 (length word) && (nat_le (length word) 255 && list_all is_table_name_byte word)
 
-abbrev pub table_name_of : List ℕ → Option (List ℕ)
-table_name_of word = if is_table_name word then Some word else None
+abbrev pub table_name_in : List ℕ → Option (List ℕ)
+table_name_in word = if is_table_name word then Some word else None
 
 -- T: NAME
-abbrev pub thread_of : List ℕ → Option Thread
-thread_of word = if is_name word then Some (execution word) else None
+abbrev pub thread_in : List ℕ → Option Thread
+thread_in word = if is_name word then Some (execution word) else None
 
 -- S: NAME `#` NUM
-abbrev pub step_of : List ℕ → Option StepName
-step_of word = do
+abbrev pub step_in : List ℕ → Option StepName
+step_in word = do
   (exec, digits) ← cut_at 35 word
-  thread ← thread_of exec
+  thread ← thread_in exec
   number ← read_number digits
   Some (record { thread = thread; no = number })
 
 -- K: it isn't empty, and has no `[` in front
-abbrev pub key_name_of : List ℕ → Option (List ℕ)
-key_name_of [] = None
-key_name_of (b ∷ name) = if b == 91 then None else Some (b ∷ name)
+abbrev pub key_name_in : List ℕ → Option (List ℕ)
+key_name_in [] = None
+key_name_in (b ∷ name) = if b == 91 then None else Some (b ∷ name)
 
 -- TYPE: `S` or `N`
-abbrev pub type_of : List ℕ → Option KeyType
-type_of text = if is_text text (codes "S") then Some S else (if is_text text (codes "N") then Some N else None)
+abbrev pub type_in : List ℕ → Option KeyType
+type_in text = if is_text text (codes "S") then Some S else (if is_text text (codes "N") then Some N else None)
 
 -- K `:` TYPE
-abbrev pub key_of : List ℕ → Option KeyAttribute
-key_of word = do
+abbrev pub key_in : List ℕ → Option KeyAttribute
+key_in word = do
   (text, letter) ← cut_at 58 word
-  name ← key_name_of text
-  kind ← type_of letter
+  name ← key_name_in text
+  kind ← type_in letter
   Some (record { name = name; kind = kind })
 
 -- Where the next word is a key too, it is the sort key, which needs another name, and J comes after it. Where it is none, J
@@ -105,25 +105,25 @@ table_by name partition (Some sort) text = do
 abbrev pub table_of : List ℕ → Option Spoken
 table_of text = do
   (first, after_name) ← cut_at 32 text
-  name ← table_name_of first
+  name ← table_name_in first
   (second, after_key) ← cut_at 32 after_name
-  partition ← key_of second
-  table_by name partition (key_of (first_word after_key)) after_key
+  partition ← key_in second
+  table_by name partition (key_in (first_word after_key)) after_key
 
 -- NAME J
 abbrev pub define_of : List ℕ → Option Spoken
 define_of text = do
   (word, json) ← cut_at 32 text
-  name ← name_of word
+  name ← name_in word
   Some (define name json)
 
 -- NAME NAME J
 abbrev pub start_of : List ℕ → Option Spoken
 start_of text = do
   (first, after_exec) ← cut_at 32 text
-  thread ← thread_of first
+  thread ← thread_in first
   (second, json) ← cut_at 32 after_exec
-  machine ← name_of second
+  machine ← name_in second
   Some (start thread machine json)
 
 -- by the first word, from what stands after it
@@ -132,9 +132,9 @@ command_by keyword text =
     if is_text keyword (codes "table") then table_of text
     else (if is_text keyword (codes "define") then define_of text
     else (if is_text keyword (codes "start") then start_of text
-    else (if is_text keyword (codes "step") then option_map step (thread_of text)
-    else (if is_text keyword (codes "undo") then option_map undo (step_of text)
-    else (if is_text keyword (codes "show") then option_map show (thread_of text)
+    else (if is_text keyword (codes "step") then option_map step (thread_in text)
+    else (if is_text keyword (codes "undo") then option_map undo (step_in text)
+    else (if is_text keyword (codes "show") then option_map show (thread_in text)
     else None)))))
 
 -- of a text

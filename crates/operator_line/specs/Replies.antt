@@ -22,8 +22,8 @@ use Rattle.rollback_book.specs.declared.step.Readiness.{Readiness}
 use Rattle.rollback_book.specs.declared.step.Readiness.TheVariants as phase
 
 -- a line feed after a text
-abbrev pub line_of : List ℕ → List ℕ
-line_of text = text ++ 10 ∷ []
+abbrev pub with_feed : List ℕ → List ℕ
+with_feed text = text ++ 10 ∷ []
 
 -- ---- what is accepted
 
@@ -31,7 +31,7 @@ abbrev pub done_reply : List ℕ
 done_reply = codes "ok\n"
 
 abbrev pub step_reply : StepName → List ℕ
-step_reply name = codes "ok " ++ line_of (step_text name)
+step_reply name = codes "ok " ++ with_feed (step_text name)
 
 abbrev pub kind_text : Kind → List ℕ
 kind_text Start = codes " start"
@@ -42,11 +42,11 @@ kind_text Join = codes " join"
 kind_text Terminate = codes " terminate"
 
 abbrev pub moved_reply : Moved → List ℕ
-moved_reply m = codes "ok " ++ (step_text m.name ++ line_of (kind_text m.kind))
+moved_reply m = codes "ok " ++ (step_text m.name ++ with_feed (kind_text m.kind))
 
 -- how many there are, and each in a line of its own
 abbrev pub list_reply : List (List ℕ) → List ℕ
-list_reply texts = codes "ok " ++ (line_of (decimal (length texts)) ++ flat_map line_of texts)
+list_reply texts = codes "ok " ++ (with_feed (decimal (length texts)) ++ flat_map with_feed texts)
 
 -- the state that a thread stands at, and how many moves it made
 abbrev pub place_text : Frame → List ℕ
@@ -56,10 +56,10 @@ abbrev pub fault_text : Fault → List ℕ
 fault_text fault = quoted fault.error ++ 32 ∷ quoted fault.cause
 
 abbrev pub phase_reply : Frame → Phase → List ℕ
-phase_reply f phases.Ready = codes "ok ready " ++ line_of (place_text f)
-phase_reply f (phases.Parked branches) = codes "ok parked " ++ (place_text f ++ 32 ∷ line_of (decimal branches))
-phase_reply f (phases.Done output) = codes "ok done " ++ line_of (text_of (data_of output))
-phase_reply f (phases.Failed fault) = codes "ok failed " ++ line_of (fault_text fault)
+phase_reply f phases.Ready = codes "ok ready " ++ with_feed (place_text f)
+phase_reply f (phases.Parked branches) = codes "ok parked " ++ (place_text f ++ 32 ∷ with_feed (decimal branches))
+phase_reply f (phases.Done output) = codes "ok done " ++ with_feed (text_of (data_of output))
+phase_reply f (phases.Failed fault) = codes "ok failed " ++ with_feed (fault_text fault)
 
 abbrev pub frame_reply : Frame → List ℕ
 frame_reply f = phase_reply f f.phase
@@ -67,17 +67,17 @@ frame_reply f = phase_reply f f.phase
 -- ---- what is refused
 
 abbrev pub refused : ℕ → List ℕ
-refused code = codes "no " ++ line_of (decimal code)
+refused code = codes "no " ++ with_feed (decimal code)
 
 abbrev pub refused_by : ℕ → ℕ → List ℕ
-refused_by code number = codes "no " ++ (decimal code ++ 32 ∷ line_of (decimal number))
+refused_by code number = codes "no " ++ (decimal code ++ 32 ∷ with_feed (decimal number))
 
 abbrev pub refused_for_step : ℕ → StepName → List ℕ
-refused_for_step code name = codes "no " ++ (decimal code ++ 32 ∷ line_of (step_text name))
+refused_for_step code name = codes "no " ++ (decimal code ++ 32 ∷ with_feed (step_text name))
 
 -- a definition is refused by the number of its fault, and by the name of the field or of the state that it is about
 abbrev pub refused_for_field : ℕ → List ℕ → List ℕ
-refused_for_field fault name = codes "no 3 " ++ (decimal fault ++ 32 ∷ line_of (quoted name))
+refused_for_field fault name = codes "no 3 " ++ (decimal fault ++ 32 ∷ with_feed (quoted name))
 
 abbrev pub memory_reply : List ℕ
 memory_reply = codes "no 11\n"
@@ -109,7 +109,7 @@ refusal_reply refusals.MachineTaken = refused 2
 refusal_reply (refusals.BadMachine fault) = machine_reply fault
 refusal_reply refusals.ExecTaken = refused 4
 refusal_reply refusals.NoThread = refused 5
-refusal_reply (refusals.NotReady readiness) = codes "no 6 " ++ line_of (readiness_text readiness)
+refusal_reply (refusals.NotReady readiness) = codes "no 6 " ++ with_feed (readiness_text readiness)
 refusal_reply refusals.NoStep = refused 7
 refusal_reply (refusals.HasDependents step) = refused_for_step 8 step
 refusal_reply refusals.Full = refused 10

@@ -7,7 +7,7 @@ use Rattle.rollback_book.specs.declared.log.KeyAttribute.{KeyAttribute}
 use Rattle.rollback_book.specs.declared.log.KeyType.{KeyType}
 use Rattle.rollback_book.specs.declared.log.KeyType.TheVariants.{S, N}
 use Rattle.asl_machine.specs.Fields.{is_text}
-use Rattle.operator_line.specs.Grammar.{Spoken, table, define, start, step, undo, show, items, history, is_table_name, first_word, key_of}
+use Rattle.operator_line.specs.Grammar.{Spoken, table, define, start, step, undo, show, items, history, is_table_name, first_word, key_in}
 
 abbrev pub type_text : KeyType → List ℕ
 type_text S = codes "S"
@@ -43,7 +43,7 @@ is_key_name (b ∷ name) = not (b == 91) && (list_all (λ c. not (c == 32)) (b �
 
 -- a second key has another name; where there is none, J begins with no word that is a key
 abbrev pub IsSort : KeyAttribute → Option KeyAttribute → List ℕ → Type 0
-IsSort partition None json = key_of (first_word json) ≡ None
+IsSort partition None json = key_in (first_word json) ≡ None
 IsSort partition (Some sort) json = IsTrue (is_key_name sort.name) × IsTrue (not (is_text sort.name partition.name))
 
 abbrev pub IsProper : Spoken → Type 0

@@ -1,6 +1,6 @@
 // The commands, read from lines.
 ghost use Rattle.std.specs.Prelude.{◌≡◌, ◌↔◌, None, Some, IfOk, IsErrOf, MatchResult, option_map};
-ghost use Rattle.operator_line.specs.Grammar.{cut_at, command_of, text_command, command_by, table_of, define_of, start_of, thread_of, step_of, spoken, attribute_of};
+ghost use Rattle.operator_line.specs.Grammar.{cut_at, command_of, text_command, command_by, table_of, define_of, start_of, thread_in, step_in, spoken, attribute_of};
 
 pub use crate::execution::Execution;
 use crate::words::{KeyWord, cut, first_word, is_table_name, read_key};
@@ -199,8 +199,8 @@ fn read_start(alloc: Global, text: &str) -> Result<Command<'_>, CommandFault>
 
 /// A thread without branches, the only one that a command takes yet.
 fn read_execution(alloc: Global, word: &str) -> Result<Execution, CommandFault>
-    ensures ok { IfOk result (λ e. thread_of word.now ≡ Some e.thread) }
-    ensures bad { IsErrOf result CommandFault.BadLine ↔ (thread_of word.now ≡ None) }
+    ensures ok { IfOk result (λ e. thread_in word.now ≡ Some e.thread) }
+    ensures bad { IsErrOf result CommandFault.BadLine ↔ (thread_in word.now ≡ None) }
 {
     if !is_name(word) {
         return Err(CommandFault::BadLine);
@@ -213,8 +213,8 @@ fn read_execution(alloc: Global, word: &str) -> Result<Execution, CommandFault>
 
 /// A step of such a thread.
 fn read_step(alloc: Global, word: &str) -> Result<StepName, CommandFault>
-    ensures ok { IfOk result (λ s. step_of word.now ≡ Some s) }
-    ensures bad { IsErrOf result CommandFault.BadLine ↔ (step_of word.now ≡ None) }
+    ensures ok { IfOk result (λ s. step_in word.now ≡ Some s) }
+    ensures bad { IsErrOf result CommandFault.BadLine ↔ (step_in word.now ≡ None) }
 {
     let Some((exec, _)) = cut(word, '#') else {
         return Err(CommandFault::BadLine);

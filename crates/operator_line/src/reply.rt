@@ -5,7 +5,7 @@ ghost use Rattle.std.specs.String.{string_capacity};
 ghost use Rattle.json_tree.specs.View.{data_of, list_of};
 ghost use Rattle.json_tree.specs.Written.{quoted, text_of};
 ghost use Rattle.step_names.specs.Written.{step_text};
-ghost use Rattle.operator_line.specs.Replies.{done_reply, step_reply, moved_reply, kind_text, line_of, list_reply, place_text, fault_text, frame_reply, refused, refused_by, refused_for_step, refused_for_field, machine_reply, readiness_text, refusal_reply};
+ghost use Rattle.operator_line.specs.Replies.{done_reply, step_reply, moved_reply, kind_text, with_feed, list_reply, place_text, fault_text, frame_reply, refused, refused_by, refused_for_step, refused_for_field, machine_reply, readiness_text, refusal_reply};
 ghost use Rattle.operator_line.specs.Replying.{Writes, has_room_for_step};
 
 use asl_machine::MachineFault;
@@ -186,7 +186,7 @@ impl Reply {
     }
 
     fn refuse_readiness(&mut self, readiness: Readiness) -> Result<(), AllocError>
-        ensures ok { Writes result self.old self.new (codes "no 6 " ++ line_of (readiness_text readiness)) }
+        ensures ok { Writes result self.old self.new (codes "no 6 " ++ with_feed (readiness_text readiness)) }
     {
         self.word("no 6 ")?;
         self.word(readiness_word(readiness))?;
@@ -243,7 +243,7 @@ impl Reply {
     }
 
     fn json_line(&mut self, alloc: Global, json: &Json) -> Result<(), AllocError>
-        ensures ok { Writes result self.old self.new (line_of (text_of (data_of json.now))) }
+        ensures ok { Writes result self.old self.new (with_feed (text_of (data_of json.now))) }
     {
         self.json(alloc, json)?;
         self.word("\n")
@@ -257,7 +257,7 @@ impl Reply {
     }
 
     fn step_line(&mut self, step: &StepName) -> Result<(), AllocError>
-        ensures ok { Writes result self.old self.new (line_of (step_text step.now)) }
+        ensures ok { Writes result self.old self.new (with_feed (step_text step.now)) }
     {
         step.write_to(&mut self.text)?;
         self.word("\n")
@@ -265,7 +265,7 @@ impl Reply {
 
     /// `ok` and how many lines follow.
     fn count(&mut self, lines: u64) -> Result<(), AllocError>
-        ensures ok { Writes result self.old self.new (codes "ok " ++ line_of (decimal lines)) }
+        ensures ok { Writes result self.old self.new (codes "ok " ++ with_feed (decimal lines)) }
     {
         self.word("ok ")?;
         self.number(lines)?;

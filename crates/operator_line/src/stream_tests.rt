@@ -183,6 +183,9 @@ fn a_command_whose_reply_is_not_written_stands(rt: HostRuntime) {
     let alloc = rt.alloc();
     let mut session = Session::new(alloc);
     for &(line, entries) in LINES {
-        assert!(rt; stands_unanswered(alloc, &mut session, line, entries), "at {line}");
+        assert!(rt;
+            stands_unanswered(alloc, &mut session, line, entries),
+            "at {line}"
+        );
     }
 }

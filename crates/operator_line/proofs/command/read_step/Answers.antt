@@ -1,7 +1,7 @@
 use Rattle.std.proofs.Common.{rules, ◌≡◌, ◌∙◌, sym, true, Some, Err, ap, refl}
 use Rattle.step_names.specs.declared.NameFault.TheVariants.{BadName}
 use Rattle.step_names.specs.Thread.{is_name}
-use Rattle.operator_line.specs.Grammar.{step_of}
+use Rattle.operator_line.specs.Grammar.{step_in}
 use Rattle.operator_line.proofs.Steps.{step_read}
 use Rattle.operator_line.proofs.command.read_step.Goals as goal
 
@@ -13,7 +13,7 @@ returns-in-Ok-clause-ok c =
 pub returns-in-Ok-clause-bad : goal.returns-in-Ok-clause-bad
 returns-in-Ok-clause-bad c =
     let named : is_name c.in-Some.exec.now ≡ true = search rules in
-    let is : step_of c.args.word.now ≡ Some c.in-Ok.step = sym (step_read c.args.word.now c.in-Some.exec.now c.in-Some.field-0-1.now c.in-Some.ensures named) ∙ c.in-Ok.ensures.ok in
+    let is : step_in c.args.word.now ≡ Some c.in-Ok.step = sym (step_read c.args.word.now c.in-Some.exec.now c.in-Some.field-0-1.now c.in-Some.ensures named) ∙ c.in-Ok.ensures.ok in
     (λ e. cc, λ e. cc (sym is ∙ e))
 
 pub returns-in-Err-BadName-clause-bad : goal.returns-in-Err-BadName-clause-bad
