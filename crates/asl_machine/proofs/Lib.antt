@@ -1,4 +1,0 @@
-pub mod Found
-pub mod Whole
-pub mod Names
-mod Rows

@@ -1,33 +1,95 @@
--- What a machine is: where it starts, and its states by name.
-use Rattle.std.specs.Prelude.{ℕ, List, Option, IsSome, IfSome}
-use Rattle.std.specs.Ordering.{nat_cmp}
-use Rattle.std.specs.Cmp.Lexicographic.{slice_cmp}
-use Rattle.std.specs.BTreeMap.{is_at}
-use Rattle.std.specs.Map.{lookup}
-use Rattle.asl_machine.specs.declared.state.State.{State}
-use Rattle.asl_machine.specs.declared.state.State.TheVariants.{Pass, Succeed}
+-- Machines and their states, as trees: a state's branches and its processor are machines in it.
+use Rattle.std.specs.Prelude.{ℕ, suc, max, List, [], ◌∷◌, Option}
+use Rattle.ref_paths.specs.Templates.{Payload}
+use Rattle.ref_paths.specs.declared.path.PathStep.{PathStep}
+use Rattle.asl_machine.specs.declared.errors.ErrorHandling.{ErrorHandling}
+use Rattle.asl_machine.specs.declared.state.Choice.{Choice}
+use Rattle.asl_machine.specs.declared.state.Fail.{Fail}
+use Rattle.asl_machine.specs.declared.state.Pass.{Pass}
+use Rattle.asl_machine.specs.declared.state.Processing.{Processing}
+use Rattle.asl_machine.specs.declared.state.Succeed.{Succeed}
+use Rattle.asl_machine.specs.declared.state.Task.{Task}
 use Rattle.asl_machine.specs.declared.state.Transition.{Transition}
-use Rattle.asl_machine.specs.declared.state.Transition.TheVariants.{Next, End}
+use Rattle.asl_machine.specs.declared.state.Wait.{Wait}
 
+mutual
+  pub data StateTree : Type 0 where
+    pass : Pass → StateTree
+    task : Task → StateTree
+    choice : Choice → StateTree
+    wait : Wait → StateTree
+    succeed : Succeed → StateTree
+    fail : Fail → StateTree
+    parallel : MachineTrees → Processing → ErrorHandling → Transition → StateTree
+    map_over : MachineTree → List PathStep → Option Payload → Processing → ErrorHandling → Transition → StateTree
+
+  pub data MachineTree : Type 0 where
+    machine : List ℕ → NamedStates → MachineTree
+
+  pub data MachineTrees : Type 0 where
+    no_machines : MachineTrees
+    branch : MachineTree → MachineTrees → MachineTrees
+
+  pub data NamedStates : Type 0 where
+    no_states : NamedStates
+    named : List ℕ → StateTree → NamedStates → NamedStates
+
+-- a machine: where it starts, and its states by name
 pub record Definition : Type 0 where
   pub start : List ℕ
-  pub states : List (List ℕ × State)
+  pub states : List (List ℕ × StateTree)
 
--- the state of a name in a `States` object
-abbrev pub state_of : List ℕ → List (List ℕ × State) → Option State
-state_of name states = lookup (is_at (slice_cmp nat_cmp name)) states
+abbrev pub named_states : List (List ℕ × StateTree) → NamedStates
+named_states [] = no_states
+named_states (s ∷ ss) = named s.0 s.1 (named_states ss)
 
--- a transition leads to one of the states
-abbrev pub LeadsInto : List (List ℕ × State) → Transition → Type 0
-LeadsInto states (Next name) = IsSome (state_of name states)
-LeadsInto states End = Unit {0}
+abbrev pub states_in : NamedStates → List (List ℕ × StateTree)
+states_in no_states = []
+states_in (named name s ss) = (name, s) ∷ states_in ss
 
--- a state's transition, where it has one, leads to one of the states
-abbrev pub StaysInside : List (List ℕ × State) → State → Type 0
-StaysInside states (Pass p) = LeadsInto states p.transition
-StaysInside states Succeed = Unit {0}
+abbrev pub machine_tree : Definition → MachineTree
+machine_tree d = machine d.start (named_states d.states)
 
--- a machine starts at a state that it has, and stays inside
-pub record IsComplete (d : Definition) : Type 0 where
-  pub starts : IsSome (state_of d.start d.states)
-  pub stays : (name : List ℕ) → IfSome (state_of name d.states) (StaysInside d.states)
+abbrev pub definition_in : MachineTree → Definition
+definition_in (machine start states) = record { start = start; states = states_in states }
+
+abbrev pub machine_trees : List Definition → MachineTrees
+machine_trees [] = no_machines
+machine_trees (d ∷ ds) = branch (machine_tree d) (machine_trees ds)
+
+abbrev pub definitions_in : MachineTrees → List Definition
+definitions_in no_machines = []
+definitions_in (branch m ms) = definition_in m ∷ definitions_in ms
+
+-- ---- how deep machines nest
+
+abbrev mutual
+  pub state_depth : StateTree → ℕ
+  state_depth (pass s) = 0
+  state_depth (task s) = 0
+  state_depth (choice s) = 0
+  state_depth (wait s) = 0
+  state_depth (succeed s) = 0
+  state_depth (fail s) = 0
+  state_depth (parallel branches processing errors transition) = suc (trees_depth branches)
+  state_depth (map_over processor path selector processing errors transition) = suc (tree_depth processor)
+
+  pub tree_depth : MachineTree → ℕ
+  tree_depth (machine start states) = suc (named_depth states)
+
+  pub trees_depth : MachineTrees → ℕ
+  trees_depth no_machines = 0
+  trees_depth (branch m ms) = max (suc (tree_depth m)) (trees_depth ms)
+
+  pub named_depth : NamedStates → ℕ
+  named_depth no_states = 0
+  named_depth (named name s ss) = max (state_depth s) (named_depth ss)
+
+abbrev pub states_depth : List (List ℕ × StateTree) → ℕ
+states_depth ss = named_depth (named_states ss)
+
+abbrev pub definition_depth : Definition → ℕ
+definition_depth d = tree_depth (machine_tree d)
+
+abbrev pub branches_depth : List Definition → ℕ
+branches_depth ds = trees_depth (machine_trees ds)

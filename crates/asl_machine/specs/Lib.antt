@@ -1,6 +1,9 @@
+pub mod TestTree
+pub mod TestCode
+pub mod TestView
+pub mod TestFalls
 pub mod Definition
-pub mod Find
-pub mod Fields
-pub mod Refusal
-pub mod Reading
-pub mod Faults
+pub mod TreeCode
+pub mod TreeView
+pub mod TreeFalls
+pub mod Complete

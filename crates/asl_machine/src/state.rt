@@ -1,5 +1,10 @@
-// The states of a machine (Amazon States Language, "States").
+// The states of a machine (Amazon States Language, "States"), and the machine that holds them.
+use crate::choice::Rules;
+use crate::errors::ErrorHandling;
 use json_tree::{Json, Text};
+use ref_paths::{RefPath, Template};
+use std::collections::BTreeMap;
+use std::marker::Model;
 
 /// Where the execution goes after a state ("Transitions").
 #[derive(Debug, Drop)]
@@ -8,16 +13,187 @@ pub enum Transition {
     End,
 }
 
-/// A Pass state: its result is `result`, or its input where there is none ("Pass State").
+/// What a state makes of its input and its result ("Input and Output Processing"). A path is `None` where `null` stands,
+/// and `$` where none does. A state's type decides which of these it may have; the others are as where none stands.
+#[derive(Debug, Drop)]
+pub struct Processing {
+    pub input_path: Option<RefPath>,
+    pub parameters: Option<Template>,
+    pub result_selector: Option<Template>,
+    pub result_path: Option<RefPath>,
+    pub output_path: Option<RefPath>,
+}
+
+/// A Pass state: its result is `result`, or its effective input where there is none ("Pass State").
 #[derive(Debug, Drop)]
 pub struct Pass {
+    pub processing: Processing,
     pub result: Option<Json>,
     pub transition: Transition,
 }
 
+/// A call of DynamoDB that a Task makes.
+#[derive(Clone, Copy, Debug, PartialEq, Eq)]
+pub enum Resource {
+    GetItem,
+    PutItem,
+    DeleteItem,
+}
+
+/// A Task state ("Task State").
+#[derive(Debug, Drop)]
+pub struct Task {
+    pub resource: Resource,
+    pub processing: Processing,
+    pub errors: ErrorHandling,
+    pub transition: Transition,
+}
+
+/// A Choice state: it goes where its first rule whose test holds says, else to `default` ("Choice State").
+#[derive(Debug, Drop)]
+pub struct Choice {
+    pub processing: Processing,
+    pub rules: Rules,
+    pub default: Option<Text>,
+}
+
+/// A Wait state, which goes on at once ("Wait State").
+#[derive(Debug, Drop)]
+pub struct Wait {
+    pub processing: Processing,
+    pub transition: Transition,
+}
+
+/// A Succeed state ("Succeed State").
+#[derive(Debug, Drop)]
+pub struct Succeed {
+    pub processing: Processing,
+}
+
+/// A Fail state ("Fail State"). A text that is absent is empty.
+#[derive(Debug, Drop)]
+pub struct Fail {
+    pub error: Text,
+    pub cause: Text,
+}
+
 /// A state of a machine ("State Types").
+#[cycle(machine)]
 #[derive(Debug, Drop)]
 pub enum State {
     Pass(Pass),
-    Succeed,
+    Task(Task),
+    Choice(Choice),
+    Wait(Wait),
+    Succeed(Succeed),
+    Fail(Fail),
+    Parallel(Parallel),
+    Map(Map),
+}
+
+/// A Parallel state, each of whose branches is a machine of its own ("Parallel State").
+#[cycle(machine)]
+#[derive(Debug, Drop)]
+pub struct Parallel {
+    pub branches: Branches,
+    pub processing: Processing,
+    pub errors: ErrorHandling,
+    pub transition: Transition,
+}
+
+/// A Map state, whose processor, a machine of its own, runs once for each element ("Map State").
+#[cycle(machine)]
+#[derive(Debug, Drop)]
+pub struct Map {
+    pub processor: Machine,
+    /// It leads to the elements.
+    pub items_path: RefPath,
+    /// What an element's input is made of, where it isn't the element.
+    pub item_selector: Option<Template>,
+    pub processing: Processing,
+    pub errors: ErrorHandling,
+    pub transition: Transition,
+}
+
+/// A machine that was accepted, or a branch or a processor of one: it starts at a state that it has, and each of its
+/// transitions leads to one.
+#[cycle(machine)]
+#[derive(Debug, Drop)]
+pub struct Machine {
+    pub(crate) start: Text,
+    pub(crate) states: States,
+}
+
+impl Model for Machine {
+    ghost use Rattle.asl_machine.specs.Definition.{Definition, definition_depth};
+    ghost use Rattle.asl_machine.specs.TreeCode.{definition_code};
+
+    ghost Value = { Definition };
+
+    ghost coded = { definition_code };
+
+    ghost use Rattle.asl_machine.specs.Complete.{IsComplete};
+
+    ghost view = { λ a. record { start = a.start; states = a.states } };
+
+    ghost invariant = { λ a. IsComplete (record { start = a.start; states = a.states }) };
+
+    ghost size = { definition_depth };
+
+    ghost use Rattle.std.proofs.Common.{arith};
+
+    ghost size_decreases = { λ a h. omega arith };
+}
+
+/// The branches of a Parallel state, in order. Contracts see the list of their definitions.
+#[cycle(machine)]
+#[derive(Debug, Drop)]
+pub struct Branches {
+    pub(crate) inner: Vec<Machine>,
+}
+
+impl Model for Branches {
+    ghost use Rattle.std.specs.Prelude.{List};
+    ghost use Rattle.asl_machine.specs.Definition.{Definition, branches_depth};
+    ghost use Rattle.asl_machine.specs.TreeCode.{branches_code};
+
+    ghost Value = { List Definition };
+
+    ghost coded = { branches_code };
+
+    ghost view = { λ a. a.inner.items };
+
+    ghost size = { branches_depth };
+
+    ghost use Rattle.asl_machine.specs.TreeFalls.{branches_fall};
+
+    ghost size_decreases = { λ a h. branches_fall a.inner.items };
+}
+
+/// The states of one `States` object. Contracts see the list of names and trees of states, in the order of the names'
+/// bytes.
+#[cycle(machine)]
+#[derive(Debug, Drop)]
+pub struct States {
+    pub(crate) inner: BTreeMap<Text, State>,
+}
+
+impl Model for States {
+    ghost use Rattle.std.specs.Prelude.{List, ℕ};
+    ghost use Rattle.asl_machine.specs.Definition.{StateTree, states_depth};
+    ghost use Rattle.asl_machine.specs.TreeCode.{states_code};
+
+    ghost Value = { List (List ℕ × StateTree) };
+
+    ghost coded = { states_code };
+
+    ghost use Rattle.asl_machine.specs.TreeView.{states_of};
+
+    ghost view = { λ a. states_of a.inner.entries };
+
+    ghost size = { states_depth };
+
+    ghost use Rattle.asl_machine.specs.TreeFalls.{states_fall};
+
+    ghost size_decreases = { λ a h. states_fall a.inner.entries };
 }
