@@ -7,3 +7,11 @@ pub mod TreeCode
 pub mod TreeView
 pub mod TreeFalls
 pub mod Complete
+pub mod Targets
+pub mod Find
+pub mod Fields
+pub mod Refusal
+pub mod Reading
+pub mod Profile
+pub mod Faults
+pub mod Laws

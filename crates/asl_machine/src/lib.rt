@@ -4,13 +4,24 @@
 mod choice;
 mod errors;
 mod fault;
+mod field_readers;
+mod fields;
+mod kind;
+mod laws;
 mod level;
+mod machine;
+mod read;
+mod shared;
 mod state;
 
 pub use choice::{Comparison, InnerTest, Relation, Rule, Rules, Test, Tests};
 pub use errors::{Catcher, Catchers, ErrorHandling, ErrorNames, Retrier, Retriers};
 pub use fault::MachineFault;
+pub use laws::{
+    definitions_are_one_machine, faulty_definitions_are_none, machines_are_whole,
+};
 pub use level::{Level, LevelPath, LevelStep};
+pub use shared::SharedMachine;
 pub use state::{
     Branches, Choice, Fail, Machine, Map, Parallel, Pass, Processing, Resource, State, States, Succeed,
     Task, Transition, Wait,

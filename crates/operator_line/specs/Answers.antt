@@ -8,7 +8,7 @@ use Rattle.json_tree.specs.Reading.{source_of, whole_of}
 use Rattle.json_tree.specs.View.{data_of}
 use Rattle.json_tree.specs.declared.tree.Json.{Json}
 use Rattle.asl_machine.specs.Definition.{Definition}
-use Rattle.asl_machine.specs.Reading.{definition_of}
+use Rattle.asl_machine.specs.Profile.{Defines as IsMachineOf}
 use Rattle.step_names.specs.Thread.{Thread}
 use Rattle.step_names.specs.Written.{step_text}
 use Rattle.step_names.specs.declared.step.StepName.{StepName}
@@ -62,7 +62,7 @@ AnswersTable name schema json reply after =
 -- a machine is defined where its name is free, where it is one, and where there is room; else it is refused for what stands
 pub record Defines (story : Story) (name : List ℕ) (d : source.Data) (reply : List ℕ) (after : Option Story) : Type 0 where
   pub machine : Definition
-  pub is_one : definition_of d ≡ Some machine
+  pub is_one : IsMachineOf d machine
   pub free : machine_of name story.log ≡ None
   pub room : is_full_for_define story.log ≡ false
   pub told : Tells done_reply (Some (accepted story (Define name machine))) reply after

@@ -1,8 +1,9 @@
 //! Paths and their steps.
 
-ghost use Rattle.std.specs.Prelude.{◌≡◌};
+ghost use Rattle.std.specs.Prelude.{◌≡◌, [], IfOk};
 
 use json_tree::Text;
+use std::alloc::{AllocError, Global};
 use std::marker::Model;
 
 /// One step of a path: a field's name, or an index of a list from 0.
@@ -29,4 +30,38 @@ impl Model for RefPath {
     ghost coded = { Prim.hlevel (codes, path_step.the_row.coded) };
 
     ghost view = { λ a. a.steps.items };
+}
+
+impl PathStep {
+    /// An equal step. Takes memory for a name.
+    pub fn copy(&self) -> Result<PathStep, AllocError>
+        ensures { IfOk result (λ s. s ≡ self.now) }
+    {
+        match self {
+            PathStep::Name(name) => Ok(PathStep::Name(name.copy()?)),
+            PathStep::Index(index) => Ok(PathStep::Index(*index)),
+        }
+    }
+}
+
+impl RefPath {
+    /// The path `$`, which leads to the root. Takes no memory.
+    pub fn root(alloc: Global) -> RefPath
+        ensures { result ≡ [] }
+    {
+        RefPath {
+            steps: Vec::new(alloc),
+        }
+    }
+
+    /// An equal path. Takes memory for the list of steps and for each name.
+    pub fn copy(&self) -> Result<RefPath, AllocError>
+        ensures { IfOk result (λ p. p ≡ self.now) }
+    {
+        let mut steps = Vec::with_capacity(*self.steps.allocator(), self.steps.len())?;
+        for step in &self.steps {
+            steps.push(step.copy()?)?;
+        }
+        Ok(RefPath { steps })
+    }
 }

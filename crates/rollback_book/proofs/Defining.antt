@@ -13,7 +13,8 @@ use Rattle.std.specs.Prelude.{option_and_then}
 use Rattle.step_names.specs.Thread.{Thread}
 use Rattle.step_names.specs.Order.{thread_cmp}
 use Rattle.step_names.specs.declared.step.StepName.{StepName}
-use Rattle.asl_machine.specs.Definition.{Definition, IsComplete}
+use Rattle.asl_machine.specs.Complete.{IsComplete}
+use Rattle.asl_machine.specs.Definition.{Definition}
 use Rattle.asl_machine.specs.Find.{state_at}
 use Rattle.asl_machine.specs.declared.state.State.{State}
 use Rattle.rollback_book.specs.Names.{Step, started, moved}

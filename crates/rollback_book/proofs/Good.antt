@@ -10,7 +10,7 @@ use Rattle.step_names.specs.Thread.{Thread}
 use Rattle.step_names.specs.declared.step.StepName.{StepName}
 use Rattle.step_names.proofs.OrderLaws.{thread_same, thread_itself}
 use Rattle.asl_machine.specs.declared.state.State.{State}
-use Rattle.asl_machine.specs.declared.state.State.TheVariants.{Pass, Succeed}
+use Rattle.asl_machine.specs.declared.state.State.TheVariants.{Pass}
 use Rattle.asl_machine.specs.declared.state.Transition.{Transition}
 use Rattle.asl_machine.specs.declared.state.Transition.TheVariants.{Next, End}
 use Rattle.rollback_book.specs.Names.{Step, started, moved, name_of, is_same_thread, is_same_step}
@@ -38,7 +38,7 @@ go_on-count End f output = refl
 
 pub after_state-count : (s : State) (f : Frame) → (after_state s f).count ≡ f.count + 1
 after_state-count (Pass p) f = go_on-count p.transition f _
-after_state-count Succeed f = refl
+after_state-count _ f = refl
 
 -- what is at a thread after a frame was set
 pub at_set : (w : World) (t q : Thread) (g f : Frame) → (set_frame w t (Some g)).frames q ≡ Some f

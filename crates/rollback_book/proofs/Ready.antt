@@ -4,11 +4,12 @@ use Rattle.std.specs.Prelude.{option_map, option_and_then, IsSome, IfSome}
 use Rattle.std.proofs.lemmas.Option.{same_Some}
 use Rattle.json_tree.specs.declared.tree.Json.{Json}
 use Rattle.step_names.specs.Thread.{Thread}
-use Rattle.asl_machine.specs.Definition.{Definition, IsComplete, LeadsInto, StaysInside, state_of}
+use Rattle.asl_machine.specs.Complete.{IsComplete, LeadsInto, StaysInside, state_of}
+use Rattle.asl_machine.specs.Definition.{Definition}
 use Rattle.asl_machine.specs.Find.{state_at}
 use Rattle.asl_machine.specs.declared.level.LevelStep.{LevelStep}
 use Rattle.asl_machine.specs.declared.state.State.{State}
-use Rattle.asl_machine.specs.declared.state.State.TheVariants.{Pass, Succeed}
+use Rattle.asl_machine.specs.declared.state.State.TheVariants.{Pass}
 use Rattle.asl_machine.specs.declared.state.Transition.{Transition}
 use Rattle.asl_machine.specs.declared.state.Transition.TheVariants.{Next, End}
 use Rattle.rollback_book.specs.Names.{Step, started, moved}
@@ -49,7 +50,7 @@ stands_on m End f output st leads = record { machine = st.machine; known = st.kn
 
 stands_after : (m : List ℕ → Option Definition) (s : State) (f : Frame) (st : Stands m f) → StaysInside st.machine.states s → Stands m (after_state s f)
 stands_after m (Pass p) f st inside = stands_on m p.transition f _ st inside
-stands_after m Succeed f st inside = stands_on m End f f.raw st tt
+stands_after m _ f st inside = stands_on m End f f.raw st tt
 
 ready_by : (m : List ℕ → Option Definition) (f : Frame) (st : Stands m f) → ready_state m f Ready ≡ state_of f.state st.machine.states
 ready_by m f st =

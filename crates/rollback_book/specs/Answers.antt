@@ -2,9 +2,10 @@
 use Rattle.std.specs.Prelude.{◌≡◌, ℕ, ◌+◌, ◌||◌, List, [], ◌∷◌, length, Bool, Option, None, Some, Result, Ok, Err, is_some, IsSome, IsTrue, ◌⊎◌, nat_le, nat_lt, if◌then◌else◌}
 use Rattle.std.specs.List.{find}
 use Rattle.serde_json.specs.Data.{Data}
-use Rattle.asl_machine.specs.Reading.{definition_of}
 use Rattle.asl_machine.specs.Refusal.{Names}
+use Rattle.asl_machine.specs.Definition.{Definition}
 use Rattle.asl_machine.specs.Faults.{DefinitionFault}
+use Rattle.asl_machine.specs.Profile.{Defines, DefinesNone}
 use Rattle.step_names.specs.Thread.{Thread}
 use Rattle.step_names.specs.declared.step.StepName.{StepName}
 use Rattle.rollback_book.specs.Names.{start_name, is_same_step}
@@ -39,7 +40,7 @@ is_full_for_define log = nat_le 1000000 (length log + length (remaining log))
 
 -- a definition that isn't read is no machine's, for the fault that is told, or memory was refused
 abbrev pub IsReadRefusal : Data → Refusal → Type 0
-IsReadRefusal d (BadMachine fault) = (definition_of d ≡ None) × Names fault (DefinitionFault d fault)
+IsReadRefusal d (BadMachine fault) = DefinesNone d × Names fault (DefinitionFault d fault)
 IsReadRefusal d Memory = Unit {0}
 IsReadRefusal d MachineTaken = ⊥
 IsReadRefusal d Full = ⊥
@@ -55,7 +56,7 @@ IsReadRefusal d (NotLast step) = ⊥
 abbrev pub IsDefineRefusal : List Entry → List ℕ → Data → Refusal → Type 0
 IsDefineRefusal log name d MachineTaken = IsSome (machine_of name log)
 IsDefineRefusal log name d (BadMachine fault) = (machine_of name log ≡ None) × IsReadRefusal d (BadMachine fault)
-IsDefineRefusal log name d Full = (machine_of name log ≡ None) × (IsSome (definition_of d) × IsTrue (is_full_for_define log))
+IsDefineRefusal log name d Full = (machine_of name log ≡ None) × (((machine : Definition) × Defines d machine) × IsTrue (is_full_for_define log))
 IsDefineRefusal log name d Memory = machine_of name log ≡ None
 IsDefineRefusal log name d NoMachine = ⊥
 IsDefineRefusal log name d ExecTaken = ⊥

@@ -2,7 +2,7 @@
 use Rattle.std.specs.Prelude.{◌≡◌, ◌≤◌, List, [], ◌∷◌, ◌++◌, None, Ok, false}
 use Rattle.json_tree.specs.Data.{depth}
 use Rattle.json_tree.specs.View.{data_of}
-use Rattle.asl_machine.specs.Definition.{IsComplete}
+use Rattle.asl_machine.specs.Complete.{IsComplete}
 use Rattle.rollback_book.specs.Names.{start_name}
 use Rattle.rollback_book.specs.Story.{machine_of}
 use Rattle.rollback_book.specs.Answers.{start_answer, step_answer, undo_answer, is_full_for_define}

@@ -6,7 +6,7 @@ use Rattle.step_names.specs.declared.step.StepName.{StepName}
 use Rattle.asl_machine.specs.Definition.{Definition}
 use Rattle.asl_machine.specs.Find.{state_at}
 use Rattle.asl_machine.specs.declared.state.State.{State}
-use Rattle.asl_machine.specs.declared.state.State.TheVariants.{Pass, Succeed}
+use Rattle.asl_machine.specs.declared.state.State.TheVariants.{Pass}
 use Rattle.asl_machine.specs.declared.state.Transition.{Transition}
 use Rattle.asl_machine.specs.declared.state.Transition.TheVariants.{Next, End}
 use Rattle.rollback_book.specs.Names.{Step, started, moved, start_name}
@@ -31,10 +31,10 @@ abbrev pub pass_output : Option Json → Json → Json
 pass_output (Some result) raw = result
 pass_output None raw = raw
 
--- the frame after a state
+-- the frame after a state; only machines of Pass and Succeed states are defined
 abbrev pub after_state : State → Frame → Frame
 after_state (Pass p) f = go_on p.transition f (pass_output p.result f.raw)
-after_state Succeed f = go_on End f f.raw
+after_state _ f = go_on End f f.raw
 
 -- ---- one move
 

@@ -3,8 +3,9 @@ ghost use Rattle.std.specs.Prelude.{◌≡◌, ◌+◌, ◌^◌, ◌<◌, ◌≤
 ghost use Rattle.json_tree.specs.Data.{depth};
 ghost use Rattle.json_tree.specs.View.{data_of, list_of};
 ghost use Rattle.serde_json.specs.View.{view};
-ghost use Rattle.asl_machine.specs.Definition.{Definition, IsComplete};
-ghost use Rattle.asl_machine.specs.Reading.{definition_of};
+ghost use Rattle.asl_machine.specs.Complete.{IsComplete};
+ghost use Rattle.asl_machine.specs.Definition.{Definition};
+ghost use Rattle.asl_machine.specs.Profile.{Defines};
 ghost use Rattle.rollback_book.specs.Names.{name_of, start_name};
 ghost use Rattle.rollback_book.specs.Story.{Story, accepted, base_of, remaining, machine_of, world_of};
 ghost use Rattle.rollback_book.specs.Move.{next_step, ready_state};
@@ -80,7 +81,7 @@ impl Book {
 
     /// Defines a machine. Takes time linear in the definition and logarithmic in the number of machines.
     pub fn define(&mut self, alloc: Global, name: &Text, definition: &Value) -> Result<(), Refusal>
-        ensures ok { OnOk result ((machine : Definition) × (definition_of (view definition.now) ≡ Some machine)
+        ensures ok { OnOk result ((machine : Definition) × Defines (view definition.now) machine
             × (self.new ≡ accepted self.old (Entry.Define name.now machine))) }
         ensures free { OnOk result (machine_of name.now self.old.log ≡ None) }
         ensures room { OnOk result (is_full_for_define self.old.log ≡ false) }
@@ -310,7 +311,7 @@ impl Book {
 /// The machine of a definition.
 fn read_machine(alloc: Global, definition: &Value) -> Result<Machine, Refusal>
     ensures complete { IfOk result IsComplete }
-    ensures read { IfOk result (λ m. definition_of (view definition.now) ≡ Some m) }
+    ensures read { IfOk result (Defines (view definition.now)) }
     ensures refused { IfErr result (IsReadRefusal (view definition.now)) }
 {
     match Machine::read(alloc, definition) {

@@ -20,7 +20,7 @@ pub fn after_state(alloc: Global, state: &State, frame: &Frame) -> Result<Frame,
             let output = pass_output(&pass.result, &frame.raw)?;
             go_on(alloc, &pass.transition, frame, output)
         }
-        State::Succeed => {
+        _ => {
             let output = frame.raw.copy()?;
             go_on(alloc, &Transition::End, frame, output)
         }

@@ -1,0 +1,120 @@
+-- A definition is one machine at most.
+use Rattle.std.proofs.Common.{◌≡◌, ℕ, List, [], Option, Some, None, Bool, false, refl, sym, ap, subst, ◌∙◌, codes}
+use Rattle.std.specs.BTreeMap.{insert_entry}
+use Rattle.std.specs.Cmp.Lexicographic.{slice_cmp}
+use Rattle.std.specs.Ordering.{nat_cmp}
+use Rattle.serde_json.specs.Data.{Data as Source, null, boolean, number, string, array, object, Members, no_members, member}
+use Rattle.serde_json.specs.Find.{get}
+use Rattle.json_tree.specs.Data.{Data}
+use Rattle.json_tree.specs.Reading.{whole_of}
+use Rattle.json_tree.specs.declared.tree.Json.{Json}
+use Rattle.ref_paths.proofs.OneSpelling.{texts_spell_one_path}
+use Rattle.ref_paths.proofs.OneTemplate.{values_are_one_template}
+use Rattle.ref_paths.specs.Templates.{Payload}
+use Rattle.ref_paths.specs.declared.path.PathStep.{PathStep}
+use Rattle.asl_machine.specs.Definition.{StateTree, Definition}
+use Rattle.asl_machine.specs.Profile.{IsPathText, IsPathField, IsWholeTemplate, IsTemplateField, IsProcessing, HasParameters, IsPass, IsSucceed, IsPassState, IsSucceedState, IsOfKind, kind_of, IsState, StatesAre, MembersAre, states_in, Defines}
+use Rattle.asl_machine.specs.TreeView.{tree_of}
+use Rattle.asl_machine.specs.declared.kind.StateKind.{StateKind}
+use Rattle.asl_machine.specs.declared.kind.StateKind.TheVariants as kind
+use Rattle.asl_machine.specs.declared.state.Pass.{Pass}
+use Rattle.asl_machine.specs.declared.state.Processing.{Processing}
+use Rattle.asl_machine.specs.declared.state.State.{State}
+use Rattle.asl_machine.specs.declared.state.State.TheVariants.{Pass as PassState, Task, Choice, Wait, Succeed as SucceedState, Fail, Parallel, Map}
+use Rattle.asl_machine.specs.declared.state.Succeed.{Succeed}
+use Rattle.asl_machine.specs.declared.state.Transition.{Transition}
+
+one_path_text : (s : List ℕ) (p q : Option (List PathStep)) → IsPathText s p → IsPathText s q → p ≡ q
+one_path_text s None q h k = absurd h
+one_path_text s (Some p) None h k = absurd k
+one_path_text s (Some p) (Some q) h k = ap Some (texts_spell_one_path s p q h k)
+
+one_path : (d : Option Source) (p q : Option (List PathStep)) → IsPathField d p → IsPathField d q → p ≡ q
+one_path None p q h k = h ∙ sym k
+one_path (Some null) p q h k = h ∙ sym k
+one_path (Some (boolean b)) p q h k = absurd h
+one_path (Some (number n)) p q h k = absurd h
+one_path (Some (string s)) p q h k = one_path_text s p q h k
+one_path (Some (array ds)) p q h k = absurd h
+one_path (Some (object ms)) p q h k = absurd h
+
+one_whole_template : (b : Bool) (d : Option Data) (p q : Option Payload) → IsWholeTemplate b d p → IsWholeTemplate b d q → p ≡ q
+one_whole_template b None p q h k = absurd h
+one_whole_template b (Some j) None q h k = absurd h
+one_whole_template b (Some j) (Some p) None h k = absurd k
+one_whole_template b (Some j) (Some p) (Some q) h k = ap Some (values_are_one_template b j p q h k)
+
+one_template : (b : Bool) (d : Option Source) (p q : Option Payload) → IsTemplateField b d p → IsTemplateField b d q → p ≡ q
+one_template b None p q h k = h ∙ sym k
+one_template b (Some d) p q h k = one_whole_template b (whole_of d) p q h k
+
+abbrev made_processing : Option (List PathStep) → Option Payload → Option Payload → Option (List PathStep) → Option (List PathStep) → Processing
+made_processing input parameters selector result output =
+    record { input_path = input; parameters = parameters; result_selector = selector; result_path = result; output_path = output }
+
+one_processing : (d : Source) (p q : Processing) → p.parameters ≡ q.parameters → IsProcessing d p → IsProcessing d q → p ≡ q
+one_processing d p q same h k =
+    let input : p.input_path ≡ q.input_path = one_path (get (codes "InputPath") d) p.input_path q.input_path h.0 k.0 in
+    let selector : p.result_selector ≡ q.result_selector = one_template false (get (codes "ResultSelector") d) p.result_selector q.result_selector h.1 k.1 in
+    let placed : p.result_path ≡ q.result_path = one_path (get (codes "ResultPath") d) p.result_path q.result_path h.2 k.2 in
+    let output : p.output_path ≡ q.output_path = one_path (get (codes "OutputPath") d) p.output_path q.output_path h.3 k.3 in
+    let e : made_processing p.input_path p.parameters p.result_selector p.result_path p.output_path ≡ made_processing q.input_path q.parameters q.result_selector q.result_path q.output_path = cc in
+    e
+
+one_pass : (d : Source) (s u : Pass) → IsPass d s → IsPass d u → s ≡ u
+one_pass d s u h k =
+    let parameters : s.processing.parameters ≡ u.processing.parameters = one_template false (get (codes "Parameters") d) s.processing.parameters u.processing.parameters h.1 k.1 in
+    let processing : s.processing ≡ u.processing = one_processing d s.processing u.processing parameters h.2 k.2 in
+    let results : Some s.result ≡ Some u.result = sym h.3 ∙ k.3 in
+    let result : s.result ≡ u.result = cc in
+    let transitions : Some s.transition ≡ Some u.transition = sym h.4 ∙ k.4 in
+    let transition : s.transition ≡ u.transition = cc in
+    let make : Processing → Option Json → Transition → Pass = λ p r t. record { processing = p; result = r; transition = t } in
+    ap (λ p. make p s.result s.transition) processing ∙ ap (λ r. make u.processing r s.transition) result ∙ ap (λ t. make u.processing u.result t) transition
+
+one_succeed : (d : Source) (s u : Succeed) → IsSucceed d s → IsSucceed d u → s ≡ u
+one_succeed d s u h k =
+    let processing : s.processing ≡ u.processing = one_processing d s.processing u.processing (h.1 ∙ sym k.1) h.2 k.2 in
+    let make : Processing → Succeed = λ p. record { processing = p } in
+    ap make processing
+
+pub is_pass : (d : Source) (s : State) → IsPassState d s → (p : Pass) × (s ≡ PassState p) × IsPass d p
+is_pass d (PassState p) h = (p, refl, h)
+is_pass d _ h = absurd h
+
+pub is_succeed : (d : Source) (s : State) → IsSucceedState d s → (p : Succeed) × (s ≡ SucceedState p) × IsSucceed d p
+is_succeed d (SucceedState p) h = (p, refl, h)
+is_succeed d _ h = absurd h
+
+one_of_kind : (k : Option StateKind) (d : Source) (s u : State) → IsOfKind k d s → IsOfKind k d u → s ≡ u
+one_of_kind (Some kind.Pass) d s u h k =
+    let a = is_pass d s h in
+    let b = is_pass d u k in
+    a.1 ∙ ap PassState (one_pass d a.0 b.0 a.2 b.2) ∙ sym b.1
+one_of_kind (Some kind.Succeed) d s u h k =
+    let a = is_succeed d s h in
+    let b = is_succeed d u k in
+    a.1 ∙ ap SucceedState (one_succeed d a.0 b.0 a.2 b.2) ∙ sym b.1
+one_of_kind _ d s u h k = absurd h
+
+one_state : (d : Source) (s u : State) → IsState d s → IsState d u → s ≡ u
+one_state d s u h k = one_of_kind (kind_of d) d s u h k
+
+one_states : (ms : Members) (before ss us : List (List ℕ × StateTree)) → StatesAre ms before ss → StatesAre ms before us → ss ≡ us
+one_states no_members before ss us h k = h ∙ sym k
+one_states (member name d ms) before ss us h k =
+    let same : k.0 ≡ h.0 = one_state d k.0 h.0 k.1 h.1 in
+    one_states ms (insert_entry (slice_cmp nat_cmp) before name (tree_of h.0)) ss us h.2
+    (subst (λ (s : State). StatesAre ms (insert_entry (slice_cmp nat_cmp) before name (tree_of s)) us) same k.2)
+
+pub one_members : (ms : Option Members) (ss us : List (List ℕ × StateTree)) → MembersAre ms ss → MembersAre ms us → ss ≡ us
+one_members None ss us h k = absurd h
+one_members (Some ms) ss us h k = one_states ms [] ss us h k
+
+pub one_machine : (d : Source) (m n : Definition) → Defines d m → Defines d n → m ≡ n
+one_machine d m n h k =
+    let starts : Some m.start ≡ Some n.start = sym h.1 ∙ k.1 in
+    let start : m.start ≡ n.start = cc in
+    let states : m.states ≡ n.states = one_members (states_in d) m.states n.states h.2 k.2 in
+    let make : List ℕ → List (List ℕ × StateTree) → Definition = λ a b. record { start = a; states = b } in
+    ap (λ a. make a m.states) start ∙ ap (λ b. make n.start b) states

@@ -1,0 +1,5 @@
+use Rattle.asl_machine.proofs.Inside.{machine_whole}
+use Rattle.asl_machine.proofs.laws.machines_are_whole.Goals as goal
+
+pub returns : goal.returns
+returns c = machine_whole

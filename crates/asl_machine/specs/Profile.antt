@@ -1,0 +1,141 @@
+-- Which machine a definition is ("State Machine Structure", "State Types"), by the tables of its objects' fields.
+use Rattle.std.specs.Prelude.{◌≡◌, ℕ, Bool, false, true, List, [], Option, None, Some, option_and_then, if◌then◌else◌, codes}
+use Rattle.std.specs.BTreeMap.{insert_entry}
+use Rattle.std.specs.Cmp.Lexicographic.{slice_cmp}
+use Rattle.std.specs.Ordering.{nat_cmp}
+use Rattle.serde_json.specs.Data.{Data as Source, null, boolean, number, string, array, object, Members, no_members, member}
+use Rattle.serde_json.specs.Find.{get, as_str, as_object}
+use Rattle.json_tree.specs.Data.{Data}
+use Rattle.json_tree.specs.Reading.{whole_of}
+use Rattle.ref_paths.specs.Grammar.{SpellsPath}
+use Rattle.ref_paths.specs.Templates.{Payload, IsTemplate}
+use Rattle.ref_paths.specs.declared.path.PathStep.{PathStep}
+use Rattle.asl_machine.specs.Definition.{StateTree, Definition}
+use Rattle.asl_machine.specs.Fields.{is_text, has_known_fields, speaks_json_path}
+use Rattle.asl_machine.specs.Reading.{transition_of, result_of}
+use Rattle.asl_machine.specs.Targets.{target_fault}
+use Rattle.asl_machine.specs.TreeView.{tree_of}
+use Rattle.asl_machine.specs.declared.fields.Place.{Place}
+use Rattle.asl_machine.specs.declared.fields.Place.TheVariants as at
+use Rattle.asl_machine.specs.declared.kind.StateKind.{StateKind}
+use Rattle.asl_machine.specs.declared.kind.StateKind.TheVariants as kind
+use Rattle.asl_machine.specs.declared.state.Pass.{Pass}
+use Rattle.asl_machine.specs.declared.state.Processing.{Processing}
+use Rattle.asl_machine.specs.declared.state.State.{State}
+use Rattle.asl_machine.specs.declared.state.State.TheVariants.{Pass as PassState, Succeed as SucceedState}
+use Rattle.asl_machine.specs.declared.state.Succeed.{Succeed}
+
+-- ---- fields
+
+-- each name may stand here, and a query language that is named is JSONPath
+abbrev pub HasFields : Place → Source → Type 0
+HasFields place d = (has_known_fields place d ≡ true) × (speaks_json_path d ≡ true)
+
+abbrev pub IsPathText : List ℕ → Option (List PathStep) → Type 0
+IsPathText s None = ⊥
+IsPathText s (Some path) = SpellsPath path s
+
+-- `null`, or a path's text
+abbrev pub IsPath : Source → Option (List PathStep) → Type 0
+IsPath null p = p ≡ None
+IsPath (boolean b) p = ⊥
+IsPath (number n) p = ⊥
+IsPath (string s) p = IsPathText s p
+IsPath (array ds) p = ⊥
+IsPath (object ms) p = ⊥
+
+-- the path of a field, which is `$` where there is none
+abbrev pub IsPathField : Option Source → Option (List PathStep) → Type 0
+IsPathField None p = p ≡ Some []
+IsPathField (Some d) p = IsPath d p
+
+abbrev pub IsWholeTemplate : Bool → Option Data → Option Payload → Type 0
+IsWholeTemplate item_paths None p = ⊥
+IsWholeTemplate item_paths (Some j) None = ⊥
+IsWholeTemplate item_paths (Some j) (Some p) = IsTemplate item_paths j p
+
+-- the template of a field, whose numbers are whole; none where there is none
+abbrev pub IsTemplateField : Bool → Option Source → Option Payload → Type 0
+IsTemplateField item_paths None p = p ≡ None
+IsTemplateField item_paths (Some d) p = IsWholeTemplate item_paths (whole_of d) p
+
+-- what all states with an input and an output may have, but for parameters
+abbrev pub IsProcessing : Source → Processing → Type 0
+IsProcessing d p =
+    IsPathField (get (codes "InputPath") d) p.input_path × IsTemplateField false (get (codes "ResultSelector") d) p.result_selector
+    × IsPathField (get (codes "ResultPath") d) p.result_path × IsPathField (get (codes "OutputPath") d) p.output_path
+
+abbrev pub HasParameters : Source → Processing → Type 0
+HasParameters d p = IsTemplateField false (get (codes "Parameters") d) p.parameters
+
+-- ---- states
+
+abbrev pub IsPass : Source → Pass → Type 0
+IsPass d s =
+    HasFields at.Pass d × HasParameters d s.processing × IsProcessing d s.processing × (result_of (get (codes "Result") d) ≡ Some s.result) × (transition_of d ≡ Some s.transition)
+
+abbrev pub IsSucceed : Source → Succeed → Type 0
+IsSucceed d s = HasFields at.Succeed d × (s.processing.parameters ≡ None) × IsProcessing d s.processing
+
+-- the type of a name
+abbrev pub kind_named : List ℕ → Option StateKind
+kind_named name =
+    if is_text name (codes "Pass") then Some kind.Pass
+    else (if is_text name (codes "Task") then Some kind.Task
+    else (if is_text name (codes "Choice") then Some kind.Choice
+    else (if is_text name (codes "Wait") then Some kind.Wait
+    else (if is_text name (codes "Succeed") then Some kind.Succeed
+    else (if is_text name (codes "Fail") then Some kind.Fail
+    else (if is_text name (codes "Parallel") then Some kind.Parallel
+    else (if is_text name (codes "Map") then Some kind.Map
+    else None)))))))
+
+abbrev pub IsPassState : Source → State → Type 0
+IsPassState d (PassState s) = IsPass d s
+IsPassState d _ = ⊥
+
+abbrev pub IsSucceedState : Source → State → Type 0
+IsSucceedState d (SucceedState s) = IsSucceed d s
+IsSucceedState d _ = ⊥
+
+-- a state of this type; the other types are left out
+abbrev pub IsOfKind : Option StateKind → Source → State → Type 0
+IsOfKind (Some kind.Pass) d s = IsPassState d s
+IsOfKind (Some kind.Succeed) d s = IsSucceedState d s
+IsOfKind _ d s = ⊥
+
+abbrev pub kind_of : Source → Option StateKind
+kind_of d = option_and_then kind_named (option_and_then as_str (get (codes "Type") d))
+
+abbrev pub IsState : Source → State → Type 0
+IsState d s = IsOfKind (kind_of d) d s
+
+-- ---- machines
+
+-- the states of these names beside those before
+abbrev pub StatesAre : Members → List (List ℕ × StateTree) → List (List ℕ × StateTree) → Type 0
+StatesAre no_members before states = states ≡ before
+StatesAre (member name d ms) before states = (s : State) × IsState d s × StatesAre ms (insert_entry (slice_cmp nat_cmp) before name (tree_of s)) states
+
+abbrev pub MembersAre : Option Members → List (List ℕ × StateTree) → Type 0
+MembersAre None states = ⊥
+MembersAre (Some ms) states = StatesAre ms [] states
+
+-- the members of the field `States`
+abbrev pub states_in : Source → Option Members
+states_in d = option_and_then as_object (get (codes "States") d)
+
+abbrev pub start_in : Source → Option (List ℕ)
+start_in d = option_and_then as_str (get (codes "StartAt") d)
+
+-- a machine, or a branch or a processor of one: each name that is to be a state's is the name of one
+abbrev pub IsMachine : Place → Source → Definition → Type 0
+IsMachine place d m = HasFields place d × (start_in d ≡ Some m.start) × MembersAre (states_in d) m.states × (target_fault m.start m.states ≡ None)
+
+-- the machine of a definition
+abbrev pub Defines : Source → Definition → Type 0
+Defines d m = IsMachine at.Top d m
+
+-- no machine is the definition's
+abbrev pub DefinesNone : Source → Type 0
+DefinesNone d = (m : Definition) → Defines d m → ⊥
