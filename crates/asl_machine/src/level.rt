@@ -57,6 +57,13 @@ impl LevelPath {
         self.inner.is_empty()
     }
 
+    /// The steps, outermost first, lent.
+    pub fn as_slice(&self) -> &[LevelStep]
+        ensures { result.now ≡ self.now }
+    {
+        self.inner.as_slice()
+    }
+
     /// An equal path. Takes memory for each step.
     pub fn copy(&self) -> Result<LevelPath, AllocError>
         ensures { IfOk result (λ p. p ≡ self.now) }

@@ -13,6 +13,8 @@ mod machine;
 mod read;
 mod shared;
 mod state;
+#[cfg(test)]
+mod tests;
 
 pub use choice::{Comparison, InnerTest, Relation, Rule, Rules, Test, Tests};
 pub use errors::{Catcher, Catchers, ErrorHandling, ErrorNames, Retrier, Retriers};

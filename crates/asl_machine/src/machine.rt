@@ -88,12 +88,49 @@ impl Machine {
         &self.start
     }
 
-    /// The states of this machine, without those of its branches.
-    pub fn states(&self) -> &States
-        ensures states { result.now ≡ self.now.states }
-        ensures complete { IsComplete self.now }
+    /// The branch or the processor that the path leads to; this machine, where the path is outermost. Takes, for each step,
+    /// time logarithmic in the number of states.
+    pub fn machine_at(&self, path: &LevelPath) -> Option<&Machine>
+        ensures { option_copied result ≡ machine_at path.now self.now }
     {
-        &self.states
+        let mut machine = self;
+        for step in path.as_slice() {
+            let Some(state) = machine.states.get(&step.state) else {
+                return None;
+            };
+            let Some(branch) = branch_of(state, step.branch) else {
+                return None;
+            };
+            machine = branch;
+        }
+        Some(machine)
+    }
+
+    /// The state of this name in the `States` object that the path leads to.
+    pub fn state_at(&self, path: &LevelPath, name: &Text) -> Option<&State>
+        ensures { option_copied result ≡ state_at path.now name.now self.now }
+    {
+        match self.machine_at(path) {
+            Some(machine) => machine.states.get(name),
+            None => None,
+        }
+    }
+}
+
+/// The machine that is a state's branch with this number.
+fn branch_of(state: &State, number: u32) -> Option<&Machine>
+    ensures { option_copied result ≡ branch_of number state.now }
+{
+    match state {
+        State::Parallel(s) => s.branches.inner.get(number as usize),
+        State::Map(s) => {
+            if number == 0 {
+                Some(&s.processor)
+            } else {
+                None
+            }
+        }
+        _ => None,
     }
 }
 
