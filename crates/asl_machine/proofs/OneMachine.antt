@@ -13,16 +13,18 @@ use Rattle.ref_paths.proofs.OneTemplate.{values_are_one_template}
 use Rattle.ref_paths.specs.Templates.{Payload}
 use Rattle.ref_paths.specs.declared.path.PathStep.{PathStep}
 use Rattle.asl_machine.specs.Definition.{StateTree, Definition}
-use Rattle.asl_machine.specs.Profile.{IsPathText, IsPathField, IsWholeTemplate, IsTemplateField, IsProcessing, HasParameters, IsPass, IsSucceed, IsPassState, IsSucceedState, IsOfKind, kind_of, IsState, StatesAre, MembersAre, states_in, Defines}
+use Rattle.asl_machine.specs.Profile.{IsPathText, IsPathField, IsWholeTemplate, IsTemplateField, IsProcessing, HasParameters, IsPass, IsWait, IsSucceed, IsFail, IsPassState, IsWaitState, IsSucceedState, IsFailState, IsOfKind, kind_of, IsState, StatesAre, MembersAre, states_in, Defines}
 use Rattle.asl_machine.specs.TreeView.{tree_of}
 use Rattle.asl_machine.specs.declared.kind.StateKind.{StateKind}
 use Rattle.asl_machine.specs.declared.kind.StateKind.TheVariants as kind
+use Rattle.asl_machine.specs.declared.state.Fail.{Fail}
 use Rattle.asl_machine.specs.declared.state.Pass.{Pass}
 use Rattle.asl_machine.specs.declared.state.Processing.{Processing}
 use Rattle.asl_machine.specs.declared.state.State.{State}
-use Rattle.asl_machine.specs.declared.state.State.TheVariants.{Pass as PassState, Task, Choice, Wait, Succeed as SucceedState, Fail, Parallel, Map}
+use Rattle.asl_machine.specs.declared.state.State.TheVariants.{Pass as PassState, Task, Choice, Wait as WaitState, Succeed as SucceedState, Fail as FailState, Parallel, Map}
 use Rattle.asl_machine.specs.declared.state.Succeed.{Succeed}
 use Rattle.asl_machine.specs.declared.state.Transition.{Transition}
+use Rattle.asl_machine.specs.declared.state.Wait.{Wait}
 
 one_path_text : (s : List ℕ) (p q : Option (List PathStep)) → IsPathText s p → IsPathText s q → p ≡ q
 one_path_text s None q h k = absurd h
@@ -78,6 +80,23 @@ one_succeed d s u h k =
     let make : Processing → Succeed = λ p. record { processing = p } in
     ap make processing
 
+one_wait : (d : Source) (s u : Wait) → IsWait d s → IsWait d u → s ≡ u
+one_wait d s u h k =
+    let processing : s.processing ≡ u.processing = one_processing d s.processing u.processing (h.1 ∙ sym k.1) h.2 k.2 in
+    let transitions : Some s.transition ≡ Some u.transition = sym h.3 ∙ k.3 in
+    let transition : s.transition ≡ u.transition = cc in
+    let make : Processing → Transition → Wait = λ p t. record { processing = p; transition = t } in
+    ap (λ p. make p s.transition) processing ∙ ap (λ t. make u.processing t) transition
+
+one_fail : (d : Source) (s u : Fail) → IsFail d s → IsFail d u → s ≡ u
+one_fail d s u h k =
+    let errors : Some s.error ≡ Some u.error = sym h.1 ∙ k.1 in
+    let error : s.error ≡ u.error = cc in
+    let causes : Some s.cause ≡ Some u.cause = sym h.2 ∙ k.2 in
+    let cause : s.cause ≡ u.cause = cc in
+    let make : List ℕ → List ℕ → Fail = λ a b. record { error = a; cause = b } in
+    ap (λ a. make a s.cause) error ∙ ap (λ b. make u.error b) cause
+
 pub is_pass : (d : Source) (s : State) → IsPassState d s → (p : Pass) × (s ≡ PassState p) × IsPass d p
 is_pass d (PassState p) h = (p, refl, h)
 is_pass d _ h = absurd h
@@ -85,6 +104,14 @@ is_pass d _ h = absurd h
 pub is_succeed : (d : Source) (s : State) → IsSucceedState d s → (p : Succeed) × (s ≡ SucceedState p) × IsSucceed d p
 is_succeed d (SucceedState p) h = (p, refl, h)
 is_succeed d _ h = absurd h
+
+pub is_wait : (d : Source) (s : State) → IsWaitState d s → (p : Wait) × (s ≡ WaitState p) × IsWait d p
+is_wait d (WaitState p) h = (p, refl, h)
+is_wait d _ h = absurd h
+
+pub is_fail : (d : Source) (s : State) → IsFailState d s → (p : Fail) × (s ≡ FailState p) × IsFail d p
+is_fail d (FailState p) h = (p, refl, h)
+is_fail d _ h = absurd h
 
 one_of_kind : (k : Option StateKind) (d : Source) (s u : State) → IsOfKind k d s → IsOfKind k d u → s ≡ u
 one_of_kind (Some kind.Pass) d s u h k =
@@ -95,6 +122,14 @@ one_of_kind (Some kind.Succeed) d s u h k =
     let a = is_succeed d s h in
     let b = is_succeed d u k in
     a.1 ∙ ap SucceedState (one_succeed d a.0 b.0 a.2 b.2) ∙ sym b.1
+one_of_kind (Some kind.Wait) d s u h k =
+    let a = is_wait d s h in
+    let b = is_wait d u k in
+    a.1 ∙ ap WaitState (one_wait d a.0 b.0 a.2 b.2) ∙ sym b.1
+one_of_kind (Some kind.Fail) d s u h k =
+    let a = is_fail d s h in
+    let b = is_fail d u k in
+    a.1 ∙ ap FailState (one_fail d a.0 b.0 a.2 b.2) ∙ sym b.1
 one_of_kind _ d s u h k = absurd h
 
 one_state : (d : Source) (s u : State) → IsState d s → IsState d u → s ≡ u

@@ -6,12 +6,12 @@ use Rattle.json_tree.specs.Data.{Data}
 use Rattle.json_tree.specs.Reading.{whole_of}
 use Rattle.json_tree.specs.declared.tree.Json.{Json}
 use Rattle.ref_paths.specs.Templates.{Payload}
-use Rattle.asl_machine.proofs.OneMachine.{is_pass, is_succeed, one_members}
+use Rattle.asl_machine.proofs.OneMachine.{is_pass, is_wait, is_succeed, is_fail, one_members}
 use Rattle.asl_machine.specs.Definition.{StateTree, Definition}
-use Rattle.asl_machine.specs.Faults.{fault_of_standing, NamesFault, text_fault, required_text_fault, language_fault, query_language_fault, whole_fault, result_fault, transition_fault, MembersFault, FieldsFault, WholeTemplateFault, TemplateFieldFault, ProcessingFault, PassFault, SucceedFault, KindFault, TypeFault, StateFault, StatesFault, StatesFieldFault, RequiredStatesFault, TargetsFault, DefinitionFault}
+use Rattle.asl_machine.specs.Faults.{fault_of_standing, NamesFault, text_fault, required_text_fault, optional_text_fault, language_fault, query_language_fault, whole_fault, result_fault, transition_fault, MembersFault, FieldsFault, WholeTemplateFault, TemplateFieldFault, ProcessingFault, PassFault, WaitFault, SucceedFault, FailFault, KindFault, TypeFault, StateFault, StatesFault, StatesFieldFault, RequiredStatesFault, TargetsFault, DefinitionFault}
 use Rattle.asl_machine.specs.Fields.{is_text, is_known, is_left_out, all_known, known_in, names_json_path, is_json_path}
-use Rattle.asl_machine.specs.Profile.{HasFields, IsWholeTemplate, IsTemplateField, IsProcessing, IsPass, IsSucceed, IsOfKind, kind_named, IsState, StatesAre, MembersAre, states_in, start_in, Defines}
-use Rattle.asl_machine.specs.Reading.{is_end, goes_to, whole_json, result_of}
+use Rattle.asl_machine.specs.Profile.{HasFields, IsWholeTemplate, IsTemplateField, IsProcessing, IsPass, IsWait, IsSucceed, IsFail, IsOfKind, kind_named, IsState, StatesAre, MembersAre, states_in, start_in, Defines}
+use Rattle.asl_machine.specs.Reading.{is_end, goes_to, whole_json, result_of, text_or_empty}
 use Rattle.asl_machine.specs.Targets.{target_fault}
 use Rattle.asl_machine.specs.TreeView.{tree_of}
 use Rattle.asl_machine.specs.declared.fault.MachineFault.{MachineFault}
@@ -24,8 +24,10 @@ use Rattle.asl_machine.specs.declared.kind.StateKind.TheVariants as kind
 use Rattle.asl_machine.specs.declared.state.Processing.{Processing}
 use Rattle.asl_machine.specs.declared.state.Pass.{Pass}
 use Rattle.asl_machine.specs.declared.state.State.{State}
+use Rattle.asl_machine.specs.declared.state.Fail.{Fail}
 use Rattle.asl_machine.specs.declared.state.Succeed.{Succeed}
 use Rattle.asl_machine.specs.declared.state.Transition.{Transition}
+use Rattle.asl_machine.specs.declared.state.Wait.{Wait}
 
 -- ---- fields
 
@@ -128,9 +130,30 @@ pass_refused name d s e fault is =
 succeed_refused : (d : Source) (s : Succeed) (e : MachineFault) → SucceedFault d e → IsSucceed d s → ⊥
 succeed_refused d s e fault is = elim fault [ inl h ↦ fields_refused at.Succeed d e h is.0 | inr h ↦ processing_refused d s.processing e h is.2 ]
 
+wait_refused : (name : List ℕ) (d : Source) (s : Wait) (e : MachineFault) → WaitFault name d e → IsWait d s → ⊥
+wait_refused name d s e fault is =
+    elim fault [
+      | inl h ↦ fields_refused at.Wait d e h is.0
+      | inr a ↦ elim a [ inl h ↦ processing_refused d s.processing e h is.2 | inr h ↦ transition_refused name (is_end (get (codes "End") d)) (get (codes "Next") d) s.transition e h is.3 ]
+    ]
+
+optional_refused : (field : List ℕ) (d : Option Source) (text : List ℕ) (e : MachineFault) → optional_text_fault field d ≡ Some e → text_or_empty d ≡ Some text → ⊥
+optional_refused field None text e fault is = cc fault
+optional_refused field (Some d) text e fault is = elim (as_str d) as (λ o. text_fault field o ≡ Some e → o ≡ Some text → ⊥) [ None ↦ λ f i. cc i | Some t ↦ λ f i. cc f ] fault is
+
+fail_refused : (d : Source) (s : Fail) (e : MachineFault) → FailFault d e → IsFail d s → ⊥
+fail_refused d s e fault is =
+    elim fault [
+      | inl h ↦ fields_refused at.Fail d e h is.0
+      | inr a ↦
+        elim a [ inl h ↦ optional_refused (codes "Error") (get (codes "Error") d) s.error e h is.1 | inr h ↦ optional_refused (codes "Cause") (get (codes "Cause") d) s.cause e h is.2 ]
+    ]
+
 kind_refused : (name : List ℕ) (k : Option StateKind) (d : Source) (s : State) (e : MachineFault) → KindFault name k d e → IsOfKind k d s → ⊥
 kind_refused name (Some kind.Pass) d s e fault is = let p = is_pass d s is in pass_refused name d p.0 e fault p.2
 kind_refused name (Some kind.Succeed) d s e fault is = let p = is_succeed d s is in succeed_refused d p.0 e fault p.2
+kind_refused name (Some kind.Wait) d s e fault is = let p = is_wait d s is in wait_refused name d p.0 e fault p.2
+kind_refused name (Some kind.Fail) d s e fault is = let p = is_fail d s is in fail_refused d p.0 e fault p.2
 kind_refused name _ d s e fault is = is
 
 type_refused : (name : List ℕ) (d : Source) (type : Option (List ℕ)) (s : State) (e : MachineFault) → TypeFault name d type e → IsOfKind (option_and_then kind_named type) d s → ⊥

@@ -47,6 +47,11 @@ abbrev pub required_text_fault : List ℕ → Option Source → Option MachineFa
 required_text_fault field None = Some (Missing field)
 required_text_fault field (Some d) = text_fault field (as_str d)
 
+-- a field that is a text where it stands
+abbrev pub optional_text_fault : List ℕ → Option Source → Option MachineFault
+optional_text_fault field None = None
+optional_text_fault field (Some d) = text_fault field (as_str d)
+
 abbrev pub language_fault : Option (List ℕ) → Option MachineFault
 language_fault None = Some (BadField (codes "QueryLanguage"))
 language_fault (Some language) =
@@ -117,14 +122,21 @@ PassFault name d e =
 abbrev pub SucceedFault : Source → MachineFault → Type 0
 SucceedFault d e = FieldsFault at.Succeed d e ⊎ ProcessingFault d e
 
+abbrev pub WaitFault : List ℕ → Source → MachineFault → Type 0
+WaitFault name d e = FieldsFault at.Wait d e ⊎ ProcessingFault d e ⊎ (transition_fault name (is_end (get (codes "End") d)) (get (codes "Next") d) ≡ Some e)
+
+abbrev pub FailFault : Source → MachineFault → Type 0
+FailFault d e =
+    FieldsFault at.Fail d e ⊎ (optional_text_fault (codes "Error") (get (codes "Error") d) ≡ Some e) ⊎ (optional_text_fault (codes "Cause") (get (codes "Cause") d) ≡ Some e)
+
 -- of the state of this name; a type that is left out is unsupported, and another is bad
 abbrev pub KindFault : List ℕ → Option StateKind → Source → MachineFault → Type 0
 KindFault name (Some kind.Pass) d e = PassFault name d e
 KindFault name (Some kind.Succeed) d e = SucceedFault d e
 KindFault name (Some kind.Task) d e = e ≡ Unsupported (codes "Type")
 KindFault name (Some kind.Choice) d e = e ≡ Unsupported (codes "Type")
-KindFault name (Some kind.Wait) d e = e ≡ Unsupported (codes "Type")
-KindFault name (Some kind.Fail) d e = e ≡ Unsupported (codes "Type")
+KindFault name (Some kind.Wait) d e = WaitFault name d e
+KindFault name (Some kind.Fail) d e = FailFault d e
 KindFault name (Some kind.Parallel) d e = e ≡ Unsupported (codes "Type")
 KindFault name (Some kind.Map) d e = e ≡ Unsupported (codes "Type")
 KindFault name None d e = e ≡ BadField (codes "Type")

@@ -12,18 +12,20 @@ use Rattle.ref_paths.specs.Templates.{Payload, IsTemplate}
 use Rattle.ref_paths.specs.declared.path.PathStep.{PathStep}
 use Rattle.asl_machine.specs.Definition.{StateTree, Definition}
 use Rattle.asl_machine.specs.Fields.{is_text, has_known_fields, speaks_json_path}
-use Rattle.asl_machine.specs.Reading.{transition_of, result_of}
+use Rattle.asl_machine.specs.Reading.{transition_of, result_of, text_or_empty}
 use Rattle.asl_machine.specs.Targets.{target_fault}
 use Rattle.asl_machine.specs.TreeView.{tree_of}
 use Rattle.asl_machine.specs.declared.fields.Place.{Place}
 use Rattle.asl_machine.specs.declared.fields.Place.TheVariants as at
 use Rattle.asl_machine.specs.declared.kind.StateKind.{StateKind}
 use Rattle.asl_machine.specs.declared.kind.StateKind.TheVariants as kind
+use Rattle.asl_machine.specs.declared.state.Fail.{Fail}
 use Rattle.asl_machine.specs.declared.state.Pass.{Pass}
 use Rattle.asl_machine.specs.declared.state.Processing.{Processing}
 use Rattle.asl_machine.specs.declared.state.State.{State}
-use Rattle.asl_machine.specs.declared.state.State.TheVariants.{Pass as PassState, Succeed as SucceedState}
+use Rattle.asl_machine.specs.declared.state.State.TheVariants.{Pass as PassState, Wait as WaitState, Succeed as SucceedState, Fail as FailState}
 use Rattle.asl_machine.specs.declared.state.Succeed.{Succeed}
+use Rattle.asl_machine.specs.declared.state.Wait.{Wait}
 
 -- ---- fields
 
@@ -77,6 +79,12 @@ IsPass d s =
 abbrev pub IsSucceed : Source → Succeed → Type 0
 IsSucceed d s = HasFields at.Succeed d × (s.processing.parameters ≡ None) × IsProcessing d s.processing
 
+abbrev pub IsWait : Source → Wait → Type 0
+IsWait d s = HasFields at.Wait d × (s.processing.parameters ≡ None) × IsProcessing d s.processing × (transition_of d ≡ Some s.transition)
+
+abbrev pub IsFail : Source → Fail → Type 0
+IsFail d s = HasFields at.Fail d × (text_or_empty (get (codes "Error") d) ≡ Some s.error) × (text_or_empty (get (codes "Cause") d) ≡ Some s.cause)
+
 -- the type of a name
 abbrev pub kind_named : List ℕ → Option StateKind
 kind_named name =
@@ -98,10 +106,20 @@ abbrev pub IsSucceedState : Source → State → Type 0
 IsSucceedState d (SucceedState s) = IsSucceed d s
 IsSucceedState d _ = ⊥
 
+abbrev pub IsWaitState : Source → State → Type 0
+IsWaitState d (WaitState s) = IsWait d s
+IsWaitState d _ = ⊥
+
+abbrev pub IsFailState : Source → State → Type 0
+IsFailState d (FailState s) = IsFail d s
+IsFailState d _ = ⊥
+
 -- a state of this type; the other types are left out
 abbrev pub IsOfKind : Option StateKind → Source → State → Type 0
 IsOfKind (Some kind.Pass) d s = IsPassState d s
+IsOfKind (Some kind.Wait) d s = IsWaitState d s
 IsOfKind (Some kind.Succeed) d s = IsSucceedState d s
+IsOfKind (Some kind.Fail) d s = IsFailState d s
 IsOfKind _ d s = ⊥
 
 abbrev pub kind_of : Source → Option StateKind

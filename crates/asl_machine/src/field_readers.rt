@@ -7,9 +7,10 @@ ghost use Rattle.ref_paths.specs.Templates.{IsTemplate};
 ghost use Rattle.ref_paths.specs.declared.path.PathStep.{PathStep};
 ghost use Rattle.serde_json.specs.Find.{get, as_str, as_object};
 ghost use Rattle.serde_json.specs.View.{view, members_view};
-ghost use Rattle.asl_machine.specs.Faults.{FieldsFault, NamesFault, PathFieldFault, TemplateFieldFault, TellsTemplate, ProcessingFault, query_language_fault};
+ghost use Rattle.asl_machine.specs.Faults.{FieldsFault, NamesFault, PathFieldFault, TemplateFieldFault, TellsTemplate, ProcessingFault, optional_text_fault, query_language_fault};
 ghost use Rattle.asl_machine.specs.Fields.{all_known, speaks_json_path};
 ghost use Rattle.asl_machine.specs.Profile.{HasFields, IsPathText, IsPath, IsPathField, IsTemplateField, IsProcessing};
+ghost use Rattle.asl_machine.specs.Reading.{text_or_empty};
 ghost use Rattle.asl_machine.specs.Refusal.{Refuses};
 
 use crate::fault::MachineFault;
@@ -41,6 +42,18 @@ pub fn text_of(alloc: Global, value: &Value, name: &str) -> Result<Text, Machine
     match value.as_str() {
         Some(text) => Ok(Text::new(alloc, text)?),
         None => Err(MachineFault::BadField(Text::new(alloc, name)?)),
+    }
+}
+
+/// A copy of the text of a field, which is empty where there is no such field.
+pub fn optional_text(alloc: Global, object: &Value, name: &str) -> Result<Text, MachineFault>
+    ensures ok { IfOk result (λ text. text_or_empty (get name.now (view object.now)) ≡ Some text) }
+    ensures fault { IfErr result
+        (λ e. Refuses e (optional_text_fault name.now (get name.now (view object.now)) ≡ Some e)) }
+{
+    match object.get(name) {
+        Some(value) => text_of(alloc, value, name),
+        None => Ok(Text::new(alloc, "")?),
     }
 }
 

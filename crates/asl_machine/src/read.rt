@@ -2,16 +2,16 @@
 ghost use Rattle.std.specs.Prelude.{◌≡◌, ◌⊎◌, IfOk, IfErr, OnOk, OnErr, [], Some, None, true, false, codes};
 ghost use Rattle.serde_json.specs.Find.{get, as_object};
 ghost use Rattle.serde_json.specs.View.{view, members_view};
-ghost use Rattle.asl_machine.specs.Faults.{DefinitionFault, StatesFault, StateFault, KindFault, PassFault, SucceedFault, result_fault, transition_fault};
-ghost use Rattle.asl_machine.specs.Profile.{Defines, DefinesNone, StatesAre, IsState, IsOfKind, IsPass, IsSucceed, kind_named};
+ghost use Rattle.asl_machine.specs.Faults.{DefinitionFault, StatesFault, StateFault, KindFault, PassFault, WaitFault, SucceedFault, FailFault, result_fault, transition_fault};
+ghost use Rattle.asl_machine.specs.Profile.{Defines, DefinesNone, StatesAre, IsState, IsOfKind, IsPass, IsWait, IsSucceed, IsFail, kind_named};
 ghost use Rattle.asl_machine.specs.Reading.{result_of, transition_of, is_end};
 ghost use Rattle.asl_machine.specs.Refusal.{Refuses};
 
 use crate::fault::MachineFault;
-use crate::field_readers::{check_fields, read_processing, read_template, required, text_of};
+use crate::field_readers::{check_fields, optional_text, read_processing, read_template, required, text_of};
 use crate::fields::Place;
 use crate::kind::{StateKind, kind_named};
-use crate::state::{Machine, Pass, State, States, Succeed, Transition};
+use crate::state::{Fail, Machine, Pass, State, States, Succeed, Transition, Wait};
 use json_tree::{Json, JsonFault, Text, from_value};
 use serde_json::{Map, Value};
 use std::alloc::Global;
@@ -92,6 +92,8 @@ fn read_kind(
 {
     match kind_named(kind) {
         Some(StateKind::Pass) => Ok(State::Pass(read_pass(alloc, name, object, fields)?)),
+        Some(StateKind::Wait) => Ok(State::Wait(read_wait(alloc, name, object, fields)?)),
+        Some(StateKind::Fail) => Ok(State::Fail(read_fail(alloc, object, fields)?)),
         Some(StateKind::Succeed) => Ok(State::Succeed(read_succeed(alloc, object, fields)?)),
         Some(_) => Err(MachineFault::Unsupported(Text::new(alloc, "Type")?)),
         None => Err(MachineFault::BadField(Text::new(alloc, "Type")?)),
@@ -132,6 +134,40 @@ fn read_succeed(
     check_fields(alloc, Place::Succeed, object, fields)?;
     let processing = read_processing(alloc, object, None)?;
     Ok(Succeed { processing })
+}
+
+fn read_wait(
+    alloc: Global,
+    name: &str,
+    object: &Value,
+    fields: &Map<String, Value>,
+) -> Result<Wait, MachineFault>
+    requires { as_object (view object.now) ≡ Some (members_view fields.now.entries) }
+    ensures ok { IfOk result (IsWait (view object.now)) }
+    ensures fault { IfErr result (λ e. Refuses e (WaitFault name.now (view object.now) e)) }
+{
+    check_fields(alloc, Place::Wait, object, fields)?;
+    let transition = read_transition(alloc, name, object)?;
+    let processing = read_processing(alloc, object, None)?;
+    Ok(Wait {
+        processing,
+        transition,
+    })
+}
+
+fn read_fail(
+    alloc: Global,
+    object: &Value,
+    fields: &Map<String, Value>,
+) -> Result<Fail, MachineFault>
+    requires { as_object (view object.now) ≡ Some (members_view fields.now.entries) }
+    ensures ok { IfOk result (IsFail (view object.now)) }
+    ensures fault { IfErr result (λ e. Refuses e (FailFault (view object.now) e)) }
+{
+    check_fields(alloc, Place::Fail, object, fields)?;
+    let error = optional_text(alloc, object, "Error")?;
+    let cause = optional_text(alloc, object, "Cause")?;
+    Ok(Fail { error, cause })
 }
 
 /// The `Result` of a Pass state, if it has one.
