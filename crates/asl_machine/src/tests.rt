@@ -222,6 +222,56 @@ const FAULTS: &[(&str, u32, &str)] = &[
         2,
         "ResultSelector",
     ),
+    (
+        r#"{"StartAt":"P","States":{"P":{"Type":"Wait","Seconds":1}}}"#,
+        1,
+        "Next",
+    ),
+    (
+        r#"{"StartAt":"P","States":{"P":{"Type":"Wait","End":true,"Result":1}}}"#,
+        2,
+        "Result",
+    ),
+    (
+        r#"{"StartAt":"P","States":{"P":{"Type":"Wait","End":true,"InputPath":1}}}"#,
+        4,
+        "InputPath",
+    ),
+    (
+        r#"{"StartAt":"P","States":{"P":{"Type":"Wait","Next":"Q"}}}"#,
+        5,
+        "Q",
+    ),
+    (
+        r#"{"StartAt":"P","States":{"P":{"Type":"Wait","Next":"P","End":true}}}"#,
+        6,
+        "P",
+    ),
+    (
+        r#"{"StartAt":"P","States":{"P":{"Type":"Fail","Error":7}}}"#,
+        4,
+        "Error",
+    ),
+    (
+        r#"{"StartAt":"P","States":{"P":{"Type":"Fail","Cause":null}}}"#,
+        4,
+        "Cause",
+    ),
+    (
+        r#"{"StartAt":"P","States":{"P":{"Type":"Fail","End":false}}}"#,
+        2,
+        "End",
+    ),
+    (
+        r#"{"StartAt":"P","States":{"P":{"Type":"Fail","InputPath":"$"}}}"#,
+        2,
+        "InputPath",
+    ),
+    (
+        r#"{"StartAt":"P","States":{"P":{"Type":"Fail","ErrorPath":"$.e"}}}"#,
+        3,
+        "ErrorPath",
+    ),
 ];
 
 #[test]
@@ -296,7 +346,7 @@ fn leaves_names_out_everywhere(rt: HostRuntime) -> Result<(), Fail> {
     Ok(())
 }
 
-const LEFT_OUT_TYPES: &[&str] = &["Task", "Choice", "Wait", "Fail", "Parallel", "Map"];
+const LEFT_OUT_TYPES: &[&str] = &["Task", "Choice", "Parallel", "Map"];
 
 #[test]
 fn leaves_types_out(rt: HostRuntime) -> Result<(), Fail> {
@@ -316,6 +366,8 @@ const MACHINES: &[&str] = &[
     r#"{"StartAt":"A","States":{"A":{"Type":"Pass","End":true,"InputPath":null,"OutputPath":"$.a[0]","ResultPath":"$['b']","Parameters":{"x.$":"$.c","y":[1,{"z.$":"$"}]}}}}"#,
     r#"{"StartAt":"S","States":{"S":{"Type":"Succeed","InputPath":"$","OutputPath":null}}}"#,
     r#"{"StartAt":"A","States":{"A":{"Type":"Pass","End":true,"Parameters":7}}}"#,
+    r#"{"StartAt":"W","States":{"W":{"Type":"Wait","Seconds":1.5,"TimestampPath":7,"Next":"F"},"F":{"Type":"Fail","Error":"X","Comment":{}}}}"#,
+    r#"{"StartAt":"F","States":{"F":{"Type":"Fail"}}}"#,
 ];
 
 #[test]
@@ -406,5 +458,21 @@ fn reads_processing(rt: HostRuntime) -> Result<(), Fail> {
     };
     assert!(rt; succeed.processing.parameters.is_none());
     assert!(rt; succeed.processing.output_path.is_some());
+    Ok(())
+}
+
+const FAILING: &str = r#"{"StartAt":"F","States":{"F":{"Type":"Fail","Error":"X"}}}"#;
+
+#[test]
+fn reads_errors(rt: HostRuntime) -> Result<(), Fail> {
+    let alloc = rt.alloc();
+    let Ok(machine) = machine_of(alloc, FAILING)? else {
+        return Err("a machine is refused".into());
+    };
+    let Some(State::Fail(state)) = machine.states().get(machine.start()) else {
+        return Err("no Fail state is found".into());
+    };
+    assert_eq!(rt; state.error.as_str(), "X");
+    assert_eq!(rt; state.cause.as_str(), "");
     Ok(())
 }
