@@ -469,7 +469,8 @@ fn reads_errors(rt: HostRuntime) -> Result<(), Fail> {
     let Ok(machine) = machine_of(alloc, FAILING)? else {
         return Err("a machine is refused".into());
     };
-    let Some(State::Fail(state)) = machine.states().get(machine.start()) else {
+    let outermost = LevelPath::outermost(alloc);
+    let Some(State::Fail(state)) = machine.state_at(&outermost, machine.start()) else {
         return Err("no Fail state is found".into());
     };
     assert_eq!(rt; state.error.as_str(), "X");
