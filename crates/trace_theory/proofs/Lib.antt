@@ -1,3 +1,5 @@
 pub mod Lists
 pub mod Runs
 pub mod Commuting
+pub mod After
+pub mod Least

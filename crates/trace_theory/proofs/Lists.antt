@@ -89,6 +89,32 @@ module _ {A : Type 0} where
   compared x y (z ∷ xs) (inr h) (inl f) = inr (inr (inl (f, h)))
   compared x y (z ∷ xs) (inr h) (inr k) = elim (compared x y xs h k) [ inl e ↦ inl e | inr c ↦ elim c [ inl b ↦ inr (inl (inr b)) | inr b ↦ inr (inr (inr b)) ] ]
 
+  -- ---- lists in which nothing stands twice
+
+  pub never_both : (x y : A) (xs : List A) → ((z : A) → Before z z xs → ⊥) → Before x y xs → Before y x xs → ⊥
+  never_both x y [] once h k = absurd h
+  never_both x y (z ∷ xs) once (inl h) (inl k) = once x (inl (h.0, k.1))
+  never_both x y (z ∷ xs) once (inl h) (inr k) = once x (inl (h.0, Before-second y x xs k))
+  never_both x y (z ∷ xs) once (inr h) (inl k) = once y (inl (k.0, Before-second x y xs h))
+  never_both x y (z ∷ xs) once (inr h) (inr k) = never_both x y xs (λ u b. once u (inr b)) h k
+
+  -- what x stands before, stands behind its place
+  pub behind_place : (x y : A) (front back : List A) → ((z : A) → Before z z (front ++ x ∷ back) → ⊥) → Before x y (front ++ x ∷ back) → In y back
+  behind_place x y [] back once (inl h) = h.1
+  behind_place x y [] back once (inr h) = Before-second x y back h
+  behind_place x y (z ∷ front) back once (inl h) = absurd (once x (inl (h.0, here x front back)))
+  behind_place x y (z ∷ front) back once (inr h) = behind_place x y front back (λ u b. once u (inr b)) h
+
+  pub Before-behind : (x y : A) (front back : List A) → ((z : A) → Before z z (front ++ back) → ⊥) → In x back → Before x y (front ++ back) → Before x y back
+  Before-behind x y [] back once i h = h
+  Before-behind x y (z ∷ front) back once i (inl h) = absurd (once x (inl (h.0, In-back x front back i)))
+  Before-behind x y (z ∷ front) back once i (inr h) = Before-behind x y front back (λ u b. once u (inr b)) i h
+
+  pub not_among_others : (x : A) (front back : List A) → ((z : A) → Before z z (front ++ x ∷ back) → ⊥) → In x (front ++ back) → ⊥
+  not_among_others x [] back once i = once x (inl (refl, i))
+  not_among_others x (z ∷ front) back once (inl e) = once x (inl (e, here x front back))
+  not_among_others x (z ∷ front) back once (inr i) = not_among_others x front back (λ u b. once u (inr b)) i
+
   -- ---- filters
 
   kept_on : (b : Bool) (z : A) (xs : List A) (x : A) → In x (cond b (z ∷ xs) xs) → (x ≡ z) × (b ≡ true) ⊎ In x xs
