@@ -3,3 +3,5 @@ pub mod Runs
 pub mod Commuting
 pub mod After
 pub mod Least
+pub mod Orders
+pub mod Arranged

@@ -2,6 +2,7 @@
 use Rattle.std.proofs.Common.{◌≡◌, ℕ, ◌+◌, Bool, true, false, cond, List, [], ◌∷◌, ◌++◌, length, map, refl, ap, sym, subst, ◌∙◌, inl, inr, arith}
 use Rattle.std.specs.Prelude.{◌⊎◌, not, ◌||◌, filter, reverse}
 use Rattle.std.specs.List.{list_any}
+use Rattle.std.proofs.lemmas.List.{reverse-append, reverse-reverse}
 use Rattle.trace_theory.specs.Traces.{In, Before}
 
 pub by_bool : (b : Bool) (P : Type 0) → (b ≡ true → P) → (b ≡ false → P) → P
@@ -179,3 +180,17 @@ module _ {A : Type 0} where
   pub one_any : (p : A → Bool) (xs : List A) → list_any p xs ≡ true → (x : A) × In x xs × (p x ≡ true)
   one_any p [] h = cc
   one_any p (z ∷ xs) h = by_bool (p z) _ (λ k. (z, inl refl, k)) (λ k. let r = one_any p xs (rw k at h) in (r.0, inr r.1, r.2))
+
+  pub any_alike : (p : A → Bool) (xs ys : List A) → ((x : A) → In x xs → In x ys) → ((x : A) → In x ys → In x xs) → list_any p xs ≡ list_any p ys
+  any_alike p xs ys f g =
+      by_bool (list_any p xs) _
+      (λ k. let r = one_any p xs k in k ∙ sym (any_one p ys r.0 (f r.0 r.1) r.2))
+      (λ k. k ∙ sym (none_any p ys (λ x i. any_none p xs k x (g x i))))
+
+  pub In-reverse : (x : A) (xs : List A) → In x xs → In x (reverse xs)
+  In-reverse x [] i = absurd i
+  In-reverse x (z ∷ xs) (inl e) = subst (In x) (sym (reverse-append (z ∷ []) xs)) (In-back x (reverse xs) (z ∷ []) (inl e))
+  In-reverse x (z ∷ xs) (inr i) = subst (In x) (sym (reverse-append (z ∷ []) xs)) (In-front x (reverse xs) (z ∷ []) (In-reverse x xs i))
+
+  pub reverse-In : (x : A) (xs : List A) → In x (reverse xs) → In x xs
+  reverse-In x xs i = subst (In x) (reverse-reverse xs) (In-reverse x (reverse xs) i)
