@@ -28,7 +28,7 @@ module _ {W N F S : Type 0} (m : Machine W N F S) (base : W) (names : HasNames m
   named_place n (t ∷ ts) (inl e) = record { front = []; back = ts; step = t; whole = refl; named = sym e }
   named_place n (t ∷ ts) (inr i) = let p = named_place n ts i in record { front = t ∷ p.front; back = p.back; step = p.step; whole = ap (λ (l : List (Taken N F S)). t ∷ l) p.whole; named = p.named }
 
-  In-names : (t : Taken N F S) (ts : List (Taken N F S)) → In t ts → In t.step (names_of m ts)
+  pub In-names : (t : Taken N F S) (ts : List (Taken N F S)) → In t ts → In t.step (names_of m ts)
   In-names t [] i = absurd i
   In-names t (z ∷ ts) (inl e) = inl (ap (λ (x : Taken N F S). x.step) e)
   In-names t (z ∷ ts) (inr i) = inr (In-names t ts i)
@@ -39,7 +39,7 @@ module _ {W N F S : Type 0} (m : Machine W N F S) (base : W) (names : HasNames m
   names-others n (z ∷ front) back t (inl e) no_other = inl e
   names-others n (z ∷ front) back t (inr i) no_other = inr (names-others n front back t i no_other)
 
-  length-middle : (front back : List (Taken N F S)) (t : Taken N F S) → length (front ++ t ∷ back) ≡ length (front ++ back) + 1
+  pub length-middle : (front back : List (Taken N F S)) (t : Taken N F S) → length (front ++ t ∷ back) ≡ length (front ++ back) + 1
   length-middle front back t = omega (arith, length-append front (t ∷ back), length-append front back)
 
   -- the first name of an arrangement moves to the front

@@ -5,3 +5,4 @@ pub mod After
 pub mod Least
 pub mod Orders
 pub mod Arranged
+pub mod Held

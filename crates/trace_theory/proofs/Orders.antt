@@ -85,7 +85,7 @@ module _ {W N F S : Type 0} (m : Machine W N F S) (base : W) (names : HasNames m
           | inr c ↦ sym (ap (without m (t ∷ [])) c ∙ filter-all (λ y. not (is_among m (t ∷ []) y)) (after m (front ++ back) s) (λ y i. other front back o y (after-in m base names (front ++ back) s y i)))
         ]
 
-  last_is_free : (ts xs : List (Taken N F S)) (s : N) (x : Taken N F S) → Once m base names ts → after m ts s ≡ xs ++ x ∷ [] → IsFree m ts x
+  pub last_is_free : (ts xs : List (Taken N F S)) (s : N) (x : Taken N F S) → Once m base names ts → after m ts s ≡ xs ++ x ∷ [] → IsFree m ts x
   last_is_free ts xs s x once e =
       let mine : In x (after m ts s) = subst (In x) (sym e) (In-back x xs (x ∷ []) (inl refl)) in
       (after-in m base names ts s x mine, λ y b. by_bool (needs m x y) _ (λ k. absurd (last y b (subst (In y) e (after-closed ts s once x y mine b k)))) (λ k. k))
@@ -96,7 +96,7 @@ module _ {W N F S : Type 0} (m : Machine W N F S) (base : W) (names : HasNames m
         | inr j ↦ never_both x y ts (never_twice m base names ts once) b (after-ordered m base names ts s y x (subst (Before y x) (sym e) (Before-across y x xs (x ∷ []) (subst (In y) (append-nil xs) j) (inl refl))))
       ]
 
-  only_itself : (ts : List (Taken N F S)) (s : Taken N F S) → Once m base names ts → IsFree m ts s → after m ts s.step ≡ s ∷ []
+  pub only_itself : (ts : List (Taken N F S)) (s : Taken N F S) → Once m base names ts → IsFree m ts s → after m ts s.step ≡ s ∷ []
   only_itself ts s once free = at_place m base names (λ l. IsFree m l s → after m l s.step ≡ s ∷ []) ts s (λ front back w o f. after-free m base names front back s o (unneeded_behind front back s f)) once free.0 free
 
   too_long : (xs : List (Taken N F S)) (x y s : Taken N F S) → reverse (x ∷ y ∷ xs) ≡ s ∷ [] → ⊥

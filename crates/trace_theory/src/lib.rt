@@ -3,3 +3,4 @@
 
 mod laws;
 
+pub use laws::{arrangements_agree, consequences_are_least, free_steps_undo, held_consequences_are_left, neighbours_swap, orders_undo};
