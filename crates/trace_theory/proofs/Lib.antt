@@ -6,3 +6,4 @@ pub mod Least
 pub mod Orders
 pub mod Arranged
 pub mod Held
+pub mod Planned

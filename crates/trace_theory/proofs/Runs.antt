@@ -4,11 +4,11 @@ use Rattle.std.specs.Prelude.{option_map, option_and_then}
 use Rattle.std.proofs.lemmas.Option.{same_Some}
 use Rattle.trace_theory.specs.Traces.{Machine, Taken, run, names_of, IsRun, IsReached, Takes}
 
-and_then_some : {A B : Type 0} (k : A → Option B) (o : Option A) (b : B) → option_and_then k o ≡ Some b → (a : A) × (o ≡ Some a) × (k a ≡ Some b)
+pub and_then_some : {A B : Type 0} (k : A → Option B) (o : Option A) (b : B) → option_and_then k o ≡ Some b → (a : A) × (o ≡ Some a) × (k a ≡ Some b)
 and_then_some k None b h = cc
 and_then_some k (Some a) b h = (a, refl, h)
 
-map_some : {A B : Type 0} (k : A → B) (o : Option A) (b : B) → option_map k o ≡ Some b → (a : A) × (o ≡ Some a) × (k a ≡ b)
+pub map_some : {A B : Type 0} (k : A → B) (o : Option A) (b : B) → option_map k o ≡ Some b → (a : A) × (o ≡ Some a) × (k a ≡ b)
 map_some k None b h = cc
 map_some k (Some a) b h = (a, refl, same_Some _ _ h)
 

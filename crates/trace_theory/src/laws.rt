@@ -1,5 +1,6 @@
 // Laws over the definitions: each function's contract is the law, and it does nothing.
 ghost use Rattle.trace_theory.specs.Traces.{Machine, IsLawful, HasNames, NeighboursSwap, FreeStepsUndo, AfterIsLeast, OrdersUndo, OrdersAgree, AfterUndoes, OrdersHoldAfter, ArrangementsAgree, HeldIsLeft};
+ghost use Rattle.trace_theory.specs.Footprints.{PlansAreLawful};
 
 /// Neighbours that do not depend on each other swap.
 pub fn neighbours_swap<W, N, F, S>()
@@ -33,4 +34,9 @@ pub fn arrangements_agree<W, N, F, S>()
 /// What is left of held consequences shrinks by one with each undoing of a member, and by nothing else.
 pub fn held_consequences_are_left<W, N, F, S>()
     ensures { (m : Machine W N F S) (base : W) → IsLawful m base → HasNames m base → HeldIsLeft m base }
+{}
+
+/// A machine is lawful where its steps are plans, and independent neighbours write nothing that the other touches.
+pub fn plans_are_lawful<W, N, F, S, C, V, P>()
+    ensures { PlansAreLawful W N F S C V P }
 {}
