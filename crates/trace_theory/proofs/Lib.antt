@@ -7,3 +7,4 @@ pub mod Orders
 pub mod Arranged
 pub mod Held
 pub mod Planned
+pub mod CounterPaths
