@@ -8,3 +8,4 @@ pub mod Arranged
 pub mod Held
 pub mod Planned
 pub mod CounterPaths
+pub mod CounterWorlds
