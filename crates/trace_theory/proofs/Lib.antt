@@ -9,3 +9,5 @@ pub mod Held
 pub mod Planned
 pub mod CounterPaths
 pub mod CounterWorlds
+pub mod Names
+pub mod CounterLaws
