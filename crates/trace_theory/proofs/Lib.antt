@@ -11,3 +11,4 @@ pub mod CounterPaths
 pub mod CounterWorlds
 pub mod Names
 pub mod CounterLaws
+pub mod CounterPremise

@@ -1,5 +1,6 @@
 // Laws over the definitions: each function's contract is the law, and it does nothing.
 ghost use Rattle.trace_theory.specs.Traces.{Machine, IsLawful, HasNames, NeighboursSwap, FreeStepsUndo, AfterIsLeast, OrdersUndo, OrdersAgree, AfterUndoes, OrdersHoldAfter, ArrangementsAgree, HeldIsLeft};
+ghost use Rattle.trace_theory.specs.Counters.{CountersAreLawful, CountersHaveNames, PremiseIsNeeded};
 ghost use Rattle.trace_theory.specs.Footprints.{PlansAreLawful};
 
 /// Neighbours that do not depend on each other swap.
@@ -39,4 +40,11 @@ pub fn held_consequences_are_left<W, N, F, S>()
 /// A machine is lawful where its steps are plans, and independent neighbours write nothing that the other touches.
 pub fn plans_are_lawful<W, N, F, S, C, V, P>()
     ensures { PlansAreLawful W N F S C V P }
+{}
+
+/// A machine of threads that fork and join over shared counters is lawful, and is so only in worlds that runs reach.
+pub fn counters_are_lawful()
+    ensures lawful { CountersAreLawful }
+    ensures names { CountersHaveNames }
+    ensures premise { PremiseIsNeeded }
 {}
