@@ -12,3 +12,4 @@ pub mod CounterWorlds
 pub mod Names
 pub mod CounterLaws
 pub mod CounterPremise
+pub mod Records
