@@ -1,10 +1,10 @@
 -- What one pass forward marks, and how it changes as steps come and go.
-use Rattle.std.proofs.Common.{◌≡◌, Bool, true, false, List, [], ◌∷◌, ◌++◌, refl, ap, ap₂, sym, subst, ◌∙◌, inl, inr, append_assoc}
+use Rattle.std.proofs.Common.{◌≡◌, Bool, true, false, List, [], ◌∷◌, ◌++◌, refl, ap, sym, subst, ◌∙◌, inl, inr, append_assoc}
 use Rattle.std.specs.Prelude.{◌⊎◌}
 use Rattle.std.specs.List.{list_any}
 use Rattle.std.proofs.lemmas.List.{append-nil}
-use Rattle.trace_theory.specs.Traces.{Machine, Taken, In, Before, needs, following, after, IsRun, HasNames, HoldsConsequences, IsLeast, AfterIsLeast}
-use Rattle.trace_theory.proofs.Lists.{by_bool, In-front, In-back, In-split, place, here, Before-first, Before-second, Before-back, Before-across, compared, behind_place, Before-behind, any_one, none_any, one_any}
+use Rattle.trace_theory.specs.Traces.{Machine, Taken, In, Before, needs, following}
+use Rattle.trace_theory.proofs.Lists.{by_bool, In-front, In-back, In-split, Before-second, any_one, none_any, one_any}
 
 any_skip : {A : Type 0} (p : A → Bool) (xs ys : List A) (x : A) → p x ≡ false → list_any p (xs ++ x ∷ ys) ≡ list_any p (xs ++ ys)
 any_skip p [] ys x h = rw h
@@ -55,7 +55,7 @@ module _ {W N F S : Type 0} (m : Machine W N F S) where
   following-closed marked (t ∷ ts) x y once (inr b) i d =
       by_bool (list_any (λ x. needs m x t) marked) _
       (λ k. rw k (inr (elim (rw k at i) as (λ _. In y (following m (marked ++ t ∷ []) ts)) [
-        inl e ↦ following-marked (marked ++ t ∷ []) ts x y (In-back x marked (t ∷ []) (inl e)) (Before-second x y ts b) d
+        | inl e ↦ following-marked (marked ++ t ∷ []) ts x y (In-back x marked (t ∷ []) (inl e)) (Before-second x y ts b) d
         | inr j ↦ following-closed (marked ++ t ∷ []) ts x y (λ z c. once z (inr c)) b j d
       ])))
       (λ k. rw k (following-closed marked ts x y (λ z c. once z (inr c)) b (rw k at i) d))
@@ -65,13 +65,14 @@ module _ {W N F S : Type 0} (m : Machine W N F S) where
   following-least other marked (t ∷ ts) h c y i =
       by_bool (list_any (λ x. needs m x t) marked) (In y other)
       (λ k. let t_in : In t other = new k in elim (rw k at i) as (λ _. In y other) [
-        inl e ↦ subst (λ (z : Taken N F S). In z other) (sym e) t_in
+        | inl e ↦ subst (λ (z : Taken N F S). In z other) (sym e) t_in
         | inr j ↦ following-least other (marked ++ t ∷ []) ts (λ x a. elim (In-split x marked (t ∷ []) a) [ inl b ↦ h x b | inr b ↦ elim b [ inl e ↦ subst (λ (z : Taken N F S). In z other) (sym e) t_in | inr n ↦ absurd n ] ]) (λ x z a. c x z (longer x z a)) y j
       ])
       (λ k. following-least other marked ts h (λ x z a. c x z (elim a [ inl b ↦ inl (b.0, inr b.1) | inr b ↦ inr (inr b) ])) y (rw k at i))
     where
       new : list_any (λ x. needs m x t) marked ≡ true → In t other
       new k = let r = one_any (λ (x : Taken N F S). needs m x t) marked k in c r.0 t (inl (r.1, inl refl)) (h r.0 r.1) r.2
+
       longer : (x z : Taken N F S) → (In x (marked ++ t ∷ []) × In z ts) ⊎ Before x z ts → (In x marked × In z (t ∷ ts)) ⊎ Before x z (t ∷ ts)
       longer x z (inl a) = elim (In-split x marked (t ∷ []) a.0) [ inl b ↦ inl (b, inr a.1) | inr b ↦ elim b [ inl e ↦ inr (inl (e, a.1)) | inr n ↦ absurd n ] ]
       longer x z (inr a) = inr (inr a)
@@ -89,9 +90,9 @@ module _ {W N F S : Type 0} (m : Machine W N F S) where
       let e = any_skip (λ (x : Taken N F S). needs m x z) xs ys t (h z (inl refl)) in
       by_bool (list_any (λ x. needs m x z) (xs ++ ys)) _
       (λ k. rw (e, k) (ap (λ (r : List (Taken N F S)). z ∷ r) (
-        ap (λ (r : List (Taken N F S)). following m r back) (append_assoc xs (t ∷ ys) (z ∷ []))
-        ∙ following-skip xs (ys ++ z ∷ []) back t (λ y i. h y (inr i))
-        ∙ ap (λ (r : List (Taken N F S)). following m r back) (sym (append_assoc xs ys (z ∷ [])))
+      ap (λ (r : List (Taken N F S)). following m r back) (append_assoc xs (t ∷ ys) (z ∷ []))
+      ∙ following-skip xs (ys ++ z ∷ []) back t (λ y i. h y (inr i))
+      ∙ ap (λ (r : List (Taken N F S)). following m r back) (sym (append_assoc xs ys (z ∷ [])))
       )))
       (λ k. rw (e, k) (following-skip xs ys back t (λ y i. h y (inr i))))
 

@@ -1,7 +1,8 @@
 -- Arrangements of a run.
-use Rattle.std.proofs.Common.{◌≡◌, ℕ, ◌+◌, Bool, true, false, List, [], ◌∷◌, ◌++◌, map, length, length-append, arith, refl, ap, ap₂, sym, subst, ◌∙◌, inl, inr, Some}
-use Rattle.trace_theory.specs.Traces.{Machine, Taken, In, Before, names_of, run, needs, IsRun, IsReached, IsArrangement, IsLawful, HasNames, ArrangementsAgree}
-use Rattle.trace_theory.proofs.Lists.{by_bool, In-front, In-back, In-split, In-others, In-middle, here, Before-first, Before-second, Before-across, Before-others, not_among_others}
+use Rattle.std.proofs.Common.{◌≡◌, ◌+◌, true, false, List, [], ◌∷◌, ◌++◌, length, length-append, arith, refl, ap, ap₂, sym, subst, ◌∙◌, inl, inr, Some}
+use Rattle.trace_theory.specs.Traces.{Machine, Taken, In, Before, names_of, run, needs, IsArrangement, IsLawful, HasNames, ArrangementsAgree}
+use Rattle.trace_theory.specs.Footprints.{IsReached}
+use Rattle.trace_theory.proofs.Lists.{by_bool, In-others, In-middle, here, Before-first, Before-second, Before-across, Before-others, not_among_others}
 use Rattle.trace_theory.proofs.Runs.{Runs, from_run, to_run, reached_next, reached_here}
 use Rattle.trace_theory.proofs.Commuting.{to_front}
 use Rattle.trace_theory.proofs.Least.{Once, never_twice, one_step, Once-others}
@@ -57,17 +58,19 @@ module _ {W N F S : Type 0} (m : Machine W N F S) (base : W) (names : HasNames m
     where
       twice : In n ns → ⊥
       twice i = let f = a.once n n (inl (refl, i)) in let g = names.itself n in cc
+
       clash : (y : Taken N F S) → Before y.step t.step (n ∷ ns) → ⊥
       clash y (inl b) = twice (subst (λ (x : N). In x ns) e b.1)
       clash y (inr b) = twice (subst (λ (x : N). In x ns) e (Before-second y.step t.step ns b))
+
       first : (x : Taken N F S) → In x (front ++ back) → x.step ≡ n → ⊥
       first x i f = alone x i (f ∙ sym e)
         where
           alone : (x : Taken N F S) → In x (front ++ back) → x.step ≡ t.step → ⊥
           alone x i f =
-            let same : m.is_same t.step x.step ≡ true = ap (λ (y : N). m.is_same t.step y) f ∙ names.itself t.step in
-            let g = one_step m base names (front ++ t ∷ back) once t x (here t front back) (In-others x t front back i) same in
-            not_among_others t front back (never_twice m base names (front ++ t ∷ back) once) (subst (λ (z : Taken N F S). In z (front ++ back)) (sym g) i)
+              let same : m.is_same t.step x.step ≡ true = ap (λ (y : N). m.is_same t.step y) f ∙ names.itself t.step in
+              let g = one_step m base names (front ++ t ∷ back) once t x (here t front back) (In-others x t front back i) same in
+              not_among_others t front back (never_twice m base names (front ++ t ∷ back) once) (subst (λ (z : Taken N F S). In z (front ++ back)) (sym g) i)
 
   no_more : (ts : List (Taken N F S)) → 0 ≡ length ts → ts ≡ []
   no_more [] e = refl

@@ -1,18 +1,17 @@
 -- The small machine is lawful, and its runs have each name once.
 use Rattle.std.proofs.Common.{◌≡◌, ℕ, ◌+◌, ◌-◌, ◌≤◌, ◌==◌, Bool, true, false, cond, List, [], ◌∷◌, ◌++◌, arith, refl, ap, ap₂, sym, subst, ◌∙◌, inl, inr, Option, None, Some}
-use Rattle.std.specs.Prelude.{◌⊎◌, ◌&&◌, ◌||◌, option_map, option_and_then}
+use Rattle.std.specs.Prelude.{◌⊎◌, ◌&&◌, ◌||◌, option_and_then}
 use Rattle.std.proofs.Math.Path.{fun_ext}
 use Rattle.std.proofs.lemmas.Bool.{eqb-true}
-use Rattle.std.proofs.lemmas.Option.{same_Some}
-use Rattle.trace_theory.specs.Traces.{Machine, IsReached, IsLawful, HasNames}
-use Rattle.trace_theory.specs.Footprints.{HasFootprints}
-use Rattle.trace_theory.specs.Counters.{Phase, ready, parked, done, Frame, World, Act, reads, writes, forks, joins, ends, Step, is_fork, is_join, same_thread, is_under, makes, closes, reaches, below, conflict, writes_counter, touches_counter, depends, can, is_ready, is_parked, seen, branch, Cell, frame_at, counter_at, Content, a_frame, a_number, at, Plan, plan, plan_by, carried_out, touched, written, held_after, counter_plans, start, first_frame, Saved, saved, counter_before, undo, counters, CountersAreLawful, CountersHaveNames}
+use Rattle.trace_theory.specs.Traces.{}
+use Rattle.trace_theory.specs.Footprints.{IsReached, HasFootprints}
+use Rattle.trace_theory.specs.Counters.{Frame, World, Act, reads, writes, forks, joins, ends, Step, is_join, same_thread, is_under, makes, closes, reaches, conflict, writes_counter, touches_counter, depends, seen, branch, Cell, frame_at, counter_at, a_frame, a_number, at, Plan, plan, plan_by, carried_out, touched, written, held_after, counter_plans, start, Saved, saved, counter_before, undo, counters, CountersAreLawful, CountersHaveNames}
 use Rattle.trace_theory.proofs.Lists.{by_bool}
 use Rattle.trace_theory.proofs.Runs.{map_some, reached_good}
 use Rattle.trace_theory.proofs.Planned.{plans_are_lawful}
 use Rattle.trace_theory.proofs.Names.{names_once}
-use Rattle.trace_theory.proofs.CounterPaths.{both, either, neither, itself, same_thread-true, thread_itself, never_under_itself, under_under, branch_is_under, over_one}
-use Rattle.trace_theory.proofs.CounterWorlds.{Planned, planned, frame_own, frame_reached, frame_other, reached, born, Good, ParkedAt, start_good, same_frame, none_yet, good_after, good_kept}
+use Rattle.trace_theory.proofs.CounterPaths.{both, either, neither, itself, same_thread-true, thread_itself, under_under, branch_is_under, over_one}
+use Rattle.trace_theory.proofs.CounterWorlds.{Planned, planned, frame_own, frame_reached, frame_other, reached, born, Good, start_good, same_frame, none_yet, good_after, good_kept}
 
 good : (w : World) → IsReached counters start w → Good w
 good w r = reached_good counters Good start start_good (λ w v s f. good_kept w v s f) w r
@@ -73,12 +72,12 @@ module _ (w x : World) where
       let v = seen_same s.act counter in
       let c = before_same s.act counter in
       let j : (λ q. cond (closes s q) (x.frames q) None) ≡ (λ q. cond (closes s q) (w.frames q) None) =
-        fun_ext (λ q. by_bool (closes s q) (cond (closes s q) (x.frames q) None ≡ cond (closes s q) (w.frames q) None) (λ k. rw k (under q k)) (λ k. rw k refl)) in (
+      fun_ext (λ q. by_bool (closes s q) (cond (closes s q) (x.frames q) None ≡ cond (closes s q) (w.frames q) None) (λ k. rw k (under q k)) (λ k. rw k refl)) in (
         ap (λ (value : ℕ). option_and_then (plan_by s value (branch x s.act s.thread s.no 0) (branch x s.act s.thread s.no 1)) (x.frames s.thread)) v
-        ∙ ap₂ (λ (a b : Option Frame). option_and_then (plan_by s (seen w s.act) a b) (x.frames s.thread)) b0 b1
-        ∙ ap (option_and_then (plan_by s (seen w s.act) (branch w s.act s.thread s.no 0) (branch w s.act s.thread s.no 1))) own,
+            ∙ ap₂ (λ (a b : Option Frame). option_and_then (plan_by s (seen w s.act) a b) (x.frames s.thread)) b0 b1
+            ∙ ap (option_and_then (plan_by s (seen w s.act) (branch w s.act s.thread s.no 0) (branch w s.act s.thread s.no 1))) own,
         ap₂ (λ (f : Option Frame) (n : ℕ). let r : Saved = record { frame = f; counter = n; joined = λ q. cond (closes s q) (x.frames q) None } in r) own c
-        ∙ ap (λ (g : List (ℕ × ℕ) → Option Frame). let r : Saved = record { frame = w.frames s.thread; counter = counter_before w s.act; joined = g } in r) j,
+            ∙ ap (λ (g : List (ℕ × ℕ) → Option Frame). let r : Saved = record { frame = w.frames s.thread; counter = counter_before w s.act; joined = g } in r) j,
       )
 
 or_left : (b c : Bool) → b ≡ true → (b || c) ≡ true
@@ -92,9 +91,9 @@ local : (w x : World) (s : Step) (d : Plan) → IsReached counters start w → p
 local w x s d r h a =
     let e = (planned w s d h).0 in
     let k = seen_alike w x d.step
-        (a_frame_is (x.frames d.step.thread) (w.frames d.step.thread) (a (frame_at d.step.thread) (or_left (same_thread d.step.thread d.step.thread) (reaches d.step d.step.thread) (thread_itself d.step.thread))))
-        (λ n t. a_number_is (x.counters n) (w.counters n) (a (counter_at n) t))
-        (λ q t. a_frame_is (x.frames q) (w.frames q) (a (frame_at q) (or_right (same_thread d.step.thread q) (reaches d.step q) (or_right (makes d.step q) (closes d.step q) t)))) in
+    (a_frame_is (x.frames d.step.thread) (w.frames d.step.thread) (a (frame_at d.step.thread) (or_left (same_thread d.step.thread d.step.thread) (reaches d.step d.step.thread) (thread_itself d.step.thread))))
+    (λ n t. a_number_is (x.counters n) (w.counters n) (a (counter_at n) t))
+    (λ q t. a_frame_is (x.frames q) (w.frames q) (a (frame_at q) (or_right (same_thread d.step.thread q) (reaches d.step q) (or_right (makes d.step q) (closes d.step q) t)))) in
     (subst (λ (z : Step). plan x z ≡ plan w z) e k.0 ∙ h, k.1)
 
 restores : (w u : World) (s : Step) (d : Plan) (c : Cell) → IsReached counters start w → plan w s ≡ Some d → at (undo u d.step (saved w d.step)) c ≡ cond (written d c) (at w c) (at u c)
@@ -102,10 +101,10 @@ restores w u s d (frame_at q) r h =
     by_bool (same_thread d.step.thread q) _
     (λ k. rw k (ap (λ (p : List (ℕ × ℕ)). a_frame (w.frames p)) (same_thread-true d.step.thread q k)))
     (λ k. by_bool (closes d.step q) _
-      (λ j. let i = or_right (makes d.step q) (closes d.step q) j in rw (k, i, j) refl)
-      (λ j. by_bool (makes d.step q) _
-        (λ i. rw (k, i, j) (ap a_frame (sym (nothing q i (w.frames q) refl))))
-        (λ i. rw (k, i, j) refl)))
+    (λ j. let i = or_right (makes d.step q) (closes d.step q) j in rw (k, i, j) refl)
+    (λ j. by_bool (makes d.step q) _
+    (λ i. rw (k, i, j) (ap a_frame (sym (nothing q i (w.frames q) refl))))
+    (λ i. rw (k, i, j) refl)))
   where
     nothing : (q : List (ℕ × ℕ)) → makes d.step q ≡ true → (o : Option Frame) → w.frames q ≡ o → w.frames q ≡ None
     nothing q i None e = e
@@ -156,32 +155,33 @@ module _ (w : World) (d e : Plan) (first : Planned w d) (second : Planned (carri
   -- the later doesn't reach the earlier one's thread: a join by independence, and a fork is of no thread that is parked there
   not_backward : reaches e.step d.step.thread ≡ true → ⊥
   not_backward h = elim (either (makes e.step d.step.thread) (closes e.step d.step.thread) h) [
-    inl k ↦ none_yet (carried_out w d) e d.step.thread d.frame fine second k (frame_own w d d.step.thread (thread_itself d.step.thread))
+    | inl k ↦ none_yet (carried_out w d) e d.step.thread d.frame fine second k (frame_own w d d.step.thread (thread_itself d.step.thread))
     | inr k ↦ (let f = no_closed in cc)
   ]
 
   apart_at : (q : List (ℕ × ℕ)) → (same_thread d.step.thread q || reaches d.step q) ≡ true → (same_thread e.step.thread q || reaches e.step q) ≡ true → ⊥
   apart_at q h k = elim (either (same_thread d.step.thread q) (reaches d.step q) h) [
-    inl a ↦ elim (either (same_thread e.step.thread q) (reaches e.step q) k) [
-      inl b ↦ same_one (same_thread-true d.step.thread q a ∙ sym (same_thread-true e.step.thread q b))
+    | inl a ↦ elim (either (same_thread e.step.thread q) (reaches e.step q) k) [
+      | inl b ↦ same_one (same_thread-true d.step.thread q a ∙ sym (same_thread-true e.step.thread q b))
       | inr b ↦ not_backward (subst (λ p. reaches e.step p ≡ true) (sym (same_thread-true d.step.thread q a)) b)
     ]
     | inr a ↦ elim (either (same_thread e.step.thread q) (reaches e.step q) k) [
-      inl b ↦ not_forward (subst (λ p. reaches d.step p ≡ true) (sym (same_thread-true e.step.thread q b)) a)
+      | inl b ↦ not_forward (subst (λ p. reaches d.step p ≡ true) (sym (same_thread-true e.step.thread q b)) a)
       | inr b ↦ both_over a b
     ]
   ]
     where
       same_one : d.step.thread ≡ e.step.thread → ⊥
       same_one f = let g = ap (same_thread d.step.thread) (sym f) ∙ thread_itself d.step.thread in let i = no_thread in cc
+
       both_over : reaches d.step q ≡ true → reaches e.step q ≡ true → ⊥
       both_over a b =
-        let r = reached d.step q a in
-        let s = reached e.step q b in
-        elim (over_one d.step.thread e.step.thread q r.fork s.fork r.under s.under) [
-          inl f ↦ same_one f
-          | inr o ↦ elim o [ inl u ↦ not_forward (r.all e.step.thread u) | inr u ↦ not_backward (s.all d.step.thread u) ]
-        ]
+          let r = reached d.step q a in
+          let s = reached e.step q b in
+          elim (over_one d.step.thread e.step.thread q r.fork s.fork r.under s.under) [
+            | inl f ↦ same_one f
+            | inr o ↦ elim o [ inl u ↦ not_forward (r.all e.step.thread u) | inr u ↦ not_backward (s.all d.step.thread u) ]
+          ]
 
   apart_frames : (q : List (ℕ × ℕ)) → ((same_thread d.step.thread q || reaches d.step q) ≡ true → (same_thread e.step.thread q || reaches e.step q) ≡ false) × ((same_thread e.step.thread q || reaches e.step q) ≡ true → (same_thread d.step.thread q || reaches d.step q) ≡ false)
   apart_frames q = (
@@ -234,8 +234,8 @@ module _ (w : World) (d : Plan) (fine : Good w) (p : Planned w d) where
       by_bool (same_thread d.step.thread t) _
       (λ k. let g = ap (λ (x : Frame). x.count) (same_frame w d.step.thread p.before f p.stands (subst (λ q. w.frames q ≡ Some f) (sym (same_thread-true d.step.thread t k)) h)) in inl (d.frame, frame_own w d t k, omega (arith, p.count, p.numbered, g)))
       (λ k. by_bool (reaches d.step t) _
-        (λ j. elim (either (makes d.step t) (closes d.step t) j) [ inl i ↦ absurd (none_yet w d t f fine p i h) | inr i ↦ inr (both (is_join d.step.act) (is_under d.step.thread (d.step.no - 1) t) i).1 ])
-        (λ j. inl (f, frame_other w d t k j ∙ h, omega arith)))
+      (λ j. elim (either (makes d.step t) (closes d.step t) j) [ inl i ↦ absurd (none_yet w d t f fine p i h) | inr i ↦ inr (both (is_join d.step.act) (is_under d.step.thread (d.step.no - 1) t) i).1 ])
+      (λ j. inl (f, frame_other w d t k j ∙ h, omega arith)))
 
   closed : (s : Step) → is_under d.step.thread (d.step.no - 1) s.thread ≡ true → Was (carried_out w d) s
   closed s u = behind d.step.thread (d.step.no - 1) d.frame u (frame_own w d d.step.thread (thread_itself d.step.thread)) (omega (arith, p.count, p.numbered))
@@ -257,14 +257,14 @@ counters_have_names = record {
   itself = λ n. let a = thread_itself n.thread in let b = itself n.no in rw (a, b);
   alike = λ a b h. alike a b h;
   once = names_once counters start Was
-    (λ w v n k f r h was. by_bool (counters.is_same k n) _ (λ e. let p = plan_taken w v n f h in let q = planned w n p.0 p.1 in absurd (new w p.0 (good w r) q.1 k was (subst (λ s. counters.is_same k s ≡ true) (sym q.0) e))) (λ e. e))
-    (λ w v n f r h. let p = plan_taken w v n f h in let q = planned w n p.0 p.1 in subst (λ s. Was v s) q.0 (subst (λ x. Was x p.0.step) p.2 (marked w p.0 (good w r) q.1)))
-    (λ w v n k f r h was. let p = plan_taken w v n f h in let q = planned w n p.0 p.1 in subst (λ x. Was x k) p.2 (stays w p.0 (good w r) q.1 k was));
+      (λ w v n k f r h was. by_bool (counters.is_same k n) _ (λ e. let p = plan_taken w v n f h in let q = planned w n p.0 p.1 in absurd (new w p.0 (good w r) q.1 k was (subst (λ s. counters.is_same k s ≡ true) (sym q.0) e))) (λ e. e))
+      (λ w v n f r h. let p = plan_taken w v n f h in let q = planned w n p.0 p.1 in subst (λ s. Was v s) q.0 (subst (λ x. Was x p.0.step) p.2 (marked w p.0 (good w r) q.1)))
+      (λ w v n k f r h was. let p = plan_taken w v n f h in let q = planned w n p.0 p.1 in subst (λ x. Was x k) p.2 (stays w p.0 (good w r) q.1 k was));
 }
   where
     alike : (a b : Step) → (same_thread a.thread b.thread && (a.no == b.no)) ≡ true → (same_thread b.thread a.thread && (b.no == a.no)) ≡ true
     alike a b h =
-      let k = both (same_thread a.thread b.thread) (a.no == b.no) h in
-      let e = thread_alike a.thread b.thread k.0 in
-      let f : (b.no == a.no) ≡ true = ap (λ (n : ℕ). b.no == n) (eqb-true a.no b.no k.1) ∙ itself b.no in
-      rw (e, f)
+        let k = both (same_thread a.thread b.thread) (a.no == b.no) h in
+        let e = thread_alike a.thread b.thread k.0 in
+        let f : (b.no == a.no) ≡ true = ap (λ (n : ℕ). b.no == n) (eqb-true a.no b.no k.1) ∙ itself b.no in
+        rw (e, f)

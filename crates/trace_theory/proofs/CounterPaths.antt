@@ -1,5 +1,5 @@
 -- How the threads of the small machine lie under each other's forks.
-use Rattle.std.proofs.Common.{◌≡◌, ℕ, ◌+◌, ◌-◌, ◌==◌, Bool, true, false, List, [], ◌∷◌, ◌++◌, refl, ap, ap₂, sym, subst, ◌∙◌, inl, inr, eq-eqb}
+use Rattle.std.proofs.Common.{◌≡◌, ℕ, ◌==◌, Bool, true, false, List, [], ◌∷◌, ◌++◌, refl, ap, ap₂, sym, ◌∙◌, inl, inr, eq-eqb}
 use Rattle.std.specs.Prelude.{◌⊎◌, ◌&&◌, ◌||◌}
 use Rattle.std.proofs.lemmas.Bool.{eqb-true}
 use Rattle.trace_theory.specs.Counters.{same_branch, same_thread, is_under}
@@ -64,7 +64,7 @@ above_branch [] (b ∷ q) n k i h = inr h
 above_branch (a ∷ p) (b ∷ q) n k i h =
     let e = both (same_branch a b) (is_under p n (q ++ (k, i) ∷ [])) h in
     elim (above_branch p q n k i e.1) [
-      inl f ↦ inl (ap₂ (λ (x : ℕ × ℕ) (xs : List (ℕ × ℕ)). x ∷ xs) (same_branch-true a b e.0) f.0, f.1)
+      | inl f ↦ inl (ap₂ (λ (x : ℕ × ℕ) (xs : List (ℕ × ℕ)). x ∷ xs) (same_branch-true a b e.0) f.0, f.1)
       | inr f ↦ inr (let g = e.0 in rw (g, f))
     ]
 
@@ -82,6 +82,6 @@ over_one (a ∷ p) (b ∷ q) (c ∷ r) n k h g =
     let ab : same_branch a b ≡ true = ap (same_branch a) (sym first) ∙ branch_itself a in
     let ba : same_branch b a ≡ true = ap (same_branch b) first ∙ branch_itself b in
     elim (over_one p q r n k e.1 f.1) [
-      inl d ↦ inl (ap₂ (λ (x : ℕ × ℕ) (xs : List (ℕ × ℕ)). x ∷ xs) first d)
+      | inl d ↦ inl (ap₂ (λ (x : ℕ × ℕ) (xs : List (ℕ × ℕ)). x ∷ xs) first d)
       | inr d ↦ elim d [ inl d ↦ inr (inl (rw (ab, d))) | inr d ↦ inr (inr (rw (ba, d))) ]
     ]

@@ -1,9 +1,9 @@
 -- What holds in each world that the small machine reaches: a thread stands under a fork only while the fork's thread is parked there.
-use Rattle.std.proofs.Common.{◌≡◌, ℕ, ◌+◌, ◌-◌, ◌≤◌, ◌==◌, Bool, true, false, cond, List, [], ◌∷◌, ◌++◌, arith, refl, ap, ap₂, sym, subst, ◌∙◌, inl, inr, Option, None, Some}
-use Rattle.std.specs.Prelude.{◌⊎◌, ◌&&◌, ◌||◌, option_map}
+use Rattle.std.proofs.Common.{◌≡◌, ℕ, ◌+◌, ◌-◌, ◌==◌, Bool, true, false, cond, List, [], ◌∷◌, ◌++◌, arith, refl, ap, sym, subst, ◌∙◌, inl, inr, Option, None, Some}
+use Rattle.std.specs.Prelude.{◌&&◌, ◌||◌}
 use Rattle.std.proofs.lemmas.Bool.{eqb-true}
 use Rattle.std.proofs.lemmas.Option.{same_Some}
-use Rattle.trace_theory.specs.Counters.{Phase, ready, parked, done, Frame, World, Act, reads, writes, forks, joins, ends, Step, is_fork, is_join, same_thread, is_under, makes, closes, reaches, below, can, is_ready, is_parked, phase_after, value_after, seen, branch, Plan, plan, plan_by, carried_out, start, first_frame, counters}
+use Rattle.trace_theory.specs.Counters.{Phase, ready, parked, done, Frame, World, Act, reads, writes, forks, joins, ends, Step, is_fork, is_join, same_thread, is_under, makes, closes, reaches, below, can, is_ready, is_parked, phase_after, seen, branch, Plan, plan, plan_by, carried_out, start, first_frame, counters}
 use Rattle.trace_theory.proofs.Lists.{by_bool}
 use Rattle.trace_theory.proofs.Runs.{and_then_some, map_some}
 use Rattle.trace_theory.proofs.CounterPaths.{both, either, same_thread-true, thread_itself, never_under_itself, under_under, above_branch}
@@ -76,7 +76,7 @@ pub record Reached (s : Step) (q : List (ℕ × ℕ)) : Type 0 where
 
 pub reached : (s : Step) (q : List (ℕ × ℕ)) → reaches s q ≡ true → Reached s q
 reached s q h = elim (either (makes s q) (closes s q) h) [
-  inl k ↦ (let e = both (is_fork s.act) (is_under s.thread s.no q) k in let f = e.0 in record { fork = s.no; under = e.1; all = λ r g. rw (f, g) })
+  | inl k ↦ (let e = both (is_fork s.act) (is_under s.thread s.no q) k in let f = e.0 in record { fork = s.no; under = e.1; all = λ r g. rw (f, g) })
   | inr k ↦ (let e = both (is_join s.act) (is_under s.thread (s.no - 1) q) k in let f = e.0 in record { fork = s.no - 1; under = e.1; all = λ r g. rw (f, g) (last (makes s r)) })
 ]
   where
@@ -94,7 +94,7 @@ born s q f h =
     let k = if_some (is_fork s.act && (same_thread (s.thread ++ (s.no, 0) ∷ []) q || same_thread (s.thread ++ (s.no, 1) ∷ []) q)) first_frame f h in
     let e = both (is_fork s.act) _ k.0 in
     elim (either (same_thread (s.thread ++ (s.no, 0) ∷ []) q) (same_thread (s.thread ++ (s.no, 1) ∷ []) q) e.1) [
-      inl g ↦ record { forked = e.0; number = 0; place = same_thread-true (s.thread ++ (s.no, 0) ∷ []) q g }
+      | inl g ↦ record { forked = e.0; number = 0; place = same_thread-true (s.thread ++ (s.no, 0) ∷ []) q g }
       | inr g ↦ record { forked = e.0; number = 1; place = same_thread-true (s.thread ++ (s.no, 1) ∷ []) q g }
     ]
 
@@ -115,6 +115,7 @@ start_good = record { over = λ t q n f u h. absurd (root t q n f u h) }
     nothing_over : (t : List (ℕ × ℕ)) (n : ℕ) → is_under t n [] ≡ true → ⊥
     nothing_over [] n h = cc
     nothing_over (a ∷ t) n h = cc
+
     root : (t q : List (ℕ × ℕ)) (n : ℕ) (f : Frame) → is_under t n q ≡ true → start.frames q ≡ Some f → ⊥
     root t q n f u h = nothing_over t n (subst (λ r. is_under t n r ≡ true) (sym (same_thread-true [] q (if_some (same_thread [] q) first_frame f h).0)) u)
 
@@ -135,6 +136,7 @@ stays_over w d t n p u a = record { frame = a.frame; stands = frame_other w d t 
   where
     apart : same_thread d.step.thread t ≡ false
     apart = by_bool (same_thread d.step.thread t) _ (λ k. absurd (never_under_itself t n (subst (λ r. is_under t n r ≡ true) (same_thread-true d.step.thread t k) u))) (λ k. k)
+
     unreached : reaches d.step t ≡ false
     unreached = by_bool (reaches d.step t) _ (λ k. let r = reached d.step t k in absurd (never_under_itself d.step.thread r.fork (under_under d.step.thread t d.step.thread r.fork n r.under u))) (λ k. k)
 
@@ -156,21 +158,22 @@ good_after w d good p = record { over = over }
   where
     untouched : (t q : List (ℕ × ℕ)) (n : ℕ) → reaches d.step q ≡ false → is_under t n q ≡ true → ParkedAt w t n → ParkedAt (carried_out w d) t n
     untouched t q n out u a =
-      by_bool (same_thread d.step.thread t) _
-      (λ k. let r = closes_it w d t q n p (same_thread-true d.step.thread t k) a u in absurd (cc))
-      (λ k. by_bool (reaches d.step t) _
+        by_bool (same_thread d.step.thread t) _
+        (λ k. let r = closes_it w d t q n p (same_thread-true d.step.thread t k) a u in absurd (cc))
+        (λ k. by_bool (reaches d.step t) _
         (λ j. let r = reached d.step t j in let x = r.all q (under_under d.step.thread t q r.fork n r.under u) in absurd (cc))
         (λ j. record { frame = a.frame; stands = frame_other w d t k j ∙ a.stands; count = a.count; waits = a.waits }))
+
     over : (t q : List (ℕ × ℕ)) (n : ℕ) (f : Frame) → is_under t n q ≡ true → (carried_out w d).frames q ≡ Some f → ParkedAt (carried_out w d) t n
     over t q n f u h =
-      by_bool (same_thread d.step.thread q) _
-      (λ k. let v = subst (λ r. is_under t n r ≡ true) (sym (same_thread-true d.step.thread q k)) u in stays_over w d t n p v (good.over t d.step.thread n p.before v p.stands))
-      (λ k. by_bool (reaches d.step q) _
+        by_bool (same_thread d.step.thread q) _
+        (λ k. let v = subst (λ r. is_under t n r ≡ true) (sym (same_thread-true d.step.thread q k)) u in stays_over w d t n p v (good.over t d.step.thread n p.before v p.stands))
+        (λ k. by_bool (reaches d.step q) _
         (λ j. let b = born d.step q f (sym (frame_reached w d q k j) ∙ h) in
-          elim (above_branch t d.step.thread n d.step.no b.number (subst (λ r. is_under t n r ≡ true) (sym b.place) u)) [
-            inl e ↦ record { frame = d.frame; stands = ap (carried_out w d).frames e.0 ∙ frame_own w d d.step.thread (thread_itself d.step.thread); count = p.count ∙ sym e.1; waits = ap is_parked p.phase ∙ fork_parks d.step.act b.forked }
-            | inr v ↦ stays_over w d t n p v (good.over t d.step.thread n p.before v p.stands)
-          ])
+        elim (above_branch t d.step.thread n d.step.no b.number (subst (λ r. is_under t n r ≡ true) (sym b.place) u)) [
+          | inl e ↦ record { frame = d.frame; stands = ap (carried_out w d).frames e.0 ∙ frame_own w d d.step.thread (thread_itself d.step.thread); count = p.count ∙ sym e.1; waits = ap is_parked p.phase ∙ fork_parks d.step.act b.forked }
+          | inr v ↦ stays_over w d t n p v (good.over t d.step.thread n p.before v p.stands)
+        ])
         (λ j. untouched t q n j u (good.over t q n f u (sym (frame_other w d q k j) ∙ h))))
 
 pub good_kept : (w v : World) (s f : Step) → Good w → counters.take w s ≡ Some (v, f) → Good v

@@ -1,9 +1,9 @@
 -- What is left of held consequences, as steps are taken and undone.
-use Rattle.std.proofs.Common.{◌≡◌, ℕ, ◌+◌, Bool, true, false, cond, List, [], ◌∷◌, ◌++◌, length, arith, refl, ap, sym, subst, ◌∙◌, inl, inr}
+use Rattle.std.proofs.Common.{◌≡◌, ◌+◌, Bool, true, false, List, [], ◌∷◌, length, arith, refl, ap, sym, subst, ◌∙◌}
 use Rattle.std.specs.Prelude.{not, ◌&&◌}
-use Rattle.trace_theory.specs.Traces.{Machine, Taken, Event, takes, undoes, Moment, In, Before, names_of, needs, is_among, without, after, IsFree, IsRun, held, left, next, later, MayHappen, MayFollow, lowered, IsLowered, IsLeft, IsLawful, HasNames, HeldIsLeft}
+use Rattle.trace_theory.specs.Traces.{Machine, Taken, Event, takes, undoes, Moment, In, names_of, needs, is_among, without, IsFree, IsRun, left, next, later, MayHappen, MayFollow, lowered, IsLeft, IsLawful, HasNames, HeldIsLeft, after}
 use Rattle.trace_theory.proofs.Lists.{by_bool, In-front, In-filter, place, filter-all, one_any, any_one}
-use Rattle.trace_theory.proofs.Least.{Once, not_backward, one_step, without_one, least_of, after-ordered, after-in, after-more}
+use Rattle.trace_theory.proofs.Least.{Once, not_backward, one_step, without_one, after-ordered, after-in, after-more}
 use Rattle.trace_theory.proofs.Orders.{stays, after-without, only_itself, undo_free}
 use Rattle.trace_theory.proofs.Arranged.{In-names, length-middle}
 
@@ -28,11 +28,11 @@ module _ {W N F S : Type 0} (m : Machine W N F S) (base : W) (names : HasNames m
   left_undone s t now h free =
       by_bool now.is_held _
       (λ k. by_bool (m.is_same s.step t.step) _
-        (λ j. let e : s ≡ t = one_step m base names now.steps (once_now s now h) s t (h.there k) free.0 j in
-          let alone = only_itself m base names now.steps s (once_now s now h) (subst (IsFree m now.steps) (sym e) free) in
-          let back = names.alike s.step t.step j in
-          rw (k, j, alone, back) refl)
-        (λ j. rw (k, j) (after-without m base names now.steps t s.step (once_now s now h) free j)))
+      (λ j. let e : s ≡ t = one_step m base names now.steps (once_now s now h) s t (h.there k) free.0 j in
+      let alone = only_itself m base names now.steps s (once_now s now h) (subst (IsFree m now.steps) (sym e) free) in
+      let back = names.alike s.step t.step j in
+      rw (k, j, alone, back) refl)
+      (λ j. rw (k, j) (after-without m base names now.steps t s.step (once_now s now h) free j)))
       (λ k. rw k refl)
 
   pub left_taken : (s t : Taken N F S) (now : Moment N F S) → Stands s now → ((x : Taken N F S) → In x (left m s.step now) → needs m x t ≡ false) → left m s.step (next m s.step now (takes t)) ≡ left m s.step now
@@ -52,15 +52,8 @@ module _ {W N F S : Type 0} (m : Machine W N F S) (base : W) (names : HasNames m
     where
       kept : (y : Taken N F S) → In y (left m s.step now) → not (is_among m (t ∷ []) y) ≡ true
       kept y i = by_bool (m.is_same t.step y.step) _
-        (λ k. absurd (out (subst (λ (z : Taken N F S). In z (left m s.step now)) (sym (one_step m base names now.steps (once_now s now h) t y free.0 (left-in s.step now y i) k)) i)))
-        (λ k. rw k refl)
-
-  lowers_now : (s : Taken N F S) (now : Moment N F S) → Stands s now → IsLowered m base s.step now
-  lowers_now s now h = record {
-    by_step = λ t may. left_taken s t now h may.1;
-    by_member = λ t free i. left_member s t now h free i;
-    by_other = λ t free out. left_other s t now h free out;
-  }
+          (λ k. absurd (out (subst (λ (z : Taken N F S). In z (left m s.step now)) (sym (one_step m base names now.steps (once_now s now h) t y free.0 (left-in s.step now y i) k)) i)))
+          (λ k. rw k refl)
 
   among_left : (s t : Taken N F S) (now : Moment N F S) → Stands s now → IsFree m now.steps t → is_among m (left m s.step now) t ≡ true → In t (left m s.step now)
   among_left s t now h free e =
@@ -84,21 +77,32 @@ module _ {W N F S : Type 0} (m : Machine W N F S) (base : W) (names : HasNames m
     }
 
     left_later : (s : Taken N F S) (es : List (Event N F S)) (now : Moment N F S) → Stands s now → MayFollow m base s.step now es → IsLeft m base (left m s.step now) s.step (later m s.step now es) (lowered m s.step now es)
-    left_later s [] now h may = record { lowers = lowers_now s now h; inside = λ x i. i; counted = omega arith; gone = gone_now s now h }
+    left_later s [] now h may = record {
+      inside = λ x i. i;
+      counted = omega arith;
+      by_member = λ t free i. left_member s t now h free i;
+      by_other = λ t free out. left_other s t now h free out;
+      by_step = λ t may. left_taken s t now h may.1;
+      gone = gone_now s now h;
+    }
     left_later s (takes t ∷ es) now h may =
         let k = left_later s es (next m s.step now (takes t)) (stands_next s now (takes t) h may.0) may.1 in
         let e = left_taken s t now h may.0.1 in
-        record { lowers = k.lowers; inside = λ x i. subst (In x) e (k.inside x i); counted = k.counted ∙ ap length e; gone = k.gone }
+        record { inside = λ x i. subst (In x) e (k.inside x i); counted = k.counted ∙ ap length e; by_member = k.by_member; by_other = k.by_other; by_step = k.by_step; gone = k.gone }
     left_later s (undoes t ∷ es) now h may =
         let k = left_later s es (next m s.step now (undoes t)) (stands_next s now (undoes t) h may.0) may.1 in
         record {
-          lowers = k.lowers;
           inside = λ x i. (In-filter (λ y. not (is_among m (t ∷ []) y)) (left m s.step now) x (subst (In x) (left_undone s t now h may.0) (k.inside x i))).0;
           counted = by_bool (is_among m (left m s.step now) t) _
-            (λ j. let e = left_member s t now h may.0 (among_left s t now h may.0 j) in let c = k.counted in rw j (omega (arith, e, c)))
-            (λ j. let e = left_other s t now h may.0 (λ i. let f = any_one (λ (x : Taken N F S). m.is_same x.step t.step) (left m s.step now) t i (names.itself t.step) in absurd (cc)) in let l = ap length e in let c = k.counted in rw j (omega (arith, l, c)));
+              (λ j. let e = left_member s t now h may.0 (among_left s t now h may.0 j) in let c = k.counted in rw j (omega (arith, e, c)))
+              (λ j. let e = left_other s t now h may.0 (λ i. let f = any_one (λ (x : Taken N F S). m.is_same x.step t.step) (left m s.step now) t i (names.itself t.step) in absurd (cc)) in let l = ap length e in let c = k.counted in rw j (omega (arith, l, c)));
+          by_member = k.by_member;
+          by_other = k.by_other;
+          by_step = k.by_step;
           gone = k.gone;
         }
 
     pub held_is_left : HeldIsLeft m base
-    held_is_left v ts s es h i may = left_later s es (held m ts) (record { world = v; runs = h; there = λ _. i }) may
+    held_is_left v s now es h i k may =
+        let all : left m s.step now ≡ after m now.steps s.step = rw k refl in
+        subst (λ l. IsLeft m base l s.step (later m s.step now es) (lowered m s.step now es)) all (left_later s es now (record { world = v; runs = h; there = λ _. i }) may)

@@ -1,9 +1,8 @@
 -- The steps after one are the least set of its consequences. Here the names of some steps stand once among them.
-use Rattle.std.proofs.Common.{◌≡◌, Bool, true, false, cond, List, [], ◌∷◌, ◌++◌, map, refl, ap, sym, subst, ◌∙◌, inl, inr, append_assoc}
-use Rattle.std.specs.Prelude.{◌⊎◌, not, ◌||◌, filter}
-use Rattle.std.specs.List.{list_any}
-use Rattle.trace_theory.specs.Traces.{Machine, Taken, In, Before, needs, is_among, without, following, after, IsRun, HasNames, HoldsConsequences, IsLeast, AfterIsLeast}
-use Rattle.trace_theory.proofs.Lists.{by_bool, In-back, In-others, In-filter, place, here, Before-second, Before-back, Before-across, Before-others, Before-filter, compared, behind_place, Before-behind, not_among_others, filter-middle, filter-twice, filter-same, any_one, none_any, one_any}
+use Rattle.std.proofs.Common.{◌≡◌, Bool, true, false, List, [], ◌∷◌, ◌++◌, refl, ap, sym, subst, ◌∙◌, inl, inr, append_assoc}
+use Rattle.std.specs.Prelude.{◌⊎◌, not, filter}
+use Rattle.trace_theory.specs.Traces.{Machine, Taken, In, Before, needs, is_among, without, following, after, HasNames, HoldsConsequences, IsLeast, AfterIsLeast}
+use Rattle.trace_theory.proofs.Lists.{by_bool, In-back, In-others, place, here, Before-back, Before-across, Before-others, Before-filter, compared, behind_place, Before-behind, not_among_others, filter-middle}
 use Rattle.trace_theory.proofs.After.{OneMore, one_more, following-in, following-ordered, following-marked, following-closed, following-least, following-more, following-cut, following-none}
 
 module _ {W N F S : Type 0} (m : Machine W N F S) (base : W) (names : HasNames m base) where
@@ -20,7 +19,7 @@ module _ {W N F S : Type 0} (m : Machine W N F S) (base : W) (names : HasNames m
   -- two of them of one name are one
   pub one_step : (ts : List (Taken N F S)) → Once ts → (x y : Taken N F S) → In x ts → In y ts → m.is_same x.step y.step ≡ true → x ≡ y
   one_step ts once x y i j h = elim (compared x y ts i j) [
-    inl e ↦ e
+    | inl e ↦ e
     | inr c ↦ elim c [ inl b ↦ (let f = once x y b in absurd (cc)) | inr b ↦ (let f = not_backward y.step x.step (once y x b) in absurd (cc)) ]
   ]
 
@@ -44,8 +43,8 @@ module _ {W N F S : Type 0} (m : Machine W N F S) (base : W) (names : HasNames m
     where
       other : (y : Taken N F S) → In y (front ++ back) → m.is_same t.step y.step ≡ false
       other y i = by_bool (m.is_same t.step y.step) (m.is_same t.step y.step ≡ false)
-        (λ k. absurd (not_among_others t front back (never_twice (front ++ t ∷ back) once) (subst (λ (z : Taken N F S). In z (front ++ back)) (sym (one_step (front ++ t ∷ back) once t y (here t front back) (In-others y t front back i) k)) i)))
-        (λ k. k)
+          (λ k. absurd (not_among_others t front back (never_twice (front ++ t ∷ back) once) (subst (λ (z : Taken N F S). In z (front ++ back)) (sym (one_step (front ++ t ∷ back) once t y (here t front back) (In-others y t front back i) k)) i)))
+          (λ k. k)
 
   -- ---- after, where its step stands
 
@@ -69,25 +68,29 @@ module _ {W N F S : Type 0} (m : Machine W N F S) (base : W) (names : HasNames m
       of_them : (x : Taken N F S) → In x (s ∷ following m (s ∷ []) back) → In x (front ++ s ∷ back)
       of_them x (inl e) = In-back x front (s ∷ back) (inl e)
       of_them x (inr i) = In-back x front (s ∷ back) (inr (following-in m (s ∷ []) back x i))
+
       twice : (z : Taken N F S) → Before z z (front ++ s ∷ back) → ⊥
       twice = never_twice (front ++ s ∷ back) once
+
       twice_back : (z : Taken N F S) → Before z z (s ∷ back) → ⊥
       twice_back z b = twice z (Before-back z z front (s ∷ back) b)
+
       closed : (x y : Taken N F S) → Before x y (front ++ s ∷ back) → In x (s ∷ following m (s ∷ []) back) → needs m x y ≡ true → In y (s ∷ following m (s ∷ []) back)
       closed x y b (inl e) d =
-        let b' : Before s y (front ++ s ∷ back) = subst (λ (z : Taken N F S). Before z y (front ++ s ∷ back)) e b in
-        inr (following-marked m (s ∷ []) back s y (inl refl) (behind_place s y front back twice b') (ap (λ (z : Taken N F S). needs m z y) (sym e) ∙ d))
+          let b' : Before s y (front ++ s ∷ back) = subst (λ (z : Taken N F S). Before z y (front ++ s ∷ back)) e b in
+          inr (following-marked m (s ∷ []) back s y (inl refl) (behind_place s y front back twice b') (ap (λ (z : Taken N F S). needs m z y) (sym e) ∙ d))
       closed x y b (inr i) d =
-        let j = following-in m (s ∷ []) back x i in
-        let b' = Before-behind x y front (s ∷ back) twice (inr j) b in
-        let b'' = Before-behind x y (s ∷ []) back twice_back j b' in
-        inr (following-closed m (s ∷ []) back x y (λ z c. twice_back z (inr c)) b'' i d)
+          let j = following-in m (s ∷ []) back x i in
+          let b' = Before-behind x y front (s ∷ back) twice (inr j) b in
+          let b'' = Before-behind x y (s ∷ []) back twice_back j b' in
+          inr (following-closed m (s ∷ []) back x y (λ z c. twice_back z (inr c)) b'' i d)
+
       least : (other : List (Taken N F S)) → HoldsConsequences m (front ++ s ∷ back) s other → (x : Taken N F S) → In x (s ∷ following m (s ∷ []) back) → In x other
       least other h x (inl e) = subst (λ (z : Taken N F S). In z other) (sym e) h.itself
       least other h x (inr i) = following-least m other (s ∷ []) back
-        (λ z a. elim a [ inl e ↦ subst (λ (u : Taken N F S). In u other) (sym e) h.itself | inr n ↦ absurd n ])
-        (λ z y a. h.closed z y (Before-back z y front (s ∷ back) (elim a [ inl b ↦ elim b.0 [ inl e ↦ inl (e, b.1) | inr n ↦ absurd n ] | inr b ↦ inr b ])))
-        x i
+          (λ z a. elim a [ inl e ↦ subst (λ (u : Taken N F S). In u other) (sym e) h.itself | inr n ↦ absurd n ])
+          (λ z y a. h.closed z y (Before-back z y front (s ∷ back) (elim a [ inl b ↦ elim b.0 [ inl e ↦ inl (e, b.1) | inr n ↦ absurd n ] | inr b ↦ inr b ])))
+          x i
 
   pub least_of : (ts : List (Taken N F S)) (s : Taken N F S) → Once ts → In s ts → IsLeast m ts s (after m ts s.step)
   least_of ts s once i = at_place (λ l. IsLeast m l s (after m l s.step)) ts s (λ front back e o. subst (λ set. IsLeast m (front ++ s ∷ back) s set) (sym (after_at front back s o)) (least_at front back s o)) once i
@@ -114,12 +117,12 @@ module _ {W N F S : Type 0} (m : Machine W N F S) (base : W) (names : HasNames m
   after-more ts s t once i h =
       at_place (λ l. ((x : Taken N F S) → In x (after m l s.step) → needs m x t ≡ false) → after m (l ++ t ∷ []) s.step ≡ after m l s.step) ts s
       (λ front back e o k.
-        let a = after_at front back s o in
-        let k' = rw a at k in
-        ap (λ (l : List (Taken N F S)). after m l s.step) (append_assoc front (s ∷ back) (t ∷ []))
-        ∙ after_found front (back ++ t ∷ []) s (not_in_front front back s o)
-        ∙ ap (λ (l : List (Taken N F S)). s ∷ l) (following-more m (s ∷ []) back t (λ x j. elim j [ inl f ↦ k' x (inl f) | inr n ↦ absurd n ]) (λ x j. k' x (inr j)))
-        ∙ sym a)
+      let a = after_at front back s o in
+      let k' = rw a at k in
+      ap (λ (l : List (Taken N F S)). after m l s.step) (append_assoc front (s ∷ back) (t ∷ []))
+      ∙ after_found front (back ++ t ∷ []) s (not_in_front front back s o)
+      ∙ ap (λ (l : List (Taken N F S)). s ∷ l) (following-more m (s ∷ []) back t (λ x j. elim j [ inl f ↦ k' x (inl f) | inr n ↦ absurd n ]) (λ x j. k' x (inr j)))
+      ∙ sym a)
       once i h
 
   -- another free step taken out of the middle goes from what comes after s, and nothing else does

@@ -1,6 +1,7 @@
 -- That a run has each name once, from what a world tells of the names that were taken.
-use Rattle.std.proofs.Common.{◌≡◌, false, List, [], ◌∷◌, ap, ◌∙◌, sym, inl, inr, Some}
-use Rattle.trace_theory.specs.Traces.{Machine, Taken, In, Before, IsRun, IsReached, Takes}
+use Rattle.std.proofs.Common.{◌≡◌, false, List, [], ◌∷◌, ap, ◌∙◌, inl, inr, Some}
+use Rattle.trace_theory.specs.Traces.{Machine, Taken, In, Before, IsRun}
+use Rattle.trace_theory.specs.Footprints.{IsReached}
 use Rattle.trace_theory.proofs.Runs.{Runs, from_run, reached_next, reached_here}
 
 module _ {W N F S : Type 0} (m : Machine W N F S) (base : W) (Was : W → N → Type 0)

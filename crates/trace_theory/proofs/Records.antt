@@ -1,11 +1,11 @@
 -- For a program that keeps the records of a run: its list of names is `ns`, its world `v`, its records `ts`, and they are tied
 -- by `run m base ns ≡ Some (v, ts)`. Names are left out by a filter, and records at a place.
-use Rattle.std.proofs.Common.{◌≡◌, ℕ, Bool, true, false, cond, List, [], ◌∷◌, ◌++◌, map, length, refl, ap, ap₂, sym, subst, ◌∙◌, inl, inr, append_assoc, Option, None, Some}
+use Rattle.std.proofs.Common.{◌≡◌, Bool, true, false, cond, List, [], ◌∷◌, ◌++◌, map, refl, ap, sym, subst, ◌∙◌, inl, inr, append_assoc, Option, None, Some}
 use Rattle.std.specs.Prelude.{not, ◌||◌, filter, reverse, option_map, option_and_then}
 use Rattle.std.specs.List.{list_any}
 use Rattle.std.proofs.lemmas.Option.{same_Some}
-use Rattle.trace_theory.specs.Traces.{Machine, Taken, In, Before, run, names_of, IsRun, Takes, needs, undone, undo_each, is_among, without, following, after, IsFree, IsAllowed, IsLawful, HasNames}
-use Rattle.trace_theory.proofs.Lists.{by_bool, In-front, In-back, In-split, here, Before-back, Before-across, filter-same, any_none, any_one, any_alike, none_any}
+use Rattle.trace_theory.specs.Traces.{Machine, Taken, In, Before, run, names_of, IsRun, needs, undone, undo_each, is_among, without, following, after, IsLawful, HasNames}
+use Rattle.trace_theory.proofs.Lists.{by_bool, In-split, here, Before-back, Before-across, filter-same, any_none, any_one, none_any}
 use Rattle.trace_theory.proofs.Runs.{and_then_some, map_some, run_more}
 use Rattle.trace_theory.proofs.Commuting.{free_steps_undo}
 use Rattle.trace_theory.proofs.Least.{Once, not_backward, without_one, after_at}
@@ -26,8 +26,9 @@ module _ {W N F S : Type 0} (m : Machine W N F S) where
       rest : (f : F) (o : Option (W × List (Taken N F S))) → option_map {U = W × List R} (λ q. (q.0, see (taken w n f) ∷ q.1)) (option_map {U = W × List R} (λ q. (q.0, map see q.1)) o) ≡ option_map {U = W × List R} (λ q. (q.0, map see q.1)) (option_map {U = W × List (Taken N F S)} (λ q. (q.0, taken w n f ∷ q.1)) o)
       rest f None = refl
       rest f (Some q) = refl
+
       first : (o : Option (W × F)) → ((p : W × F) → own p.0 ns ≡ option_map (λ q. (q.0, map see q.1)) (run m p.0 ns))
-        → option_and_then (λ p. option_map {U = W × List R} (λ q. (q.0, see (taken w n p.1) ∷ q.1)) (own p.0 ns)) o ≡ option_map {U = W × List R} (λ q. (q.0, map see q.1)) (option_and_then (λ p. option_map {U = W × List (Taken N F S)} (λ q. (q.0, taken w n p.1 ∷ q.1)) (run m p.0 ns)) o)
+          → option_and_then (λ p. option_map {U = W × List R} (λ q. (q.0, see (taken w n p.1) ∷ q.1)) (own p.0 ns)) o ≡ option_map {U = W × List R} (λ q. (q.0, map see q.1)) (option_and_then (λ p. option_map {U = W × List (Taken N F S)} (λ q. (q.0, taken w n p.1 ∷ q.1)) (run m p.0 ns)) o)
       first None h = refl
       first (Some p) h = ap (option_map {U = W × List R} (λ q. (q.0, see (taken w n p.1) ∷ q.1))) (h p) ∙ rest p.1 (run m p.0 ns)
 
@@ -82,13 +83,13 @@ module _ {W N F S : Type 0} (m : Machine W N F S) (base : W) (names : HasNames m
   marked_out (t ∷ back) marked out apart once =
       by_bool (list_any (λ x. needs m x t) marked) _
       (λ k. let mine : is_among m (out ++ t ∷ following m (marked ++ t ∷ []) back) t ≡ true = any_one (λ (x : Taken N F S). m.is_same x.step t.step) (out ++ t ∷ following m (marked ++ t ∷ []) back) t (here t out (following m (marked ++ t ∷ []) back)) (names.itself t.step) in
-        let f : following m marked (t ∷ back) ≡ t ∷ following m (marked ++ t ∷ []) back = rw k refl in
-        subst (λ (l : List (Taken N F S)). without m (out ++ l) (t ∷ back) ≡ unmarked m marked (t ∷ back)) (sym f)
-        (rw (k, mine) (ap (λ (l : List (Taken N F S)). without m l back) (sym (append_assoc out (t ∷ []) (following m (marked ++ t ∷ []) back))) ∙ marked_out back (marked ++ t ∷ []) (out ++ t ∷ []) more (λ x y b. once x y (inr b)))))
+      let f : following m marked (t ∷ back) ≡ t ∷ following m (marked ++ t ∷ []) back = rw k refl in
+      subst (λ (l : List (Taken N F S)). without m (out ++ l) (t ∷ back) ≡ unmarked m marked (t ∷ back)) (sym f)
+      (rw (k, mine) (ap (λ (l : List (Taken N F S)). without m l back) (sym (append_assoc out (t ∷ []) (following m (marked ++ t ∷ []) back))) ∙ marked_out back (marked ++ t ∷ []) (out ++ t ∷ []) more (λ x y b. once x y (inr b)))))
       (λ k. let mine : is_among m (out ++ following m marked back) t ≡ false = none_any (λ (x : Taken N F S). m.is_same x.step t.step) (out ++ following m marked back) (λ x i. elim (In-split x out (following m marked back) i) [ inl j ↦ apart x t j (inl refl) | inr j ↦ not_backward m base names t.step x.step (once t x (inl (refl, following-in m marked back x j))) ]) in
-        let f : following m marked (t ∷ back) ≡ following m marked back = rw k refl in
-        subst (λ (l : List (Taken N F S)). without m (out ++ l) (t ∷ back) ≡ unmarked m marked (t ∷ back)) (sym f)
-        (rw (k, mine) (ap (λ (l : List (Taken N F S)). t ∷ l) (marked_out back marked out (λ x y i j. apart x y i (inr j)) (λ x y b. once x y (inr b))))))
+      let f : following m marked (t ∷ back) ≡ following m marked back = rw k refl in
+      subst (λ (l : List (Taken N F S)). without m (out ++ l) (t ∷ back) ≡ unmarked m marked (t ∷ back)) (sym f)
+      (rw (k, mine) (ap (λ (l : List (Taken N F S)). t ∷ l) (marked_out back marked out (λ x y i j. apart x y i (inr j)) (λ x y b. once x y (inr b))))))
     where
       more : (x y : Taken N F S) → In x (out ++ t ∷ []) → In y back → m.is_same x.step y.step ≡ false
       more x y i j = elim (In-split x out (t ∷ []) i) [ inl k ↦ apart x y k (inr j) | inr k ↦ elim k [ inl e ↦ once x y (inl (e, j)) | inr n ↦ absurd n ] ]
@@ -107,9 +108,11 @@ module _ {W N F S : Type 0} (m : Machine W N F S) (base : W) (names : HasNames m
     where
       behind : (x y : Taken N F S) → Before x y (t ∷ back) → m.is_same x.step y.step ≡ false
       behind x y b = once x y (Before-back x y front (t ∷ back) b)
+
       member : (x : Taken N F S) → In x (t ∷ following m (t ∷ []) back) → In x (t ∷ back)
       member x (inl e) = inl e
       member x (inr i) = inr (following-in m (t ∷ []) back x i)
+
       first : without m (t ∷ following m (t ∷ []) back) (t ∷ back) ≡ without m (t ∷ following m (t ∷ []) back) back
       first = let e = names.itself t.step in rw e refl
 
@@ -121,10 +124,10 @@ module _ {W N F S : Type 0} (m : Machine W N F S) (base : W) (names : HasNames m
         let once = once_of ns v (front ++ t ∷ back) h in
         let r = (free_steps_undo m base law v front back t (run_is m ns base v (front ++ t ∷ back) h) (any_none (needs m t) back free)).0 in
         subst (λ l. run m base l ≡ Some (undone m v t, front ++ back))
-          (ap (names_of m) (sym (without_one m base names front back t once)) ∙ names-without m (t ∷ []) (front ++ t ∷ back)
-            ∙ ap (filter (λ n. not (m.is_same t.step n || false))) (run_names m ns base v (front ++ t ∷ back) h)
-            ∙ filter-same (λ n. not (m.is_same t.step n || false)) (λ n. not (m.is_same t.step n)) ns (λ n i. ap not (or_false (m.is_same t.step n))))
-          r
+        (ap (names_of m) (sym (without_one m base names front back t once)) ∙ names-without m (t ∷ []) (front ++ t ∷ back)
+        ∙ ap (filter (λ n. not (m.is_same t.step n || false))) (run_names m ns base v (front ++ t ∷ back) h)
+        ∙ filter-same (λ n. not (m.is_same t.step n || false)) (λ n. not (m.is_same t.step n)) ns (λ n i. ap not (or_false (m.is_same t.step n))))
+        r
       where
         or_false : (b : Bool) → (b || false) ≡ b
         or_false true = refl
@@ -133,7 +136,7 @@ module _ {W N F S : Type 0} (m : Machine W N F S) (base : W) (names : HasNames m
     -- a record and all that one pass forward marks go, their names too, and they are undone latest first
     pub rollback_record : (ns : List N) (v : W) (front back : List (Taken N F S)) (t : Taken N F S) → run m base ns ≡ Some (v, front ++ t ∷ back)
         → run m base (filter (λ n. not (list_any (λ x. m.is_same x n) (names_of m (t ∷ following m (t ∷ []) back)))) ns)
-          ≡ Some (undo_each m v (reverse (t ∷ following m (t ∷ []) back)), front ++ unmarked m (t ∷ []) back)
+        ≡ Some (undo_each m v (reverse (t ∷ following m (t ∷ []) back)), front ++ unmarked m (t ∷ []) back)
     rollback_record ns v front back t h =
         let once = once_of ns v (front ++ t ∷ back) h in
         let all = t ∷ following m (t ∷ []) back in
@@ -142,5 +145,5 @@ module _ {W N F S : Type 0} (m : Machine W N F S) (base : W) (names : HasNames m
         let r' = rw a at r in
         let rest = without_after front back t once in
         subst (λ l. run m base l ≡ Some (undo_each m v (reverse all), front ++ unmarked m (t ∷ []) back))
-          (names-without m all (front ++ t ∷ back) ∙ ap (filter (λ n. not (list_any (λ x. m.is_same x n) (names_of m all)))) (run_names m ns base v (front ++ t ∷ back) h))
-          (r' ∙ ap (λ (l : List (Taken N F S)). Some (undo_each m v (reverse all), l)) rest)
+        (names-without m all (front ++ t ∷ back) ∙ ap (filter (λ n. not (list_any (λ x. m.is_same x n) (names_of m all)))) (run_names m ns base v (front ++ t ∷ back) h))
+        (r' ∙ ap (λ (l : List (Taken N F S)). Some (undo_each m v (reverse all), l)) rest)

@@ -1,8 +1,9 @@
 -- Runs step by step, taken apart and put together.
-use Rattle.std.proofs.Common.{◌≡◌, List, [], ◌∷◌, ◌++◌, map, refl, ap, ap₂, sym, subst, ◌∙◌, Option, None, Some, append_assoc}
+use Rattle.std.proofs.Common.{◌≡◌, List, [], ◌∷◌, ◌++◌, refl, ap, ap₂, sym, subst, ◌∙◌, Option, None, Some}
 use Rattle.std.specs.Prelude.{option_map, option_and_then}
 use Rattle.std.proofs.lemmas.Option.{same_Some}
-use Rattle.trace_theory.specs.Traces.{Machine, Taken, run, names_of, IsRun, IsReached, Takes}
+use Rattle.trace_theory.specs.Traces.{Machine, Taken, run, names_of, IsRun, Takes}
+use Rattle.trace_theory.specs.Footprints.{IsReached}
 
 pub and_then_some : {A B : Type 0} (k : A → Option B) (o : Option A) (b : B) → option_and_then k o ≡ Some b → (a : A) × (o ≡ Some a) × (k a ≡ Some b)
 and_then_some k None b h = cc

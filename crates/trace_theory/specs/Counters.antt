@@ -1,7 +1,7 @@
 -- A small machine that is lawful: threads that fork and join, over shared counters. That one thread lies under another is no
 -- dependence here, so that steps which don't depend on each other commute only in worlds that runs reach.
 use Rattle.std.specs.Prelude.{◌≡◌, ℕ, ◌+◌, ◌-◌, ◌==◌, Bool, true, false, ◌&&◌, ◌||◌, List, [], ◌∷◌, ◌++◌, Option, None, Some, option_map, option_and_then, if◌then◌else◌}
-use Rattle.trace_theory.specs.Traces.{Machine, Takes, Taken, needs, IsLawful, HasNames}
+use Rattle.trace_theory.specs.Traces.{Machine, IsLawful, HasNames}
 use Rattle.trace_theory.specs.Footprints.{Plans}
 
 -- A thread is named by the branches that lead to it: step number n of thread t, a fork, makes the threads t/(n, 0) and t/(n, 1).

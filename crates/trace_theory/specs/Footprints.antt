@@ -1,7 +1,7 @@
 -- Footprints: what makes a machine lawful. Cells hold something in a world, and a step is a plan, which says what it touches,
 -- what it writes of that, and what each written cell holds afterwards.
-use Rattle.std.specs.Prelude.{◌≡◌, Bool, true, false, Option, Some, option_map, if◌then◌else◌}
-use Rattle.trace_theory.specs.Traces.{Machine, IsReached, IsLawful}
+use Rattle.std.specs.Prelude.{◌≡◌, Bool, true, false, List, Option, Some, option_map, if◌then◌else◌}
+use Rattle.trace_theory.specs.Traces.{Machine, Taken, IsRun, IsLawful}
 
 -- C are the cells, V what they hold, P the plans
 pub record Plans (W N F C V P : Type 0) : Type 0 where
@@ -12,6 +12,10 @@ pub record Plans (W N F C V P : Type 0) : Type 0 where
   pub touches : P → C → Bool
   pub writes : P → C → Bool
   pub holds : P → C → V
+
+-- a run from the base leads to this world
+abbrev pub IsReached : {W N F S : Type 0} → Machine W N F S → W → W → Type 0
+IsReached {N = N} {F = F} {S = S} m base w = (ts : List (Taken N F S)) × IsRun m base ts w
 
 -- What the steps of a machine owe as plans, in the worlds that runs from a base reach.
 pub record HasFootprints {W N F S C V P : Type 0} (m : Machine W N F S) (p : Plans W N F C V P) (base : W) : Type 0 where

@@ -1,7 +1,7 @@
 -- Steps that commute, and what follows for taking them back, over any machine: what is spoken of, then what a machine owes,
 -- then the theorems. The words are those of traces (Mazurkiewicz, "Concurrent Program Schemes and their Interpretations",
 -- 1977) and of causally consistent reversing (Danos and Krivine, "Reversible Communicating Systems", 2004).
-use Rattle.std.specs.Prelude.{◌≡◌, ◌↔◌, ◌⊎◌, ℕ, ◌+◌, Bool, true, false, ◌&&◌, not, List, [], ◌∷◌, ◌++◌, length, map, filter, reverse, Option, Some, option_map, option_and_then, if◌then◌else◌}
+use Rattle.std.specs.Prelude.{◌≡◌, ◌↔◌, ◌⊎◌, ℕ, ◌+◌, Bool, true, false, ◌&&◌, not, List, [], ◌∷◌, ◌++◌, length, map, filter, fold, reverse, Option, Some, option_map, option_and_then, if◌then◌else◌}
 use Rattle.std.specs.List.{list_any}
 
 -- x stands in the list
@@ -56,9 +56,6 @@ module _ {W N F S : Type 0} (m : Machine W N F S) where
   abbrev pub IsRun : W → List (Taken N F S) → W → Type 0
   IsRun w ts v = run w (names_of ts) ≡ Some (v, ts)
 
-  abbrev pub IsReached : W → W → Type 0
-  IsReached base w = (ts : List (Taken N F S)) × IsRun base ts w
-
   -- one step, taken in w
   abbrev pub Takes : W → Taken N F S → W → Type 0
   Takes w t v = (m.take w t.step ≡ Some (v, t.fact)) × (t.saved ≡ m.saved w t.fact)
@@ -72,8 +69,7 @@ module _ {W N F S : Type 0} (m : Machine W N F S) where
 
   -- some steps undone one after another, each from the world that it meets
   abbrev pub undo_each : W → List (Taken N F S) → W
-  undo_each v [] = v
-  undo_each v (x ∷ xs) = undo_each (undone v x) xs
+  undo_each v xs = fold undone v xs
 
   abbrev pub is_among : List (Taken N F S) → Taken N F S → Bool
   is_among xs t = list_any (λ x. m.is_same x.step t.step) xs
@@ -119,10 +115,6 @@ module _ {W N F S : Type 0} (m : Machine W N F S) where
     pub the_same : (a : N) → In a names → In a (names_of ts)
     pub in_order : (x y : Taken N F S) → Before x y ts → needs x y ≡ true → Before x.step y.step names
 
-  -- the moment at which consequences begin to be held
-  abbrev pub held : List (Taken N F S) → Moment N F S
-  held ts = record { steps = ts; is_held = true }
-
   -- what is left at a moment of the held consequences of s: those that there are now, and none once s was undone
   abbrev pub left : N → Moment N F S → List (Taken N F S)
   left s now = if now.is_held then after now.steps s else []
@@ -132,8 +124,7 @@ module _ {W N F S : Type 0} (m : Machine W N F S) where
   next s now (undoes t) = record { steps = without (t ∷ []) now.steps; is_held = now.is_held && not (m.is_same s t.step) }
 
   abbrev pub later : N → Moment N F S → List (Event N F S) → Moment N F S
-  later s now [] = now
-  later s now (e ∷ es) = later s (next s now e) es
+  later s now es = fold (next s) now es
 
   -- a step can be taken that depends directly on none that is left, and a free step can be undone
   abbrev pub MayHappen : W → N → Moment N F S → Event N F S → Type 0
@@ -150,11 +141,11 @@ module _ {W N F S : Type 0} (m : Machine W N F S) where
   lowered s now (takes t ∷ es) = lowered s (next s now (takes t)) es
   lowered s now (undoes t ∷ es) = (if is_among (left s now) t then 1 else 0) + lowered s (next s now (undoes t)) es
 
-  -- What a machine owes in the worlds that runs from a base reach: neighbours of which the later doesn't depend directly on
-  -- the earlier swap, facts and saved contents included, and a step just taken is undone by what it saved.
+  -- What a machine owes after each run from a base: neighbours of which the later doesn't depend directly on the earlier swap, facts
+  -- and saved contents included, and a step just taken is undone by what it saved.
   pub record IsLawful (base : W) : Type 0 where
-    pub swapped : (w u v : W) (a b : Taken N F S) → IsReached base w → Takes w a u → Takes u b v → needs a b ≡ false → (x : W) × Takes w b x × Takes x a v
-    pub taken_back : (w v : W) (t : Taken N F S) → IsReached base w → Takes w t v → undone v t ≡ w
+    pub swapped : (ts : List (Taken N F S)) (w u v : W) (a b : Taken N F S) → IsRun base ts w → Takes w a u → Takes u b v → needs a b ≡ false → (x : W) × Takes w b x × Takes x a v
+    pub taken_back : (ts : List (Taken N F S)) (w v : W) (t : Taken N F S) → IsRun base ts w → Takes w t v → undone v t ≡ w
 
   -- and a run has each name once
   pub record HasNames (base : W) : Type 0 where
@@ -177,43 +168,33 @@ module _ {W N F S : Type 0} (m : Machine W N F S) where
   abbrev pub AfterIsLeast : W → Type 0
   AfterIsLeast base = (v : W) (ts : List (Taken N F S)) (s : Taken N F S) → IsRun base ts v → In s ts → IsLeast ts s (after ts s.step)
 
-  -- Every allowed order gives the run of the rest, in its order (Danos and Krivine: causal consistency), and is taken by one world.
-  abbrev pub OrdersUndo : W → Type 0
-  OrdersUndo base = (v : W) (ts xs : List (Taken N F S)) → IsRun base ts v → IsAllowed ts xs → IsRun base (without xs ts) (undo_each v xs)
-
-  -- Orders of one set give one world.
-  abbrev pub OrdersAgree : W → Type 0
-  OrdersAgree base = (v : W) (ts xs ys : List (Taken N F S)) → IsRun base ts v → IsAllowed ts xs → IsAllowed ts ys → ((x : Taken N F S) → In x xs ↔ In x ys)
-      → undo_each v xs ≡ undo_each v ys
-
-  -- The consequences of a step may be undone from the last to the first, which gives the run of the rest.
-  abbrev pub AfterUndoes : W → Type 0
-  AfterUndoes base = (v : W) (ts : List (Taken N F S)) (s : Taken N F S) → IsRun base ts v → In s ts
-      → IsAllowed ts (reverse (after ts s.step)) × IsRun base (without (after ts s.step) ts) (undo_each v (reverse (after ts s.step)))
-
-  -- Every allowed order that holds a step holds all its consequences.
-  abbrev pub OrdersHoldAfter : W → Type 0
-  OrdersHoldAfter base = (v : W) (ts xs : List (Taken N F S)) (s : Taken N F S) → IsRun base ts v → IsAllowed ts xs → In s xs
-      → (x : Taken N F S) → In x (after ts s.step) → In x xs
+  -- Danos and Krivine's causal consistency.
+  pub record OrdersUndo (base : W) : Type 0 where
+    -- Every allowed order gives the run of the rest, in its order, with its facts and saved contents.
+    pub each : (v : W) (ts xs : List (Taken N F S)) → IsRun base ts v → IsAllowed ts xs → IsRun base (without xs ts) (undo_each v xs)
+    -- Orders of one set give one world.
+    pub agree : (v : W) (ts xs ys : List (Taken N F S)) → IsRun base ts v → IsAllowed ts xs → IsAllowed ts ys → ((x : Taken N F S) → In x xs ↔ In x ys) → undo_each v xs ≡ undo_each v ys
+    -- The consequences of a step may be undone from the last to the first, which gives the run of the rest.
+    pub backward : (v : W) (ts : List (Taken N F S)) (s : Taken N F S) → IsRun base ts v → In s ts → IsAllowed ts (reverse (after ts s.step)) × IsRun base (without (after ts s.step) ts) (undo_each v (reverse (after ts s.step)))
+    -- Every allowed order that holds a step holds all its consequences.
+    pub whole : (v : W) (ts xs : List (Taken N F S)) (s x : Taken N F S) → IsRun base ts v → IsAllowed ts xs → In s xs → In x (after ts s.step) → In x xs
 
   -- Every arrangement can be run, to the same world, and name by name with the same facts and saved contents (Mazurkiewicz).
   abbrev pub ArrangementsAgree : W → Type 0
   ArrangementsAgree base = (v : W) (ts : List (Taken N F S)) (names : List N) → IsRun base ts v → IsArrangement ts names
       → (us : List (Taken N F S)) × (run base names ≡ Some (v, us)) × ((t : Taken N F S) → In t us ↔ In t ts)
 
-  -- how one more event changes what is left: a free member's undoing takes it out, and nothing else changes anything
-  pub record IsLowered (base : W) (s : N) (now : Moment N F S) : Type 0 where
-    pub by_step : (t : Taken N F S) → MayHappen base s now (takes t) → left s (next s now (takes t)) ≡ left s now
-    pub by_member : (t : Taken N F S) → IsFree now.steps t → In t (left s now) → length (left s (next s now (undoes t))) + 1 ≡ length (left s now)
-    pub by_other : (t : Taken N F S) → IsFree now.steps t → (In t (left s now) → ⊥) → left s (next s now (undoes t)) ≡ left s now
-
-  -- What is left of held consequences, after any events that may follow.
+  -- What is left, after undoings of so many that were left, is inside all that was held and smaller by so many; a free member's undoing
+  -- lowers its number by one, no other event changes it, and where s doesn't remain nothing is left.
   pub record IsLeft (base : W) (all : List (Taken N F S)) (s : N) (now : Moment N F S) (undoings : ℕ) : Type 0 where
-    pub lowers : IsLowered base s now
     pub inside : (x : Taken N F S) → In x (left s now) → In x all
     pub counted : length (left s now) + undoings ≡ length all
+    pub by_member : (t : Taken N F S) → IsFree now.steps t → In t (left s now) → length (left s (next s now (undoes t))) + 1 ≡ length (left s now)
+    pub by_other : (t : Taken N F S) → IsFree now.steps t → (In t (left s now) → ⊥) → left s (next s now (undoes t)) ≡ left s now
+    pub by_step : (t : Taken N F S) → MayHappen base s now (takes t) → left s (next s now (takes t)) ≡ left s now
     pub gone : (In s (names_of now.steps) → ⊥) → left s now ≡ []
 
+  -- So it is of the consequences of a step that are held at one moment, whatever may follow (a reservation of what is to be undone).
   abbrev pub HeldIsLeft : W → Type 0
-  HeldIsLeft base = (v : W) (ts : List (Taken N F S)) (s : Taken N F S) (es : List (Event N F S)) → IsRun base ts v → In s ts → MayFollow base s.step (held ts) es
-      → IsLeft base (after ts s.step) s.step (later s.step (held ts) es) (lowered s.step (held ts) es)
+  HeldIsLeft base = (v : W) (s : Taken N F S) (now : Moment N F S) (es : List (Event N F S)) → IsRun base now.steps v → In s now.steps → now.is_held ≡ true
+      → MayFollow base s.step now es → IsLeft base (after now.steps s.step) s.step (later s.step now es) (lowered s.step now es)

@@ -1,5 +1,5 @@
 // Laws over the definitions: each function's contract is the law, and it does nothing.
-ghost use Rattle.trace_theory.specs.Traces.{Machine, IsLawful, HasNames, NeighboursSwap, FreeStepsUndo, AfterIsLeast, OrdersUndo, OrdersAgree, AfterUndoes, OrdersHoldAfter, ArrangementsAgree, HeldIsLeft};
+ghost use Rattle.trace_theory.specs.Traces.{Machine, IsLawful, HasNames, NeighboursSwap, FreeStepsUndo, AfterIsLeast, OrdersUndo, ArrangementsAgree, HeldIsLeft};
 ghost use Rattle.trace_theory.specs.Counters.{CountersAreLawful, CountersHaveNames, PremiseIsNeeded};
 ghost use Rattle.trace_theory.specs.Footprints.{PlansAreLawful};
 
@@ -21,10 +21,7 @@ pub fn consequences_are_least<W, N, F, S>()
 /// Every allowed order of undoings leaves the run of the rest, and one that holds a step holds its consequences, which have
 /// such an order.
 pub fn orders_undo<W, N, F, S>()
-    ensures each { (m : Machine W N F S) (base : W) → IsLawful m base → HasNames m base → OrdersUndo m base }
-    ensures agree { (m : Machine W N F S) (base : W) → IsLawful m base → HasNames m base → OrdersAgree m base }
-    ensures after { (m : Machine W N F S) (base : W) → IsLawful m base → HasNames m base → AfterUndoes m base }
-    ensures least { (m : Machine W N F S) (base : W) → HasNames m base → OrdersHoldAfter m base }
+    ensures { (m : Machine W N F S) (base : W) → IsLawful m base → HasNames m base → OrdersUndo m base }
 {}
 
 /// Every arrangement of a run gives the same world, facts and saved contents.
