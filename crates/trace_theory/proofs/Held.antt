@@ -20,7 +20,7 @@ module _ {W N F S : Type 0} (m : Machine W N F S) (base : W) (names : HasNames m
   pub left-in : (s : N) (now : Moment N F S) (x : Taken N F S) → In x (left m s now) → In x now.steps
   left-in s now x i = by_bool now.is_held (In x now.steps) (λ k. after-in m base names now.steps s x (rw k at i)) (λ k. absurd (rw k at i))
 
-  left_once : (s : Taken N F S) (now : Moment N F S) → Stands s now → Once m base names (left m s.step now)
+  pub left_once : (s : Taken N F S) (now : Moment N F S) → Stands s now → Once m base names (left m s.step now)
   left_once s now h x y b = by_bool now.is_held _ (λ k. once_now s now h x y (after-ordered m base names now.steps s.step x y (rw k at b))) (λ k. absurd (rw k at b))
 
   -- an undoing takes the step out of what is left, and nothing else
@@ -41,13 +41,13 @@ module _ {W N F S : Type 0} (m : Machine W N F S) (base : W) (names : HasNames m
       (λ k. let a' = rw k at a in rw k (after-more m base names now.steps s t (once_now s now h) (h.there k) a'))
       (λ k. rw k refl)
 
-  left_member : (s t : Taken N F S) (now : Moment N F S) → Stands s now → IsFree m now.steps t → In t (left m s.step now) → length (left m s.step (next m s.step now (undoes t))) + 1 ≡ length (left m s.step now)
+  pub left_member : (s t : Taken N F S) (now : Moment N F S) → Stands s now → IsFree m now.steps t → In t (left m s.step now) → length (left m s.step (next m s.step now (undoes t))) + 1 ≡ length (left m s.step now)
   left_member s t now h free i =
       let p = place t (left m s.step now) i in
       let e = left_undone s t now h free ∙ ap (without m (t ∷ [])) p.whole ∙ without_one m base names p.front p.back t (subst (Once m base names) p.whole (left_once s now h)) in
       ap (λ (l : List (Taken N F S)). length l + 1) e ∙ sym (length-middle m base names p.front p.back t) ∙ ap length (sym p.whole)
 
-  left_other : (s t : Taken N F S) (now : Moment N F S) → Stands s now → IsFree m now.steps t → (In t (left m s.step now) → ⊥) → left m s.step (next m s.step now (undoes t)) ≡ left m s.step now
+  pub left_other : (s t : Taken N F S) (now : Moment N F S) → Stands s now → IsFree m now.steps t → (In t (left m s.step now) → ⊥) → left m s.step (next m s.step now (undoes t)) ≡ left m s.step now
   left_other s t now h free out = left_undone s t now h free ∙ filter-all (λ y. not (is_among m (t ∷ []) y)) (left m s.step now) (λ y i. kept y i)
     where
       kept : (y : Taken N F S) → In y (left m s.step now) → not (is_among m (t ∷ []) y) ≡ true
@@ -55,12 +55,12 @@ module _ {W N F S : Type 0} (m : Machine W N F S) (base : W) (names : HasNames m
           (λ k. absurd (out (subst (λ (z : Taken N F S). In z (left m s.step now)) (sym (one_step m base names now.steps (once_now s now h) t y free.0 (left-in s.step now y i) k)) i)))
           (λ k. rw k refl)
 
-  among_left : (s t : Taken N F S) (now : Moment N F S) → Stands s now → IsFree m now.steps t → is_among m (left m s.step now) t ≡ true → In t (left m s.step now)
+  pub among_left : (s t : Taken N F S) (now : Moment N F S) → Stands s now → IsFree m now.steps t → is_among m (left m s.step now) t ≡ true → In t (left m s.step now)
   among_left s t now h free e =
       let r = one_any (λ (x : Taken N F S). m.is_same x.step t.step) (left m s.step now) e in
       subst (λ (z : Taken N F S). In z (left m s.step now)) (one_step m base names now.steps (once_now s now h) r.0 t (left-in s.step now r.0 r.1) free.0 r.2) r.1
 
-  gone_now : (s : Taken N F S) (now : Moment N F S) → Stands s now → (In s.step (names_of m now.steps) → ⊥) → left m s.step now ≡ []
+  pub gone_now : (s : Taken N F S) (now : Moment N F S) → Stands s now → (In s.step (names_of m now.steps) → ⊥) → left m s.step now ≡ []
   gone_now s now h out = by_bool now.is_held _ (λ k. absurd (out (In-names m base names s now.steps (h.there k)))) (λ k. rw k refl)
 
   both : (b c : Bool) → (b && c) ≡ true → (b ≡ true) × (c ≡ true)

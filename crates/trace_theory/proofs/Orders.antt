@@ -36,12 +36,12 @@ module _ {W N F S : Type 0} (m : Machine W N F S) (base : W) (names : HasNames m
 
   -- ---- each order
 
-  allowed_in : (ts xs : List (Taken N F S)) → IsAllowed m ts xs → (x : Taken N F S) → In x xs → In x ts
+  pub allowed_in : (ts xs : List (Taken N F S)) → IsAllowed m ts xs → (x : Taken N F S) → In x xs → In x ts
   allowed_in ts [] a x i = absurd i
   allowed_in ts (z ∷ xs) a x (inl e) = subst (λ (y : Taken N F S). In y ts) (sym e) a.0.0
   allowed_in ts (z ∷ xs) a x (inr i) = (In-filter (λ y. not (is_among m (z ∷ []) y)) ts x (allowed_in (without m (z ∷ []) ts) xs a.1 x i)).0
 
-  order_closed : (ts xs : List (Taken N F S)) → Once m base names ts → IsAllowed m ts xs → (x y : Taken N F S) → Before x y ts → In x xs → needs m x y ≡ true → In y xs
+  pub order_closed : (ts xs : List (Taken N F S)) → Once m base names ts → IsAllowed m ts xs → (x y : Taken N F S) → Before x y ts → In x xs → needs m x y ≡ true → In y xs
   order_closed ts [] once a x y b i d = absurd i
   order_closed ts (z ∷ xs) once a x y b (inl e) d = let f = a.0.1 y (subst (λ (u : Taken N F S). Before u y ts) e b) in let g = ap (λ (u : Taken N F S). needs m u y) e in absurd (cc)
   order_closed ts (z ∷ xs) once a x y b (inr i) d =

@@ -4,13 +4,13 @@ use Rattle.std.proofs.Common.{◌≡◌, Bool, true, false, cond, List, [], ◌�
 use Rattle.std.specs.Prelude.{not, ◌||◌, filter, reverse, option_map, option_and_then}
 use Rattle.std.specs.List.{list_any}
 use Rattle.std.proofs.lemmas.Option.{same_Some}
-use Rattle.trace_theory.specs.Traces.{Machine, Taken, In, Before, run, names_of, IsRun, needs, undone, undo_each, is_among, without, following, after, IsLawful, HasNames}
-use Rattle.trace_theory.proofs.Lists.{by_bool, In-split, here, Before-back, Before-across, filter-same, any_none, any_one, none_any}
+use Rattle.trace_theory.specs.Traces.{Machine, Taken, In, Before, run, names_of, IsRun, needs, undone, undo_each, is_among, without, following, after, IsFree, IsAllowed, IsLawful, HasNames}
+use Rattle.trace_theory.proofs.Lists.{by_bool, In-split, here, Before-back, Before-across, behind_place, filter-same, any_none, any_one, none_any}
 use Rattle.trace_theory.proofs.Runs.{and_then_some, map_some, run_more}
 use Rattle.trace_theory.proofs.Commuting.{free_steps_undo}
-use Rattle.trace_theory.proofs.Least.{Once, not_backward, without_one, after_at}
+use Rattle.trace_theory.proofs.Least.{Once, never_twice, not_backward, without_one, after_at}
 use Rattle.trace_theory.proofs.After.{following-in}
-use Rattle.trace_theory.proofs.Orders.{after_undoes}
+use Rattle.trace_theory.proofs.Orders.{unneeded_behind, without_none, without_more, after_undoes}
 
 module _ {W N F S : Type 0} (m : Machine W N F S) where
   abbrev pub taken : W → N → F → Taken N F S
@@ -115,6 +115,22 @@ module _ {W N F S : Type 0} (m : Machine W N F S) (base : W) (names : HasNames m
 
       first : without m (t ∷ following m (t ∷ []) back) (t ∷ back) ≡ without m (t ∷ following m (t ∷ []) back) back
       first = let e = names.itself t.step in rw e refl
+
+  -- that no later record depends directly on one at its place, as a test tells it
+  pub free_record : (front back : List (Taken N F S)) (t : Taken N F S) → Once m base names (front ++ t ∷ back) → list_any (needs m t) back ≡ false → IsFree m (front ++ t ∷ back) t
+  free_record front back t once free = (here t front back, λ y b. any_none (needs m t) back free y (behind_place t y front back (never_twice m base names (front ++ t ∷ back) once) b))
+
+  pub record_free : (front back : List (Taken N F S)) (t : Taken N F S) → IsFree m (front ++ t ∷ back) t → list_any (needs m t) back ≡ false
+  record_free front back t free = none_any (needs m t) back (unneeded_behind m base names front back t free)
+
+  -- one more undoing after an allowed order, as a loop makes it
+  pub allowed_then : (ts xs : List (Taken N F S)) (x : Taken N F S) → IsAllowed m ts xs → IsFree m (without m xs ts) x → IsAllowed m ts (xs ++ x ∷ [])
+  allowed_then ts [] x a free = (subst (λ l. IsFree m l x) (without_none m base names ts) free, tt)
+  allowed_then ts (z ∷ xs) x a free = (a.0, allowed_then (without m (z ∷ []) ts) xs x a.1 (subst (λ l. IsFree m l x) (sym (without_more m base names z xs ts)) free))
+
+  pub undo_then : (v : W) (xs : List (Taken N F S)) (x : Taken N F S) → undo_each m v (xs ++ x ∷ []) ≡ undone m (undo_each m v xs) x
+  undo_then v [] x = refl
+  undo_then v (z ∷ xs) x = undo_then (undone m v z) xs x
 
   module _ (law : IsLawful m base) where
     -- a record that no later one needs goes, its name too, and its step is undone by it in the present world
