@@ -4,6 +4,7 @@ pub mod View
 pub mod Falls
 pub mod Fields
 pub mod Equality
+pub mod FirstDifference
 pub mod Order
 pub mod Proper
 pub mod Written
