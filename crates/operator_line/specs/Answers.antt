@@ -15,7 +15,7 @@ use Rattle.step_names.specs.declared.step.StepName.{StepName}
 use Rattle.rollback_book.specs.Names.{name_of}
 use Rattle.rollback_book.specs.Story.{Story, accepted, remaining, machine_of, world_of}
 use Rattle.rollback_book.specs.Answers.{IsDefineRefusal, is_full_for_define, start_answer, step_answer, undo_answer}
-use Rattle.rollback_book.specs.declared.frame.Frame.{Frame}
+use Rattle.asl_forward.specs.declared.frame.Frame.{Frame}
 use Rattle.rollback_book.specs.declared.log.Entry.{Entry}
 use Rattle.rollback_book.specs.declared.log.Entry.TheVariants.{Define, Start, Step as Stepped, Undo}
 use Rattle.rollback_book.specs.declared.log.KeySchema.{KeySchema}

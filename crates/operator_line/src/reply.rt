@@ -10,7 +10,8 @@ ghost use Rattle.operator_line.specs.Replying.{Writes, has_room_for_step};
 
 use asl_machine::MachineFault;
 use json_tree::{Json, Text, write_text};
-use rollback_book::{Fault, Frame, Kind, Moved, Phase, Readiness, Refusal, StepRecord};
+use asl_forward::{Fault, Frame, Phase};
+use rollback_book::{Kind, Moved, Readiness, Refusal, StepRecord};
 use std::alloc::{AllocError, Global};
 use step_names::{LONGEST_STEP, StepName};
 

@@ -19,12 +19,13 @@ use Rattle.asl_machine.specs.Definition.{Definition}
 use Rattle.asl_machine.specs.declared.state.State.{State}
 use Rattle.rollback_book.specs.Names.{Step, started, moved, name_of, start_name, is_same_thread, is_same_step}
 use Rattle.rollback_book.specs.World.{World, with_frame, set_frame}
-use Rattle.rollback_book.specs.Move.{ready_state, next_step, first_frame, after_state, take_step}
+use Rattle.rollback_book.specs.Move.{ready_state, next_step, take_step}
+use Rattle.asl_forward.specs.Turn.{first_frame, after_state}
 use Rattle.rollback_book.specs.Story.{remaining, steps_after, machine_of, is_same_name, base_of, without, facts_of}
 use Rattle.rollback_book.specs.Answers.{is_full_for_step, undo_answer, found_answer, free_answer, last_answer, from_step}
 use Rattle.rollback_book.specs.Legal.{IsAccepted, GoesOnLegally, IsLegal}
 use Rattle.rollback_book.specs.Saving.{held, run_saving, record_of, saved_frame, frame_of, IsTied, IsStartOf, IsStepOf, is_record_of, is_last}
-use Rattle.rollback_book.specs.declared.frame.Frame.{Frame}
+use Rattle.asl_forward.specs.declared.frame.Frame.{Frame}
 use Rattle.rollback_book.specs.declared.log.Begin.{Begin}
 use Rattle.rollback_book.specs.declared.log.Entry.{Entry}
 use Rattle.rollback_book.specs.declared.log.Entry.TheVariants.{Define, Start as StartEntry, Step as StepEntry, Undo}

@@ -12,7 +12,7 @@ ghost use Rattle.rollback_book.specs.Saving.{run_saving, IsStartOf, IsStepOf};
 ghost use Rattle.rollback_book.specs.Answers.{Gives, IsDefineRefusal, IsReadRefusal, is_full_for_define, start_answer, step_answer, undo_answer};
 ghost use Rattle.rollback_book.specs.Legal.{IsLegal};
 
-use crate::frame::Frame;
+use asl_forward::Frame;
 use crate::log::{Begin, Entry};
 use crate::making::{MadeDefine, MadeStart, MadeStep, make_define, make_start, make_step};
 use crate::refusal::{BeginFault, Refusal};

@@ -1,7 +1,8 @@
 use crate::{
-    Access, AccessMode, Begin, BeginFault, Book, Fact, Frame, KeyAttribute, KeySchema, KeyType,
-    Kind, Phase, Refusal, Retries, Room, after_state, depends, first_frame,
+    Access, AccessMode, Begin, BeginFault, Book, Fact, KeyAttribute, KeySchema, KeyType, Kind, Refusal,
+    Room, depends,
 };
+use asl_forward::{Frame, Phase, Retries, after_state, first_frame};
 use asl_machine::Machine;
 use json_tree::{Json, JsonList, Text, read};
 use serde_json::Value;
