@@ -120,12 +120,15 @@ restores w u s d (counter_at k) r h = by_bool (writes_counter d.step.act k) _ (�
 
 -- ---- of independent neighbours neither reaches the other
 
-no_conflict : (a b : Act) (k : ℕ) → conflict a b ≡ false → (writes_counter a k ≡ true → touches_counter b k ≡ false) × (writes_counter b k ≡ true → touches_counter a k ≡ false)
-no_conflict (writes j) b k h = (λ e. ap (touches_counter b) (sym (eqb-true j k e)) ∙ h, λ e. by_bool (j == k) ((j == k) ≡ false) (λ i. let t = writes_touches b k e in let f = ap (touches_counter b) (sym (eqb-true j k i)) ∙ h in absurd (cc)) (λ i. i))
-no_conflict (reads j) b k h = (λ e. absurd (cc), λ e. by_bool (j == k) ((j == k) ≡ false) (λ i. let f = ap (writes_counter b) (sym (eqb-true j k i)) ∙ h in absurd (cc)) (λ i. i))
-no_conflict forks b k h = (λ e. absurd (cc), λ e. refl)
-no_conflict joins b k h = (λ e. absurd (cc), λ e. refl)
-no_conflict ends b k h = (λ e. absurd (cc), λ e. refl)
+no_conflict : (a b : Act) (k : ℕ) → conflict a b ≡ false → (writes_counter a k ≡ true → touches_counter b k ≡ true → ⊥) × (writes_counter b k ≡ true → touches_counter a k ≡ true → ⊥)
+no_conflict (writes j) b k h = (
+  λ i t. let f = ap (touches_counter b) (sym (eqb-true j k i)) ∙ h in cc,
+  λ t i. let g = writes_touches b k t in let f = ap (touches_counter b) (sym (eqb-true j k i)) ∙ h in cc,
+)
+no_conflict (reads j) b k h = (λ i t. cc, λ t i. let f = ap (writes_counter b) (sym (eqb-true j k i)) ∙ h in cc)
+no_conflict forks b k h = (λ i t. cc, λ t i. cc)
+no_conflict joins b k h = (λ i t. cc, λ t i. cc)
+no_conflict ends b k h = (λ i t. cc, λ t i. cc)
 
 module _ (w : World) (d e : Plan) (first : Planned w d) (second : Planned (carried_out w d) e) (fine : Good (carried_out w d)) (free : depends d.step e.step ≡ false) where
   no_thread : same_thread d.step.thread e.step.thread ≡ false
@@ -183,16 +186,11 @@ module _ (w : World) (d e : Plan) (first : Planned w d) (second : Planned (carri
             | inr o ↦ elim o [ inl u ↦ not_forward (r.all e.step.thread u) | inr u ↦ not_backward (s.all d.step.thread u) ]
           ]
 
-  apart_frames : (q : List (ℕ × ℕ)) → ((same_thread d.step.thread q || reaches d.step q) ≡ true → (same_thread e.step.thread q || reaches e.step q) ≡ false) × ((same_thread e.step.thread q || reaches e.step q) ≡ true → (same_thread d.step.thread q || reaches d.step q) ≡ false)
-  apart_frames q = (
-    λ h. by_bool (same_thread e.step.thread q || reaches e.step q) ((same_thread e.step.thread q || reaches e.step q) ≡ false) (λ k. absurd (apart_at q h k)) (λ k. k),
-    λ h. by_bool (same_thread d.step.thread q || reaches d.step q) ((same_thread d.step.thread q || reaches d.step q) ≡ false) (λ k. absurd (apart_at q k h)) (λ k. k),
-  )
-
-apart : (w : World) (a b : Step) (d e : Plan) (c : Cell) → IsReached counters start w → plan w a ≡ Some d → plan (carried_out w d) b ≡ Some e → depends d.step e.step ≡ false → (written d c ≡ true → touched e c ≡ false) × (written e c ≡ true → touched d c ≡ false)
+apart : (w : World) (a b : Step) (d e : Plan) (c : Cell) → IsReached counters start w → plan w a ≡ Some d → plan (carried_out w d) b ≡ Some e → depends d.step e.step ≡ false → (written d c ≡ true → touched e c ≡ true → ⊥) × (written e c ≡ true → touched d c ≡ true → ⊥)
 apart w a b d e (frame_at q) r h k free =
     let p = (planned w a d h).1 in
-    apart_frames w d e p (planned (carried_out w d) b e k).1 (good_after w d (good w r) p) free q
+    let clash = apart_at w d e p (planned (carried_out w d) b e k).1 (good_after w d (good w r) p) free q in
+    (clash, λ i j. clash j i)
 apart w a b d e (counter_at n) r h k free =
     let p = (planned w a d h).1 in
     no_conflict d.step.act e.step.act n (no_counter w d e p (planned (carried_out w d) b e k).1 (good_after w d (good w r) p) free)

@@ -29,11 +29,11 @@ module _ {W N F S C V P : Type 0} (m : Machine W N F S) (p : Plans W N F C V P) 
   written w d c h = law.effect w d c ∙ ap (λ (b : Bool). cond b (p.holds d c) (p.at w c)) h
 
   -- what neither writes where the other touches, both write in either order
-  either_order : (w : W) (d e : P) → ((c : C) → (p.writes d c ≡ true → p.touches e c ≡ false) × (p.writes e c ≡ true → p.touches d c ≡ false)) → p.carried_out (p.carried_out w e) d ≡ p.carried_out (p.carried_out w d) e
+  either_order : (w : W) (d e : P) → ((c : C) → (p.writes d c ≡ true → p.touches e c ≡ true → ⊥) × (p.writes e c ≡ true → p.touches d c ≡ true → ⊥)) → p.carried_out (p.carried_out w e) d ≡ p.carried_out (p.carried_out w d) e
   either_order w d e apart =
       law.same (p.carried_out (p.carried_out w e) d) (p.carried_out (p.carried_out w d) e)
       (λ c. by_bool (p.writes d c) _
-      (λ k. let clear : p.writes e c ≡ false = by_bool (p.writes e c) (p.writes e c ≡ false) (λ j. let t = law.within e c j in let f = (apart c).0 k in absurd (cc)) (λ j. j) in
+      (λ k. let clear : p.writes e c ≡ false = by_bool (p.writes e c) (p.writes e c ≡ false) (λ j. absurd ((apart c).0 k (law.within e c j))) (λ j. j) in
       written (p.carried_out w e) d c k ∙ sym (unwritten (p.carried_out w d) e c clear ∙ written w d c k))
       (λ k. unwritten (p.carried_out w e) d c k ∙ by_bool (p.writes e c) _
       (λ j. written w e c j ∙ sym (written (p.carried_out w d) e c j))
@@ -45,12 +45,12 @@ module _ {W N F S C V P : Type 0} (m : Machine W N F S) (p : Plans W N F C V P) 
       let e = plan_of u v b k in
       let second : p.plan (p.carried_out w d.plan) b.step ≡ Some e.plan = ap (λ (x : W). p.plan x b.step) d.leads ∙ e.is_it in
       let free' : m.depends (p.fact d.plan) (p.fact e.plan) ≡ false = ap₂ m.depends d.fact e.fact ∙ free in
-      let apart : (c : C) → (p.writes d.plan c ≡ true → p.touches e.plan c ≡ false) × (p.writes e.plan c ≡ true → p.touches d.plan c ≡ false) = λ c. law.apart w a.step b.step d.plan e.plan c r d.is_it second free' in
+      let apart : (c : C) → (p.writes d.plan c ≡ true → p.touches e.plan c ≡ true → ⊥) × (p.writes e.plan c ≡ true → p.touches d.plan c ≡ true → ⊥) = λ c. law.apart w a.step b.step d.plan e.plan c r d.is_it second free' in
       let before = law.local u w b.step e.plan (reached_next m base w u a r h) e.is_it
-      (λ c touched. by_bool (p.writes d.plan c) _ (λ j. let f = (apart c).0 j in absurd (cc)) (λ j. sym (ap (λ (x : W). p.at x c) (sym d.leads) ∙ unwritten w d.plan c j))) in
+      (λ c touched. by_bool (p.writes d.plan c) _ (λ j. absurd ((apart c).0 j touched)) (λ j. sym (ap (λ (x : W). p.at x c) (sym d.leads) ∙ unwritten w d.plan c j))) in
       let x = p.carried_out w e.plan in
       let after = law.local w x a.step d.plan r d.is_it
-      (λ c touched. by_bool (p.writes e.plan c) _ (λ j. let f = (apart c).1 j in absurd (cc)) (λ j. unwritten w e.plan c j)) in
+      (λ c touched. by_bool (p.writes e.plan c) _ (λ j. absurd ((apart c).1 j touched)) (λ j. unwritten w e.plan c j)) in
       let end : p.carried_out x d.plan ≡ v = either_order w d.plan e.plan apart ∙ ap (λ (y : W). p.carried_out y e.plan) d.leads ∙ e.leads in (
         x,
         (taken_by w b.step e.plan before.0 ∙ ap (λ (f : F). Some (x, f)) e.fact, k.1 ∙ ap (m.saved u) (sym e.fact) ∙ sym before.1 ∙ ap (m.saved w) e.fact),

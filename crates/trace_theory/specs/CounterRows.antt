@@ -62,6 +62,10 @@ row_after_fork = refl
 row_after_last_write : after_of history b_writes_more ≡ Some (b_writes_more ∷ b_ends ∷ join ∷ [])
 row_after_last_write = refl
 
+-- a write depends on a read before it
+row_after_read : after_of (fork ∷ b_writes ∷ b_reads ∷ a_writes ∷ []) b_reads ≡ Some (b_reads ∷ a_writes ∷ [])
+row_after_read = refl
+
 row_after_join : after_of history join ≡ Some (join ∷ [])
 row_after_join = refl
 

@@ -33,7 +33,7 @@ pub record HasFootprints {W N F S C V P : Type 0} (m : Machine W N F S) (p : Pla
       → p.at (m.undo u (p.fact d) (m.saved w (p.fact d))) c ≡ (if p.writes d c then p.at w c else p.at u c)
   -- of neighbours that don't depend on each other neither writes what the other touches
   pub apart : (w : W) (a b : N) (d e : P) (c : C) → IsReached m base w → p.plan w a ≡ Some d → p.plan (p.carried_out w d) b ≡ Some e → m.depends (p.fact d) (p.fact e) ≡ false
-      → (p.writes d c ≡ true → p.touches e c ≡ false) × (p.writes e c ≡ true → p.touches d c ≡ false)
+      → (p.writes d c ≡ true → p.touches e c ≡ true → ⊥) × (p.writes e c ≡ true → p.touches d c ≡ true → ⊥)
   -- worlds that hold the same in each cell are one
   pub same : (w x : W) → ((c : C) → p.at w c ≡ p.at x c) → w ≡ x
 
