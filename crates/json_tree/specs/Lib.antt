@@ -9,4 +9,5 @@ pub mod Proper
 pub mod Written
 pub mod Reading
 pub mod Lending
+pub mod Places
 pub mod Tokens

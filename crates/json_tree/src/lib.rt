@@ -6,8 +6,6 @@ mod laws;
 mod nesting;
 mod order;
 mod reading;
-#[cfg(test)]
-mod tests;
 mod text;
 mod tree;
 mod writing;
@@ -17,5 +15,5 @@ pub use laws::{equality_is_of_values, texts_tell_apart, written_is_read_back};
 pub use nesting::depth;
 pub use reading::{from_value, read};
 pub use text::Text;
-pub use tree::{Json, JsonFields, JsonList};
+pub use tree::{ChangeFault, Field, Json, JsonFields, JsonList};
 pub use writing::write_text;
