@@ -10,4 +10,5 @@ pub mod Written
 pub mod Reading
 pub mod Lending
 pub mod Places
+pub mod TextView
 pub mod Tokens

@@ -6,6 +6,7 @@ mod laws;
 mod nesting;
 mod order;
 mod reading;
+mod short;
 mod text;
 mod tree;
 mod writing;

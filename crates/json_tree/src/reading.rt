@@ -164,7 +164,7 @@ fn take_value(alloc: Global, value: Value) -> Result<Json, JsonFault>
         Value::Null => Ok(Json::Null),
         Value::Bool(b) => Ok(Json::Bool(b)),
         Value::Number(number) => whole_number(&number),
-        Value::String(text) => Ok(Json::Text(Text::from_string(text))),
+        Value::String(text) => Ok(Json::Text(Text::from_string(text)?)),
         Value::Array(items) => Ok(Json::List(take_items(alloc, items)?)),
         Value::Object(members) => Ok(Json::Fields(take_members(alloc, members)?)),
     }
@@ -193,7 +193,7 @@ fn take_members(alloc: Global, members: Map<String, Value>) -> Result<JsonFields
 {
     let mut inner = Vec::with_capacity(alloc, members.len())?;
     for (name, member) in members {
-        let name = Text::from_string(name);
+        let name = Text::from_string(name)?;
         let value = take_value(alloc, member)?;
         inner.push(Field { name, value })?;
     }

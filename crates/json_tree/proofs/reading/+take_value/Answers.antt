@@ -31,7 +31,7 @@ take_members-loop-name-init t c =
 pub take_members-loop-name-preserved : goal.take_members-loop-name-preserved
 take_members-loop-name-preserved t c =
     let l = c.loop-name in
-    members_step l.name-iterator c.next.new.self c.in-Some.name c.in-Some.member l.inner.items c.push.new.self.items _ _ c.in-Some.ensures.steps c.from_string-name.ensures c.in_ok-value.ensures.ok c.in_ok-push.ensures.items l.invariant
+    members_step l.name-iterator c.next.new.self c.in-Some.name c.in-Some.member l.inner.items c.push.new.self.items _ _ c.in-Some.ensures.steps c.in_ok-name.ensures.ok c.in_ok-value.ensures.ok c.in_ok-push.ensures.items l.invariant
 
 pub take_members-returns-clause-ok : goal.take_members-returns-clause-ok
 take_members-returns-clause-ok t c =
