@@ -7,6 +7,8 @@ mod nesting;
 mod order;
 mod reading;
 mod short;
+#[cfg(test)]
+mod tests;
 mod text;
 mod tree;
 mod writing;
