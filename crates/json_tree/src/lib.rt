@@ -2,7 +2,9 @@
 
 //! JSON values whose numbers are whole, read by `serde_json` and written in one spelling.
 mod fault;
+mod fields;
 mod laws;
+mod list;
 mod nesting;
 mod order;
 mod reading;

@@ -2,7 +2,7 @@ use Rattle.std.proofs.Common.{◌≡◌, Some, refl, sym, ap, ◌∙◌, subst, 
 use Rattle.json_tree.specs.Fields.{IsInNameOrder}
 use Rattle.json_tree.specs.View.{data_of, fields_of}
 use Rattle.json_tree.proofs.Views.{within, field_at, remove_there, order_without, at_named}
-use Rattle.json_tree.proofs.tree.take.Goals as goal
+use Rattle.json_tree.proofs.fields.take.Goals as goal
 
 pub remove-value-requires : goal.remove-value-requires
 remove-value-requires c =

@@ -4,7 +4,7 @@ use Rattle.json_tree.specs.Fields.{text_cmp, get_field, without_field, IsInNameO
 use Rattle.json_tree.specs.Places.{IsAt, IsGapFor}
 use Rattle.json_tree.specs.View.{fields_of}
 use Rattle.json_tree.proofs.Views.{searched, found_some, gap_none, gap_stays}
-use Rattle.json_tree.proofs.tree.place_of.Goals as goal
+use Rattle.json_tree.proofs.fields.place_of.Goals as goal
 
 pub returns : goal.returns
 returns c =

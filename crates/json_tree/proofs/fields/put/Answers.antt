@@ -3,7 +3,7 @@ use Rattle.json_tree.specs.Fields.{with_field, IsInNameOrder}
 use Rattle.json_tree.specs.View.{data_of, fields_of}
 use Rattle.json_tree.specs.Places.{IsAt, IsGapFor}
 use Rattle.json_tree.proofs.Views.{within, gap_within, field_at, no_field, set_there, insert_there, order_with, at_named, gap_named}
-use Rattle.json_tree.proofs.tree.put.Goals as goal
+use Rattle.json_tree.proofs.fields.put.Goals as goal
 
 pub index_mut-requires : goal.index_mut-requires
 index_mut-requires c =
