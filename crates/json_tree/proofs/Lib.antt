@@ -1,5 +1,6 @@
 pub mod Nodes
 pub mod Views
+pub mod Depths
 pub mod Readings
 pub mod Texts
 pub mod RoundTrip

@@ -33,8 +33,7 @@ impl Model for Text {
 impl Text {
     /// A copy of a text. Takes memory for a text of more than 22 bytes.
     pub fn new(alloc: Global, text: &str) -> Result<Text, AllocError>
-        ensures ok { IfOk result (λ t. t ≡ text.now) }
-        ensures short { length text.now ≤ 22 → IsOk result }
+        ensures { IfOk result (λ t. t ≡ text.now) }
     {
         if text.len() <= ROOM {
             return Ok(Text {

@@ -25,7 +25,7 @@ copy_members-loop-key-init t c =
 pub copy_members-loop-key-preserved : goal.copy_members-loop-key-preserved
 copy_members-loop-key-preserved t c =
     let l = c.loop-key in
-    members_step l.key-iterator c.next.new.self c.in-Some.key.now c.in-Some.member.now l.inner.items c.push.new.self.items _ _ c.in-Some.ensures.steps (c.in_ok-name.ensures.ok ∙ c.as_str.ensures.value) c.in_ok-value.ensures.ok c.in_ok-push.ensures.items l.invariant
+    members_step l.key-iterator c.next.new.self c.in-Some.key.now c.in-Some.member.now l.inner.items c.push.new.self.items _ _ c.in-Some.ensures.steps (c.in_ok-name.ensures ∙ c.as_str.ensures.value) c.in_ok-value.ensures.ok c.in_ok-push.ensures.items l.invariant
 
 pub copy_members-returns-clause-ok : goal.copy_members-returns-clause-ok
 copy_members-returns-clause-ok t c =

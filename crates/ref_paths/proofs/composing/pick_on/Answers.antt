@@ -2,7 +2,7 @@ use Rattle.std.proofs.Common.{◌∙◌}
 use Rattle.json_tree.specs.View.{data_of}
 use Rattle.ref_paths.specs.Composition.{data_or_made}
 use Rattle.ref_paths.proofs.Composed.{way_on}
-use Rattle.ref_paths.proofs.composing.pick_placed.Goals as goal
+use Rattle.ref_paths.proofs.composing.pick_on.Goals as goal
 
 pub loop-step-preserved : goal.loop-step-preserved
 loop-step-preserved c =

@@ -2,7 +2,7 @@ use Rattle.std.proofs.Common.{◌≡◌, drop, is_some}
 use Rattle.json_tree.specs.Data.{Data}
 use Rattle.ref_paths.specs.Composition.{data_or_made}
 use Rattle.ref_paths.specs.Placing.{place_at}
-use Rattle.ref_paths.proofs.composing.can_place.Given as goal
+use Rattle.ref_paths.proofs.placing.can_place.Given as goal
 
 abbrev pub invariant-loop-step : goal.invariant-loop-step
 invariant-loop-step l =
