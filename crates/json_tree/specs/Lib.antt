@@ -10,4 +10,6 @@ pub mod Proper
 pub mod Written
 pub mod Reading
 pub mod Lending
+pub mod Places
+pub mod TextView
 pub mod Tokens
