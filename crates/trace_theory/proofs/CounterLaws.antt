@@ -2,7 +2,7 @@
 use Rattle.std.proofs.Common.{◌≡◌, ℕ, ◌+◌, ◌-◌, ◌≤◌, ◌==◌, Bool, true, false, cond, List, [], ◌∷◌, ◌++◌, arith, refl, ap, ap₂, sym, subst, ◌∙◌, inl, inr, Option, None, Some}
 use Rattle.std.specs.Prelude.{◌⊎◌, ◌&&◌, ◌||◌, option_and_then}
 use Rattle.std.proofs.Math.Path.{fun_ext}
-use Rattle.std.proofs.lemmas.Bool.{eqb-true}
+use Rattle.std.proofs.lemmas.Bool.{and_parts, or_parts, eqb-true}
 use Rattle.trace_theory.specs.Traces.{}
 use Rattle.trace_theory.specs.Footprints.{IsReached, HasFootprints}
 use Rattle.trace_theory.specs.Counters.{Frame, World, Act, reads, writes, forks, joins, ends, Step, is_join, same_thread, is_under, makes, closes, reaches, conflict, writes_counter, touches_counter, depends, seen, branch, Cell, frame_at, counter_at, a_frame, a_number, at, Plan, plan, plan_by, carried_out, touched, written, held_after, counter_plans, start, Saved, saved, counter_before, undo, counters, CountersAreLawful, CountersHaveNames}
@@ -10,7 +10,7 @@ use Rattle.trace_theory.proofs.Lists.{by_bool}
 use Rattle.trace_theory.proofs.Runs.{map_some, reached_good}
 use Rattle.trace_theory.proofs.Planned.{plans_are_lawful}
 use Rattle.trace_theory.proofs.Names.{names_once}
-use Rattle.trace_theory.proofs.CounterPaths.{both, either, neither, itself, same_thread-true, thread_itself, under_under, branch_is_under, over_one}
+use Rattle.trace_theory.proofs.CounterPaths.{either, itself, same_thread-true, thread_itself, under_under, branch_is_under, over_one}
 use Rattle.trace_theory.proofs.CounterWorlds.{Planned, planned, frame_own, frame_reached, frame_other, reached, born, Good, start_good, same_frame, none_yet, good_after, good_kept}
 
 good : (w : World) → IsReached counters start w → Good w
@@ -132,19 +132,19 @@ no_conflict ends b k h = (λ i t. cc, λ t i. cc)
 
 module _ (w : World) (d e : Plan) (first : Planned w d) (second : Planned (carried_out w d) e) (fine : Good (carried_out w d)) (free : depends d.step e.step ≡ false) where
   no_thread : same_thread d.step.thread e.step.thread ≡ false
-  no_thread = (neither (same_thread d.step.thread e.step.thread) _ free).0
+  no_thread = (or_parts (same_thread d.step.thread e.step.thread) _ free).0
 
   rest : (makes d.step e.step.thread || (closes e.step d.step.thread || conflict d.step.act e.step.act)) ≡ false
-  rest = (neither (same_thread d.step.thread e.step.thread) _ free).1
+  rest = (or_parts (same_thread d.step.thread e.step.thread) _ free).1
 
   no_made : makes d.step e.step.thread ≡ false
-  no_made = (neither (makes d.step e.step.thread) _ rest).0
+  no_made = (or_parts (makes d.step e.step.thread) _ rest).0
 
   no_closed : closes e.step d.step.thread ≡ false
-  no_closed = (neither (closes e.step d.step.thread) _ (neither (makes d.step e.step.thread) _ rest).1).0
+  no_closed = (or_parts (closes e.step d.step.thread) _ (or_parts (makes d.step e.step.thread) _ rest).1).0
 
   no_counter : conflict d.step.act e.step.act ≡ false
-  no_counter = (neither (closes e.step d.step.thread) _ (neither (makes d.step e.step.thread) _ rest).1).1
+  no_counter = (or_parts (closes e.step d.step.thread) _ (or_parts (makes d.step e.step.thread) _ rest).1).1
 
   -- the earlier doesn't reach the later one's thread: a fork by independence, and after a join nothing stands there
   not_forward : reaches d.step e.step.thread ≡ true → ⊥
@@ -211,11 +211,11 @@ data Was (w : World) (s : Step) : Type 0 where
 module _ (w : World) (d : Plan) (fine : Good w) (p : Planned w d) where
   new : (s : Step) → Was w s → (same_thread s.thread d.step.thread && (s.no == d.step.no)) ≡ true → ⊥
   new s (counted f h c) e =
-      let k = both (same_thread s.thread d.step.thread) (s.no == d.step.no) e in
+      let k = and_parts (same_thread s.thread d.step.thread) (s.no == d.step.no) e in
       let g = ap (λ (x : Frame). x.count) (same_frame w d.step.thread f p.before (subst (λ t. w.frames t ≡ Some f) (same_thread-true s.thread d.step.thread k.0) h) p.stands) in
       absurd (omega (arith, c, p.numbered, eqb-true s.no d.step.no k.1, g))
   new s (behind t n f u h c) e =
-      let k = both (same_thread s.thread d.step.thread) (s.no == d.step.no) e in
+      let k = and_parts (same_thread s.thread d.step.thread) (s.no == d.step.no) e in
       let a = fine.over t d.step.thread n p.before (subst (λ q. is_under t n q ≡ true) (same_thread-true s.thread d.step.thread k.0) u) p.stands in
       let g = ap (λ (x : Frame). x.count) (same_frame w t f a.frame h a.stands) in
       absurd (omega (arith, c, a.count, g))
@@ -232,7 +232,7 @@ module _ (w : World) (d : Plan) (fine : Good w) (p : Planned w d) where
       by_bool (same_thread d.step.thread t) _
       (λ k. let g = ap (λ (x : Frame). x.count) (same_frame w d.step.thread p.before f p.stands (subst (λ q. w.frames q ≡ Some f) (sym (same_thread-true d.step.thread t k)) h)) in inl (d.frame, frame_own w d t k, omega (arith, p.count, p.numbered, g)))
       (λ k. by_bool (reaches d.step t) _
-      (λ j. elim (either (makes d.step t) (closes d.step t) j) [ inl i ↦ absurd (none_yet w d t f fine p i h) | inr i ↦ inr (both (is_join d.step.act) (is_under d.step.thread (d.step.no - 1) t) i).1 ])
+      (λ j. elim (either (makes d.step t) (closes d.step t) j) [ inl i ↦ absurd (none_yet w d t f fine p i h) | inr i ↦ inr (and_parts (is_join d.step.act) (is_under d.step.thread (d.step.no - 1) t) i).1 ])
       (λ j. inl (f, frame_other w d t k j ∙ h, omega arith)))
 
   closed : (s : Step) → is_under d.step.thread (d.step.no - 1) s.thread ≡ true → Was (carried_out w d) s
@@ -262,7 +262,7 @@ counters_have_names = record {
   where
     alike : (a b : Step) → (same_thread a.thread b.thread && (a.no == b.no)) ≡ true → (same_thread b.thread a.thread && (b.no == a.no)) ≡ true
     alike a b h =
-        let k = both (same_thread a.thread b.thread) (a.no == b.no) h in
+        let k = and_parts (same_thread a.thread b.thread) (a.no == b.no) h in
         let e = thread_alike a.thread b.thread k.0 in
         let f : (b.no == a.no) ≡ true = ap (λ (n : ℕ). b.no == n) (eqb-true a.no b.no k.1) ∙ itself b.no in
         rw (e, f)

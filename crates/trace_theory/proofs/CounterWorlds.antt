@@ -1,12 +1,12 @@
 -- What holds in each world that the small machine reaches: a thread stands under a fork only while the fork's thread is parked there.
 use Rattle.std.proofs.Common.{◌≡◌, ℕ, ◌+◌, ◌-◌, ◌==◌, Bool, true, false, cond, List, [], ◌∷◌, ◌++◌, arith, refl, ap, sym, subst, ◌∙◌, inl, inr, Option, None, Some}
 use Rattle.std.specs.Prelude.{◌&&◌, ◌||◌}
-use Rattle.std.proofs.lemmas.Bool.{eqb-true}
+use Rattle.std.proofs.lemmas.Bool.{and_parts, eqb-true}
 use Rattle.std.proofs.lemmas.Option.{same_Some}
 use Rattle.trace_theory.specs.Counters.{Phase, ready, parked, done, Frame, World, Act, reads, writes, forks, joins, ends, Step, is_fork, is_join, same_thread, is_under, makes, closes, reaches, below, can, is_ready, is_parked, phase_after, seen, branch, Plan, plan, plan_by, carried_out, start, first_frame, counters}
 use Rattle.trace_theory.proofs.Lists.{by_bool}
 use Rattle.trace_theory.proofs.Runs.{and_then_some, map_some}
-use Rattle.trace_theory.proofs.CounterPaths.{both, either, same_thread-true, thread_itself, never_under_itself, under_under, above_branch}
+use Rattle.trace_theory.proofs.CounterPaths.{either, same_thread-true, thread_itself, never_under_itself, under_under, above_branch}
 
 -- ---- one plan
 
@@ -30,7 +30,7 @@ planned w s d h =
     let b = branch w s.act s.thread s.no 1 in
     let k = and_then_some (plan_by s (seen w s.act) a b) (w.frames s.thread) d h in
     let l = if_some _ _ d k.2 in
-    let t = both (s.no == k.0.count + 1) (can s.act k.0 a b) l.0 in
+    let t = and_parts (s.no == k.0.count + 1) (can s.act k.0 a b) l.0 in
     let no = eqb-true s.no (k.0.count + 1) t.0 in
     let is_it = l.1 in (
       sym (ap (λ (p : Plan). p.step) is_it),
@@ -76,8 +76,8 @@ pub record Reached (s : Step) (q : List (ℕ × ℕ)) : Type 0 where
 
 pub reached : (s : Step) (q : List (ℕ × ℕ)) → reaches s q ≡ true → Reached s q
 reached s q h = elim (either (makes s q) (closes s q) h) [
-  | inl k ↦ (let e = both (is_fork s.act) (is_under s.thread s.no q) k in let f = e.0 in record { fork = s.no; under = e.1; all = λ r g. rw (f, g) })
-  | inr k ↦ (let e = both (is_join s.act) (is_under s.thread (s.no - 1) q) k in let f = e.0 in record { fork = s.no - 1; under = e.1; all = λ r g. rw (f, g) (last (makes s r)) })
+  | inl k ↦ (let e = and_parts (is_fork s.act) (is_under s.thread s.no q) k in let f = e.0 in record { fork = s.no; under = e.1; all = λ r g. rw (f, g) })
+  | inr k ↦ (let e = and_parts (is_join s.act) (is_under s.thread (s.no - 1) q) k in let f = e.0 in record { fork = s.no - 1; under = e.1; all = λ r g. rw (f, g) (last (makes s r)) })
 ]
   where
     last : (b : Bool) → (b || true) ≡ true
@@ -92,7 +92,7 @@ pub record Born (s : Step) (q : List (ℕ × ℕ)) : Type 0 where
 pub born : (s : Step) (q : List (ℕ × ℕ)) (f : Frame) → below s q ≡ Some f → Born s q
 born s q f h =
     let k = if_some (is_fork s.act && (same_thread (s.thread ++ (s.no, 0) ∷ []) q || same_thread (s.thread ++ (s.no, 1) ∷ []) q)) first_frame f h in
-    let e = both (is_fork s.act) _ k.0 in
+    let e = and_parts (is_fork s.act) _ k.0 in
     elim (either (same_thread (s.thread ++ (s.no, 0) ∷ []) q) (same_thread (s.thread ++ (s.no, 1) ∷ []) q) e.1) [
       | inl g ↦ record { forked = e.0; number = 0; place = same_thread-true (s.thread ++ (s.no, 0) ∷ []) q g }
       | inr g ↦ record { forked = e.0; number = 1; place = same_thread-true (s.thread ++ (s.no, 1) ∷ []) q g }
@@ -125,7 +125,7 @@ same_frame w q f g h k = same_Some f g (sym h ∙ k)
 -- under a fork that is made nothing stands yet
 pub none_yet : (w : World) (d : Plan) (q : List (ℕ × ℕ)) (f : Frame) → Good w → Planned w d → makes d.step q ≡ true → w.frames q ≡ Some f → ⊥
 none_yet w d q f good p h k =
-    let u = both (is_fork d.step.act) (is_under d.step.thread d.step.no q) h in
+    let u = and_parts (is_fork d.step.act) (is_under d.step.thread d.step.no q) h in
     let a = good.over d.step.thread q d.step.no f u.1 k in
     let e = ap (λ (x : Frame). x.count) (same_frame w d.step.thread a.frame p.before a.stands p.stands) in
     absurd (omega (arith, a.count, p.numbered, e))

@@ -1,6 +1,7 @@
 -- Places in lists, and what filters leave.
+use Rattle.std.proofs.lemmas.Bool.{or_parts}
 use Rattle.std.proofs.Common.{◌≡◌, Bool, true, false, cond, List, [], ◌∷◌, ◌++◌, refl, ap, sym, subst, ◌∙◌, inl, inr}
-use Rattle.std.specs.Prelude.{◌⊎◌, ◌||◌, filter, reverse}
+use Rattle.std.specs.Prelude.{◌⊎◌, filter, reverse}
 use Rattle.std.specs.List.{list_any}
 use Rattle.std.proofs.lemmas.List.{reverse-append, reverse-reverse}
 use Rattle.trace_theory.specs.Traces.{In, Before}
@@ -8,10 +9,6 @@ use Rattle.trace_theory.specs.Traces.{In, Before}
 pub by_bool : (b : Bool) (P : Type 0) → (b ≡ true → P) → (b ≡ false → P) → P
 by_bool true P if_true if_false = if_true refl
 by_bool false P if_true if_false = if_false refl
-
-any_head : (b c : Bool) → (b || c) ≡ false → (b ≡ false) × (c ≡ false)
-any_head true c h = cc
-any_head false c h = (refl, h)
 
 module _ {A : Type 0} where
   pub In-front : (x : A) (xs ys : List A) → In x xs → In x (xs ++ ys)
@@ -165,8 +162,8 @@ module _ {A : Type 0} where
 
   pub any_none : (p : A → Bool) (xs : List A) → list_any p xs ≡ false → (x : A) → In x xs → p x ≡ false
   any_none p [] h x i = absurd i
-  any_none p (z ∷ xs) h x (inl e) = ap p e ∙ (any_head (p z) (list_any p xs) h).0
-  any_none p (z ∷ xs) h x (inr i) = any_none p xs (any_head (p z) (list_any p xs) h).1 x i
+  any_none p (z ∷ xs) h x (inl e) = ap p e ∙ (or_parts (p z) (list_any p xs) h).0
+  any_none p (z ∷ xs) h x (inr i) = any_none p xs (or_parts (p z) (list_any p xs) h).1 x i
 
   pub none_any : (p : A → Bool) (xs : List A) → ((x : A) → In x xs → p x ≡ false) → list_any p xs ≡ false
   none_any p [] h = refl
