@@ -1,0 +1,14 @@
+//! The items of one table by their keys, and the calls that read and write one item (GetItem, PutItem and DeleteItem of the
+//! DynamoDB API).
+#![tactic(auto)]
+
+mod access;
+mod call;
+
+mod deciding;
+mod fault;
+
+pub use access::AccessMode;
+pub use call::{Action, Call, Condition, ConditionKind, Request, ReturnValues, Terms};
+pub use deciding::{Answer, Decided, decide};
+pub use fault::CallFault;
