@@ -51,10 +51,13 @@ name_before_spaces s (Some x) = if is_attribute_name x.0 && list_all is_space x.
 abbrev pub attribute_of : List ℕ → Option (List ℕ)
 attribute_of s = name_before_spaces (after_spaces s) (cut_at 32 (after_spaces s))
 
+abbrev pub written : ConditionKind → List ℕ → Condition
+written kind attribute = record { kind = kind; attribute = attribute }
+
 -- a condition by its function's name, what stands in its brackets, and what follows them
 abbrev pub condition_from : Option ConditionKind → List ℕ → List ℕ → Option Condition
 condition_from kind inside tail =
-    option_and_then (λ k. option_map (λ a. record { kind = k; attribute = a }) (if list_all is_space tail then attribute_of inside else None)) kind
+    option_and_then (λ k. option_map (written k) (if list_all is_space tail then attribute_of inside else None)) kind
 
 -- the condition that a text writes, if any
 abbrev pub condition_of : List ℕ → Option Condition

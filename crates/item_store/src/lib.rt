@@ -4,7 +4,7 @@
 
 mod access;
 mod call;
-
+mod condition;
 mod deciding;
 mod fault;
 
