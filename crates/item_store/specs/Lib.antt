@@ -1,3 +1,5 @@
 pub mod Faults
 pub mod Condition
+pub mod Calls
+pub mod Lent
 pub mod Deciding

@@ -2,7 +2,8 @@
 
 ghost use Rattle.std.specs.Prelude.{◌≡◌, ◌<◌, false, length, slice_index, IsTrue, option_map, MatchOption, None, Some};
 ghost use Rattle.std.specs.List.{list_all};
-ghost use Rattle.item_store.specs.Condition.{after_spaces, attribute_of, condition_of, cut_at, is_attribute_name, is_name_byte, is_space, kind_of, written};
+ghost use Rattle.item_store.specs.Condition.{after_spaces, attribute_of, condition_of, cut_at, is_attribute_name, is_name_byte, is_space, kind_of};
+ghost use Rattle.item_store.specs.Lent.{condition_seen};
 
 use crate::call::ConditionKind;
 
@@ -15,7 +16,7 @@ pub(crate) struct LentCondition<'a> {
 
 /// The condition that a text writes, if any. Goes over the text at most three times, and takes no memory.
 pub(crate) fn read_condition(text: &str) -> Option<LentCondition<'_>>
-    ensures { option_map (λ c. written c.kind c.attribute.now) result ≡ condition_of text.now }
+    ensures { option_map condition_seen result ≡ condition_of text.now }
 {
     let (function, rest) = cut(text, '(')?;
     let (inside, tail) = cut(rest, ')')?;

@@ -7,6 +7,7 @@ mod call;
 mod condition;
 mod deciding;
 mod fault;
+mod reading;
 
 pub use access::AccessMode;
 pub use call::{Action, Call, Condition, ConditionKind, Request, ReturnValues, Terms};
