@@ -3,3 +3,5 @@ pub mod Condition
 pub mod Calls
 pub mod Lent
 pub mod Deciding
+pub mod Table
+pub mod Store

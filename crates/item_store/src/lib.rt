@@ -7,9 +7,12 @@ mod call;
 mod condition;
 mod deciding;
 mod fault;
+mod keying;
 mod reading;
+mod slot;
 
 pub use access::AccessMode;
 pub use call::{Action, Call, Condition, ConditionKind, Request, ReturnValues, Terms};
 pub use deciding::{Answer, Decided, decide};
 pub use fault::CallFault;
+pub use slot::SlotNo;
