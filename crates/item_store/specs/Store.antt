@@ -1,9 +1,8 @@
 -- A store as contracts see it: its table's name and keys, and its slots with what stands in each, in the order of their
 -- making. The items by their keys, and which key a slot has, are functions of these.
-use Rattle.std.specs.Prelude.{◌≡◌, ℕ, List, [], ◌∷◌, ◌++◌, Bool, Option, Some, None, option_map, option_and_then, slice_get, position, if◌then◌else◌}
+use Rattle.std.specs.Prelude.{◌≡◌, ℕ, List, [], ◌∷◌, ◌++◌, Bool, Option, Some, None, is_some, slice_get, if◌then◌else◌}
 use Rattle.std.specs.BTreeMap.{is_at}
-use Rattle.std.specs.HashMap.{IsUnique, HashMap}
-use Rattle.std.specs.List.{list_any}
+use Rattle.std.specs.List.{IsDistinct}
 use Rattle.std.specs.List.Sorted.{IsStrictlySortedBy}
 use Rattle.std.specs.Map.{keys_of, values_of, lookup}
 use Rattle.attr_values.specs.Key.{key_cmp}
@@ -25,9 +24,13 @@ abbrev pub what_stands : {A : Type 0} → Option (Option A) → Option A
 what_stands None = None
 what_stands (Some x) = x
 
--- the items by their keys: what stands in the slot of a key, if it has one
+-- what stands in the slot of each key, if it has one
+abbrev pub items_in : Slots → Table
+items_in slots key = what_stands (lookup (is_same_key key) slots)
+
+-- the items by their keys
 abbrev pub items_of : Store → Table
-items_of s key = what_stands (lookup (is_same_key key) s.slots)
+items_of s = items_in s.slots
 
 -- the keys of the slots, in the order of their making
 abbrev pub slot_keys : Store → List Key
@@ -38,15 +41,17 @@ abbrev pub slot_key : Store → SlotNo → Option Key
 slot_key s slot = slice_get (slot_keys s) slot.index
 
 abbrev pub has_slot_of : Store → Key → Bool
-has_slot_of s key = list_any (is_same_key key) (slot_keys s)
+has_slot_of s key = is_some (lookup (is_same_key key) s.slots)
 
 -- the store, with a slot of the key: the one that is there, or a new one in which nothing stands
 abbrev pub with_slot : Store → Key → Store
 with_slot s key = if has_slot_of s key then s else record { table = s.table; schema = s.schema; slots = s.slots ++ (key, None) ∷ [] }
 
--- the numbers of the slots by their keys are those of the slots
-pub record IsOrderOf (slots : Slots) (order : List (Key × SlotNo)) : Type 0 where
-  pub numbers : (key : Key) → option_map (λ n. n.index) (lookup (is_at (key_cmp key)) order) ≡ position (is_same_key key) (keys_of slots)
+-- no two slots have one key, and the order leads from a key to the number of its slot
+pub record IsIndexed (slots : Slots) (order : List (Key × SlotNo)) : Type 0 where
+  pub unique : IsDistinct is_same_key (keys_of slots)
+  pub numbered : (key : Key) (n : SlotNo) → lookup (is_at (key_cmp key)) order ≡ Some n → slice_get (keys_of slots) n.index ≡ Some key
+  pub whole : (key : Key) → is_some (lookup (is_at (key_cmp key)) order) ≡ is_some (lookup (is_same_key key) slots)
 
 -- these are the items of a table, each once, in the order of their keys
 pub record IsListing (items : Table) (listed : List Attributes) : Type 0 where

@@ -10,9 +10,11 @@ mod fault;
 mod keying;
 mod reading;
 mod slot;
+mod store;
 
 pub use access::AccessMode;
 pub use call::{Action, Call, Condition, ConditionKind, Request, ReturnValues, Terms};
 pub use deciding::{Answer, Decided, decide};
 pub use fault::CallFault;
 pub use slot::SlotNo;
+pub use store::ItemStore;
