@@ -1,3 +1,4 @@
 pub mod Cuts
 pub mod Shapes
 pub mod Slots
+pub mod Listings

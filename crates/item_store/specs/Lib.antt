@@ -5,3 +5,4 @@ pub mod Lent
 pub mod Deciding
 pub mod Table
 pub mod Store
+pub mod Listing

@@ -3,8 +3,7 @@
 use Rattle.std.specs.Prelude.{◌≡◌, ℕ, List, [], ◌∷◌, ◌++◌, Bool, Option, Some, None, is_some, slice_get, if◌then◌else◌}
 use Rattle.std.specs.BTreeMap.{is_at}
 use Rattle.std.specs.List.{IsDistinct}
-use Rattle.std.specs.List.Sorted.{IsStrictlySortedBy}
-use Rattle.std.specs.Map.{keys_of, values_of, lookup}
+use Rattle.std.specs.Map.{keys_of, lookup}
 use Rattle.attr_values.specs.Key.{key_cmp}
 use Rattle.attr_values.specs.declared.key.Key.{Key}
 use Rattle.attr_values.specs.declared.key.KeySchema.{KeySchema}
@@ -52,10 +51,3 @@ pub record IsIndexed (slots : Slots) (order : List (Key × SlotNo)) : Type 0 whe
   pub unique : IsDistinct is_same_key (keys_of slots)
   pub numbered : (key : Key) (n : SlotNo) → lookup (is_at (key_cmp key)) order ≡ Some n → slice_get (keys_of slots) n.index ≡ Some key
   pub whole : (key : Key) → is_some (lookup (is_at (key_cmp key)) order) ≡ is_some (lookup (is_same_key key) slots)
-
--- these are the items of a table, each once, in the order of their keys
-pub record IsListing (items : Table) (listed : List Attributes) : Type 0 where
-  pub entries : List (Key × Attributes)
-  pub values : values_of entries ≡ listed
-  pub ordered : IsStrictlySortedBy key_cmp (keys_of entries)
-  pub whole : (key : Key) → lookup (is_at (key_cmp key)) entries ≡ items key

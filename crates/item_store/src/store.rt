@@ -5,11 +5,13 @@ ghost use Rattle.std.specs.Option.{option_copied};
 ghost use Rattle.attr_values.specs.Key.{has_text};
 ghost use Rattle.attr_values.specs.declared.key.Key.{Key};
 ghost use Rattle.item_store.specs.Store.{items_of, slot_keys, slot_key, has_slot_of, with_slot};
+ghost use Rattle.item_store.specs.Listing.{items_left, IsListing};
 ghost use Rattle.item_store.specs.Table.{key_asked, with_item};
 
 use crate::call::Call;
 use crate::fault::CallFault;
 use crate::keying::key_in;
+use crate::listing::Items;
 use crate::slot::SlotNo;
 use attr_values::{Item, Key, KeySchema};
 use indexmap::IndexMap;
@@ -125,5 +127,13 @@ impl ItemStore {
         ensures schema { self.new.schema ≡ self.old.schema }
     {
         mem::replace(&mut self.slots[slot.index], item)
+    }
+
+    /// The items in the order of their keys, lent. Takes no memory; each item takes a step, and so does each slot in which
+    /// none stands.
+    pub fn items(&self) -> Items<'_>
+        ensures { IsListing (items_of self.now) (items_left result) }
+    {
+        Items::new(self.order.iter(), &self.slots)
     }
 }
