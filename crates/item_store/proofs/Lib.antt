@@ -2,3 +2,4 @@ pub mod Cuts
 pub mod Shapes
 pub mod Slots
 pub mod Listings
+pub mod Calls

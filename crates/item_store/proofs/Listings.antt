@@ -13,7 +13,7 @@ use Rattle.item_store.specs.Listing.{IsListing, item_at, with_entry, entries_in}
 use Rattle.item_store.specs.Store.{Slots, what_stands, items_in, IsIndexed}
 use Rattle.item_store.specs.Table.{Table, is_same_key}
 use Rattle.item_store.specs.declared.slot.SlotNo.{SlotNo}
-use Rattle.item_store.proofs.Slots.{same_key, none_of, stands}
+use Rattle.item_store.proofs.Slots.{same_key, none_of, stands, value_at}
 
 abbrev Below : Key → List Key → Type 0
 Below key ks = AllByRecursion (λ q. key_cmp key q ≡ Less) ks
@@ -58,13 +58,6 @@ found_in key slots (e ∷ es) h =
     found_by (is_at (key_cmp key) e.0) (item_at slots e.1) key e.0 e.1 slots (entries_in slots es) (lookup (is_at (key_cmp key)) es) refl refl
     (λ b. below_none key (entries_in slots es) (subst (λ k. Below k (keys_of (entries_in slots es))) (sym (same_key key e.0 b)) (below_entries e.0 slots es h.0)))
     (found_in key slots es h.1)
-
-value_at : (slots : Slots) (i : ℕ) (key : Key) → slice_get (keys_of slots) i ≡ Some key → (x : Option Attributes) × (slice_get slots i ≡ Some (key, x))
-value_at [] i key h = cc
-value_at (e ∷ es) zero key h =
-    let same : e.0 ≡ key = cc in
-    (e.1, λ j. Some (same j, e.1))
-value_at (e ∷ es) (suc i) key h = value_at es i key h
 
 module _ {S : Type 0} (m : HashMap Key (Option Attributes) S) (order : List (Key × SlotNo)) (i : IsIndexed m.entries order) where
   leads_by : (key : Key) (r : Option SlotNo) → lookup (is_at (key_cmp key)) order ≡ r → option_and_then (item_at m.entries) r ≡ items_in m.entries key

@@ -9,7 +9,8 @@ use Rattle.std.specs.List.{IsDistinct}
 use Rattle.std.specs.Map.{keys_of, values_of, lookup, lookup_key}
 use Rattle.indexmap.specs.IndexMap.{set_value_at}
 use Rattle.indexmap.proofs.CallerLemmas.{updates-with_value_at}
-use Rattle.indexmap.proofs.MapLemmas.{Found-position}
+use Rattle.indexmap.proofs.MapLemmas.{Found-position, index-first}
+use Rattle.indexmap.proofs.RemoveLemmas.{own_first}
 use Rattle.attr_values.specs.Key.{key_cmp}
 use Rattle.attr_values.specs.KeyOrder.{key_cmp_total, key_cmp_equal}
 use Rattle.attr_values.specs.declared.key.Key.{Key}
@@ -157,3 +158,22 @@ module _ {S : Type 0} (m : HashMap Key (Option Attributes) S) where
   -- the slot that a key finds is the key's
   pub found_key : (i : ℕ) (key : Key) → position (is_same_key key) (keys m) ≡ Some i → is_some (lookup (is_same_key key) m.entries) ≡ true → slice_get (keys m) i ≡ Some key
   found_key i key at there = sym (Found-position (is_same_key key) m.entries i at).key ∙ stored key m.entries there
+
+-- ---- one slot a key
+
+pub value_at : (slots : Slots) (i : ℕ) (key : Key) → slice_get (keys_of slots) i ≡ Some key → (x : Option Attributes) × (slice_get slots i ≡ Some (key, x))
+value_at [] i key h = cc
+value_at (e ∷ es) zero key h =
+    let same : e.0 ≡ key = cc in
+    (e.1, λ j. Some (same j, e.1))
+value_at (e ∷ es) (suc i) key h = value_at es i key h
+
+position_is : (slots : Slots) (i : ℕ) (key : Key) → IsDistinct is_same_key (keys_of slots) → slice_get (keys_of slots) i ≡ Some key → position (is_same_key key) (keys_of slots) ≡ Some i
+position_is slots i key unique h =
+    let v = value_at slots i key h in
+    index-first (is_same_key key) slots i (own_first is_same_key key_laws slots i key v.0 unique v.1)
+
+pub one_slot : (slots : Slots) → IsDistinct is_same_key (keys_of slots) → (n m : SlotNo) (key : Key) → slice_get (keys_of slots) n.index ≡ Some key → slice_get (keys_of slots) m.index ≡ Some key → n ≡ m
+one_slot slots unique n m key h k =
+    let same : n.index ≡ m.index = let p = position_is slots n.index key unique h in let q = position_is slots m.index key unique k in cc in
+    λ j. record { index = same j }

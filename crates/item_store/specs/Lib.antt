@@ -6,3 +6,4 @@ pub mod Deciding
 pub mod Table
 pub mod Store
 pub mod Listing
+pub mod Laws

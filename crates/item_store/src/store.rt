@@ -7,6 +7,7 @@ ghost use Rattle.attr_values.specs.declared.key.Key.{Key};
 ghost use Rattle.item_store.specs.Store.{items_of, slot_keys, slot_key, has_slot_of, with_slot};
 ghost use Rattle.item_store.specs.Listing.{items_left, IsListing};
 ghost use Rattle.item_store.specs.Table.{key_asked, with_item};
+ghost use Rattle.item_store.specs.declared.slot.SlotNo.{SlotNo};
 
 use crate::call::Call;
 use crate::fault::CallFault;
@@ -85,6 +86,7 @@ impl ItemStore {
         ensures items { items_of self.new ≡ items_of self.old }
         ensures err { OnErr result (self.new ≡ self.old) }
         ensures absent { OnErr result (has_slot_of self.old key ≡ false) }
+        ensures one { IfOk result (λ n. (m : SlotNo) → slot_key self.new m ≡ Some key → m ≡ n) }
     {
         match self.slots.get_index_of(&key) {
             Some(index) => Ok(SlotNo { index }),
@@ -99,6 +101,7 @@ impl ItemStore {
         ensures found { IfOk result (λ n. slot_key self.new n ≡ Some key) }
         ensures items { items_of self.new ≡ items_of self.old }
         ensures err { OnErr result (self.new ≡ self.old) }
+        ensures one { IfOk result (λ n. (m : SlotNo) → slot_key self.new m ≡ Some key → m ≡ n) }
     {
         let slot = SlotNo {
             index: self.slots.len(),

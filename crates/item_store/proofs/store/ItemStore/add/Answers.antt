@@ -8,7 +8,7 @@ use Rattle.attr_values.specs.declared.key.Key.{Key}
 use Rattle.item_store.specs.Store.{Slots, Store, items_of, has_slot_of, with_slot}
 use Rattle.item_store.specs.Table.{is_same_key}
 use Rattle.item_store.specs.declared.slot.SlotNo.{SlotNo}
-use Rattle.item_store.proofs.Slots.{added_indexed, added_items, added_store, last_key, none_of, ok_gives}
+use Rattle.item_store.proofs.Slots.{added_indexed, added_items, added_store, last_key, none_of, one_slot, ok_gives}
 use Rattle.item_store.proofs.store.ItemStore.add.Goals as goal
 
 abbrev slot_of : goal.Joined-insert → SlotNo
@@ -56,3 +56,6 @@ returns-clause-found c =
 pub returns-clause-items : goal.returns-clause-items
 returns-clause-items c =
     added_items c.self.inside.slots.entries c.insert-2.new.self.entries c.args.key (absent c) (found_after c) ∙ ap items_of c.self.view_is
+
+pub returns-clause-one : goal.returns-clause-one
+returns-clause-one c = λ m at. one_slot c.insert-2.new.self.entries c.insert-2.ensures.unique m (slot_of c) c.args.key at (returns-clause-found c)
