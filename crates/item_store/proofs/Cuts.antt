@@ -23,7 +23,7 @@ shifted n c s m e =
 some_by : (b : Bool) (n c : ℕ) (s : List ℕ) (rest : Option (List ℕ × List ℕ)) → cond (not b) (1 + n) 0 < suc (length s)
     → (n < length s → rest ≡ both (take n s) (drop (n + 1) s))
     → cond b (both [] s) (option_map (λ x. (c ∷ x.0, x.1)) rest)
-      ≡ both (take (cond (not b) (1 + n) 0) (c ∷ s)) (drop (cond (not b) (1 + n) 0 + 1) (c ∷ s))
+    ≡ both (take (cond (not b) (1 + n) 0) (c ∷ s)) (drop (cond (not b) (1 + n) 0 + 1) (c ∷ s))
 some_by true n c s rest h k = refl
 some_by false n c s rest h k = rw (k (omega arith)) (shifted n c s (1 + n) (omega arith))
 
@@ -34,7 +34,7 @@ cut_some p (c ∷ s) h = some_by (c == p) (position_or_len (λ b. b == p) s) c s
 -- what `split_once` gives
 pub cut_is : (p : ℕ) (s : List ℕ) (r : Option (Bor (List ℕ) × Bor (List ℕ)))
     → MatchOption r (position_or_len (λ b. b == p) s ≡ length s)
-      (λ x. (x.0.now ≡ before_first (λ b. b == p) s) × (x.1.now ≡ after_first (λ b. b == p) s) × (position_or_len (λ b. b == p) s < length s))
+    (λ x. (x.0.now ≡ before_first (λ b. b == p) s) × (x.1.now ≡ after_first (λ b. b == p) s) × (position_or_len (λ b. b == p) s < length s))
     → MatchOption r (cut_at p s ≡ None) (λ x. cut_at p s ≡ Some (x.0.now, x.1.now))
 cut_is p s None h = cut_none p s h
 cut_is p s (Some x) h = cut_some p s h.2 ∙ (λ j. both (sym h.0 j) (sym h.1 j))
