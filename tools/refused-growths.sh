@@ -53,6 +53,7 @@ step_names reads_threads
 step_names reads_steps
 json_tree answers_want_of_memory
 attr_values answers_want_of_memory
+item_store answers_want_of_memory
 ref_paths answers_want_of_memory
 ref_paths answers_want_of_memory_for_templates
 rollback_book refused_growths_change_nothing

@@ -3,3 +3,4 @@ pub mod Shapes
 pub mod Slots
 pub mod Listings
 pub mod Calls
+mod Rows

@@ -1,5 +1,5 @@
 -- The items that stand in the slots of all keys, in the keys' order, are the items of the table.
-use Rattle.std.proofs.Common.{◌≡◌, ℕ, zero, suc, Bool, true, false, cond, List, [], ◌∷◌, slice_get, Option, None, Some, is_some, option_map, option_and_then, Ordering, Less, Equal, Greater, is_eq, refl, sym, ap, ◌∙◌, subst, true≢false}
+use Rattle.std.proofs.Common.{◌≡◌, ◌≤◌, ℕ, zero, suc, arith, length, Bool, true, false, cond, List, [], ◌∷◌, slice_get, Option, None, Some, is_some, option_map, option_and_then, Ordering, Less, Equal, Greater, is_eq, refl, sym, ap, ◌∙◌, subst, true≢false}
 use Rattle.std.proofs.lemmas.Option.{slice_get-map}
 use Rattle.std.specs.BTreeMap.{is_at}
 use Rattle.std.specs.HashMap.{HashMap, get, keys, values}
@@ -35,6 +35,15 @@ sorted_entries : (slots : Slots) (order : List (Key × SlotNo)) → IsStrictlySo
 unfolding IsStrictlySortedBy
 sorted_entries slots [] h = tt
 sorted_entries slots (e ∷ es) h = sorted_with e.0 (item_at slots e.1) (entries_in slots es) (below_entries e.0 slots es h.0) (sorted_entries slots es h.1)
+
+fewer_with : (key : Key) (x : Option Attributes) (rest : List (Key × Attributes)) (n : ℕ) → length (values_of rest) ≤ n → length (values_of (with_entry key x rest)) ≤ suc n
+fewer_with key None rest n h = omega arith
+fewer_with key (Some item) rest n h = omega arith
+
+-- no more items are listed than there are slots
+pub entries_fewer : (slots : Slots) (order : List (Key × SlotNo)) → length (values_of (entries_in slots order)) ≤ length order
+entries_fewer slots [] = omega arith
+entries_fewer slots (e ∷ es) = fewer_with e.0 (item_at slots e.1) (entries_in slots es) (length es) (entries_fewer slots es)
 
 -- a key below all has no entry
 below_none : {X : Type 0} (key : Key) (es : List (Key × X)) → Below key (keys_of es) → lookup (is_at (key_cmp key)) es ≡ None

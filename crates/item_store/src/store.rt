@@ -1,6 +1,6 @@
 //! The items of one table.
 
-ghost use Rattle.std.specs.Prelude.{◌≡◌, ◌⊎◌, [], Some, Ok, Err, IsOk, IsSome, IsTrue, IfOk, OnOk, OnErr, MatchResult, false};
+ghost use Rattle.std.specs.Prelude.{◌≡◌, ◌⊎◌, ◌<◌, ◌^◌, [], length, Some, Ok, Err, IsOk, IsSome, IsTrue, IfOk, OnOk, OnErr, MatchResult, false};
 ghost use Rattle.std.specs.Option.{option_copied};
 ghost use Rattle.attr_values.specs.Key.{has_text};
 ghost use Rattle.attr_values.specs.declared.key.Key.{Key};
@@ -61,6 +61,20 @@ impl ItemStore {
             slots: IndexMap::new(alloc),
             order: BTreeMap::new(alloc),
         }
+    }
+
+    /// The table's name.
+    pub fn table(&self) -> &Text
+        ensures { result.now ≡ self.now.table }
+    {
+        &self.table
+    }
+
+    /// The attributes that the table's keys have.
+    pub fn schema(&self) -> &KeySchema
+        ensures { result.now ≡ self.now.schema }
+    {
+        &self.schema
     }
 
     /// The key that a call asks. `WrongTable` where it asks a table of another name, and then `BadKey` where its item has
@@ -135,7 +149,8 @@ impl ItemStore {
     /// The items in the order of their keys, lent. Takes no memory; each item takes a step, and so does each slot in which
     /// none stands.
     pub fn items(&self) -> Items<'_>
-        ensures { IsListing (items_of self.now) (items_left result) }
+        ensures items { IsListing (items_of self.now) (items_left result) }
+        ensures fits { length (items_left result) < 2 ^ 63 }
     {
         Items::new(self.order.iter(), &self.slots)
     }

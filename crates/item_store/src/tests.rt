@@ -7,7 +7,7 @@ use crate::{
     AccessMode, Action, Answer, Call, CallFault, Decided, ItemStore, SlotNo, calls_touch_one_item,
     decide, swaps_are_undone,
 };
-use attr_values::{Item, KeyAttribute, KeySchema, KeyType, read_item, write_item};
+use attr_values::{Item, Key, KeyAttribute, KeySchema, KeyType, read_item, write_item};
 use json_tree::{Text, read, write_text};
 use std::alloc::{AllocError, Global};
 use std::process::Abort;
@@ -85,18 +85,21 @@ fn answer_text(alloc: Global, answer: Answer) -> Result<String, AllocError> {
     }
 }
 
+fn joined(alloc: Global, front: &str, back: &str) -> Result<String, AllocError> {
+    [front, back].concat(alloc)
+}
+
 fn accessed(alloc: Global, access: AccessMode, answer: Answer) -> Result<String, AllocError> {
     let text = answer_text(alloc, answer)?;
-    let mode = match access {
-        AccessMode::Read => "read ",
-        AccessMode::Write => "write ",
-    };
-    [mode, text.as_str()].concat(alloc)
+    match access {
+        AccessMode::Read => joined(alloc, "read ", text.as_str()),
+        AccessMode::Write => joined(alloc, "write ", text.as_str()),
+    }
 }
 
 fn untouched(alloc: Global, fault: CallFault) -> Result<String, CallFault> {
     match fault.error_name() {
-        Some(name) => Ok(["none ", name].concat(alloc)?),
+        Some(name) => Ok(joined(alloc, "none ", name)?),
         None => Err(fault),
     }
 }
@@ -498,13 +501,24 @@ const CONDITIONS: &[(&str, &str)] = &[
     ("()", INVALID),
 ];
 
-fn on_condition(alloc: Global, condition: &str) -> Result<String, Fail> {
+/// A put of that item, on a condition.
+fn conditional_put(alloc: Global, condition: &str) -> Result<String, AllocError> {
+    let mut text = String::from_str(
+        alloc,
+        r#"{"TableName":"items","Item":{"id":{"N":"1"},"name":{"NULL":true},"v_1":{"S":""}},"ConditionExpression":""#,
+    )?;
+    text.push_str(condition)?;
+    text.push_str(r#""}"#)?;
+    Ok(text)
+}
+
+fn on_condition(alloc: Global, condition: &str) -> Result<String, CallFault> {
     let mut store = store_by(alloc, KeyType::N)?;
-    let put = r#"{"TableName":"items","Item":{"id":{"N":"1"},"name":{"NULL":true},"v_1":{"S":""}}"#;
-    let first = [put, "}"].concat(alloc)?;
-    drop(ask(alloc, &mut store, PutItem, first.as_str())?);
-    let second = [put, ",\"ConditionExpression\":\"", condition, "\"}"].concat(alloc)?;
-    Ok(ask(alloc, &mut store, PutItem, second.as_str())?)
+    let first =
+        r#"{"TableName":"items","Item":{"id":{"N":"1"},"name":{"NULL":true},"v_1":{"S":""}}}"#;
+    drop(ask(alloc, &mut store, PutItem, first)?);
+    let second = conditional_put(alloc, condition)?;
+    ask(alloc, &mut store, PutItem, second.as_str())
 }
 
 #[test]
@@ -637,40 +651,55 @@ fn item_of(alloc: Global, text: &str) -> Result<Item, Fail> {
     Ok(read_item(alloc, &json)?)
 }
 
-fn slot_of(alloc: Global, store: &mut ItemStore, text: &str) -> Result<SlotNo, Fail> {
+fn key_in(alloc: Global, store: &ItemStore, text: &str) -> Result<Key, CallFault> {
     let call = read_call(alloc, GetItem, text)?;
-    let key = store.key(&call)?;
+    store.key(&call)
+}
+
+fn slot_of(alloc: Global, store: &mut ItemStore, text: &str) -> Result<SlotNo, CallFault> {
+    let key = key_in(alloc, store, text)?;
     Ok(store.slot(key)?)
 }
 
-/// Whether an item stands in the slot, and whether a swap of what it gave leaves it as it was.
-fn swaps_back(
-    alloc: Global,
-    store: &mut ItemStore,
-    slot: SlotNo,
-    there: bool,
-) -> Result<bool, Fail> {
-    let new = item_of(alloc, r#"{"id":{"S":"a"},"v":{"S":"new"}}"#)?;
-    let old = store.swap(slot, Some(new));
-    let had = old.is_some();
-    let new = store.swap(slot, old);
-    Ok(new.is_some() && had == there && store.look(slot).is_some() == there)
+/// Swaps an item into the slot of a key, and then what that gave: whether an item was there, and is there again.
+fn swap_twice(store: &mut ItemStore, key: Key, item: Item) -> Result<(bool, bool), AllocError> {
+    let slot = store.slot(key)?;
+    let old = store.swap(slot, Some(item));
+    let before = old.is_some();
+    drop(store.swap(slot, old));
+    Ok((before, store.look(slot).is_some()))
+}
+
+const A: &str = r#"{"TableName":"items","Key":{"id":{"S":"a"}}}"#;
+
+const B: &str = r#"{"TableName":"items","Key":{"id":{"S":"b"}}}"#;
+
+fn swapped_twice(alloc: Global, store: &mut ItemStore, text: &str) -> Result<(bool, bool), Fail> {
+    let item = item_of(alloc, r#"{"id":{"S":"a"},"v":{"S":"new"}}"#)?;
+    let key = key_in(alloc, store, text)?;
+    Ok(swap_twice(store, key, item)?)
 }
 
 #[test]
 fn slots_stay(rt: HostRuntime) -> Result<(), Fail> {
     let alloc = rt.alloc();
     let mut store = store_by(alloc, KeyType::S)?;
-    let a = r#"{"TableName":"items","Key":{"id":{"S":"a"}}}"#;
-    let b = r#"{"TableName":"items","Key":{"id":{"S":"b"}}}"#;
-    let first = slot_of(alloc, &mut store, a)?;
-    let second = slot_of(alloc, &mut store, b)?;
-    assert!(rt; first != second);
-    assert!(rt; swaps_back(alloc, &mut store, second, false)?);
-    drop(store.swap(first, Some(item_of(alloc, r#"{"id":{"S":"a"}}"#)?)));
-    assert!(rt; swaps_back(alloc, &mut store, first, true)?);
-    assert!(rt; slot_of(alloc, &mut store, b)? == second);
-    assert!(rt; slot_of(alloc, &mut store, a)? == first);
+    let a = slot_of(alloc, &mut store, A)?;
+    let b = slot_of(alloc, &mut store, B)?;
+    assert!(rt; a != b);
+    assert!(rt; slot_of(alloc, &mut store, A)? == a);
+    assert!(rt; slot_of(alloc, &mut store, B)? == b);
+    Ok(())
+}
+
+#[test]
+fn swaps_give_back(rt: HostRuntime) -> Result<(), Fail> {
+    let alloc = rt.alloc();
+    let mut store = store_by(alloc, KeyType::S)?;
+    let put = r#"{"TableName":"items","Item":{"id":{"S":"a"}}}"#;
+    drop(ask(alloc, &mut store, PutItem, put)?);
+    assert!(rt; swapped_twice(alloc, &mut store, B)? == (false, false));
+    assert!(rt; swapped_twice(alloc, &mut store, A)? == (true, true));
     assert_eq!(rt; listing(alloc, &store)?.as_str(), r#"{"id":{"S":"a"}} "#);
     calls_touch_one_item();
     swaps_are_undone();
