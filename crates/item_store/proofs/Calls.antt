@@ -1,19 +1,18 @@
 -- A call touches the item of its key alone.
-use Rattle.std.proofs.Common.{◌≡◌, ℕ, List, Bool, true, false, cond, Option, Some, None, Result, Ok, Err, refl, sym, ap, ◌∙◌, subst}
+use Rattle.std.proofs.Common.{◌≡◌, ℕ, List, Bool, true, false, cond, Option, Some, None, Result, Ok, Err, refl, ap, ◌∙◌}
 use Rattle.std.proofs.Math.Path.{fun_ext}
-use Rattle.std.specs.Map.{update}
 use Rattle.attr_values.specs.declared.key.Key.{Key}
 use Rattle.attr_values.specs.declared.key.KeySchema.{KeySchema}
-use Rattle.item_store.specs.Deciding.{Attributes, Decision, decision}
+use Rattle.item_store.specs.Deciding.{Attributes, decision}
 use Rattle.item_store.specs.Laws.{ChangesOnly, AgreeAt, SameOutcome, CallsChangeOneItem, CallsLookAtOneItem, SwapsAreUndone}
 use Rattle.item_store.specs.Calls.{call_of}
-use Rattle.item_store.specs.Table.{Table, Outcome, is_same_key, with_item, call, key_asked, on_form, on_key, in_form, at_key, items_after}
+use Rattle.item_store.specs.Table.{Table, is_same_key, key_asked, on_form, on_key, items_after}
 use Rattle.item_store.specs.declared.access.AccessMode.{AccessMode}
 use Rattle.item_store.specs.declared.access.AccessMode.TheVariants.{Read, Write}
 use Rattle.item_store.specs.declared.call.Call.{Call}
 use Rattle.item_store.specs.declared.call.Request.{Request}
 use Rattle.item_store.specs.declared.fault.CallFault.{CallFault}
-use Rattle.item_store.proofs.Slots.{same_key, key_laws}
+use Rattle.item_store.proofs.Slots.{same_key}
 
 changes_at : (items : Table) (key : Key) (mode : AccessMode) (new : Option Attributes) → ChangesOnly (Some (key, mode)) items (items_after items key mode new)
 changes_at items key Read new = refl

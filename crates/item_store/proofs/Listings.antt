@@ -1,8 +1,8 @@
 -- The items that stand in the slots of all keys, in the keys' order, are the items of the table.
-use Rattle.std.proofs.Common.{◌≡◌, ◌≤◌, ℕ, zero, suc, arith, length, Bool, true, false, cond, List, [], ◌∷◌, slice_get, Option, None, Some, is_some, option_map, option_and_then, Ordering, Less, Equal, Greater, is_eq, refl, sym, ap, ◌∙◌, subst, true≢false}
+use Rattle.std.proofs.Common.{◌≡◌, ◌≤◌, ℕ, suc, arith, length, Bool, true, false, cond, List, [], ◌∷◌, Option, None, Some, is_some, option_map, option_and_then, Less, refl, sym, ap, ◌∙◌, subst}
 use Rattle.std.proofs.lemmas.Option.{slice_get-map}
 use Rattle.std.specs.BTreeMap.{is_at}
-use Rattle.std.specs.HashMap.{HashMap, get, keys, values}
+use Rattle.std.specs.HashMap.{HashMap}
 use Rattle.std.specs.List.{AllByRecursion}
 use Rattle.std.specs.List.Sorted.{IsStrictlySortedBy}
 use Rattle.std.specs.Map.{keys_of, values_of, lookup}
@@ -11,7 +11,6 @@ use Rattle.attr_values.specs.declared.key.Key.{Key}
 use Rattle.item_store.specs.Deciding.{Attributes}
 use Rattle.item_store.specs.Listing.{IsListing, item_at, with_entry, entries_in}
 use Rattle.item_store.specs.Store.{Slots, what_stands, items_in, IsIndexed}
-use Rattle.item_store.specs.Table.{Table, is_same_key}
 use Rattle.item_store.specs.declared.slot.SlotNo.{SlotNo}
 use Rattle.item_store.proofs.Slots.{same_key, none_of, stands, value_at}
 

@@ -1,19 +1,18 @@
 -- Rows of calls, checked by computing.
-use Rattle.std.proofs.Common.{◌≡◌, ℕ, List, [], ◌∷◌, Bool, true, false, Option, Some, None, codes, refl}
+use Rattle.std.proofs.Common.{◌≡◌, ℕ, List, [], ◌∷◌, true, Some, None, codes, refl}
 use Rattle.json_tree.specs.Data.{Data, boolean, text, fields, no_members, member}
 use Rattle.attr_values.specs.Datum.{text as text_datum}
 use Rattle.attr_values.specs.declared.key.KeySchema.{KeySchema}
 use Rattle.attr_values.specs.declared.key.KeyType.TheVariants.{S}
-use Rattle.item_store.specs.Calls.{call_of}
 use Rattle.item_store.specs.Condition.{condition_of, written}
 use Rattle.item_store.specs.Deciding.{Attributes, given, refused, read_only, decision}
 use Rattle.item_store.specs.Faults.{validation, no_such_table, check_failed}
 use Rattle.item_store.specs.Table.{Table, call, no_access}
 use Rattle.item_store.specs.declared.access.AccessMode.TheVariants.{Write}
-use Rattle.item_store.specs.declared.call.Action.TheVariants.{GetItem, PutItem, DeleteItem}
+use Rattle.item_store.specs.declared.call.Action.TheVariants.{GetItem, DeleteItem}
 use Rattle.item_store.specs.declared.call.ConditionKind.TheVariants.{Exists, NotExists}
 use Rattle.item_store.specs.declared.call.Request.TheVariants.{Put, Delete}
-use Rattle.item_store.specs.declared.call.ReturnValues.TheVariants.{Nothing, AllOld}
+use Rattle.item_store.specs.declared.call.ReturnValues.TheVariants.{AllOld}
 
 spaces_stand : condition_of (codes "  attribute_exists( v_1  ) ") ≡ Some (written Exists (codes "v_1"))
 spaces_stand = refl

@@ -1,6 +1,7 @@
 -- What a slot's number leads to, and what a new slot and a swap change.
-use Rattle.std.proofs.Common.{◌≡◌, ◌≢◌, ◌<◌, ℕ, zero, suc, ◌+◌, Bool, true, false, not, cond, if◌then◌else◌, List, [], ◌∷◌, ◌++◌, length, slice_get, Option, None, Some, is_some, option_map, Result, Ok, Err, IsOk, OnOk, OnErr, IsSome, position, Ordering, Less, Equal, Greater, is_eq, refl, sym, ap, ◌∙◌, subst, arith, true≢false}
+use Rattle.std.proofs.Common.{if◌then◌else◌, option_map, ◌≡◌, ℕ, zero, suc, Bool, true, false, cond, List, [], ◌∷◌, ◌++◌, length, slice_get, Option, None, Some, is_some, Result, Ok, Err, IsOk, OnOk, OnErr, IsSome, position, Ordering, Less, Equal, Greater, is_eq, refl, sym, ap, ◌∙◌, subst, true≢false}
 use Rattle.std.proofs.Math.Path.{fun_ext}
+use Rattle.std.proofs.lemmas.Option.{slice_get-map}
 use Rattle.std.proofs.lemmas.Map.Entries.{hash_map_get_place}
 use Rattle.std.specs.BTreeMap.{is_at}
 use Rattle.std.specs.Cmp.{IsEquivalence, eq_by_cmp_equiv}
@@ -15,8 +16,8 @@ use Rattle.attr_values.specs.Key.{key_cmp}
 use Rattle.attr_values.specs.KeyOrder.{key_cmp_total, key_cmp_equal}
 use Rattle.attr_values.specs.declared.key.Key.{Key}
 use Rattle.item_store.specs.Deciding.{Attributes}
-use Rattle.item_store.specs.Store.{Slots, Store, what_stands, items_in, has_slot_of, with_slot, IsIndexed}
-use Rattle.item_store.specs.Table.{Table, is_same_key, with_item}
+use Rattle.item_store.specs.Store.{Slots, Store, what_stands, items_in, has_slot_of, slot_key, with_slot, IsIndexed}
+use Rattle.item_store.specs.Table.{is_same_key, with_item}
 use Rattle.item_store.specs.declared.slot.SlotNo.{SlotNo}
 
 is_equal : (o : Ordering) → is_eq o ≡ true → o ≡ Equal
@@ -134,6 +135,23 @@ added_indexed old new before after key slot i at is unique h k = record {
 pub added_store : (s : Store) (key : Key) (new : Slots) → has_slot_of s key ≡ false → new ≡ s.slots ++ (key, None) ∷ []
     → record { table = s.table; schema = s.schema; slots = new } ≡ with_slot s key
 added_store s key new h is = rw (h, is) refl
+
+kept_by : (b : Bool) (s : Store) (key : Key) (n : SlotNo) (q : Key) → slot_key s n ≡ Some q
+    → slot_key (if b then s else record { table = s.table; schema = s.schema; slots = s.slots ++ (key, None) ∷ [] }) n ≡ Some q
+kept_by true s key n q h = h
+kept_by false s key n q h = earlier_key s.slots key n.index q h
+
+-- a slot stays
+pub kept_with_slot : (old new : Store) (key : Key) → new ≡ with_slot old key → (n : SlotNo) (q : Key) → slot_key old n ≡ Some q → slot_key new n ≡ Some q
+kept_with_slot old new key is n q h = ap (λ s. slot_key s n) is ∙ kept_by (has_slot_of old key) old key n q h
+
+some_map : {A B : Type 0} (f : A → B) (x : Option A) → is_some (option_map f x) ≡ is_some x
+some_map f None = refl
+some_map f (Some y) = refl
+
+-- the store has a slot just where it has an entry at the number
+pub has_entry : {A : Type 0} (f : A → Key × Option Attributes) (r : Option A) (slots : Slots) (i : ℕ) → option_map f r ≡ slice_get slots i → is_some r ≡ is_some (slice_get (keys_of slots) i)
+has_entry f r slots i h = sym (some_map f r) ∙ ap is_some h ∙ sym (some_map (λ e. e.0) (slice_get slots i)) ∙ ap is_some (sym (slice_get-map (λ e. e.0) slots i))
 
 -- ---- the facts as the calls give them
 

@@ -1,5 +1,5 @@
 -- The form of calls (GetItem, PutItem and DeleteItem of the DynamoDB API): an object, whose fields are those of its action.
-use Rattle.std.specs.Prelude.{ℕ, List, [], ◌∷◌, Bool, true, false, ◌&&◌, if◌then◌else◌, Option, Some, None, option_map, option_and_then, codes}
+use Rattle.std.specs.Prelude.{ℕ, List, [], ◌∷◌, Bool, false, if◌then◌else◌, Option, Some, None, option_map, option_and_then, codes}
 use Rattle.std.specs.List.{list_any, list_all}
 use Rattle.std.specs.Option.{option_map_or}
 use Rattle.json_tree.specs.Data.{Data, text, fields, Members, no_members, member}

@@ -21,7 +21,7 @@ use Rattle.item_store.specs.declared.call.Call.{Call}
 use Rattle.item_store.specs.declared.call.Request.{Request}
 use Rattle.item_store.specs.declared.call.Request.TheVariants.{Get, Put, Delete}
 use Rattle.item_store.specs.declared.fault.CallFault.{CallFault}
-use Rattle.item_store.specs.declared.fault.CallFault.TheVariants.{Malformed, WrongTable, BadKey, Memory}
+use Rattle.item_store.specs.declared.fault.CallFault.TheVariants.{WrongTable, BadKey}
 
 abbrev pub Table : Type 0
 Table = Key → Option Attributes

@@ -1,6 +1,6 @@
 //! The items of one table.
 
-ghost use Rattle.std.specs.Prelude.{◌≡◌, ◌⊎◌, ◌<◌, ◌^◌, [], length, Some, Ok, Err, IsOk, IsSome, IsTrue, IfOk, OnOk, OnErr, MatchResult, false};
+ghost use Rattle.std.specs.Prelude.{◌≡◌, ◌⊎◌, ◌<◌, ◌^◌, [], length, Some, Ok, Err, IsOk, IsSome, IsTrue, IfOk, OnOk, OnErr, MatchResult, false, is_some};
 ghost use Rattle.std.specs.Option.{option_copied};
 ghost use Rattle.attr_values.specs.Key.{has_text};
 ghost use Rattle.attr_values.specs.declared.key.Key.{Key};
@@ -98,6 +98,7 @@ impl ItemStore {
         ensures slots { OnOk result (self.new ≡ with_slot self.old key) }
         ensures found { IfOk result (λ n. slot_key self.new n ≡ Some key) }
         ensures items { items_of self.new ≡ items_of self.old }
+        ensures kept { OnOk result ((n : SlotNo) (q : Key) → slot_key self.old n ≡ Some q → slot_key self.new n ≡ Some q) }
         ensures err { OnErr result (self.new ≡ self.old) }
         ensures absent { OnErr result (has_slot_of self.old key ≡ false) }
         ensures one { IfOk result (λ n. (m : SlotNo) → slot_key self.new m ≡ Some key → m ≡ n) }
@@ -114,6 +115,7 @@ impl ItemStore {
         ensures slots { OnOk result (self.new ≡ with_slot self.old key) }
         ensures found { IfOk result (λ n. slot_key self.new n ≡ Some key) }
         ensures items { items_of self.new ≡ items_of self.old }
+        ensures kept { OnOk result ((n : SlotNo) (q : Key) → slot_key self.old n ≡ Some q → slot_key self.new n ≡ Some q) }
         ensures err { OnErr result (self.new ≡ self.old) }
         ensures one { IfOk result (λ n. (m : SlotNo) → slot_key self.new m ≡ Some key → m ≡ n) }
     {
@@ -124,6 +126,13 @@ impl ItemStore {
         self.order.insert(key.copy()?, slot)?;
         let _ = self.slots.insert(key, None);
         Ok(slot)
+    }
+
+    /// Whether the store has a slot of this number, as it has of each number that it made. One step.
+    pub fn has_slot(&self, slot: SlotNo) -> bool
+        ensures { result ≡ is_some (slot_key self.now slot) }
+    {
+        self.slots.get_index(slot.index).is_some()
     }
 
     /// The item that stands in a slot, if any. One step, and no memory.

@@ -1,4 +1,4 @@
-use Rattle.std.proofs.Common.{◌≡◌, ◌<◌, ℕ, List, [], ◌∷◌, ◌++◌, length, slice_get, Option, Some, None, false, cond, IsOk, arith, sym, ap, ◌∙◌, subst}
+use Rattle.std.proofs.Common.{◌≡◌, [], ◌∷◌, ◌++◌, slice_get, Some, None, cond, IsOk, arith, ap, ◌∙◌, subst}
 use Rattle.std.specs.BTreeMap.{is_at}
 use Rattle.std.specs.Map.{keys_of, lookup}
 use Rattle.indexmap.specs.IndexMap.{insert_entry}
@@ -8,7 +8,7 @@ use Rattle.attr_values.specs.declared.key.Key.{Key}
 use Rattle.item_store.specs.Store.{Slots, Store, items_of, has_slot_of, with_slot}
 use Rattle.item_store.specs.Table.{is_same_key}
 use Rattle.item_store.specs.declared.slot.SlotNo.{SlotNo}
-use Rattle.item_store.proofs.Slots.{added_indexed, added_items, added_store, last_key, none_of, one_slot, ok_gives}
+use Rattle.item_store.proofs.Slots.{added_indexed, added_items, added_store, last_key, none_of, kept_with_slot, one_slot, ok_gives}
 use Rattle.item_store.proofs.store.ItemStore.add.Goals as goal
 
 abbrev slot_of : goal.Joined-insert → SlotNo
@@ -59,3 +59,6 @@ returns-clause-items c =
 
 pub returns-clause-one : goal.returns-clause-one
 returns-clause-one c = λ m at. one_slot c.insert-2.new.self.entries c.insert-2.ensures.unique m (slot_of c) c.args.key at (returns-clause-found c)
+
+pub returns-clause-kept : goal.returns-clause-kept
+returns-clause-kept c = kept_with_slot c.args.self.now _ c.args.key (returns-clause-slots c)

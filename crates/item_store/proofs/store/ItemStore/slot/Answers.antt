@@ -1,7 +1,5 @@
-use Rattle.std.proofs.Common.{◌≡◌, true, false, Some, sym, ap, ◌∙◌, subst, refl}
-use Rattle.attr_values.specs.declared.key.Key.{Key}
-use Rattle.item_store.specs.declared.slot.SlotNo.{SlotNo}
-use Rattle.item_store.specs.Store.{slot_key, has_slot_of, with_slot}
+use Rattle.std.proofs.Common.{◌≡◌, true, Some, sym, ap, ◌∙◌, subst, refl}
+use Rattle.item_store.specs.Store.{slot_key, has_slot_of}
 use Rattle.item_store.proofs.Slots.{found_key, on_err, one_slot}
 use Rattle.item_store.proofs.store.ItemStore.slot.Goals as goal
 
