@@ -102,15 +102,22 @@ fn id(item: &Item) -> &str {
     }
 }
 
+fn is_before(before: Option<&Item>, item: &Item) -> bool {
+    match before {
+        Some(before) => id(before) < id(item),
+        None => true,
+    }
+}
+
 /// How many items are listed, and whether they come in the order of their keys.
 fn listed(store: &ItemStore) -> (usize, bool) {
     let mut count = 0usize;
-    let mut before = "";
+    let mut before = None;
     let mut rises = true;
     for item in store.items() {
         count = count.saturating_add(1);
-        rises = rises && before < id(item);
-        before = id(item);
+        rises = rises && is_before(before, item);
+        before = Some(item);
     }
     (count, rises)
 }
