@@ -3,4 +3,5 @@ pub mod Shapes
 pub mod Slots
 pub mod Listings
 pub mod Calls
+pub mod Conditions
 mod Rows

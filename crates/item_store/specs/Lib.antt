@@ -7,3 +7,4 @@ pub mod Table
 pub mod Store
 pub mod Listing
 pub mod Laws
+pub mod Spelling

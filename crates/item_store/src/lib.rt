@@ -20,7 +20,7 @@ pub use access::AccessMode;
 pub use call::{Action, Call, Condition, ConditionKind, Request, ReturnValues, Terms};
 pub use deciding::{Answer, Decided, decide};
 pub use fault::CallFault;
-pub use laws::{calls_touch_one_item, swaps_are_undone};
+pub use laws::{calls_touch_one_item, conditions_are_spelled, swaps_are_undone};
 pub use listing::Items;
 pub use slot::SlotNo;
 pub use store::ItemStore;

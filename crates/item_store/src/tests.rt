@@ -5,7 +5,7 @@
 use crate::Action::{DeleteItem, GetItem, PutItem};
 use crate::{
     AccessMode, Action, Answer, Call, CallFault, Decided, ItemStore, SlotNo, calls_touch_one_item,
-    decide, swaps_are_undone,
+    conditions_are_spelled, decide, swaps_are_undone,
 };
 use attr_values::{Item, Key, KeyAttribute, KeySchema, KeyType, read_item, write_item};
 use json_tree::{Text, read, write_text};
@@ -702,6 +702,7 @@ fn swaps_give_back(rt: HostRuntime) -> Result<(), Fail> {
     assert!(rt; swapped_twice(alloc, &mut store, A)? == (true, true));
     assert_eq!(rt; listing(alloc, &store)?.as_str(), r#"{"id":{"S":"a"}} "#);
     calls_touch_one_item();
+    conditions_are_spelled();
     swaps_are_undone();
     Ok(())
 }
