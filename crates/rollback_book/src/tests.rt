@@ -1,6 +1,6 @@
 use crate::{
-    Access, AccessMode, Begin, BeginFault, Book, Fact, KeyAttribute, KeySchema, KeyType, Kind, Refusal,
-    Room, depends,
+    Access, AccessMode, Begin, BeginFault, Book, Fact, KeyAttribute, KeySchema, KeyType, Kind,
+    Refusal, Room, depends,
 };
 use asl_forward::{Frame, Phase, Retries, after_state, first_frame};
 use asl_machine::Machine;
