@@ -35,16 +35,14 @@ fn has_part(attribute: &KeyAttribute, item: &Item) -> Result<(), ItemFault>
     ensures err { IfErr result (λ e. spec.part_of attribute.now item.now ≡ Err e) }
     ensures memory { result ≢ Err ItemFault.Memory }
 {
-    let Some(value) = item.get(attribute.name.as_str()) else {
-        return Err(ItemFault::NoKey);
-    };
-    match (attribute.kind, value) {
-        (KeyType::S, Value::S(text)) => if text.as_str().is_empty() {
+    match (attribute.kind, item.get(attribute.name.as_str())) {
+        (_, None) => Err(ItemFault::NoKey),
+        (KeyType::S, Some(Value::S(text))) => if text.as_str().is_empty() {
             Err(ItemFault::EmptyKey)
         } else {
             Ok(())
         },
-        (KeyType::N, Value::N(_)) => Ok(()),
+        (KeyType::N, Some(Value::N(_))) => Ok(()),
         _ => Err(ItemFault::KeyType),
     }
 }

@@ -14,7 +14,8 @@ use std::alloc::{AllocError, Global};
 const FIRST_ROOM: usize = 128;
 
 /// The one text of a value: compact (RFC 8259), fields in the order of their names' bytes, and only those bytes escaped
-/// that have to be. Takes memory for the text alone, which it reads in one pass over the value.
+/// that have to be. Takes memory for the text alone, in one pass over the value. `read` gives the value back where it nests
+/// at most 127 deep, and refuses deeper texts.
 pub fn write_text(alloc: Global, json: &Json) -> Result<String, AllocError>
     ensures text { IfOk result (λ s. string_bytes s ≡ text_of (data_of json.now)) }
     ensures proper { OnOk result (IsProper (data_of json.now)) }

@@ -19,7 +19,7 @@ read_attributes-loop-field-preserved t c =
     let f = c.field-item.result in
     let next = next_field c.as_slice-field-items.result.now l.field-index f c.field-item.is c.loop-field-test.true in
     attribute_step c.args.levels (drop l.field-index c.as_slice-field-items.result.now) _ f l.inner.entries c.insert.new.self.entries c.in_ok-name.name c.in_ok-value.value _
-    next (c.in_ok-name.ensures.bytes ∙ c.as_str.ensures) c.in_ok-value.ensures.read c.in_ok-insert.ensures.entries l.invariant
+    next (c.in_ok-name.ensures.ok ∙ c.as_str.ensures) c.in_ok-value.ensures.read c.in_ok-insert.ensures.entries l.invariant
 
 pub read_attributes-returns-clause-read : goal.read_attributes-returns-clause-read
 read_attributes-returns-clause-read t c =
