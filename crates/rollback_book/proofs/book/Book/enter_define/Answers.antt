@@ -6,6 +6,7 @@ use Rattle.rollback_book.specs.Saving.{held}
 use Rattle.rollback_book.specs.declared.log.Entry.{Entry}
 use Rattle.rollback_book.specs.declared.log.Entry.TheVariants.{Define}
 use Rattle.rollback_book.proofs.Defining.{tied_define, with_machines}
+use Rattle.rollback_book.proofs.Entering.{tied_room}
 use Rattle.rollback_book.proofs.book.Book.enter_define.Goals as goal
 
 pub invariant_of-self-2 : goal.invariant_of-self-2
@@ -24,3 +25,8 @@ invariant_of-self-2 c =
     let same = c.reserve.ensures.len in
     omega (arith, more, kept, len, same, c.self.inside.log.ok.0, c.self.inside.records.ok.0) in
     rw (log_is, world) (tied_define c.self.inside.begin _ _ _ _ _ c.args.made.name c.args.made.machine c.self.invariant free room c.requires.complete grown)
+
+pub invariant_of-self-in_err-insert : goal.invariant_of-self-in_err-insert
+invariant_of-self-in_err-insert c =
+    let grown = tied_room c.self.inside.begin _ _ _ _ (vec_capacity c.reserve.new.self) c.self.invariant c.reserve.ensures.capacity in
+    rw (c.reserve.ensures.items, c.in_err-insert.ensures.err) grown

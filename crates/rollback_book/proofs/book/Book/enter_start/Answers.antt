@@ -1,4 +1,5 @@
-use Rattle.std.proofs.Common.{◌≡◌, ◌∙◌, ap, sym, subst, Some, arith, List, ◌++◌, ◌∷◌, [], ◌+◌, ◌≤◌, length, vec_capacity}
+use Rattle.std.proofs.Common.{◌≡◌, ◌∙◌, ap, sym, subst, Some, Result, Ok, Err, OnOk, OnErr, arith, List, ◌++◌, ◌∷◌, [], ◌+◌, ◌≤◌, length, vec_capacity}
+use Rattle.std.specs.Result.{IsErrAnd}
 use Rattle.rollback_book.specs.Story.{Story}
 use Rattle.rollback_book.specs.Saving.{IsStartOf}
 use Rattle.rollback_book.specs.declared.log.Entry.{Entry}
@@ -30,3 +31,20 @@ invariant_of-self-2 c =
     let kept = c.push_with_room-2.ensures.kept in
     omega (arith, logs, records, room, kept, c.reserve_step.new.log.ok.0, c.reserve_step.new.records.ok.0) in
     rw (log_is, records_are, world) (tied_start b _ _ _ _ _ c.args.made.thread c.args.made.frame c.args.made.kept c.args.made.entry c.self.invariant accepted grown)
+
+-- what an error says where a call is refused
+no_ok : {T E : Type 0} (P : Type 0) (r : Result T E) (Q : E → Type 0) → IsErrAnd r Q → OnOk r P
+no_ok P (Ok x) Q h = absurd h
+no_ok P (Err e) Q h = tt
+
+on_err : {T E : Type 0} {P : Type 0} (r : Result T E) → P → OnErr r P
+on_err (Ok x) p = tt
+on_err (Err e) p = p
+
+pub returns-in_err-reserve_step-clause-ok : goal.returns-in_err-reserve_step-clause-ok
+returns-in_err-reserve_step-clause-ok c = no_ok _ c.from_residual.result _ c.from_residual.ensures.1
+
+pub returns-in_err-reserve_step-clause-err : goal.returns-in_err-reserve_step-clause-err
+returns-in_err-reserve_step-clause-err c =
+    let same : Story = record { begin = c.self.inside.begin; log = c.reserve_step.new.log.items } in
+    on_err c.from_residual.result (ap (λ (es : List Entry). record same { log = es }) c.reserve_step.ensures.log ∙ c.self.view_is)
