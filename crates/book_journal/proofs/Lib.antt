@@ -1,0 +1,4 @@
+mod Changes
+mod Lists
+mod Numbers
+pub mod Statements

@@ -1,0 +1,4 @@
+pub mod Change
+pub mod Entries
+pub mod Faults
+pub mod Table
