@@ -1,7 +1,7 @@
 -- The entries of the table: a number and a line each. A table has no order, so they are compared but for their order.
-use Rattle.std.specs.Prelude.{◌≡◌, ◌≢◌, ℕ, ℤ, pos, ◌+ℤ◌, false, List, [], ◌∷◌, ◌++◌, length, map, All, Contains, Option, Some, None, IsPermutation, IsSorted}
+use Rattle.std.specs.Prelude.{◌≡◌, ◌≢◌, ℕ, ℤ, pos, ◌+ℤ◌, false, List, [], ◌∷◌, ◌++◌, length, map, slice_get, All, Contains, Option, Some, None, IsPermutation, IsSorted}
 use Rattle.std.specs.Borrow.{Bor}
-use Rattle.std.specs.Ordering.{is_lt, on}
+use Rattle.std.specs.Ordering.{is_lt}
 use Rattle.sqlite.specs.declared.types.Value.{Value}
 use Rattle.sqlite.specs.declared.types.Value.TheVariants.{Int, Text}
 use Rattle.sqlite.specs.Order.{Row, column, value_cmp}
@@ -63,7 +63,7 @@ pub record AddLines (old : List Row) (lines : List (List ℕ)) (new : List Row) 
 -- the same entries, in the order of their numbers
 pub record AreInOrder (rows ordered : List Row) : Type 0 where
   pub same : IsPermutation rows ordered
-  pub rising : IsSorted (on number_of value_cmp) ordered
+  pub rising : IsSorted value_cmp (numbers ordered)
 
 -- of rows, the first whose number isn't its position
 pub record HaveGapAt (position : ℕ) (rows : List Row) : Type 0 where
@@ -77,3 +77,12 @@ pub record HaveGapAt (position : ℕ) (rows : List Row) : Type 0 where
 -- of entries, in the order of their numbers
 abbrev pub HaveGap : List Row → ℕ → Type 0
 HaveGap rows position = (ordered : List Row) × AreInOrder rows ordered × HaveGapAt position ordered
+
+-- the number that a query showed of the last of the entries, in a row of its own, or no row where there is no entry
+pub record ShowLast (rows shown : List Row) : Type 0 where
+  pub none : slice_get shown 0 ≡ None → rows ≡ []
+  pub some : (row : Row) (number : ℤ) → slice_get shown 0 ≡ Some row → number_of row ≡ Int number → IsGreatest rows number
+
+-- the first two values of a row that a query showed
+abbrev pub pair : Row → Row
+pair row = column row 0 ∷ column row 1 ∷ []
