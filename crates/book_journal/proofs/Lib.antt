@@ -1,4 +1,5 @@
 mod Changes
+mod Keeping
 mod Lists
 mod Numbers
 mod Queries

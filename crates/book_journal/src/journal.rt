@@ -89,6 +89,9 @@ impl<S: Alter> Journal<S> {
         ensures crash { LeavesAllOrNone (state S.Store self.old) (texts lines.now) (state S.Store self.new) }
         ensures at_rest { IsAtRest (state S.Store self.new) }
     {
+        if !table::is_journal(self.conn.schema()) {
+            return Err(JournalFault::Store(Error::SqliteFailure(ErrorCode::Closed)));
+        }
         self.last = insert::append_all(&mut self.conn, self.last, lines)?;
         Ok(())
     }
