@@ -1,0 +1,22 @@
+use Rattle.std.proofs.Common.{◌≡◌, ℤ, Option, Some, arith, rules, refl, sym, subst}
+use Rattle.sqlite.specs.Held.{state}
+use Rattle.sqlite.specs.declared.error.ErrorCode.TheVariants.{Closed}
+use Rattle.sqlite.specs.declared.error.Error.TheVariants.{SqliteFailure}
+use Rattle.book_journal.specs.Table.{journal_schema}
+use Rattle.book_journal.specs.Entries.{texts, last_after}
+use Rattle.book_journal.specs.Kept.{IsKept}
+use Rattle.book_journal.proofs.Keeping.{at_rest, back_kept, back_same, appended_kept, appended_adds, leaves_all_or_none}
+use Rattle.book_journal.proofs.journal.Journal.append.Goals as goal
+
+pub returns-then-not-is_journal-clause-named : goal.returns-then-not-is_journal-clause-named
+returns-then-not-is_journal-clause-named g c = (SqliteFailure Closed, refl)
+
+pub invariant_of-self-2 : goal.invariant_of-self-2
+invariant_of-self-2 g c =
+    let old = state g.S.Store c.self.inside.conn in
+    let new = state g.S.Store c.append_all.new.conn in
+    let done = c.in_ok-self-inside.ensures in
+    let schema : old.now.schema ≡ journal_schema = search rules in
+    let last : c.in_ok-self-inside.field-0 ≡ last_after c.self.inside.last (texts c.args.lines.now) = search rules in
+    subst (λ (l : Option ℤ). IsKept new l) (sym last)
+    (appended_kept old new c.self.inside.last (texts c.args.lines.now) c.self.invariant (λ clean. omega (arith, done.survives.clean, clean)) done.mode (λ clean. done.ok clean schema))
