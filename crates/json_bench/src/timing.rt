@@ -181,10 +181,7 @@ fn drop_values(rt: &impl Runtime, alloc: Global, text: &str, rounds: u32) -> any
 fn print_row(rt: &impl Runtime, name: &str, alone: Timed, tree: Timed) -> anyhow::Result<()> {
     println!(rt;
         "{name}: serde_json {} ns ({}), json_tree {} ns ({})",
-        alone.nanos,
-        alone.count,
-        tree.nanos,
-        tree.count
+        alone.nanos, alone.count, tree.nanos, tree.count
     )?;
     Ok(())
 }
@@ -192,12 +189,22 @@ fn print_row(rt: &impl Runtime, name: &str, alone: Timed, tree: Timed) -> anyhow
 fn time_text(rt: &impl Runtime, alloc: Global, text: &str, rounds: u32) -> anyhow::Result<()> {
     println!(rt; "a document of {} bytes, {rounds} rounds", text.len())?;
     let alone = read_values(rt, alloc, text, rounds)?;
-    print_row(rt, "read and drop", alone, read_trees(rt, alloc, text, rounds)?)?;
+    print_row(
+        rt,
+        "read and drop",
+        alone,
+        read_trees(rt, alloc, text, rounds)?,
+    )?;
     let alone = drop_values(rt, alloc, text, rounds)?;
     print_row(rt, "drop", alone, drop_trees(rt, alloc, text, rounds)?)
 }
 
-fn time_value(rt: &impl Runtime, alloc: Global, value: &Value, rounds: u32) -> anyhow::Result<[Timed; 3]> {
+fn time_value(
+    rt: &impl Runtime,
+    alloc: Global,
+    value: &Value,
+    rounds: u32,
+) -> anyhow::Result<[Timed; 3]> {
     Ok([
         copy_values(rt, value, rounds)?,
         place_in_values(rt, value, rounds)?,
@@ -205,7 +212,12 @@ fn time_value(rt: &impl Runtime, alloc: Global, value: &Value, rounds: u32) -> a
     ])
 }
 
-fn time_tree(rt: &impl Runtime, alloc: Global, json: &Json, rounds: u32) -> anyhow::Result<[Timed; 3]> {
+fn time_tree(
+    rt: &impl Runtime,
+    alloc: Global,
+    json: &Json,
+    rounds: u32,
+) -> anyhow::Result<[Timed; 3]> {
     let path = RefPath::read(alloc, "$.orders[7].price")?;
     Ok([
         copy_trees(rt, json, rounds)?,
@@ -214,30 +226,55 @@ fn time_tree(rt: &impl Runtime, alloc: Global, json: &Json, rounds: u32) -> anyh
     ])
 }
 
-fn time_values(rt: &impl Runtime, alloc: Global, text: &str, rounds: u32) -> anyhow::Result<[Timed; 3]> {
+fn time_values(
+    rt: &impl Runtime,
+    alloc: Global,
+    text: &str,
+    rounds: u32,
+) -> anyhow::Result<[Timed; 3]> {
     let value = Value::from_slice(alloc, text.as_bytes())?;
     time_value(rt, alloc, &value, rounds)
 }
 
-fn time_trees(rt: &impl Runtime, alloc: Global, text: &str, rounds: u32) -> anyhow::Result<[Timed; 3]> {
+fn time_trees(
+    rt: &impl Runtime,
+    alloc: Global,
+    text: &str,
+    rounds: u32,
+) -> anyhow::Result<[Timed; 3]> {
     let json = read(alloc, text.as_bytes())?;
     time_tree(rt, alloc, &json, rounds)
 }
 
-fn time_equal_values(rt: &impl Runtime, alloc: Global, text: &str, rounds: u32) -> anyhow::Result<Timed> {
+fn time_equal_values(
+    rt: &impl Runtime,
+    alloc: Global,
+    text: &str,
+    rounds: u32,
+) -> anyhow::Result<Timed> {
     let value = Value::from_slice(alloc, text.as_bytes())?;
     let other = Value::from_slice(alloc, text.as_bytes())?;
     compare_values(rt, &value, &other, rounds)
 }
 
-fn time_equal_trees(rt: &impl Runtime, alloc: Global, text: &str, rounds: u32) -> anyhow::Result<Timed> {
+fn time_equal_trees(
+    rt: &impl Runtime,
+    alloc: Global,
+    text: &str,
+    rounds: u32,
+) -> anyhow::Result<Timed> {
     let json = read(alloc, text.as_bytes())?;
     let other = read(alloc, text.as_bytes())?;
     compare_trees(rt, &json, &other, rounds)
 }
 
 /// Prints a row for each call.
-pub(crate) fn time_all(rt: &impl Runtime, alloc: Global, text: &str, rounds: u32) -> anyhow::Result<()> {
+pub(crate) fn time_all(
+    rt: &impl Runtime,
+    alloc: Global,
+    text: &str,
+    rounds: u32,
+) -> anyhow::Result<()> {
     time_text(rt, alloc, text, rounds)?;
     let alone = time_values(rt, alloc, text, rounds)?;
     let tree = time_trees(rt, alloc, text, rounds)?;
@@ -245,5 +282,10 @@ pub(crate) fn time_all(rt: &impl Runtime, alloc: Global, text: &str, rounds: u32
     print_row(rt, "place three steps deep in a copy", alone[1], tree[1])?;
     print_row(rt, "write", alone[2], tree[2])?;
     let alone = time_equal_values(rt, alloc, text, rounds)?;
-    print_row(rt, "compare", alone, time_equal_trees(rt, alloc, text, rounds)?)
+    print_row(
+        rt,
+        "compare",
+        alone,
+        time_equal_trees(rt, alloc, text, rounds)?,
+    )
 }

@@ -190,7 +190,10 @@ fn changes_lists(rt: HostRuntime) -> Result<(), Fail> {
     let mut list = one_and_two(alloc)?;
     assert_eq!(rt; sets_item(&mut list, 0, Json::Bool(true)), Ok(()));
     assert_eq!(rt; sets_item(&mut list, 1, Json::Null), Ok(()));
-    assert_eq!(rt; sets_item(&mut list, 2, Json::Null), Err(ChangeFault::Absent));
+    assert_eq!(rt;
+        sets_item(&mut list, 2, Json::Null),
+        Err(ChangeFault::Absent)
+    );
     assert!(rt; has_two_items(&list));
     let json = made_again(list)?;
     assert!(rt; is_written_and_copied(alloc, &json, "[true,null]")?);
@@ -232,7 +235,10 @@ fn changes_fields(rt: HostRuntime) -> Result<(), Fail> {
     assert!(rt; removes(&mut fields, "b", Some(Json::Whole(1)))?);
     assert!(rt; removes(&mut fields, "b", None)?);
     assert_eq!(rt; sets_field(&mut fields, "c", Json::Whole(7)), Ok(()));
-    assert_eq!(rt; sets_field(&mut fields, "e", Json::Null), Err(ChangeFault::Absent));
+    assert_eq!(rt;
+        sets_field(&mut fields, "e", Json::Null),
+        Err(ChangeFault::Absent)
+    );
     assert!(rt; fields.get("c").is_some() && fields.get("e").is_none());
     assert!(rt; fields.len() == 3 && fields.as_slice().len() == 3);
     let json = Json::Fields(fields);

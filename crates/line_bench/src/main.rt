@@ -269,8 +269,14 @@ fn time_three(
     let second = time_steps(rt, alloc, session, count)?;
     let third = time_steps(rt, alloc, session, count)?;
     Ok(Timed {
-        count: first.count.saturating_add(second.count).saturating_add(third.count),
-        took: first.took.saturating_add(second.took).saturating_add(third.took),
+        count: first
+            .count
+            .saturating_add(second.count)
+            .saturating_add(third.count),
+        took: first
+            .took
+            .saturating_add(second.took)
+            .saturating_add(third.took),
     })
 }
 

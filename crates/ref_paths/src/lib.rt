@@ -18,8 +18,8 @@ mod tests;
 pub use composing::{PickRefusal, pick_placed};
 pub use filling::FillFault;
 pub use laws::{
-    depth_is_told, elsewhere_stays, fields_are_filled, placed_at_root, placed_is_picked, texts_spell_one_path,
-    unmarked_stays, values_are_one_template,
+    depth_is_told, elsewhere_stays, fields_are_filled, placed_at_root, placed_is_picked,
+    texts_spell_one_path, unmarked_stays, values_are_one_template,
 };
 pub use path::{PathStep, RefPath};
 pub use placing::{PlaceFault, PlaceRefusal, place};

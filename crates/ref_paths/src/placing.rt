@@ -115,7 +115,12 @@ fn place_copy(
 }
 
 #[cycle(place)]
-fn place_in(alloc: Global, root: &mut Json, steps: &[PathStep], value: Json) -> Result<(), AllocError>
+fn place_in(
+    alloc: Global,
+    root: &mut Json,
+    steps: &[PathStep],
+    value: Json,
+) -> Result<(), AllocError>
     requires { IsSome (place_at steps.now (data_of value) (data_of root.old)) }
     ensures ok { OnOk result (place_at steps.now (data_of value) (data_of root.old) ≡ Some (data_of root.new)) }
     ensures root_stays { OnErr result (root.new ≡ root.old) }

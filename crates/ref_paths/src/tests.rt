@@ -3,8 +3,8 @@
 
 use crate::{
     FillFault, PathFault, PickRefusal, PlaceFault, PlaceRefusal, RefPath, Template, TemplateFault,
-    depth_is_told, elsewhere_stays, fields_are_filled, pick_placed, place, placed_at_root, placed_is_picked,
-    texts_spell_one_path, unmarked_stays, values_are_one_template,
+    depth_is_told, elsewhere_stays, fields_are_filled, pick_placed, place, placed_at_root,
+    placed_is_picked, texts_spell_one_path, unmarked_stays, values_are_one_template,
 };
 use json_tree::{Json, JsonFault, JsonFields, read, write_text};
 use std::alloc::{AllocError, Global};
@@ -342,7 +342,13 @@ fn is_as_deep(alloc: Global, names: u32, is_picked: bool) -> Result<bool, Fail> 
 }
 
 /// Lengths of paths, and whether what is placed there may be picked.
-const LENGTHS: &[(u32, bool)] = &[(0, true), (1, true), (126, true), (127, false), (1000, false)];
+const LENGTHS: &[(u32, bool)] = &[
+    (0, true),
+    (1, true),
+    (126, true),
+    (127, false),
+    (1000, false),
+];
 
 #[test]
 fn places_no_deeper_than_asked(rt: HostRuntime) -> Result<(), Fail> {
