@@ -13,7 +13,7 @@ struct Timed {
     count: usize,
 }
 
-fn timed(took: Duration, rounds: u32, count: usize) -> Timed {
+fn each_of(took: Duration, rounds: u32, count: usize) -> Timed {
     Timed {
         nanos: took.as_nanos() / u128::from(rounds.max(1)),
         count,
@@ -27,7 +27,7 @@ fn read_trees(rt: &impl Runtime, alloc: Global, text: &str, rounds: u32) -> anyh
         let json = read(alloc, text.as_bytes())?;
         count = count.saturating_add(matches!(json, Json::Fields(_)) as usize);
     }
-    Ok(timed(start.elapsed(rt)?, rounds, count))
+    Ok(each_of(start.elapsed(rt)?, rounds, count))
 }
 
 fn read_values(rt: &impl Runtime, alloc: Global, text: &str, rounds: u32) -> anyhow::Result<Timed> {
@@ -37,7 +37,7 @@ fn read_values(rt: &impl Runtime, alloc: Global, text: &str, rounds: u32) -> any
         let value = Value::from_slice(alloc, text.as_bytes())?;
         count = count.saturating_add(value.is_object() as usize);
     }
-    Ok(timed(start.elapsed(rt)?, rounds, count))
+    Ok(each_of(start.elapsed(rt)?, rounds, count))
 }
 
 fn copy_trees(rt: &impl Runtime, json: &Json, rounds: u32) -> anyhow::Result<Timed> {
@@ -47,7 +47,7 @@ fn copy_trees(rt: &impl Runtime, json: &Json, rounds: u32) -> anyhow::Result<Tim
         let copy = json.copy()?;
         count = count.saturating_add(matches!(copy, Json::Fields(_)) as usize);
     }
-    Ok(timed(start.elapsed(rt)?, rounds, count))
+    Ok(each_of(start.elapsed(rt)?, rounds, count))
 }
 
 fn copy_values(rt: &impl Runtime, value: &Value, rounds: u32) -> anyhow::Result<Timed> {
@@ -57,7 +57,7 @@ fn copy_values(rt: &impl Runtime, value: &Value, rounds: u32) -> anyhow::Result<
         let copy = value.clone()?;
         count = count.saturating_add(copy.is_object() as usize);
     }
-    Ok(timed(start.elapsed(rt)?, rounds, count))
+    Ok(each_of(start.elapsed(rt)?, rounds, count))
 }
 
 fn is_placed(placed: Result<Json, PlaceFault>) -> bool {
@@ -77,7 +77,7 @@ fn place_in_trees(
         let placed = place(alloc, json.copy()?, path, Json::Whole(1));
         count = count.saturating_add(is_placed(placed) as usize);
     }
-    Ok(timed(start.elapsed(rt)?, rounds, count))
+    Ok(each_of(start.elapsed(rt)?, rounds, count))
 }
 
 fn place_in_value(value: &Value) -> anyhow::Result<bool> {
@@ -97,7 +97,7 @@ fn place_in_values(rt: &impl Runtime, value: &Value, rounds: u32) -> anyhow::Res
     for _ in 0..rounds {
         count = count.saturating_add(place_in_value(value)? as usize);
     }
-    Ok(timed(start.elapsed(rt)?, rounds, count))
+    Ok(each_of(start.elapsed(rt)?, rounds, count))
 }
 
 fn write_trees(
@@ -111,7 +111,7 @@ fn write_trees(
     for _ in 0..rounds {
         count = count.saturating_add(write_text(alloc, json)?.len());
     }
-    Ok(timed(start.elapsed(rt)?, rounds, count))
+    Ok(each_of(start.elapsed(rt)?, rounds, count))
 }
 
 fn write_values(
@@ -125,7 +125,7 @@ fn write_values(
     for _ in 0..rounds {
         count = count.saturating_add(value.to_string(alloc)?.len());
     }
-    Ok(timed(start.elapsed(rt)?, rounds, count))
+    Ok(each_of(start.elapsed(rt)?, rounds, count))
 }
 
 fn compare_trees(
@@ -139,7 +139,7 @@ fn compare_trees(
     for _ in 0..rounds {
         count = count.saturating_add((json == other) as usize);
     }
-    Ok(timed(start.elapsed(rt)?, rounds, count))
+    Ok(each_of(start.elapsed(rt)?, rounds, count))
 }
 
 fn compare_values(
@@ -153,7 +153,7 @@ fn compare_values(
     for _ in 0..rounds {
         count = count.saturating_add((value == other) as usize);
     }
-    Ok(timed(start.elapsed(rt)?, rounds, count))
+    Ok(each_of(start.elapsed(rt)?, rounds, count))
 }
 
 fn drop_trees(rt: &impl Runtime, alloc: Global, text: &str, rounds: u32) -> anyhow::Result<Timed> {
@@ -164,7 +164,7 @@ fn drop_trees(rt: &impl Runtime, alloc: Global, text: &str, rounds: u32) -> anyh
     let count = held.len();
     let start = Instant::now(rt)?;
     drop(held);
-    Ok(timed(start.elapsed(rt)?, rounds, count))
+    Ok(each_of(start.elapsed(rt)?, rounds, count))
 }
 
 fn drop_values(rt: &impl Runtime, alloc: Global, text: &str, rounds: u32) -> anyhow::Result<Timed> {
@@ -175,7 +175,7 @@ fn drop_values(rt: &impl Runtime, alloc: Global, text: &str, rounds: u32) -> any
     let count = held.len();
     let start = Instant::now(rt)?;
     drop(held);
-    Ok(timed(start.elapsed(rt)?, rounds, count))
+    Ok(each_of(start.elapsed(rt)?, rounds, count))
 }
 
 fn print_row(rt: &impl Runtime, name: &str, alone: Timed, tree: Timed) -> anyhow::Result<()> {
