@@ -1,8 +1,7 @@
 // Serves lines: starts executions of one Pass state, takes the step of each, shows each, and undoes the steps from the last
 // to the first, each kind as one input of one session. With a number of executions as its argument it does so with that
 // many, and prints how many lines of each kind were answered in a second, and how much of the time of the starts
-// `json_tree` takes to read their inputs alone. Then it takes the steps of three Pass states, over inputs of 2 bytes and of
-// 8 kB, for a tenth as many executions, and prints how long one takes.
+// `json_tree` takes to read their inputs alone.
 #![tactic(auto)]
 
 use anyhow::Context;
@@ -80,10 +79,6 @@ impl Timed {
     /// How many in a second.
     fn rate(&self) -> u128 {
         (self.count as u128).saturating_mul(1_000_000_000) / self.took.as_nanos().max(1)
-    }
-
-    fn nanos_each(&self) -> u128 {
-        self.took.as_nanos() / (self.count as u128).max(1)
     }
 
     /// How many hundredths of the other's time this took.
@@ -226,89 +221,11 @@ fn print_rates(rt: &impl Runtime, times: &Times) -> anyhow::Result<()> {
     Ok(())
 }
 
-const THREE: &str =
-    "table items id:S []\ndefine p {\"StartAt\":\"A\",\"States\":{\"A\":{\"Type\":\"Pass\",\"Next\":\"B\"},\"B\":{\"Type\":\"Pass\",\"Next\":\"C\"},\"C\":{\"Type\":\"Pass\",\"End\":true}}}\n";
-
-/// A list of orders, of some 130 bytes each.
-fn orders(alloc: Global, count: u32) -> anyhow::Result<String> {
-    let mut text = String::from_str(alloc, "[")?;
-    for i in 0..count {
-        if i > 0 {
-            text.push(',')?;
-        }
-        let order = format!(in alloc;
-            "{{\"id\":{i},\"name\":\"item number {i}\",\"price\":-129900,\"stock\":{{\"left\":{i},\"note\":null,\"open\":true}},\"tags\":[\"red\",\"green\",\"blue\\n\"]}}"
-        )?;
-        text.push_str(&order)?;
-    }
-    text.push(']')?;
-    Ok(text)
-}
-
-fn starts_with(alloc: Global, count: u32, input: &str) -> anyhow::Result<String> {
-    let mut lines = String::new(alloc);
-    for i in 0..count {
-        let line = format!(in alloc; "start e{i} p {input}\n")?;
-        lines.push_str(&line)?;
-    }
-    Ok(lines)
-}
-
-/// The time of three steps of each execution.
-fn time_three(
-    rt: &impl Runtime,
-    alloc: Global,
-    session: &mut Session,
-    count: u32,
-    input: &str,
-) -> anyhow::Result<Timed> {
-    let _table = serve_lines(alloc, session, THREE, &mut Vec::new(alloc));
-    let lines = starts_with(alloc, count, input)?;
-    let _started = serve_lines(alloc, session, &lines, &mut Vec::new(alloc));
-    let first = time_steps(rt, alloc, session, count)?;
-    let second = time_steps(rt, alloc, session, count)?;
-    let third = time_steps(rt, alloc, session, count)?;
-    Ok(Timed {
-        count: first
-            .count
-            .saturating_add(second.count)
-            .saturating_add(third.count),
-        took: first
-            .took
-            .saturating_add(second.took)
-            .saturating_add(third.took),
-    })
-}
-
-fn time_inputs_of(
-    rt: &impl Runtime,
-    alloc: Global,
-    count: u32,
-    input: &str,
-) -> anyhow::Result<Timed> {
-    let mut session = Session::new(alloc);
-    time_three(rt, alloc, &mut session, count, input)
-}
-
-fn print_three(rt: &impl Runtime, alloc: Global, count: u32) -> anyhow::Result<()> {
-    let small = time_inputs_of(rt, alloc, count, "{}")?;
-    let great = time_inputs_of(rt, alloc, count, orders(alloc, 60)?.as_str())?;
-    println!(rt;
-        "three states: {} steps over {{}}, {} ns each; {} over 8 kB, {} ns each",
-        small.count,
-        small.nanos_each(),
-        great.count,
-        great.nanos_each()
-    )?;
-    Ok(())
-}
-
 fn time_again(rt: &impl Runtime, alloc: Global, word: &str) -> anyhow::Result<()> {
     let count: u32 = word.parse().context("the number of executions")?;
     let times = time_all(rt, alloc, count)?;
     print_counts(rt, &times)?;
-    print_rates(rt, &times)?;
-    print_three(rt, alloc, count / 10)
+    print_rates(rt, &times)
 }
 
 fn main(rt: HostRuntime) -> anyhow::Result<()> {
