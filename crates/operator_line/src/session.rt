@@ -123,7 +123,10 @@ impl Session {
         }
         let items = match read(self.alloc, items.as_bytes()) {
             Ok(Json::List(items)) => items,
-            Ok(_) => return reply.refuse_by(BAD_BEGIN, 1),
+            Ok(other) => {
+                drop(other);
+                return reply.refuse_by(BAD_BEGIN, 1);
+            }
             Err(fault) => return refuse_json(fault, reply),
         };
         reply.reserve_step()?;
