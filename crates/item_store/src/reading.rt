@@ -105,8 +105,8 @@ fn form_in(action: Action, fields: &JsonFields) -> Option<LentForm<'_>>
 fn has_its_fields(action: Action, fields: &JsonFields) -> bool
     ensures { result ≡ has_its_fields action fields.now }
 {
-    for (name, _) in fields.iter() {
-        if !may_have(action, name.as_str()) {
+    for field in fields.as_slice() {
+        if !may_have(action, field.name.as_str()) {
             return false;
         }
     }
