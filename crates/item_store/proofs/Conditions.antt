@@ -4,7 +4,6 @@ use Rattle.std.proofs.lemmas.Bool.{eqb-true, eq-eqb}
 use Rattle.std.proofs.lemmas.List.{append-nil}
 use Rattle.std.specs.Char.{is_ascii_alphabetic}
 use Rattle.std.specs.Int.{is_in_range}
-use Rattle.std.specs.Cmp.Lexicographic.{bytes_decides}
 use Rattle.std.specs.List.{list_all}
 use Rattle.item_store.specs.Condition.{is_text, is_space, is_name_byte, is_attribute_name, after_spaces, cut_at, kind_of, name_before_spaces, attribute_of, written, condition_from, condition_of}
 use Rattle.item_store.specs.Spelling.{spaces, function_name, SpellsCondition, ConditionsAreSpelled}

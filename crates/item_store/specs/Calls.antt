@@ -1,12 +1,11 @@
 -- The form of calls (GetItem, PutItem and DeleteItem of the DynamoDB API): an object, whose fields are those of its action.
-use Rattle.std.specs.Prelude.{ℕ, List, [], ◌∷◌, Bool, false, if◌then◌else◌, Option, Some, None, option_map, option_and_then, codes}
+use Rattle.std.specs.Prelude.{ℕ, List, [], ◌∷◌, Bool, false, if◌then◌else◌, Option, Some, None, option_map, option_and_then, codes, Result, Ok, Err}
 use Rattle.std.specs.List.{list_any, list_all}
 use Rattle.std.specs.Option.{option_map_or}
 use Rattle.json_tree.specs.Data.{Data, text, fields, Members, no_members, member}
 use Rattle.json_tree.specs.Fields.{get_field}
 use Rattle.attr_values.specs.Datum.{Datum, Attributes, no_attributes, attribute}
 use Rattle.attr_values.specs.Reading.{read_item, is_object}
-use Rattle.std.specs.Prelude.{Result, Ok, Err}
 use Rattle.attr_values.specs.declared.fault.ItemFault.{ItemFault}
 use Rattle.item_store.specs.Condition.{is_text, condition_of}
 use Rattle.item_store.specs.declared.call.Action.{Action}

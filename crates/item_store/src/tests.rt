@@ -683,7 +683,7 @@ fn swapped_twice(alloc: Global, store: &mut ItemStore, text: &str) -> Result<(bo
 #[test]
 fn slots_stay(rt: HostRuntime) -> Result<(), Fail> {
     let alloc = rt.alloc();
-    let mut store = store_by(alloc, KeyType::S)?;
+    let mut store = sent(store_by(alloc, KeyType::S)?);
     let a = slot_of(alloc, &mut store, A)?;
     let b = slot_of(alloc, &mut store, B)?;
     assert!(rt; a != b);
