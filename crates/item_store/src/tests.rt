@@ -81,7 +81,7 @@ fn perform(
 fn answer_text(alloc: Global, answer: Answer) -> Result<String, AllocError> {
     match answer {
         Answer::Given(json) => write_text(alloc, &json),
-        Answer::Refused(name) => Ok(name.into_string()),
+        Answer::Refused(name) => String::from_str(alloc, name.as_str()),
     }
 }
 
