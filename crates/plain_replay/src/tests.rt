@@ -1,8 +1,9 @@
 use crate::forward::run;
 use crate::{Replayed, Step, remaining, replay};
+use asl_forward::Frame;
 use json_tree::{JsonList, Text, read};
 use rollback_book::{
-    Begin, Book, Entry, Frame, KeyAttribute, KeySchema, KeyType, Kind, Readiness, Refusal, Saved,
+    Begin, Book, Entry, KeyAttribute, KeySchema, KeyType, Kind, Readiness, Refusal, Saved,
     StepRecord,
 };
 use serde_json::Value;
