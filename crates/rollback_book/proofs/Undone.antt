@@ -19,7 +19,7 @@ use Rattle.rollback_book.specs.Saving.{run_saving, record_of, frame_of, IsTied, 
 use Rattle.rollback_book.specs.Laws.{IsSaved, LeavesTheSame, entry_of, IsTakenAgain, IsGivenBack}
 use Rattle.asl_forward.specs.declared.frame.Frame.{Frame}
 use Rattle.rollback_book.specs.declared.log.Begin.{Begin}
-use Rattle.rollback_book.specs.declared.log.KeyType.TheVariants.{S}
+use Rattle.attr_values.specs.declared.key.KeyType.TheVariants.{S}
 use Rattle.rollback_book.specs.declared.log.Entry.{Entry}
 use Rattle.rollback_book.specs.declared.log.Entry.TheVariants.{Define, Start as StartEntry, Step as StepEntry, Undo}
 use Rattle.rollback_book.specs.declared.refusal.Refusal.{Refusal}

@@ -18,7 +18,7 @@ mod undoing;
 pub use book::Book;
 pub use depend::depends;
 pub use laws::{ready_threads_move, records_are_of_the_run, undoing_is_exact};
-pub use log::{Begin, Entry, KeyAttribute, KeySchema, KeyType};
+pub use log::{Begin, Entry};
 pub use refusal::{BeginFault, Refusal};
 pub use room::Room;
 pub use step::{Access, AccessMode, Fact, Kind, Moved, Readiness, Saved, StepRecord};

@@ -1,9 +1,7 @@
-use crate::{
-    Access, AccessMode, Begin, BeginFault, Book, Fact, KeyAttribute, KeySchema, KeyType, Kind,
-    Refusal, Room, depends,
-};
+use crate::{Access, AccessMode, Begin, BeginFault, Book, Fact, Kind, Refusal, Room, depends};
 use asl_forward::{Frame, Phase, Retries, after_state, first_frame};
 use asl_machine::Machine;
+use attr_values::{KeyAttribute, KeySchema, KeyType};
 use json_tree::{Json, JsonList, Text, read};
 use serde_json::Value;
 use std::alloc::{AllocError, Global};
