@@ -33,10 +33,16 @@ fn store_by(alloc: Global, kind: KeyType) -> Result<ItemStore, AllocError> {
 }
 
 /// The table of the API's examples.
-fn thread_store(alloc: Global) -> Result<ItemStore, AllocError> {
-    let partition = attribute(alloc, "ForumName", KeyType::S)?;
-    let sort = attribute(alloc, "Subject", KeyType::S)?;
-    let table = Text::new(alloc, "Thread")?;
+/// A store of keys of two texts.
+fn two_text_store(
+    alloc: Global,
+    table: &str,
+    partition: &str,
+    sort: &str,
+) -> Result<ItemStore, AllocError> {
+    let partition = attribute(alloc, partition, KeyType::S)?;
+    let sort = attribute(alloc, sort, KeyType::S)?;
+    let table = Text::new(alloc, table)?;
     Ok(ItemStore::new(
         alloc,
         table,
@@ -191,11 +197,42 @@ const SAMPLES: &[Row] = &[
     ),
 ];
 
+/// The examples of the API's description in AWS's own clients. The first puts what the second gets.
+const EXAMPLES: &[Row] = &[
+    (
+        PutItem,
+        r#"{"TableName":"Music","Item":{"AlbumTitle":{"S":"Songs About Life"},"Artist":{"S":"Acme Band"},"SongTitle":{"S":"Happy Day"}}}"#,
+        "write {}",
+    ),
+    (
+        GetItem,
+        r#"{"TableName":"Music","Key":{"Artist":{"S":"Acme Band"},"SongTitle":{"S":"Happy Day"}}}"#,
+        r#"read {"Item":{"AlbumTitle":{"S":"Songs About Life"},"Artist":{"S":"Acme Band"},"SongTitle":{"S":"Happy Day"}}}"#,
+    ),
+    (
+        PutItem,
+        r#"{"TableName":"Music","Item":{"AlbumTitle":{"S":"Somewhat Famous"},"Artist":{"S":"No One You Know"},"SongTitle":{"S":"Call Me Today"}},"ReturnConsumedCapacity":"TOTAL"}"#,
+        "write {}",
+    ),
+    (
+        DeleteItem,
+        r#"{"TableName":"Music","Key":{"Artist":{"S":"No One You Know"},"SongTitle":{"S":"Scared of My Shadow"}},"ReturnConsumedCapacity":"TOTAL"}"#,
+        "write {}",
+    ),
+];
+
 #[test]
 fn answers_the_reference_s_samples(rt: HostRuntime) -> Result<(), Fail> {
     let alloc = rt.alloc();
-    let mut store = thread_store(alloc)?;
+    let mut store = two_text_store(alloc, "Thread", "ForumName", "Subject")?;
     rows_hold(&rt, alloc, &mut store, SAMPLES)
+}
+
+#[test]
+fn answers_the_examples_of_the_clients(rt: HostRuntime) -> Result<(), Fail> {
+    let alloc = rt.alloc();
+    let mut store = two_text_store(alloc, "Music", "Artist", "SongTitle")?;
+    rows_hold(&rt, alloc, &mut store, EXAMPLES)
 }
 
 /// Gets, puts and deletes of one key, one after another.
@@ -637,7 +674,7 @@ const PAIRS: &[Row] = &[
 #[test]
 fn keys_may_have_two_attributes(rt: HostRuntime) -> Result<(), Fail> {
     let alloc = rt.alloc();
-    let mut store = thread_store(alloc)?;
+    let mut store = two_text_store(alloc, "Thread", "ForumName", "Subject")?;
     rows_hold(&rt, alloc, &mut store, PAIRS)?;
     assert_eq!(rt;
         listing(alloc, &store)?.as_str(),
