@@ -17,10 +17,10 @@ ordering_cases Greater = inr (inr refl)
 put_fresh : (new : Row) (rows : List Row) → is_taken rows new ≡ false → IsPermutation (new ∷ rows) (put_row new rows)
 put_fresh new [] fresh = IsPermutation-refl _
 put_fresh new (r ∷ rows) fresh = elim (ordering_cases (value_cmp (rowid r) (rowid new))) [
-    | inl below ↦ rw (below) (IsPermutation-trans _ _ _ (IsPermutation-sym _ _ (IsPermutation-middle (r ∷ []) new rows)) (IsPermutation-cons r _ _ (put_fresh new rows (rw below at fresh))))
-    | inr (inl same) ↦ absurd (let e = rw same at fresh in cc)
-    | inr (inr above) ↦ rw above (IsPermutation-refl _)
-  ]
+  | inl below ↦ rw (below) (IsPermutation-trans _ _ _ (IsPermutation-sym _ _ (IsPermutation-middle (r ∷ []) new rows)) (IsPermutation-cons r _ _ (put_fresh new rows (rw below at fresh))))
+  | inr (inl same) ↦ absurd (let e = rw same at fresh in cc)
+  | inr (inr above) ↦ rw above (IsPermutation-refl _)
+]
 
 pub put_last : (new : Row) (rows : List Row) → is_taken rows new ≡ false → IsPermutation (rows ++ new ∷ []) (put_row new rows)
 put_last new rows fresh = IsPermutation-trans _ _ _ (IsPermutation-to_front rows new) (put_fresh new rows fresh)

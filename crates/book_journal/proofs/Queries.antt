@@ -106,7 +106,7 @@ module _ (shows : List Term) (down : Bool) (limit : ℤ) (first : (r : Row) → 
       let e : Output = ([], []) in
       let within : k + 1 < length a.ordered = rw length-map at high in
       rw (get_or-map sorted_by a.ordered (k + 1) e d (omega (arith, within)), get_or-map sorted_by a.ordered k e d (omega (arith, within)))
-          (one_key _ (a.sorted k e low within))
+      (one_key _ (a.sorted k e low within))
 
   shown_same : IsPermutation (map (λ r. eval_all shows ([] ∷ r ∷ [])) (db 0)) (map (λ (o : Output). o.1) a.ordered)
   shown_same = subst (λ k. IsPermutation k (map (λ (o : Output). o.1) a.ordered)) (map-map _ _ (db 0)) (IsPermutation-map (λ (o : Output). o.1) _ _ same)

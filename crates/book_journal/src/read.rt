@@ -15,6 +15,7 @@ use sqlite::{Alter, Connection, Error, Row};
 use std::alloc::Global;
 
 const LAST: &str = "SELECT no FROM entry ORDER BY no DESC LIMIT 1";
+
 const ALL: &str = "SELECT no, line FROM entry ORDER BY no";
 
 /// The rows of a query that writes nothing.
