@@ -7,10 +7,13 @@ use book_journal::Journal;
 use sqlite::{Alter, Connection};
 use std::alloc::Global;
 use std::env;
-use std::rt::Runtime;
 use std::time::{Duration, Instant};
 
-fn append_each<S: Alter>(alloc: Global, journal: &mut Journal<S>, count: u32) -> anyhow::Result<()> {
+fn append_each<S: Alter>(
+    alloc: Global,
+    journal: &mut Journal<S>,
+    count: u32,
+) -> anyhow::Result<()> {
     for i in 0..count {
         let line = format!(in alloc; "step execution-{i}")?;
         let appended = journal.append(&[line.as_str()]).is_ok();
@@ -32,7 +35,7 @@ fn a_second(count: u32, time: Duration) -> u128 {
     u128::from(count) * 1_000_000_000 / time.as_nanos().max(1)
 }
 
-fn timed<R: Runtime, S: Alter>(rt: &R, journal: &mut Journal<S>, count: u32) -> anyhow::Result<()> {
+fn timed<S: Alter>(rt: &HostRuntime, journal: &mut Journal<S>, count: u32) -> anyhow::Result<()> {
     let start = Instant::now(rt)?;
     append_each(rt.alloc(), journal, count)?;
     let appending = start.elapsed(rt)?;
