@@ -1,7 +1,7 @@
 -- What a journal keeps true, through its calls.
-use Rattle.std.proofs.Common.{◌≡◌, ◌⊎◌, inl, inr, ℕ, ℤ, pos, ◌+ℤ◌, ◌<◌, List, [], ◌∷◌, ◌++◌, map, length, get_or, Bool, true, false, Option, Some, None, IsTrue, All, Ordering, Less, Equal, Greater, int_cmp, refl, sym, ap, subst, ◌∙◌, arith}
+use Rattle.std.proofs.Common.{◌≡◌, inl, inr, ℕ, ℤ, pos, ◌+ℤ◌, List, [], ◌∷◌, ◌++◌, map, length, false, Option, Some, None, IsTrue, All, Ordering, Less, Equal, Greater, int_cmp, refl, sym, ap, subst, ◌∙◌, arith}
 use Rattle.std.specs.Ordering.{is_lt}
-use Rattle.std.specs.List.{Contains, AllByRecursion}
+use Rattle.std.specs.List.{AllByRecursion}
 use Rattle.std.specs.List.Sorted.{IsPermutation}
 use Rattle.std.proofs.lemmas.List.{append_assoc, append-nil, map-append}
 use Rattle.std.proofs.lemmas.List.Elements.{All-append, All-cons, Contains-append_right, recursion_from_All, All-map}
@@ -19,7 +19,6 @@ use Rattle.sqlite.specs.Store.{Ghosts}
 use Rattle.sqlite.specs.Held.{Held, state}
 use Rattle.sqlite.specs.State.{State, HasCleanDisk, Survives}
 use Rattle.sqlite.proofs.StateLemmas.{survives_weaker}
-use Rattle.book_journal.specs.Table.{journal_schema}
 use Rattle.book_journal.specs.Change.{IsBack, IsAppended, HasAppended}
 use Rattle.book_journal.specs.Entries.{entries, entry, numbered, numbers, number_of, number_after, last_after, pair, shown, IsLast, IsGreatest, AddLines, AreInOrder, HoldLines, HaveGap, HaveGapAt}
 use Rattle.book_journal.specs.Kept.{lines_in, IsKept, IsAtRest, IsSame, LeavesAllOrNone, MayAdd}

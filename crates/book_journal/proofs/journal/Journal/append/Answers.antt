@@ -1,11 +1,11 @@
-use Rattle.std.proofs.Common.{◌≡◌, ℤ, Option, Some, arith, rules, refl, sym, subst}
+use Rattle.std.proofs.Common.{◌≡◌, ℤ, Option, arith, rules, refl, sym, subst}
 use Rattle.sqlite.specs.Held.{state}
 use Rattle.sqlite.specs.declared.error.ErrorCode.TheVariants.{Closed}
 use Rattle.sqlite.specs.declared.error.Error.TheVariants.{SqliteFailure}
 use Rattle.book_journal.specs.Table.{journal_schema}
 use Rattle.book_journal.specs.Entries.{texts, last_after}
 use Rattle.book_journal.specs.Kept.{lines_in, IsKept}
-use Rattle.book_journal.proofs.Keeping.{at_rest, back_kept, back_same, appended_kept, appended_adds, leaves_all_or_none, lines_added, may_add}
+use Rattle.book_journal.proofs.Keeping.{appended_kept, appended_adds, lines_added, may_add}
 use Rattle.book_journal.proofs.journal.Journal.append.Goals as goal
 
 pub returns-then-not-is_journal-clause-named : goal.returns-then-not-is_journal-clause-named
