@@ -1,12 +1,11 @@
 -- Two changes in turn.
-use Rattle.std.proofs.Common.{◌≡◌, ℕ, List, [], ◌∷◌, ◌++◌, refl, sym, ap, subst, ◌∙◌}
+use Rattle.std.proofs.Common.{List, ◌++◌, subst, ◌∙◌}
 use Rattle.std.specs.List.Sorted.{IsPermutation}
 use Rattle.std.proofs.lemmas.List.{append_assoc}
 use Rattle.std.proofs.lemmas.List.Sorted.{IsPermutation-trans, IsPermutation-append_left}
 use Rattle.sqlite.specs.Order.{Row}
-use Rattle.sqlite.specs.Tree.{Trees}
 use Rattle.sqlite.specs.State.{State}
-use Rattle.book_journal.specs.Change.{IsReady, Inserts}
+use Rattle.book_journal.specs.Change.{Inserts}
 use Rattle.book_journal.specs.Entries.{entries}
 
 more_rows : (old mid new added more : List Row) → IsPermutation (old ++ added) mid → IsPermutation (mid ++ more) new → IsPermutation (old ++ (added ++ more)) new

@@ -1,14 +1,14 @@
 -- What a journal keeps true, through its calls.
-use Rattle.std.proofs.Common.{◌≡◌, ◌⊎◌, inl, inr, ℕ, ℤ, pos, ◌+ℤ◌, ◌<◌, List, [], ◌∷◌, ◌++◌, map, length, get_or, Bool, true, false, Option, Some, None, IsTrue, All, Ordering, Less, Equal, Greater, refl, sym, ap, subst, ◌∙◌, arith}
+use Rattle.std.proofs.Common.{◌≡◌, inl, inr, ℕ, ℤ, pos, ◌+ℤ◌, List, [], ◌∷◌, ◌++◌, map, length, false, Option, Some, None, IsTrue, All, Ordering, Less, Equal, Greater, int_cmp, refl, sym, ap, subst, ◌∙◌, arith}
 use Rattle.std.specs.Ordering.{is_lt}
-use Rattle.std.specs.List.{Contains, AllByRecursion}
+use Rattle.std.specs.List.{AllByRecursion}
 use Rattle.std.specs.List.Sorted.{IsPermutation}
 use Rattle.std.proofs.lemmas.List.{append_assoc, append-nil, map-append}
 use Rattle.std.proofs.lemmas.List.Elements.{All-append, All-cons, Contains-append_right, recursion_from_All, All-map}
 use Rattle.std.proofs.lemmas.Cmp.{tied_itself}
 use Rattle.std.proofs.lemmas.Int.{ints}
 use Rattle.std.proofs.lemmas.Bool.Decides.{nat_tests}
-use Rattle.std.proofs.lemmas.List.Sorted.{IsPermutation-map, IsPermutation-sym, IsPermutation-trans, All-permutation, Contains-permutation, length_permutation}
+use Rattle.std.proofs.lemmas.List.Sorted.{IsPermutation-map, IsPermutation-sym, IsPermutation-trans, IsPermutation-append_left, All-permutation, Contains-permutation, length_permutation}
 use Rattle.sqlite_value.proofs.OrderLemmas.{value_cmp_total, value_cmp-Int}
 use Rattle.sqlite.specs.declared.types.Value.{Value}
 use Rattle.sqlite.specs.declared.types.Value.TheVariants.{Int}
@@ -18,10 +18,10 @@ use Rattle.sqlite.specs.Effect.{Database}
 use Rattle.sqlite.specs.Store.{Ghosts}
 use Rattle.sqlite.specs.Held.{Held, state}
 use Rattle.sqlite.specs.State.{State, HasCleanDisk, Survives}
-use Rattle.book_journal.specs.Table.{journal_schema}
+use Rattle.sqlite.proofs.StateLemmas.{survives_weaker}
 use Rattle.book_journal.specs.Change.{IsBack, IsAppended, HasAppended}
 use Rattle.book_journal.specs.Entries.{entries, entry, numbered, numbers, number_of, number_after, last_after, pair, shown, IsLast, IsGreatest, AddLines, AreInOrder, HoldLines, HaveGap, HaveGapAt}
-use Rattle.book_journal.specs.Kept.{lines_in, IsKept, IsAtRest, IsSame, LeavesAllOrNone}
+use Rattle.book_journal.specs.Kept.{lines_in, IsKept, IsAtRest, IsSame, LeavesAllOrNone, MayAdd}
 
 pub at_rest : {S : Type 0} (g : Ghosts S) → ((s : S) (db : Trees) → IsTrue (g.view s).is_open → g.recovers s db → db ≡ (g.view s).committed) → (h : Held S) (last : Option ℤ) → IsKept (state g h) last
     → IsAtRest (state g h)
@@ -107,6 +107,38 @@ leaves_all_or_none old new last lines kept rest survives now up trees may =
       | inl before ↦ inl (ap entries (rest clean up trees before))
       | inr after ↦ inr (record { last = last; is_last = k.2; added = after k.0 })
     ]
+
+pub may_add : (old new : State) (last : Option ℤ) (lines : List (List ℕ)) → IsKept old last → Survives old new (HasAppended old (numbered (number_after last) lines)) → Survives old new (MayAdd old lines)
+may_add old new last lines kept =
+    survives_weaker old new _ _ (λ _ trees appended clean up. let k = kept.kept clean up in record { last = last; is_last = k.2; added = appended k.0 })
+
+-- ---- lines after lines
+
+split : (last : Option ℤ) (lines more : List (List ℕ)) → numbered (number_after last) (lines ++ more) ≡ numbered (number_after last) lines ++ numbered (number_after (last_after last lines)) more
+split last [] more = refl
+split last (line ∷ lines) more = ap (λ rows. entry (number_after last) line ∷ rows) (split (Some (number_after last)) lines more)
+
+least_two : (a b : ℤ) → is_lt (value_cmp (Int a) (Int b)) ≡ false → is_lt (value_cmp (Int b) (Int a)) ≡ false → a ≡ b
+least_two a b p q =
+    let p' : is_lt (int_cmp a b) ≡ false = ap is_lt (sym (value_cmp-Int a b)) ∙ p in
+    let q' : is_lt (int_cmp b a) ≡ false = ap is_lt (sym (value_cmp-Int b a)) ∙ q in
+    grind (arith, ints, nat_tests)
+
+one_last : (rows : List Row) (a b : Option ℤ) → IsLast rows a → IsLast rows b → a ≡ b
+one_last rows None None p q = refl
+one_last rows None (Some n) p q = absurd (omega (arith, ap (λ (rs : List Row). length (numbers rs)) p, q.held.1))
+one_last rows (Some n) None p q = absurd (omega (arith, ap (λ (rs : List Row). length (numbers rs)) q, p.held.1))
+one_last rows (Some a) (Some b) p q =
+    ap (λ (n : ℤ). Some n) (least_two a b
+    (subst (λ (v : Value). is_lt (value_cmp (Int a) v) ≡ false) q.held.2 (p.top q.held.0 (Int b) q.held.1))
+    (subst (λ (v : Value). is_lt (value_cmp (Int b) v) ≡ false) p.held.2 (q.top p.held.0 (Int a) p.held.1)))
+
+pub lines_added : (old new : List Row) (before lines : List (List ℕ)) → HoldLines old before → AddLines old lines new → HoldLines new (before ++ lines)
+lines_added old new before lines held added =
+    let last : IsLast old (last_after None before) = same_rows _ old (last_after None before) held (grown [] None before refl) in
+    let same : added.last ≡ last_after None before = one_last old added.last (last_after None before) added.is_last last in
+    rw (split None before lines) (IsPermutation-trans _ _ _ (IsPermutation-append_left (numbered (number_after (last_after None before)) lines) (numbered (pos 0) before) old held)
+    (subst (λ (l : Option ℤ). IsPermutation (old ++ numbered (number_after l) lines) new) same added.added))
 
 -- ---- the rows that are read
 

@@ -1,7 +1,6 @@
 -- Rows that are put in order, and rows that a query put in order.
-use Rattle.std.proofs.Common.{◌≡◌, ◌⊎◌, inl, inr, ℕ, ℤ, pos, ◌+◌, ◌<◌, ◌≤◌, List, [], ◌∷◌, ◌++◌, map, length, get_or, Bool, true, false, Option, Some, None, refl, sym, ap, subst, ◌∙◌, arith, All, Ordering, Less, Equal, Greater, is_lt, is_eq}
-use Rattle.std.specs.List.Sorted.{IsPermutation, IsSorted}
-use Rattle.std.specs.Cmp.{IsTotalOrder}
+use Rattle.std.proofs.Common.{◌≡◌, ◌⊎◌, inl, inr, List, [], ◌∷◌, ◌++◌, false, refl, Ordering, Less, Equal, Greater}
+use Rattle.std.specs.List.Sorted.{IsPermutation}
 use Rattle.std.proofs.lemmas.List.Sorted.{IsPermutation-refl, IsPermutation-sym, IsPermutation-trans, IsPermutation-cons, IsPermutation-middle, IsPermutation-to_front}
 use Rattle.sqlite.specs.Order.{Row, value_cmp}
 use Rattle.sqlite.specs.Tree.{rowid, put_row}

@@ -1,5 +1,5 @@
 -- What a transaction of the journal does to a connection.
-use Rattle.std.specs.Prelude.{◌≡◌, [], ◌++◌, List, ℕ, IsTrue, IsPermutation}
+use Rattle.std.specs.Prelude.{◌≡◌, [], ◌++◌, List, IsTrue, IsPermutation}
 use Rattle.sqlite.specs.Order.{Row}
 use Rattle.sqlite.specs.Tree.{Trees}
 use Rattle.sqlite.specs.State.{State}

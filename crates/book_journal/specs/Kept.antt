@@ -32,3 +32,7 @@ IsSame old new = IsTrue new.is_open → IsTrue old.is_open × (new.now ≡ old.n
 -- what a crash may leave: the entries from before, or those with all of the lines
 abbrev pub LeavesAllOrNone : State → List (List ℕ) → State → Type 0
 LeavesAllOrNone old lines new = HasCleanDisk new → IsTrue old.is_open → (trees : Trees) → new.may_leave trees → (entries trees ≡ lines_in old) ⊎ AddLines (lines_in old) lines (entries trees)
+
+-- what an append may commit, where the connection was open
+abbrev pub MayAdd : State → List (List ℕ) → Trees → Type 0
+MayAdd old lines trees = HasCleanDisk old → IsTrue old.is_open → AddLines (lines_in old) lines (entries trees)

@@ -4,7 +4,7 @@ ghost use Rattle.sqlite.specs.State.{HasCleanDisk, Survives};
 ghost use Rattle.book_journal.specs.Change.{HasTable};
 ghost use Rattle.book_journal.specs.Entries.{texts, AddLines, HaveGap, HoldLines};
 ghost use Rattle.book_journal.specs.Faults.{fault_of};
-ghost use Rattle.book_journal.specs.Kept.{lines_in, IsKept, IsAtRest, IsOpened, IsSame, LeavesAllOrNone};
+ghost use Rattle.book_journal.specs.Kept.{lines_in, IsKept, IsAtRest, IsOpened, IsSame, LeavesAllOrNone, MayAdd};
 
 use crate::fault::JournalFault;
 use crate::{insert, read, table};
@@ -40,7 +40,7 @@ impl<S: Alter + Drop> Drop for Journal<S> {
 /// Makes the table where there is none, and answers the last number.
 fn prepare<S: Alter>(conn: &mut Connection<S>) -> Result<Option<i64>, Error>
     ensures kept { IfOk result (IsKept (state S.Store conn.new)) }
-    ensures ok { HasCleanDisk (state S.Store conn.new) → IsTrue (state S.Store conn.new).is_open → OnOk result (IsOpened (state S.Store conn.old) (state S.Store conn.new)) }
+    ensures ok { HasCleanDisk (state S.Store conn.new) → OnOk result (IsOpened (state S.Store conn.old) (state S.Store conn.new)) }
     ensures err { HasCleanDisk (state S.Store conn.new) → OnErr result (IsSame (state S.Store conn.old) (state S.Store conn.new)) }
     ensures survives { Survives (state S.Store conn.old) (state S.Store conn.new) (HasTable (state S.Store conn.old)) }
 {
@@ -60,7 +60,7 @@ fn prepare<S: Alter>(conn: &mut Connection<S>) -> Result<Option<i64>, Error>
 impl<S: Alter> Journal<S> {
     /// Opens the journal of a database, and makes its table where the database has none. A refusal hands the connection back.
     pub fn open(conn: Connection<S>) -> Result<Journal<S>, (JournalFault, Connection<S>)>
-        ensures ok { IfOk result (λ j. HasCleanDisk (state S.Store j) → IsTrue (state S.Store j).is_open → IsOpened (state S.Store conn) (state S.Store j)) }
+        ensures ok { IfOk result (λ j. HasCleanDisk (state S.Store j) → IsOpened (state S.Store conn) (state S.Store j)) }
         ensures err { IfErr result (λ e. HasCleanDisk (state S.Store e.1) → IsSame (state S.Store conn) (state S.Store e.1)) }
         ensures named { IfErr result (λ e. (cause : Error) × (e.0 ≡ fault_of cause)) }
         ensures survives { IfOk result (λ j. Survives (state S.Store conn) (state S.Store j) (HasTable (state S.Store conn))) }
@@ -84,9 +84,12 @@ impl<S: Alter> Journal<S> {
     /// Appends the lines in one transaction.
     pub fn append(&mut self, lines: &[&str]) -> Result<(), JournalFault>
         ensures ok { HasCleanDisk (state S.Store self.new) → OnOk result (AddLines (lines_in (state S.Store self.old)) (texts lines.now) (lines_in (state S.Store self.new))) }
+        ensures open { HasCleanDisk (state S.Store self.new) → OnOk result (IsTrue (state S.Store self.new).is_open) }
+        ensures lines { HasCleanDisk (state S.Store self.new) → (before : _) → HoldLines (lines_in (state S.Store self.old)) before → OnOk result (HoldLines (lines_in (state S.Store self.new)) (before ++ texts lines.now)) }
         ensures err { HasCleanDisk (state S.Store self.new) → OnErr result (IsSame (state S.Store self.old) (state S.Store self.new)) }
         ensures named { IfErr result (λ e. (cause : Error) × (e ≡ fault_of cause)) }
         ensures crash { LeavesAllOrNone (state S.Store self.old) (texts lines.now) (state S.Store self.new) }
+        ensures survives { Survives (state S.Store self.old) (state S.Store self.new) (MayAdd (state S.Store self.old) (texts lines.now)) }
         ensures at_rest { IsAtRest (state S.Store self.new) }
     {
         if !table::is_journal(self.conn.schema()) {

@@ -1,9 +1,9 @@
-use Rattle.std.proofs.Common.{◌≡◌, ◌∙◌, ◌++◌, [], ◌∷◌, ap, sym, refl, take, get_or, length, ℕ, List, Bor, ◌<◌, rules, arith, w64, to_z, of_z, Some}
+use Rattle.std.proofs.Common.{◌≡◌, [], sym, take, get_or, length, ℕ, List, Bor, ◌<◌, rules, arith, w64, to_z, of_z}
 use Rattle.std.proofs.lemmas.List.{take_more, length-map, get_or-map}
 use Rattle.sqlite.specs.Held.{state}
 use Rattle.sqlite.proofs.InsideLemmas.{keeps_then}
 use Rattle.sqlite.proofs.StateLemmas.{survives_then}
-use Rattle.book_journal.specs.Entries.{entry, texts, numbered, number_after, last_after}
+use Rattle.book_journal.specs.Entries.{texts, number_after, last_after}
 use Rattle.book_journal.proofs.Changes.{inserts_then}
 use Rattle.book_journal.proofs.Numbers.{numbered_more, last_after_more}
 use Rattle.book_journal.proofs.insert.insert_all.Goals as goal

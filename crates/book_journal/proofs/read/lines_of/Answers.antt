@@ -1,7 +1,6 @@
-use Rattle.std.proofs.Common.{◌≡◌, ◌≢◌, ◌∙◌, pos, refl, ◌<◌, ℕ, [], ◌∷◌, List, map, length, get_or, Err, Ok, ap, sym, string_bytes, rules, arith}
+use Rattle.std.proofs.Common.{◌≡◌, ◌≢◌, ◌∙◌, pos, ◌<◌, ℕ, [], ◌∷◌, map, length, Err, ap, sym, string_bytes, rules}
 use Rattle.std.proofs.lemmas.List.{map-append, length-map}
 use Rattle.book_journal.specs.declared.fault.JournalFault.TheVariants.{Gap}
-use Rattle.sqlite.specs.Order.{Row}
 use Rattle.sqlite.specs.declared.types.Value.TheVariants.{Int}
 use Rattle.book_journal.specs.Entries.{number_of}
 use Rattle.book_journal.proofs.Numbers.{one_more, gap_at}

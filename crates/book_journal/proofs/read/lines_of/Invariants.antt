@@ -1,4 +1,4 @@
-use Rattle.std.proofs.Common.{◌≡◌, ℕ, pos, map, take, length, string_bytes}
+use Rattle.std.proofs.Common.{◌≡◌, pos, map, take, length, string_bytes}
 use Rattle.book_journal.specs.Entries.{numbered, pair}
 use Rattle.book_journal.proofs.read.lines_of.Given as goal
 

@@ -1,7 +1,7 @@
-use Rattle.std.proofs.Common.{map, string_bytes, rules}
+use Rattle.std.proofs.Common.{map, string_bytes}
 use Rattle.std.proofs.lemmas.Result.{IfOk-weaker}
 use Rattle.sqlite.specs.Held.{state}
-use Rattle.book_journal.proofs.Keeping.{at_rest, back_kept, back_same, read_lines, read_gap}
+use Rattle.book_journal.proofs.Keeping.{read_lines, read_gap}
 use Rattle.book_journal.proofs.journal.Journal.load.Goals as goal
 
 pub returns-clause-ok : goal.returns-clause-ok
