@@ -52,6 +52,7 @@ done <<'TESTS'
 step_names refused_growths_are_told
 json_tree answers_want_of_memory
 attr_values answers_want_of_memory
+item_store answers_want_of_memory
 ref_paths answers_want_of_memory
 ref_paths answers_want_of_memory_for_templates
 rollback_book refused_growths_change_nothing

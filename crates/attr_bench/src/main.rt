@@ -49,7 +49,7 @@ fn write_items(alloc: Global, items: &[Item]) -> anyhow::Result<Json> {
     for item in items {
         list.push(write_item(alloc, item)?)?;
     }
-    Ok(Json::List(JsonList::from_vec(list)))
+    Ok(Json::List(JsonList::from_vec(list)?))
 }
 
 fn time_reading(rt: &impl Runtime, alloc: Global, text: &str, rounds: u32) -> anyhow::Result<()> {

@@ -1,4 +1,5 @@
 -- The digits of a number's text.
+use Rattle.std.proofs.lemmas.Bool.{and_parts}
 use Rattle.std.proofs.Common.{◌≡◌, ◌≢◌, ℕ, zero, suc, ◌+◌, ◌-◌, ◌*◌, ◌/◌, ◌%◌, ◌^◌, ◌<◌, ◌≤◌, List, [], ◌∷◌, ◌++◌, length, take, drop, get_or, replicate, refl, sym, ◌∙◌, ap, ap₂, subst, inl, inr, arith, length-append, append-nil, drop-cons, append_assoc}
 use Rattle.std.proofs.lemmas.List.{take_all, take_more, drop_all}
 use Rattle.std.proofs.Math.Seq.{take-append_seam, drop-append-add}
@@ -69,13 +70,9 @@ last_digit_of w start d h =
     ap (digits_value 10) (sym (append_assoc w start (d ∷ []))) ∙ digits_value_push 10 (w ++ start) d in
     ap (λ n. n % 10) value ∙ mod-mul-add (digits_value 10 (w ++ start)) 10 (digit_value d) h
 
-both_true : (x y : Bool) → (x && y) ≡ true → (x ≡ true) × (y ≡ true)
-both_true true y h = (refl, h)
-both_true false y h = cc
-
 last_is_digit : (start : List ℕ) (d : ℕ) → list_all is_ascii_digit (start ++ d ∷ []) ≡ true → is_ascii_digit d ≡ true
 last_is_digit start d h =
-    (both_true (is_ascii_digit d) true (both_true (list_all is_ascii_digit start) (list_all is_ascii_digit (d ∷ [])) (sym (list_all-append is_ascii_digit start (d ∷ [])) ∙ h)).1).0
+    (and_parts (is_ascii_digit d) true (and_parts (list_all is_ascii_digit start) (list_all is_ascii_digit (d ∷ [])) (sym (list_all-append is_ascii_digit start (d ∷ [])) ∙ h)).1).0
 
 -- the digits of a short fraction, and that it has any only where the number ends in no zero
 pub short_digit : (w f : List ℕ) → IsShort f → list_all is_ascii_digit f ≡ true → 0 < length f → 0 < digits_value 10 (w ++ f) % 10
@@ -90,7 +87,7 @@ shortened_short n [] h = refl
 shortened_short n (d ∷ f) h = shortened_digit n (length f) (h (omega arith))
 
 prefix_digits : (f zeros : List ℕ) → list_all is_ascii_digit (f ++ zeros) ≡ true → list_all is_ascii_digit f ≡ true
-prefix_digits f zeros h = (both_true (list_all is_ascii_digit f) (list_all is_ascii_digit zeros) (sym (list_all-append is_ascii_digit f zeros) ∙ h)).0
+prefix_digits f zeros h = (and_parts (list_all is_ascii_digit f) (list_all is_ascii_digit zeros) (sym (list_all-append is_ascii_digit f zeros) ∙ h)).0
 
 -- what is read, by the digits before the point and those after it without the last zeros
 pub read_is : (negative : Bool) (text w g f : List ℕ) (k : ℕ) → SplitsAtPoint text w g → g ≡ f ++ replicate k 48 → IsShort f
@@ -165,7 +162,7 @@ digit_is_no_point d h = grind (arith, nat_tests)
 point_after : (ds rest : List ℕ) → list_all is_ascii_digit ds ≡ true → position_or_len is_point (ds ++ rest) ≡ length ds + position_or_len is_point rest
 point_after [] rest h = omega arith
 point_after (d ∷ ds) rest h =
-    let both = both_true (is_ascii_digit d) (list_all is_ascii_digit ds) h in
+    let both = and_parts (is_ascii_digit d) (list_all is_ascii_digit ds) h in
     rw (digit_is_no_point d both.0) (omega (arith, point_after ds rest both.1))
 
 -- a text of digits, and one with a point and digits after it, as they are read
@@ -216,7 +213,7 @@ unsigned_reads negative m (suc p) h l e =
 first_is_digit : (ds rest : List ℕ) → list_all is_ascii_digit ds ≡ true → 0 < length ds → read_number (ds ++ rest) ≡ read_unsigned false (ds ++ rest)
 first_is_digit [] rest h some = absurd (omega arith)
 first_is_digit (d ∷ ds) rest h some =
-    let digit : is_ascii_digit d ≡ true = (both_true (is_ascii_digit d) (list_all is_ascii_digit ds) h).0 in
+    let digit : is_ascii_digit d ≡ true = (and_parts (is_ascii_digit d) (list_all is_ascii_digit ds) h).0 in
     let no_minus : (d == 45) ≡ false = grind (arith, nat_tests) in
     rw no_minus
 
@@ -249,7 +246,7 @@ bounded_normal negative m d h is = by_bool (in_bounds m)
     (λ yes.
     let e : Some (decimal_of negative m) ≡ Some d = rw yes at is in
     let same : decimal_of negative m ≡ d = cc e in
-    let both = both_true (nat_lt m.0 (10 ^ 38)) (nat_le m.1 100) yes in
+    let both = and_parts (nat_lt m.0 (10 ^ 38)) (nat_le m.1 100) yes in
     subst IsNormal same (normal_decimal negative m.0 m.1 (ltb-true m.0 (10 ^ 38) both.0) (leb-true m.1 100 both.1) (λ above. let f = h above in omega arith)))
     (λ no. let e : None ≡ Some d = rw no at is in cc e)
 

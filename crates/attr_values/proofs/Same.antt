@@ -3,20 +3,19 @@ use Rattle.std.proofs.Common.{◌≡◌, ◌↔◌, ℕ, List, [], ◌∷◌, tr
 use Rattle.std.specs.Cmp.{tied_itself, Equal-is}
 use Rattle.std.specs.FinMap.{nat_cmp-IsAntisymmetric, slice_cmp-IsAntisymmetric}
 use Rattle.std.specs.Ordering.{eq_by_cmp, on}
+use Rattle.json_tree.proofs.Same.{text_same}
 use Rattle.json_tree.specs.Fields.{text_cmp}
 use Rattle.attr_values.specs.Datum.{Datum, text, number, boolean, null, list, document, texts, numbers, Elements, no_elements, element, Attributes, no_attributes, attribute, elements_of, attributes_of}
 use Rattle.attr_values.specs.Decimal.{Decimal}
 use Rattle.attr_values.specs.DecimalOrder.{decimal_cmp_equal}
 use Rattle.attr_values.specs.Key.{key_cmp}
 use Rattle.attr_values.specs.KeyOrder.{key_cmp_total, key_cmp_equal}
-use Rattle.attr_values.specs.Order.{datum_cmp, elements_cmp, attributes_cmp, datum_cmp_total, attributes_cmp_total, text_lists_cmp, number_lists_cmp, first_equal, second_equal}
+use Rattle.json_tree.specs.FirstDifference.{first_equal, second_equal}
+use Rattle.attr_values.specs.Order.{datum_cmp, elements_cmp, attributes_cmp, datum_cmp_total, attributes_cmp_total, text_lists_cmp, number_lists_cmp}
 use Rattle.attr_values.specs.View.{datum_of}
 use Rattle.attr_values.specs.declared.key.Key.{Key}
 use Rattle.attr_values.specs.declared.value.Value.{Value}
 use Rattle.attr_values.specs.declared.value.Value.TheVariants.{S, N, Bool, Null, L, M, Ss, Ns}
-
-text_same : (s t : List ℕ) → text_cmp s t ≡ Equal → s ≡ t
-text_same = slice_cmp-IsAntisymmetric nat_cmp-IsAntisymmetric
 
 texts_same : (ss ts : List (List ℕ)) → text_lists_cmp ss ts ≡ Equal → ss ≡ ts
 texts_same = slice_cmp-IsAntisymmetric text_same

@@ -1,4 +1,5 @@
 -- The order of decimal numbers is total, and tells apart any two that differ.
+use Rattle.std.proofs.lemmas.Bool.{and_parts}
 use Rattle.std.specs.Prelude.{◌≡◌, ℕ, zero, suc, ◌*◌, ◌^◌, ◌<◌, ℤ, pos, negsuc, neg_ℤ, ◌*ℤ◌, ◌<ℤ◌, Bool, true, false, ◌&&◌, ◌==◌, refl}
 use Rattle.std.specs.declared.cmp.Ordering.{Ordering}
 use Rattle.std.specs.declared.cmp.Ordering.TheVariants.{Less, Equal, Greater}
@@ -118,16 +119,12 @@ is_equal Less h = cc
 is_equal Equal h = refl
 is_equal Greater h = cc
 
-both_true : (x y : Bool) → (x && y) ≡ true → (x ≡ true) × (y ≡ true)
-both_true true y h = (refl, h)
-both_true false y h = cc
-
 tied_to_itself : (a : Decimal) → (int_eq a.coefficient a.coefficient && a.places == a.places) ≡ true
 tied_to_itself a = rw (int_eq_equiv.refl a.coefficient, nat_eq_equiv.refl a.places) refl
 
 same_fields : (a b : Decimal) → (int_eq a.coefficient b.coefficient && a.places == b.places) ≡ true → a ≡ b
 same_fields a b h =
-    let both = both_true _ _ h in
+    let both = and_parts _ _ h in
     ap₂ (λ (c : ℤ) (p : ℕ). let d : Decimal = record { coefficient = c; places = p } in d)
     (int_cmp_equal a.coefficient b.coefficient (is_equal _ both.0)) (eqb-true a.places b.places both.1)
 

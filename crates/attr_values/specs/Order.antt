@@ -8,6 +8,7 @@ use Rattle.std.specs.Ordering.{nat_cmp, bool_cmp, ordering_then, ordering_revers
 use Rattle.std.specs.declared.cmp.Ordering.{Ordering}
 use Rattle.std.specs.declared.cmp.Ordering.TheVariants.{Less, Equal, Greater}
 use Rattle.json_tree.specs.Fields.{text_cmp}
+use Rattle.json_tree.specs.FirstDifference.{then_flip, first_equal, second_equal, then_rises, text_right}
 use Rattle.attr_values.specs.Datum.{Datum, text, number, boolean, null, list, document, texts, numbers, Elements, no_elements, element, Attributes, no_attributes, attribute}
 use Rattle.attr_values.specs.Decimal.{Decimal, decimal_cmp}
 use Rattle.attr_values.specs.DecimalOrder.{decimal_cmp_total}
@@ -60,14 +61,6 @@ text_lists_total = lists_total nat_list_cmp_total
 number_lists_total : IsTotalOrder number_lists_cmp
 number_lists_total = lists_total decimal_cmp_total
 
-then_reverse : (a b : Ordering) → ordering_reverse (ordering_then a b) ≡ ordering_then (ordering_reverse a) (ordering_reverse b)
-then_reverse Less b = refl
-then_reverse Equal b = refl
-then_reverse Greater b = refl
-
-then_flip : (a b a' b' : Ordering) → a ≡ ordering_reverse a' → b ≡ ordering_reverse b' → ordering_then a b ≡ ordering_reverse (ordering_then a' b')
-then_flip a b a' b' p q = rw (p, q) (sym (then_reverse a' b'))
-
 mutual
   datum_flip : (d e : Datum) → datum_cmp d e ≡ ordering_reverse (datum_cmp e d)
   datum_flip (text s) (text t) = nat_list_cmp_total.antisymm s t
@@ -91,16 +84,6 @@ mutual
   attributes_flip no_attributes (attribute l e ns) = refl
   attributes_flip (attribute k d ms) no_attributes = refl
   attributes_flip (attribute k d ms) (attribute l e ns) = then_flip _ _ _ _ (nat_list_cmp_total.antisymm k l) (then_flip _ _ _ _ (datum_flip d e) (attributes_flip ms ns))
-
-pub first_equal : (a b : Ordering) → ordering_then a b ≡ Equal → a ≡ Equal
-first_equal Less b h = h
-first_equal Equal b h = refl
-first_equal Greater b h = h
-
-pub second_equal : (a b : Ordering) → ordering_then a b ≡ Equal → b ≡ Equal
-second_equal Less b h = cc h
-second_equal Equal b h = h
-second_equal Greater b h = cc h
 
 mutual
   datum_alike : (x y z : Datum) → datum_cmp x y ≡ Equal → datum_cmp x z ≡ datum_cmp y z
@@ -131,27 +114,11 @@ mutual
       let rest = second_equal (text_cmp k l) _ h in
       ap₂ ordering_then (nat_list_cmp_total.congr k l m (first_equal _ _ h)) (ap₂ ordering_then (datum_alike d e f (first_equal _ _ rest)) (attributes_alike ms ns os (second_equal (datum_cmp d e) _ rest)))
 
--- what rises twice in the first part, or stays there and rises in the second, rises
-then_rises : (p q r p' q' r' : Ordering) → (p ≡ Less → q ≡ Less → r ≡ Less) → (p ≡ Equal → r ≡ q) → (q ≡ Equal → r ≡ p) → (p' ≡ Less → q' ≡ Less → r' ≡ Less)
-    → ordering_then p p' ≡ Less → ordering_then q q' ≡ Less → ordering_then r r' ≡ Less
-then_rises Less Less r p' q' r' t a b u h k = rw (t refl refl)
-then_rises Less Equal r p' q' r' t a b u h k = rw (b refl)
-then_rises Less Greater r p' q' r' t a b u h k = cc k
-then_rises Equal Less r p' q' r' t a b u h k = rw (a refl)
-then_rises Equal Equal r p' q' r' t a b u h k = rw (a refl) (u h k)
-then_rises Equal Greater r p' q' r' t a b u h k = cc k
-then_rises Greater q r p' q' r' t a b u h k = cc h
-
 -- an equal one on the right
 datum_right : (x y z : Datum) → datum_cmp y z ≡ Equal → datum_cmp x z ≡ datum_cmp x y
 datum_right x y z h =
     let back : datum_cmp z y ≡ Equal = datum_flip z y ∙ ap ordering_reverse h in
     datum_flip x z ∙ ap ordering_reverse (datum_alike z y x back) ∙ sym (datum_flip x y)
-
-text_right : (k l m : List ℕ) → text_cmp l m ≡ Equal → text_cmp k m ≡ text_cmp k l
-text_right k l m h =
-    let back : text_cmp m l ≡ Equal = nat_list_cmp_total.antisymm m l ∙ ap ordering_reverse h in
-    nat_list_cmp_total.antisymm k m ∙ ap ordering_reverse (nat_list_cmp_total.congr m l k back) ∙ sym (nat_list_cmp_total.antisymm k l)
 
 mutual
   datum_rises : (x y z : Datum) → datum_cmp x y ≡ Less → datum_cmp y z ≡ Less → datum_cmp x z ≡ Less

@@ -1,6 +1,6 @@
 //! From an item to its key.
 
-ghost use Rattle.std.specs.Prelude.{◌≡◌, ◌≢◌, Some, Err, IsTrue};
+ghost use Rattle.std.specs.Prelude.{◌≡◌, ◌≢◌, Some, Err, IsTrue, IsOk, IfErr, OnOk};
 ghost use Rattle.attr_values.specs.Faults.{Answers};
 ghost use Rattle.attr_values.specs.Key as spec;
 ghost use Rattle.attr_values.specs.View.{datum_of};
@@ -12,17 +12,39 @@ use crate::key_part::{KeyPart, KeyText};
 use crate::value::Value;
 
 /// The key of an item: its partition is looked at first, and then its sort attribute. `NoKey` where the item lacks one of
-/// them, `KeyType` where one is of another type, `EmptyKey` where a text is empty. Takes memory for each text.
+/// them, `KeyType` where one is of another type, `EmptyKey` where a text is empty. Only then are texts copied.
 pub fn key_of(schema: &KeySchema, item: &Item) -> Result<Key, ItemFault>
     ensures key { Answers (λ k. k) (spec.key_of schema.now item.now) result }
-    ensures memory { result ≡ Err ItemFault.Memory → IsTrue (spec.has_text schema.now) }
+    ensures memory { result ≡ Err ItemFault.Memory → IsTrue (spec.has_text schema.now) × IsOk (spec.key_of schema.now item.now) }
 {
+    has_part(&schema.partition, item)?;
+    if let Some(attribute) = &schema.sort {
+        has_part(attribute, item)?;
+    }
     let partition = part_of(&schema.partition, item)?;
     let sort = match &schema.sort {
         Some(attribute) => Some(part_of(attribute, item)?),
         None => None,
     };
     Ok(Key { partition, sort })
+}
+
+/// That the item has such a part, which takes no memory to see.
+fn has_part(attribute: &KeyAttribute, item: &Item) -> Result<(), ItemFault>
+    ensures ok { OnOk result (IsOk (spec.part_of attribute.now item.now)) }
+    ensures err { IfErr result (λ e. spec.part_of attribute.now item.now ≡ Err e) }
+    ensures memory { result ≢ Err ItemFault.Memory }
+{
+    match (attribute.kind, item.get(attribute.name.as_str())) {
+        (_, None) => Err(ItemFault::NoKey),
+        (KeyType::S, Some(Value::S(text))) => if text.as_str().is_empty() {
+            Err(ItemFault::EmptyKey)
+        } else {
+            Ok(())
+        },
+        (KeyType::N, Some(Value::N(_))) => Ok(()),
+        _ => Err(ItemFault::KeyType),
+    }
 }
 
 fn part_of(attribute: &KeyAttribute, item: &Item) -> Result<KeyPart, ItemFault>

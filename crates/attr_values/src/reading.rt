@@ -64,9 +64,8 @@ fn kind_of(name: &str) -> Option<Kind>
 fn only_field(fields: &JsonFields) -> Option<(&str, &Json)>
     ensures { MatchOption result (length fields.now ≢ 1) (λ r. fields.now ≡ (r.0.now, data_of r.1.now) ∷ []) }
 {
-    let mut rest = fields.iter();
-    match (rest.next(), rest.next()) {
-        (Some((name, value)), None) => Some((name.as_str(), value)),
+    match fields.as_slice() {
+        [field] => Some((field.name.as_str(), &field.value)),
         _ => None,
     }
 }
@@ -214,9 +213,10 @@ pub(crate) fn read_attributes(
     ensures ordered { IfOk result (λ m. IsStrictlySortedBy text_cmp (keys_of m)) }
 {
     let mut inner = BTreeMap::new(alloc);
-    for (name, json) in fields.iter() {
-        let value = read_within(alloc, json, levels)?;
-        drop(inner.insert(name.clone()?, value)?);
+    for field in fields.as_slice() {
+        let value = read_within(alloc, &field.value, levels)?;
+        let name = String::from_str(alloc, field.name.as_str())?;
+        drop(inner.insert(name, value)?);
     }
     Ok(ValueMap { inner })
 }

@@ -32,14 +32,14 @@ fn one_field(alloc: Global, name: &str, value: Json) -> Result<Json, AllocError>
     ensures { IfOk result (λ j. data_of j ≡ object_of_one name.now (data_of value)) }
 {
     let mut fields = JsonFields::new(alloc);
-    drop(fields.insert(String::from_str(alloc, name)?, value)?);
+    drop(fields.insert(Text::new(alloc, name)?, value)?);
     Ok(Json::Fields(fields))
 }
 
 fn write_number(alloc: Global, number: &Number) -> Result<Json, AllocError>
     ensures { IfOk result (λ j. data_of j ≡ number_json number.now) }
 {
-    Ok(Json::Text(Text::from_string(number.write_text(alloc)?)))
+    Ok(Json::Text(Text::from_string(number.write_text(alloc)?)?))
 }
 
 #[cycle(write)]
@@ -50,7 +50,7 @@ fn write_list(alloc: Global, list: &ValueList) -> Result<JsonList, AllocError>
     for value in &list.inner {
         values.push(write_value(alloc, value)?)?;
     }
-    Ok(JsonList::from_vec(values))
+    Ok(JsonList::from_vec(values)?)
 }
 
 #[cycle(write)]
@@ -59,7 +59,7 @@ pub(crate) fn write_map(alloc: Global, map: &ValueMap) -> Result<JsonFields, All
 {
     let mut fields = JsonFields::new(alloc);
     for (name, value) in map.inner.iter() {
-        let name = name.clone()?;
+        let name = Text::new(alloc, name.as_str())?;
         drop(fields.insert(name, write_value(alloc, value)?)?);
     }
     Ok(fields)
@@ -72,7 +72,7 @@ fn write_texts(alloc: Global, set: &TextSet) -> Result<JsonList, AllocError>
     for text in &set.inner {
         texts.push(Json::Text(text.copy()?))?;
     }
-    Ok(JsonList::from_vec(texts))
+    Ok(JsonList::from_vec(texts)?)
 }
 
 fn write_numbers(alloc: Global, set: &NumberSet) -> Result<JsonList, AllocError>
@@ -82,5 +82,5 @@ fn write_numbers(alloc: Global, set: &NumberSet) -> Result<JsonList, AllocError>
     for number in &set.inner {
         numbers.push(write_number(alloc, number)?)?;
     }
-    Ok(JsonList::from_vec(numbers))
+    Ok(JsonList::from_vec(numbers)?)
 }

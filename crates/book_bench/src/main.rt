@@ -4,8 +4,9 @@
 #![tactic(auto)]
 
 use anyhow::Context;
+use attr_values::{KeyAttribute, KeySchema, KeyType};
 use json_tree::{Json, JsonList, Text};
-use rollback_book::{Begin, Book, KeyAttribute, KeySchema, KeyType};
+use rollback_book::{Begin, Book};
 use serde_json::Value;
 use std::alloc::Global;
 use std::env;

@@ -1,7 +1,8 @@
+pub mod Nodes
 pub mod Views
+pub mod Depths
 pub mod Readings
 pub mod Texts
 pub mod RoundTrip
-pub mod Depths
 pub mod Same
 mod Rows

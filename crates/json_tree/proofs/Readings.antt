@@ -1,17 +1,17 @@
 -- Values of `serde_json`, one after another.
-use Rattle.std.proofs.Common.{◌≡◌, ℕ, suc, ◌+◌, ◌<◌, ◌≤◌, max, ℤ, List, [], ◌∷◌, ◌++◌, length, get_or, drop, Option, Some, None, option_map, String, Global, Less, string_bytes, string_cmp, map, refl, sym, ap, subst, ◌∙◌, append_assoc, add-one, drop-cons}
+use Rattle.std.proofs.Common.{◌≡◌, ℕ, suc, ◌+◌, ◌<◌, ◌≤◌, max, ℤ, List, [], ◌∷◌, ◌++◌, length, get_or, drop, Option, Some, None, option_map, String, Global, Less, string_bytes, string_cmp, map, refl, sym, ap, subst, ◌∙◌, append_assoc, append-nil, add-one, is_some, Bool, true, false, drop-cons}
 use Rattle.std.proofs.lemmas.List.{map-append, drop_all}
-use Rattle.std.specs.BTreeMap.{insert_entry}
 use Rattle.std.specs.List.{AllByRecursion}
 use Rattle.std.specs.List.Sorted.{IsStrictlySortedBy}
 use Rattle.std.specs.Map.{keys_of}
 use Rattle.std.specs.Prelude.{option_and_then}
 use Rattle.json_tree.specs.Data.{Data, null, boolean, whole, text, list, fields, Items, no_items, item, Members, no_members, member, items_of, members_of, depth, items_depth, members_depth}
-use Rattle.json_tree.specs.Fields.{text_cmp}
+use Rattle.json_tree.specs.Fields.{text_cmp, IsInNameOrder}
 use Rattle.json_tree.specs.Reading.{whole_of, whole_items, whole_members}
-use Rattle.json_tree.specs.View.{data_of, list_of, fields_of}
+use Rattle.json_tree.specs.View.{data_of, list_of, fields_of, field_of}
 use Rattle.json_tree.specs.declared.tree.Json.{Json}
-use Rattle.json_tree.proofs.Views.{Entry, insert_field, keys_of-append}
+use Rattle.json_tree.specs.declared.tree.Field.{Field}
+use Rattle.json_tree.proofs.Views.{keys_of-append}
 use Rattle.serde_json.specs.Data as source
 use Rattle.serde_json.specs.Find.{as_i64}
 use Rattle.serde_json.specs.View.{view, items_view, members_view}
@@ -87,32 +87,35 @@ pub items_end : (from : List Value) (i : ℕ) (done : List Json) (all : Option I
     → all ≡ Some (items_of (list_of done))
 items_end from i done all past before = items_last (drop i from) done all (drop_all i from past) before
 
-abbrev pub IsReadSoFar : List Entry → List (String Global × Value) → Option Members → Type 0
-IsReadSoFar es from all =
-    IsStrictlySortedBy text_cmp (keys_of (fields_of es) ++ source_names from) × (all ≡ option_map (members_before (fields_of es)) (whole_members (members_view from)))
+abbrev pub IsReadSoFar : List Field → List (String Global × Value) → Option Members → Type 0
+IsReadSoFar fs from all =
+    IsStrictlySortedBy text_cmp (keys_of (fields_of fs) ++ source_names from) × (all ≡ option_map (members_before (fields_of fs)) (whole_members (members_view from)))
 
 one : {A : Type 0} (r : Option A) → r ≡ option_map (λ x. x) r
 one None = refl
 one (Some x) = refl
 
-pub members_start : (from all : List (String Global × Value)) (es : List Entry) → es ≡ [] → from ≡ all → IsStrictlySortedBy string_cmp (keys_of all) → IsReadSoFar es from (whole_members (members_view all))
-members_start from all es none is sorted = rw (none, is) (source_order all sorted, one (whole_members (members_view all)))
+pub members_start : (from all : List (String Global × Value)) (fs : List Field) → fs ≡ [] → from ≡ all → IsStrictlySortedBy string_cmp (keys_of all) → IsReadSoFar fs from (whole_members (members_view all))
+members_start from all fs none is sorted = rw (none, is) (source_order all sorted, one (whole_members (members_view all)))
 
-pub members_step : (from rest : List (String Global × Value)) (key : String Global) (value : Value) (es ns : List Entry) (k : String Global) (v : Json) (all : Option Members) → from ≡ (key, value) ∷ rest
-    → string_bytes k ≡ string_bytes key → whole_of (view value) ≡ Some (data_of v) → ns ≡ insert_entry string_cmp es k v → IsReadSoFar es from all → IsReadSoFar ns rest all
-members_step from rest key value es ns k v all is named reads made before =
-    let sorted : IsStrictlySortedBy text_cmp (keys_of (fields_of es) ++ string_bytes k ∷ source_names rest) = rw named (rw is at before.0) in
-    let fields : fields_of ns ≡ fields_of es ++ (string_bytes k, data_of v) ∷ [] = ap fields_of made ∙ insert_field es k v (source_names rest) sorted in
-    let read : whole_members (members_view ((key, value) ∷ rest)) ≡ option_map (member (string_bytes k) (data_of v)) (whole_members (members_view rest)) = rw (reads, named) in
-    let names : keys_of (fields_of ns) ≡ keys_of (fields_of es) ++ string_bytes k ∷ [] = ap keys_of fields ∙ keys_of-append (fields_of es) _ in (
-      subst (IsStrictlySortedBy text_cmp) (sym (ap (λ ks. ks ++ source_names rest) names ∙ append_assoc (keys_of (fields_of es)) (string_bytes k ∷ []) (source_names rest))) sorted,
-      before.1 ∙ ap (λ es'. option_map (members_before (fields_of es)) (whole_members (members_view es'))) is ∙ ap (option_map (members_before (fields_of es))) read
-          ∙ members_push (fields_of es) (string_bytes k) (data_of v) (whole_members (members_view rest)) ∙ ap (λ ms. option_map (members_before ms) (whole_members (members_view rest))) (sym fields),
+pub members_step : (from rest : List (String Global × Value)) (key : String Global) (value : Value) (fs ns : List Field) (f : Field) (all : Option Members) → from ≡ (key, value) ∷ rest
+    → f.name ≡ string_bytes key → whole_of (view value) ≡ Some (data_of f.value) → ns ≡ fs ++ f ∷ [] → IsReadSoFar fs from all → IsReadSoFar ns rest all
+members_step from rest key value fs ns f all is named reads made before =
+    let sorted : IsStrictlySortedBy text_cmp (keys_of (fields_of fs) ++ f.name ∷ source_names rest) = rw named (rw is at before.0) in
+    let fields : fields_of ns ≡ fields_of fs ++ (f.name, data_of f.value) ∷ [] = ap fields_of made ∙ map-append field_of fs (f ∷ []) in
+    let read : whole_members (members_view ((key, value) ∷ rest)) ≡ option_map (member f.name (data_of f.value)) (whole_members (members_view rest)) = rw (reads, named) in
+    let names : keys_of (fields_of ns) ≡ keys_of (fields_of fs) ++ f.name ∷ [] = ap keys_of fields ∙ keys_of-append (fields_of fs) _ in (
+      subst (IsStrictlySortedBy text_cmp) (sym (ap (λ ks. ks ++ source_names rest) names ∙ append_assoc (keys_of (fields_of fs)) (f.name ∷ []) (source_names rest))) sorted,
+      before.1 ∙ ap (λ es. option_map (members_before (fields_of fs)) (whole_members (members_view es))) is ∙ ap (option_map (members_before (fields_of fs))) read
+          ∙ members_push (fields_of fs) f.name (data_of f.value) (whole_members (members_view rest)) ∙ ap (λ ms. option_map (members_before ms) (whole_members (members_view rest))) (sym fields),
     )
 
-pub members_end : (from : List (String Global × Value)) (es : List Entry) (all : Option Members) → from ≡ [] → IsReadSoFar es from all → all ≡ Some (members_of (fields_of es))
-members_end from es all none before =
-    before.1 ∙ ap (λ vs. option_map (members_before (fields_of es)) (whole_members (members_view vs))) none ∙ ap Some (members_before-no_members (fields_of es))
+pub members_end : (from : List (String Global × Value)) (fs : List Field) (all : Option Members) → from ≡ [] → IsReadSoFar fs from all → all ≡ Some (members_of (fields_of fs))
+members_end from fs all none before =
+    before.1 ∙ ap (λ vs. option_map (members_before (fields_of fs)) (whole_members (members_view vs))) none ∙ ap Some (members_before-no_members (fields_of fs))
+
+pub members_ordered : (from : List (String Global × Value)) (fs : List Field) (all : Option Members) → from ≡ [] → IsReadSoFar fs from all → IsInNameOrder (fields_of fs)
+members_ordered from fs all none before = subst (IsStrictlySortedBy text_cmp) (ap (λ es. keys_of (fields_of fs) ++ source_names es) none ∙ append-nil (keys_of (fields_of fs))) before.0
 
 -- ---- the value nests as deep as its source
 

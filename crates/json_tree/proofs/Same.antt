@@ -7,12 +7,14 @@ use Rattle.std.specs.Cmp.{tied_itself, Equal-is}
 use Rattle.std.specs.Ordering.{eq_by_cmp, on}
 use Rattle.json_tree.specs.Data.{Data, null, boolean, whole, text, list, fields, Items, no_items, item, Members, no_members, member, items_of, members_of}
 use Rattle.json_tree.specs.Fields.{text_cmp}
-use Rattle.json_tree.specs.Order.{data_cmp, items_cmp, members_cmp, data_cmp_total, first_equal, second_equal}
+use Rattle.json_tree.specs.FirstDifference.{first_equal, second_equal}
+use Rattle.json_tree.specs.Order.{data_cmp, items_cmp, members_cmp, data_cmp_total}
 use Rattle.json_tree.specs.View.{data_of}
 use Rattle.json_tree.specs.declared.tree.Json.{Json}
 use Rattle.json_tree.specs.declared.tree.Json.TheVariants.{Null, Bool, Whole, Text, List as ListOf, Fields}
 
-text_same : (s t : List ℕ) → text_cmp s t ≡ Equal → s ≡ t
+-- texts that compare as equal are one
+pub text_same : (s t : List ℕ) → text_cmp s t ≡ Equal → s ≡ t
 text_same s t h = (bytes_eq-Decides s t).0 (sym (is_eq-slice_cmp s t) ∙ ap is_eq h)
 
 mutual

@@ -4,9 +4,12 @@ pub mod View
 pub mod Falls
 pub mod Fields
 pub mod Equality
+pub mod FirstDifference
 pub mod Order
 pub mod Proper
 pub mod Written
 pub mod Reading
 pub mod Lending
+pub mod Places
+pub mod TextView
 pub mod Tokens

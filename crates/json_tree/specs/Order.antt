@@ -9,6 +9,7 @@ use Rattle.std.specs.declared.cmp.Ordering.{Ordering}
 use Rattle.std.specs.declared.cmp.Ordering.TheVariants.{Less, Equal, Greater}
 use Rattle.json_tree.specs.Data.{Data, null, boolean, whole, text, list, fields, Items, no_items, item, Members, no_members, member}
 use Rattle.json_tree.specs.Fields.{text_cmp}
+use Rattle.json_tree.specs.FirstDifference.{then_flip, first_equal, second_equal, then_rises, text_right}
 
 abbrev pub rank : Data → ℕ
 rank null = 0
@@ -42,14 +43,6 @@ abbrev mutual
 
 -- ---- the order is total
 
-then_reverse : (a b : Ordering) → ordering_reverse (ordering_then a b) ≡ ordering_then (ordering_reverse a) (ordering_reverse b)
-then_reverse Less b = refl
-then_reverse Equal b = refl
-then_reverse Greater b = refl
-
-then_flip : (a b a' b' : Ordering) → a ≡ ordering_reverse a' → b ≡ ordering_reverse b' → ordering_then a b ≡ ordering_reverse (ordering_then a' b')
-then_flip a b a' b' p q = rw (p, q) (sym (then_reverse a' b'))
-
 mutual
   data_flip : (d e : Data) → data_cmp d e ≡ ordering_reverse (data_cmp e d)
   data_flip null null = refl
@@ -71,16 +64,6 @@ mutual
   members_flip no_members (member l e ns) = refl
   members_flip (member k d ms) no_members = refl
   members_flip (member k d ms) (member l e ns) = then_flip _ _ _ _ (nat_list_cmp_total.antisymm k l) (then_flip _ _ _ _ (data_flip d e) (members_flip ms ns))
-
-pub first_equal : (a b : Ordering) → ordering_then a b ≡ Equal → a ≡ Equal
-first_equal Less b h = h
-first_equal Equal b h = refl
-first_equal Greater b h = h
-
-pub second_equal : (a b : Ordering) → ordering_then a b ≡ Equal → b ≡ Equal
-second_equal Less b h = cc h
-second_equal Equal b h = h
-second_equal Greater b h = cc h
 
 mutual
   data_alike : (x y z : Data) → data_cmp x y ≡ Equal → data_cmp x z ≡ data_cmp y z
@@ -109,27 +92,11 @@ mutual
       let rest = second_equal (text_cmp k l) _ h in
       ap₂ ordering_then (nat_list_cmp_total.congr k l m (first_equal _ _ h)) (ap₂ ordering_then (data_alike d e f (first_equal _ _ rest)) (members_alike ms ns os (second_equal (data_cmp d e) _ rest)))
 
--- what rises twice in the first part, or stays there and rises in the second, rises
-then_rises : (p q r p' q' r' : Ordering) → (p ≡ Less → q ≡ Less → r ≡ Less) → (p ≡ Equal → r ≡ q) → (q ≡ Equal → r ≡ p) → (p' ≡ Less → q' ≡ Less → r' ≡ Less)
-    → ordering_then p p' ≡ Less → ordering_then q q' ≡ Less → ordering_then r r' ≡ Less
-then_rises Less Less r p' q' r' t a b u h k = rw (t refl refl)
-then_rises Less Equal r p' q' r' t a b u h k = rw (b refl)
-then_rises Less Greater r p' q' r' t a b u h k = cc k
-then_rises Equal Less r p' q' r' t a b u h k = rw (a refl)
-then_rises Equal Equal r p' q' r' t a b u h k = rw (a refl) (u h k)
-then_rises Equal Greater r p' q' r' t a b u h k = cc k
-then_rises Greater q r p' q' r' t a b u h k = cc h
-
 -- an equal one on the right
 data_right : (x y z : Data) → data_cmp y z ≡ Equal → data_cmp x z ≡ data_cmp x y
 data_right x y z h =
     let back : data_cmp z y ≡ Equal = data_flip z y ∙ ap ordering_reverse h in
     data_flip x z ∙ ap ordering_reverse (data_alike z y x back) ∙ sym (data_flip x y)
-
-text_right : (k l m : List ℕ) → text_cmp l m ≡ Equal → text_cmp k m ≡ text_cmp k l
-text_right k l m h =
-    let back : text_cmp m l ≡ Equal = nat_list_cmp_total.antisymm m l ∙ ap ordering_reverse h in
-    nat_list_cmp_total.antisymm k m ∙ ap ordering_reverse (nat_list_cmp_total.congr m l k back) ∙ sym (nat_list_cmp_total.antisymm k l)
 
 mutual
   data_rises : (x y z : Data) → data_cmp x y ≡ Less → data_cmp y z ≡ Less → data_cmp x z ≡ Less

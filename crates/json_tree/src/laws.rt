@@ -2,12 +2,12 @@
 ghost use Rattle.json_tree.specs.Equality.{EqualityIsOfValues};
 ghost use Rattle.json_tree.specs.Proper.{ReadsBack, TextsTellApart};
 
-/// Reading what was written gives the value back.
+/// Reading what was written for a value that nests at most 127 deep gives the value back.
 pub fn written_is_read_back()
     ensures { ReadsBack }
 {}
 
-/// Different values have different texts.
+/// Different values that nest at most 127 deep have different texts.
 pub fn texts_tell_apart()
     ensures { TextsTellApart }
 {}

@@ -3,7 +3,7 @@ ghost use Rattle.std.specs.Prelude.{◌≡◌, ◌^◌, ◌-◌, min};
 ghost use Rattle.json_tree.specs.Data.{depth as nesting, list_depth, fields_depth};
 ghost use Rattle.json_tree.specs.View.{data_of};
 
-use crate::tree::{Json, JsonFields, JsonList};
+use crate::tree::{Field, Json, JsonFields, JsonList};
 
 /// How deep lists and fields nest: 0 for what is neither, and 4,294,967,295 for that depth and every greater one. Takes no
 /// memory, and looks at each value inside once.
@@ -22,8 +22,12 @@ pub fn depth(json: &Json) -> u32
 fn depth_of_list(list: &JsonList) -> u32
     ensures { result ≡ min (list_depth list.now) (2 ^ 32 - 1) }
 {
+    let Some(items) = &list.inner else {
+        return 0;
+    };
+    let items: &Vec<Json> = items;
     let mut deepest = 0u32;
-    for item in &list.inner {
+    for item in items {
         deepest = deepest.max(depth(item));
     }
     deepest
@@ -33,9 +37,13 @@ fn depth_of_list(list: &JsonList) -> u32
 fn depth_of_fields(fields: &JsonFields) -> u32
     ensures { result ≡ min (fields_depth fields.now) (2 ^ 32 - 1) }
 {
+    let Some(fields) = &fields.inner else {
+        return 0;
+    };
+    let fields: &Vec<Field> = fields;
     let mut deepest = 0u32;
-    for (_name, value) in &fields.inner {
-        deepest = deepest.max(depth(value));
+    for field in fields {
+        deepest = deepest.max(depth(&field.value));
     }
     deepest
 }

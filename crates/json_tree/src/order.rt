@@ -4,7 +4,7 @@ ghost use Rattle.json_tree.specs.Data.{items_of, members_of};
 ghost use Rattle.json_tree.specs.Order.{data_cmp, items_cmp, members_cmp, rank};
 ghost use Rattle.json_tree.specs.View.{data_of};
 
-use crate::tree::{Json, JsonFields, JsonList};
+use crate::tree::{Field, Json, JsonFields, JsonList};
 use std::cmp::Ordering;
 
 impl PartialEq for Json {
@@ -98,14 +98,17 @@ fn compare(a: &Json, b: &Json) -> Ordering
 fn compare_lists(a: &JsonList, b: &JsonList) -> Ordering
     ensures { result ≡ items_cmp (items_of a.now) (items_of b.now) }
 {
-    let mut rest = b.inner.iter();
-    for x in a.inner.iter() {
-        let Some(y) = rest.next() else {
-            return Ordering::Greater;
-        };
-        match compare(x, y) {
-            Ordering::Equal => {}
-            unlike => return unlike,
+    let mut rest = b.as_slice().iter();
+    if let Some(node) = &a.inner {
+        let items: &Vec<Json> = node;
+        for x in items {
+            let Some(y) = rest.next() else {
+                return Ordering::Greater;
+            };
+            match compare(x, y) {
+                Ordering::Equal => {}
+                unlike => return unlike,
+            }
         }
     }
     if rest.next().is_some() {
@@ -119,18 +122,21 @@ fn compare_lists(a: &JsonList, b: &JsonList) -> Ordering
 fn compare_fields(a: &JsonFields, b: &JsonFields) -> Ordering
     ensures { result ≡ members_cmp (members_of a.now) (members_of b.now) }
 {
-    let mut rest = b.inner.iter();
-    for (name, x) in a.inner.iter() {
-        let Some((other, y)) = rest.next() else {
-            return Ordering::Greater;
-        };
-        match name.cmp(other) {
-            Ordering::Equal => {}
-            unlike => return unlike,
-        }
-        match compare(x, y) {
-            Ordering::Equal => {}
-            unlike => return unlike,
+    let mut rest = b.as_slice().iter();
+    if let Some(node) = &a.inner {
+        let fields: &Vec<Field> = node;
+        for x in fields {
+            let Some(y) = rest.next() else {
+                return Ordering::Greater;
+            };
+            match x.name.cmp(&y.name) {
+                Ordering::Equal => {}
+                unlike => return unlike,
+            }
+            match compare(&x.value, &y.value) {
+                Ordering::Equal => {}
+                unlike => return unlike,
+            }
         }
     }
     if rest.next().is_some() {

@@ -1,5 +1,5 @@
 // From text, or from a value of `serde_json`, to a value whose numbers are whole.
-ghost use Rattle.std.specs.Prelude.{◌≡◌, ◌<◌, ◌≤◌, length, IsTrue, IsSome, IfOk, IfErr, None, Some};
+ghost use Rattle.std.specs.Prelude.{◌≡◌, ◌<◌, ◌≤◌, ◌↔◌, length, IsTrue, IsSome, is_some, IfOk, IfErr, None, Some};
 ghost use Rattle.json_tree.specs.Data.{depth, items_of, members_of};
 ghost use Rattle.json_tree.specs.View.{data_of};
 ghost use Rattle.json_tree.specs.Reading.{source_of, read_json, whole_of, whole_items, whole_members, holds_memory};
@@ -8,10 +8,9 @@ ghost use Rattle.serde_json.specs.Data.{number as data_number};
 
 use crate::fault::JsonFault;
 use crate::text::Text;
-use crate::tree::{Json, JsonFields, JsonList};
+use crate::tree::{Field, Json, JsonFields, JsonList};
 use serde_json::{Map, Number, Value};
 use std::alloc::Global;
-use std::collections::BTreeMap;
 
 /// Reads one value (RFC 8259), with white space round it. Of fields with one name the last is read. Takes memory for
 /// `serde_json`'s value of the text, which it goes through once, and for lists and fields; texts are moved.
@@ -24,7 +23,7 @@ pub fn read(alloc: Global, bytes: &[u8]) -> Result<Json, JsonFault>
     ensures memory { result ≡ Err JsonFault.Memory → 0 < length bytes.now }
 {
     match Value::from_slice(alloc, bytes) {
-        Ok(value) => take_value(alloc, value),
+        Ok(value) => take_whole(alloc, value),
         Err(e) => if e.is_memory() {
             Err(JsonFault::Memory)
         } else {
@@ -33,10 +32,59 @@ pub fn read(alloc: Global, bytes: &[u8]) -> Result<Json, JsonFault>
     }
 }
 
-/// The value of the same shape as one of `serde_json`, which is copied. Takes memory for each text, list and field; null,
-/// booleans and numbers take none.
-#[cycle(from_value)]
+/// The value of the same shape as one of `serde_json`, which is copied. Each number is looked at before memory is taken, for
+/// texts, names, lists and fields; null, booleans and numbers take none.
 pub fn from_value(alloc: Global, value: &Value) -> Result<Json, JsonFault>
+    ensures ok { IfOk result (λ j. whole_of (view value.now) ≡ Some (data_of j)) }
+    ensures not_json { result ≡ Err JsonFault.NotJson → ⊥ }
+    ensures not_whole { (result ≡ Err JsonFault.NotWhole) ↔ (whole_of (view value.now) ≡ None) }
+    ensures memory { result ≡ Err JsonFault.Memory → IsTrue (holds_memory (view value.now)) }
+{
+    if !is_whole(value) {
+        return Err(JsonFault::NotWhole);
+    }
+    copy_value(alloc, value)
+}
+
+/// Whether each number is whole.
+#[cycle(is_whole)]
+fn is_whole(value: &Value) -> bool
+    ensures { result ≡ is_some (whole_of (view value.now)) }
+{
+    match value {
+        Value::Null | Value::Bool(_) | Value::String(_) => true,
+        Value::Number(number) => number.as_i64().is_some(),
+        Value::Array(items) => are_whole(items),
+        Value::Object(members) => have_whole(members),
+    }
+}
+
+#[cycle(is_whole)]
+fn are_whole(items: &Vec<Value>) -> bool
+    ensures { result ≡ is_some (whole_items (items_view items.now.items)) }
+{
+    for item in items {
+        if !is_whole(item) {
+            return false;
+        }
+    }
+    true
+}
+
+#[cycle(is_whole)]
+fn have_whole(members: &Map<String, Value>) -> bool
+    ensures { result ≡ is_some (whole_members (members_view members.now.entries)) }
+{
+    for (_name, member) in members.iter() {
+        if !is_whole(member) {
+            return false;
+        }
+    }
+    true
+}
+
+#[cycle(copy_value)]
+fn copy_value(alloc: Global, value: &Value) -> Result<Json, JsonFault>
     ensures ok { IfOk result (λ j. whole_of (view value.now) ≡ Some (data_of j)) }
     ensures not_json { result ≡ Err JsonFault.NotJson → ⊥ }
     ensures not_whole { result ≡ Err JsonFault.NotWhole → whole_of (view value.now) ≡ None }
@@ -47,8 +95,8 @@ pub fn from_value(alloc: Global, value: &Value) -> Result<Json, JsonFault>
         Value::Bool(b) => Ok(Json::Bool(*b)),
         Value::Number(number) => whole_number(number),
         Value::String(text) => Ok(Json::Text(Text::new(alloc, text.as_str())?)),
-        Value::Array(items) => Ok(Json::List(from_items(alloc, items)?)),
-        Value::Object(members) => Ok(Json::Fields(from_members(alloc, members)?)),
+        Value::Array(items) => Ok(Json::List(copy_items(alloc, items)?)),
+        Value::Object(members) => Ok(Json::Fields(copy_members(alloc, members)?)),
     }
 }
 
@@ -63,8 +111,8 @@ fn whole_number(number: &Number) -> Result<Json, JsonFault>
     }
 }
 
-#[cycle(from_value)]
-fn from_items(alloc: Global, items: &Vec<Value>) -> Result<JsonList, JsonFault>
+#[cycle(copy_value)]
+fn copy_items(alloc: Global, items: &Vec<Value>) -> Result<JsonList, JsonFault>
     ensures ok { IfOk result (λ l. whole_items (items_view items.now.items) ≡ Some (items_of l)) }
     ensures not_json { result ≡ Err JsonFault.NotJson → ⊥ }
     ensures not_whole { result ≡ Err JsonFault.NotWhole
@@ -72,25 +120,38 @@ fn from_items(alloc: Global, items: &Vec<Value>) -> Result<JsonList, JsonFault>
 {
     let mut inner = Vec::with_capacity(alloc, items.len())?;
     for item in items {
-        inner.push(from_value(alloc, item)?)?;
+        inner.push(copy_value(alloc, item)?)?;
     }
-    Ok(JsonList::from_vec(inner))
+    Ok(JsonList::from_vec(inner)?)
 }
 
-#[cycle(from_value)]
-fn from_members(alloc: Global, members: &Map<String, Value>) -> Result<JsonFields, JsonFault>
+#[cycle(copy_value)]
+fn copy_members(alloc: Global, members: &Map<String, Value>) -> Result<JsonFields, JsonFault>
     ensures ok { IfOk result
         (λ m. whole_members (members_view members.now.entries) ≡ Some (members_of m)) }
     ensures not_json { result ≡ Err JsonFault.NotJson → ⊥ }
     ensures not_whole { result ≡ Err JsonFault.NotWhole
         → whole_members (members_view members.now.entries) ≡ None }
 {
-    let mut inner = BTreeMap::new(alloc);
+    let mut inner = Vec::with_capacity(alloc, members.len())?;
     for (key, member) in members.iter() {
-        let name = key.clone()?;
-        drop(inner.insert(name, from_value(alloc, member)?)?);
+        let name = Text::new(alloc, key.as_str())?;
+        let value = copy_value(alloc, member)?;
+        inner.push(Field { name, value })?;
     }
-    Ok(JsonFields::from_map(inner))
+    Ok(JsonFields::from_sorted(inner)?)
+}
+
+/// The value of the same shape, made of it. As in `from_value`, numbers come before memory.
+fn take_whole(alloc: Global, value: Value) -> Result<Json, JsonFault>
+    ensures ok { IfOk result (λ j. whole_of (view value) ≡ Some (data_of j)) }
+    ensures not_json { result ≡ Err JsonFault.NotJson → ⊥ }
+    ensures not_whole { (result ≡ Err JsonFault.NotWhole) ↔ (whole_of (view value) ≡ None) }
+{
+    if !is_whole(&value) {
+        return Err(JsonFault::NotWhole);
+    }
+    take_value(alloc, value)
 }
 
 #[cycle(take_value)]
@@ -103,7 +164,7 @@ fn take_value(alloc: Global, value: Value) -> Result<Json, JsonFault>
         Value::Null => Ok(Json::Null),
         Value::Bool(b) => Ok(Json::Bool(b)),
         Value::Number(number) => whole_number(&number),
-        Value::String(text) => Ok(Json::Text(Text::from_string(text))),
+        Value::String(text) => Ok(Json::Text(Text::from_string(text)?)),
         Value::Array(items) => Ok(Json::List(take_items(alloc, items)?)),
         Value::Object(members) => Ok(Json::Fields(take_members(alloc, members)?)),
     }
@@ -119,7 +180,7 @@ fn take_items(alloc: Global, items: Vec<Value>) -> Result<JsonList, JsonFault>
     for item in items {
         inner.push(take_value(alloc, item)?)?;
     }
-    Ok(JsonList::from_vec(inner))
+    Ok(JsonList::from_vec(inner)?)
 }
 
 #[cycle(take_value)]
@@ -130,9 +191,11 @@ fn take_members(alloc: Global, members: Map<String, Value>) -> Result<JsonFields
     ensures not_whole { result ≡ Err JsonFault.NotWhole
         → whole_members (members_view members.entries) ≡ None }
 {
-    let mut inner = BTreeMap::new(alloc);
+    let mut inner = Vec::with_capacity(alloc, members.len())?;
     for (name, member) in members {
-        drop(inner.insert(name, take_value(alloc, member)?)?);
+        let name = Text::from_string(name)?;
+        let value = take_value(alloc, member)?;
+        inner.push(Field { name, value })?;
     }
-    Ok(JsonFields::from_map(inner))
+    Ok(JsonFields::from_sorted(inner)?)
 }

@@ -1,5 +1,7 @@
 // What no clause says: that calls succeed, and texts from outside (RFC 8259 and the JSON test suites).
-use crate::{Json, JsonFault, JsonFields, JsonList, Text, depth, from_value, read, write_text};
+use crate::{
+    ChangeFault, Json, JsonFault, JsonFields, JsonList, Text, depth, from_value, read, write_text,
+};
 use serde_json::Value;
 use std::alloc::{AllocError, Global};
 use std::test::Fail;
@@ -168,12 +170,17 @@ fn one_and_two(alloc: Global) -> Result<JsonList, JsonFault> {
     Ok(list)
 }
 
-fn replaces_item(list: &mut JsonList, index: usize, value: Json, old: Json) -> bool {
-    index < list.len() && list.replace(index, value) == old
-}
-
 fn has_two_items(list: &JsonList) -> bool {
     list.get(1).is_some() && list.get(2).is_none() && list.as_slice().len() == 2
+}
+
+fn sets_item(list: &mut JsonList, index: usize, value: Json) -> Result<(), ChangeFault> {
+    *list.get_mut(index)? = value;
+    Ok(())
+}
+
+fn made_again(list: JsonList) -> Result<Json, JsonFault> {
+    Ok(Json::List(JsonList::from_vec(list.into_vec()?)?))
 }
 
 #[test]
@@ -181,12 +188,14 @@ fn changes_lists(rt: HostRuntime) -> Result<(), Fail> {
     let alloc = rt.alloc();
     assert!(rt; JsonList::new(alloc).is_empty());
     let mut list = one_and_two(alloc)?;
-    assert!(rt; replaces_item(&mut list, 0, Json::Bool(true), Json::Whole(1)));
-    if let Some(last) = list.get_mut(1) {
-        *last = Json::Null;
-    }
+    assert_eq!(rt; sets_item(&mut list, 0, Json::Bool(true)), Ok(()));
+    assert_eq!(rt; sets_item(&mut list, 1, Json::Null), Ok(()));
+    assert_eq!(rt;
+        sets_item(&mut list, 2, Json::Null),
+        Err(ChangeFault::Absent)
+    );
     assert!(rt; has_two_items(&list));
-    let json = Json::List(JsonList::from_vec(list.into_vec()));
+    let json = made_again(list)?;
     assert!(rt; is_written_and_copied(alloc, &json, "[true,null]")?);
     Ok(())
 }
@@ -198,19 +207,20 @@ fn inserts(
     name: &str,
     number: i64,
 ) -> Result<bool, AllocError> {
-    let key = String::from_str(alloc, name)?;
-    match fields.insert(key, Json::Whole(number)) {
+    let name = Text::new(alloc, name)?;
+    match fields.insert(name, Json::Whole(number)) {
         Ok(old) => Ok(old.is_some()),
         Err(_refused) => Err(AllocError),
     }
 }
 
-fn replaces(fields: &mut JsonFields, name: &str, number: i64, want: Result<Json, Json>) -> bool {
-    fields.replace(name, Json::Whole(number)) == want
+fn sets_field(fields: &mut JsonFields, name: &str, value: Json) -> Result<(), ChangeFault> {
+    *fields.get_mut(name)? = value;
+    Ok(())
 }
 
-fn removes(fields: &mut JsonFields, name: &str, want: Option<Json>) -> bool {
-    fields.remove(name) == want
+fn removes(fields: &mut JsonFields, name: &str, want: Option<Json>) -> Result<bool, AllocError> {
+    Ok(fields.remove(name)? == want)
 }
 
 #[test]
@@ -218,34 +228,97 @@ fn changes_fields(rt: HostRuntime) -> Result<(), Fail> {
     let alloc = rt.alloc();
     let mut fields = JsonFields::new(alloc);
     assert!(rt; fields.is_empty());
-    for (name, number) in [("b", 1), ("a", 2), ("c", 3), ("a", 4)] {
+    for (name, number) in [("b", 1), ("a", 2), ("d", 3), ("a", 4), ("c", 5)] {
         let is_there = inserts(alloc, &mut fields, name, number)?;
         assert!(rt; is_there == (number == 4), "at {name}");
     }
-    assert!(rt; replaces(&mut fields, "a", 5, Ok(Json::Whole(4))));
-    assert!(rt; replaces(&mut fields, "d", 6, Err(Json::Whole(6))));
-    assert!(rt; removes(&mut fields, "b", Some(Json::Whole(1))));
-    assert!(rt; removes(&mut fields, "b", None));
-    if let Some(value) = fields.get_mut("c") {
-        *value = Json::Whole(7);
-    }
-    assert!(rt; fields.get("c").is_some());
-    assert!(rt; fields.len() == 2 && fields.iter().count() == 2);
-    let json = Json::Fields(JsonFields::from_map(fields.into_map()));
-    assert!(rt; is_written_and_copied(alloc, &json, "{\"a\":5,\"c\":7}")?);
+    assert!(rt; removes(&mut fields, "b", Some(Json::Whole(1)))?);
+    assert!(rt; removes(&mut fields, "b", None)?);
+    assert_eq!(rt; sets_field(&mut fields, "c", Json::Whole(7)), Ok(()));
+    assert_eq!(rt;
+        sets_field(&mut fields, "e", Json::Null),
+        Err(ChangeFault::Absent)
+    );
+    assert!(rt; fields.get("c").is_some() && fields.get("e").is_none());
+    assert!(rt; fields.len() == 3 && fields.as_slice().len() == 3);
+    let json = Json::Fields(fields);
+    assert!(rt; is_written_and_copied(alloc, &json, "{\"a\":4,\"c\":7,\"d\":3}")?);
     Ok(())
 }
 
-fn sorted_text(alloc: Global, list: JsonList) -> Result<String, AllocError> {
-    let mut items = list.into_vec();
+/// Each field is looked up by its name, and no name beside it.
+fn finds_each(fields: &JsonFields) -> bool {
+    for field in fields.as_slice() {
+        if fields.get(field.name.as_str()) != Some(&field.value) {
+            return false;
+        }
+    }
+    fields.get("").is_none() && fields.get("cc").is_none() && fields.get("z").is_none()
+}
+
+#[test]
+fn finds_fields(rt: HostRuntime) -> Result<(), Fail> {
+    let alloc = rt.alloc();
+    let mut fields = JsonFields::new(alloc);
+    for name in ["e", "a", "c", "g", "b", "f", "d"] {
+        inserts(alloc, &mut fields, name, 1)?;
+        assert!(rt; finds_each(&fields), "after {name}");
+    }
+    Ok(())
+}
+
+const SHARED: &str = "{\"a\":[1,2],\"b\":{\"c\":3},\"d\":\"a text of more than 22 bytes\"}";
+
+/// One owner's value, after each part of another's was changed.
+fn changed_beside(alloc: Global, changed: &mut JsonFields) -> Result<(), JsonFault> {
+    if let Ok(Json::List(list)) = changed.get_mut("a") {
+        list.push(Json::Whole(9))?;
+        drop(sets_item(list, 0, Json::Null));
+    }
+    if let Ok(Json::Fields(inner)) = changed.get_mut("b") {
+        inserts(alloc, inner, "a", 9)?;
+        drop(inner.remove("c")?);
+    }
+    drop(sets_field(changed, "d", Json::Null));
+    inserts(alloc, changed, "e", 9)?;
+    Ok(())
+}
+
+/// What two owners of one value hold, after one has changed all of it.
+fn written_apart(alloc: Global) -> Result<(String, String), JsonFault> {
+    match read(alloc, SHARED.as_bytes())? {
+        Json::Fields(fields) => {
+            let mut changed = fields.copy()?;
+            changed_beside(alloc, &mut changed)?;
+            let other = write_text(alloc, &Json::Fields(fields))?;
+            Ok((other, write_text(alloc, &Json::Fields(changed))?))
+        }
+        _ => Err(JsonFault::NotJson),
+    }
+}
+
+#[test]
+fn other_owners_keep_theirs(rt: HostRuntime) -> Result<(), Fail> {
+    let (other, changed) = written_apart(rt.alloc())?;
+    assert_eq!(rt; other.as_str(), SHARED);
+    assert_eq!(rt;
+        changed.as_str(),
+        "{\"a\":[null,2,9],\"b\":{\"a\":9},\"d\":null,\"e\":9}"
+    );
+    Ok(())
+}
+
+fn sorted_text(alloc: Global, list: JsonList) -> Result<String, JsonFault> {
+    let mut items = list.into_vec()?;
     items.sort()?;
-    write_text(alloc, &Json::List(JsonList::from_vec(items)))
+    let sorted = JsonList::from_vec(items)?;
+    Ok(write_text(alloc, &Json::List(sorted))?)
 }
 
 /// The items of a list in their order.
 fn sorted(alloc: Global, list: &str) -> Result<String, JsonFault> {
     match read(alloc, list.as_bytes())? {
-        Json::List(list) => Ok(sorted_text(alloc, list)?),
+        Json::List(list) => sorted_text(alloc, list),
         _ => Err(JsonFault::NotJson),
     }
 }
@@ -254,9 +327,28 @@ fn is_text_less(alloc: Global, small: &str, great: &str) -> Result<bool, AllocEr
     Ok(Text::new(alloc, small)? < Text::new(alloc, great)?)
 }
 
-fn is_text_copied(alloc: Global, text: &str) -> Result<bool, AllocError> {
-    let first = Text::from_string(Text::new(alloc, text)?.into_string());
-    Ok(first.copy()? == first)
+fn is_text_copied(alloc: Global, text: &str) -> Result<bool, JsonFault> {
+    let first = Text::new(alloc, text)?;
+    let second = Text::from_string(String::from_str(alloc, text)?)?;
+    Ok(first.copy()? == second && second.as_str() == text)
+}
+
+/// Texts that are short, the longest of these, and longer ones.
+const TEXTS: &[&str] = &[
+    "",
+    "a",
+    "22 bytes are in a text",
+    "23 bytes are in this \u{e9}",
+    "a text of many more bytes, which its owners share",
+];
+
+#[test]
+fn copies_texts(rt: HostRuntime) -> Result<(), Fail> {
+    let alloc = rt.alloc();
+    for text in TEXTS {
+        assert!(rt; is_text_copied(alloc, text)?, "at {text}");
+    }
+    Ok(())
 }
 
 #[test]
@@ -268,7 +360,6 @@ fn orders_values(rt: HostRuntime) -> Result<(), Fail> {
         "[null,false,true,-8,7,\"\",\"a\",\"b\",[],[1],[1,2],[2],{},{\"a\":1}]"
     );
     assert!(rt; is_text_less(alloc, "a", "b")?);
-    assert!(rt; is_text_copied(alloc, "a")?);
     Ok(())
 }
 
@@ -296,6 +387,13 @@ fn is_read_again(alloc: Global, json: &Json, input: &str) -> bool {
     }
 }
 
+fn is_not_whole(alloc: Global, input: &str) -> bool {
+    let Ok(value) = Value::from_str(alloc, input) else {
+        return true;
+    };
+    from_value(alloc, &value).err() == Some(JsonFault::NotWhole)
+}
+
 // With each allocation refused in turn, what is answered in its place is want of memory, and nothing else changes.
 #[test]
 fn answers_want_of_memory(rt: HostRuntime) -> Result<(), Fail> {
@@ -306,6 +404,7 @@ fn answers_want_of_memory(rt: HostRuntime) -> Result<(), Fail> {
             assert!(rt; is_copied(&json));
             assert!(rt; is_written(alloc, &json, input));
             assert!(rt; is_read_again(alloc, &json, input));
+            assert!(rt; is_not_whole(alloc, "{\"a\":[\"a text\",1.5]}"));
         }
         Err(fault) => assert_eq!(rt; fault, JsonFault::Memory),
     }

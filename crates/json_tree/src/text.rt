@@ -1,63 +1,90 @@
 // A text, seen as its bytes.
-ghost use Rattle.std.specs.Prelude.{◌≡◌, IfOk, string_bytes};
+ghost use Rattle.std.specs.Prelude.{◌≡◌, ◌≤◌, length, IsOk, IfOk, IfErr, string_bytes};
+ghost use Rattle.json_tree.specs.TextView.{held_bytes};
 
-use std::alloc::{AllocError, Global};
+use crate::short::{ROOM, Short};
+use std::alloc::{AllocError, AllocFailed, Global};
 use std::cmp::Ordering;
 use std::marker::Model;
+use std::sync::Arc;
 
-/// A text of UTF-8. Contracts see its bytes, and two texts of the same bytes are equal.
+/// A text of UTF-8. Contracts see its bytes, and two texts of the same bytes are equal. One of at most 22 bytes takes no
+/// memory; owners of a longer one share it.
 #[derive(Debug, Drop)]
 pub struct Text {
-    inner: String,
+    inner: TextBytes,
+}
+
+#[derive(Debug, Drop)]
+enum TextBytes {
+    Short(Short),
+    Shared(Arc<String>),
 }
 
 impl Model for Text {
-    ghost use Rattle.std.specs.Prelude.{List, ℕ, string_bytes};
+    ghost use Rattle.std.specs.Prelude.{List, ℕ};
+    ghost use Rattle.json_tree.specs.TextView.{held_bytes};
 
     ghost Value = { List ℕ };
 
-    ghost view = { λ a. string_bytes a.inner };
+    ghost view = { λ a. held_bytes a.inner };
 }
 
 impl Text {
-    /// A copy of a text. Takes memory for its bytes.
+    /// A copy of a text. Takes memory for a text of more than 22 bytes.
     pub fn new(alloc: Global, text: &str) -> Result<Text, AllocError>
         ensures { IfOk result (λ t. t ≡ text.now) }
     {
+        if text.len() <= ROOM {
+            return Ok(Text {
+                inner: TextBytes::Short(Short::new(text)),
+            });
+        }
+        let string = String::from_str(alloc, text)?;
+        let node = Arc::new(alloc, string)?;
         Ok(Text {
-            inner: String::from_str(alloc, text)?,
+            inner: TextBytes::Shared(node),
         })
     }
 
-    /// The same bytes, in the memory that they have.
-    pub fn from_string(string: String) -> Text
-        ensures { result ≡ string_bytes string }
+    /// The same bytes: a short text gives up its memory, and a longer one takes some to be shared. The error has the string.
+    pub fn from_string(string: String) -> Result<Text, AllocFailed<String>>
+        ensures ok { IfOk result (λ t. t ≡ string_bytes string) }
+        ensures short { length (string_bytes string) ≤ 22 → IsOk result }
+        ensures value_returned { IfErr result (λ e. e.value ≡ string) }
     {
-        Text { inner: string }
-    }
-
-    /// The same bytes, in the memory that they have.
-    pub fn into_string(self) -> String
-        ensures { string_bytes result ≡ self }
-    {
-        let Text { inner } = self;
-        inner
+        if string.len() <= ROOM {
+            return Ok(Text {
+                inner: TextBytes::Short(Short::new(string.as_str())),
+            });
+        }
+        match Arc::new(*string.allocator(), string) {
+            Ok(node) => Ok(Text {
+                inner: TextBytes::Shared(node),
+            }),
+            Err(refused) => Err(refused),
+        }
     }
 
     /// The text, lent.
     pub fn as_str(&self) -> &str
         ensures { result.now ≡ self.now }
     {
-        self.inner.as_str()
+        match &self.inner {
+            TextBytes::Short(short) => short.as_str(),
+            TextBytes::Shared(node) => node.as_str(),
+        }
     }
 
-    /// An equal text. Takes memory for its bytes.
+    /// The same text, in one step. Takes no memory, and is refused only where the owners of a longer one cannot be counted.
     pub fn copy(&self) -> Result<Text, AllocError>
         ensures { IfOk result (λ t. t ≡ self.now) }
     {
-        Ok(Text {
-            inner: self.inner.clone()?,
-        })
+        let inner = match &self.inner {
+            TextBytes::Short(short) => TextBytes::Short(short.copy()),
+            TextBytes::Shared(node) => TextBytes::Shared(Arc::try_clone(node)?),
+        };
+        Ok(Text { inner })
     }
 }
 
@@ -72,7 +99,7 @@ impl PartialEq for Text {
     ghost laws = { Prim.search (comparing, rules) };
 
     fn eq(&self, other: &Text) -> bool {
-        self.inner == other.inner
+        self.as_str() == other.as_str()
     }
 }
 
@@ -114,6 +141,6 @@ impl Ord for Text {
     ghost matches_eq = { Prim.search (comparing, rules) };
 
     fn cmp(&self, other: &Text) -> Ordering {
-        self.inner.cmp(&other.inner)
+        self.as_str().cmp(other.as_str())
     }
 }

@@ -7,14 +7,15 @@ ghost use Rattle.json_tree.specs.View.{data_of};
 ghost use Rattle.json_tree.specs.Written.{text_of};
 ghost use Rattle.json_tree.specs.Tokens.{tokens_of, items_tokens, members_tokens};
 
-use crate::tree::{Json, JsonFields, JsonList};
+use crate::tree::{Field, Json, JsonFields, JsonList};
 use json::Writer;
 use std::alloc::{AllocError, Global};
 
 const FIRST_ROOM: usize = 128;
 
 /// The one text of a value: compact (RFC 8259), fields in the order of their names' bytes, and only those bytes escaped
-/// that have to be. Takes memory for the text alone, which it reads in one pass over the value.
+/// that have to be. Takes memory for the text alone, in one pass over the value. `read` gives the value back where it nests
+/// at most 127 deep, and refuses deeper texts.
 pub fn write_text(alloc: Global, json: &Json) -> Result<String, AllocError>
     ensures text { IfOk result (λ s. string_bytes s ≡ text_of (data_of json.now)) }
     ensures proper { OnOk result (IsProper (data_of json.now)) }
@@ -55,7 +56,11 @@ fn write_list(list: &JsonList, out: &mut Writer) -> Result<(), AllocError>
     ensures proper { OnOk result (ItemsAreProper (items_of list.now)) }
     ensures before { out.new.before ≡ out.old.before }
 {
-    for item in &list.inner {
+    let Some(node) = &list.inner else {
+        return out.end_array();
+    };
+    let items: &Vec<Json> = node;
+    for item in items {
         write(item, out)?;
     }
     out.end_array()
@@ -67,9 +72,13 @@ fn write_fields(fields: &JsonFields, out: &mut Writer) -> Result<(), AllocError>
     ensures proper { OnOk result (IsProper (data_fields (members_of fields.now))) }
     ensures before { out.new.before ≡ out.old.before }
 {
-    for (name, value) in fields.inner.iter() {
-        out.key(name.as_str())?;
-        write(value, out)?;
+    let Some(node) = &fields.inner else {
+        return out.end_object();
+    };
+    let fields: &Vec<Field> = node;
+    for field in fields {
+        out.key(field.name.as_str())?;
+        write(&field.value, out)?;
     }
     out.end_object()
 }

@@ -9,7 +9,7 @@ use Rattle.json_tree.specs.Reading.{source_of, whole_of, read_json}
 use Rattle.json_tree.specs.declared.fault.JsonFault.{JsonFault}
 use Rattle.json_tree.specs.declared.fault.JsonFault.TheVariants.{NotJson, NotWhole, Memory}
 use Rattle.rollback_book.specs.Story.{Story}
-use Rattle.rollback_book.specs.declared.log.KeySchema.{KeySchema}
+use Rattle.attr_values.specs.declared.key.KeySchema.{KeySchema}
 use Rattle.operator_line.specs.Answers.{Tells, OfJson, OfSource, OfWhole, AnswersItems}
 use Rattle.operator_line.specs.Replies.{json_reply, refused_by}
 

@@ -9,9 +9,9 @@ use Rattle.json_tree.specs.Reading.{source_of, whole_of}
 use Rattle.step_names.specs.declared.step.StepName.{StepName}
 use Rattle.rollback_book.specs.Story.{Story, world_of}
 use Rattle.rollback_book.specs.Answers.{start_answer, step_answer, undo_answer}
-use Rattle.rollback_book.specs.declared.frame.Frame.{Frame}
+use Rattle.asl_forward.specs.declared.frame.Frame.{Frame}
 use Rattle.rollback_book.specs.declared.log.Entry.{Entry}
-use Rattle.rollback_book.specs.declared.log.KeySchema.{KeySchema}
+use Rattle.attr_values.specs.declared.key.KeySchema.{KeySchema}
 use Rattle.rollback_book.specs.declared.refusal.Refusal.{Refusal}
 use Rattle.rollback_book.specs.declared.step.Moved.{Moved}
 use Rattle.operator_line.specs.Grammar as spoken

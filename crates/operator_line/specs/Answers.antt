@@ -15,10 +15,10 @@ use Rattle.step_names.specs.declared.step.StepName.{StepName}
 use Rattle.rollback_book.specs.Names.{name_of}
 use Rattle.rollback_book.specs.Story.{Story, accepted, remaining, machine_of, world_of}
 use Rattle.rollback_book.specs.Answers.{IsDefineRefusal, is_full_for_define, start_answer, step_answer, undo_answer}
-use Rattle.rollback_book.specs.declared.frame.Frame.{Frame}
+use Rattle.asl_forward.specs.declared.frame.Frame.{Frame}
 use Rattle.rollback_book.specs.declared.log.Entry.{Entry}
 use Rattle.rollback_book.specs.declared.log.Entry.TheVariants.{Define, Start, Step as Stepped, Undo}
-use Rattle.rollback_book.specs.declared.log.KeySchema.{KeySchema}
+use Rattle.attr_values.specs.declared.key.KeySchema.{KeySchema}
 use Rattle.rollback_book.specs.declared.refusal.Refusal.{Refusal}
 use Rattle.rollback_book.specs.declared.step.Moved.{Moved}
 use Rattle.operator_line.specs.Grammar as spoken

@@ -15,10 +15,10 @@ use Rattle.asl_machine.specs.Fields.{is_text}
 use Rattle.step_names.specs.Thread.{Thread, execution, is_name, is_name_byte}
 use Rattle.step_names.specs.Grammar.{read_number}
 use Rattle.step_names.specs.declared.step.StepName.{StepName}
-use Rattle.rollback_book.specs.declared.log.KeyAttribute.{KeyAttribute}
-use Rattle.rollback_book.specs.declared.log.KeySchema.{KeySchema}
-use Rattle.rollback_book.specs.declared.log.KeyType.{KeyType}
-use Rattle.rollback_book.specs.declared.log.KeyType.TheVariants.{S, N}
+use Rattle.attr_values.specs.declared.key.KeyAttribute.{KeyAttribute}
+use Rattle.attr_values.specs.declared.key.KeySchema.{KeySchema}
+use Rattle.attr_values.specs.declared.key.KeyType.{KeyType}
+use Rattle.attr_values.specs.declared.key.KeyType.TheVariants.{S, N}
 use Rattle.operator_line.specs.declared.words.KeyWord.{KeyWord}
 use Rattle.operator_line.specs.declared.command.Command.{Command}
 use Rattle.operator_line.specs.declared.command.Command.TheVariants.{Table, Define, Start, Step, Undo, Show, Items, History}

@@ -1,7 +1,7 @@
 -- The grammar at some texts.
 use Rattle.std.specs.Prelude.{◌≡◌, [], codes, Some, None, refl}
 use Rattle.step_names.specs.Thread.{execution}
-use Rattle.rollback_book.specs.declared.log.KeyType.TheVariants.{S, N}
+use Rattle.attr_values.specs.declared.key.KeyType.TheVariants.{S, N}
 use Rattle.operator_line.specs.Grammar.{table, define, start, step, undo, show, items, history, text_command}
 
 row_one_key : text_command (codes "table items id:S []")

@@ -9,10 +9,10 @@ use Rattle.asl_machine.specs.declared.fault.MachineFault.{MachineFault}
 use Rattle.asl_machine.specs.declared.fault.MachineFault.TheVariants as faults
 use Rattle.step_names.specs.Written.{step_text}
 use Rattle.step_names.specs.declared.step.StepName.{StepName}
-use Rattle.rollback_book.specs.declared.frame.Fault.{Fault}
-use Rattle.rollback_book.specs.declared.frame.Frame.{Frame}
-use Rattle.rollback_book.specs.declared.frame.Phase.{Phase}
-use Rattle.rollback_book.specs.declared.frame.Phase.TheVariants as phases
+use Rattle.asl_forward.specs.declared.frame.Fault.{Fault}
+use Rattle.asl_forward.specs.declared.frame.Frame.{Frame}
+use Rattle.asl_forward.specs.declared.frame.Phase.{Phase}
+use Rattle.asl_forward.specs.declared.frame.Phase.TheVariants as phases
 use Rattle.rollback_book.specs.declared.refusal.Refusal.{Refusal}
 use Rattle.rollback_book.specs.declared.refusal.Refusal.TheVariants as refusals
 use Rattle.rollback_book.specs.declared.step.Kind.{Kind}

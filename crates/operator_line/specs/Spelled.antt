@@ -3,9 +3,9 @@ use Rattle.std.specs.Prelude.{◌≡◌, ℕ, ◌<◌, ◌^◌, ◌==◌, Bool, 
 use Rattle.std.specs.List.{list_all}
 use Rattle.step_names.specs.Thread.{Thread, is_name}
 use Rattle.step_names.specs.Written.{thread_text, step_text}
-use Rattle.rollback_book.specs.declared.log.KeyAttribute.{KeyAttribute}
-use Rattle.rollback_book.specs.declared.log.KeyType.{KeyType}
-use Rattle.rollback_book.specs.declared.log.KeyType.TheVariants.{S, N}
+use Rattle.attr_values.specs.declared.key.KeyAttribute.{KeyAttribute}
+use Rattle.attr_values.specs.declared.key.KeyType.{KeyType}
+use Rattle.attr_values.specs.declared.key.KeyType.TheVariants.{S, N}
 use Rattle.asl_machine.specs.Fields.{is_text}
 use Rattle.operator_line.specs.Grammar.{Spoken, table, define, start, step, undo, show, items, history, is_table_name, first_word, key_in}
 

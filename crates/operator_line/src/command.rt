@@ -4,8 +4,8 @@ ghost use Rattle.operator_line.specs.Grammar.{cut_at, command_of, text_command, 
 
 pub use crate::execution::Execution;
 use crate::words::{KeyWord, cut, first_word, is_table_name, read_key};
+use attr_values::{KeyAttribute, KeySchema};
 use json_tree::Text;
-use rollback_book::{KeyAttribute, KeySchema};
 use std::alloc::{AllocError, AllocFailed, Global};
 use step_names::{NameFault, StepName, ThreadName, is_name};
 

@@ -1,6 +1,6 @@
 // The grammar of lines, by rows.
 use crate::command::{Command, CommandFault};
-use rollback_book::{KeyAttribute, KeyType};
+use attr_values::{KeyAttribute, KeyType};
 use std::alloc::{AllocError, Global};
 use std::process::Abort;
 use std::test::Fail;

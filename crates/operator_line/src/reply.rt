@@ -8,9 +8,10 @@ ghost use Rattle.step_names.specs.Written.{step_text};
 ghost use Rattle.operator_line.specs.Replies.{done_reply, step_reply, moved_reply, kind_text, with_feed, list_reply, place_text, fault_text, frame_reply, refused, refused_by, refused_for_step, refused_for_field, machine_reply, readiness_text, refusal_reply};
 ghost use Rattle.operator_line.specs.Replying.{Writes, has_room_for_step};
 
+use asl_forward::{Fault, Frame, Phase};
 use asl_machine::MachineFault;
 use json_tree::{Json, Text, write_text};
-use rollback_book::{Fault, Frame, Kind, Moved, Phase, Readiness, Refusal, StepRecord};
+use rollback_book::{Kind, Moved, Readiness, Refusal, StepRecord};
 use std::alloc::{AllocError, Global};
 use step_names::{LONGEST_STEP, StepName};
 

@@ -10,8 +10,9 @@ ghost use Rattle.operator_line.specs.Replying.{Writes};
 use crate::command::{Command, CommandFault, Execution};
 use crate::line::Line;
 use crate::reply::Reply;
+use attr_values::KeySchema;
 use json_tree::{Json, JsonFault, Text, read};
-use rollback_book::{Begin, Book, KeySchema};
+use rollback_book::{Begin, Book};
 use serde_json::Value;
 use std::alloc::{AllocError, Global};
 use std::marker::Model;
@@ -123,7 +124,10 @@ impl Session {
         }
         let items = match read(self.alloc, items.as_bytes()) {
             Ok(Json::List(items)) => items,
-            Ok(_) => return reply.refuse_by(BAD_BEGIN, 1),
+            Ok(other) => {
+                drop(other);
+                return reply.refuse_by(BAD_BEGIN, 1);
+            }
             Err(fault) => return refuse_json(fault, reply),
         };
         reply.reserve_step()?;

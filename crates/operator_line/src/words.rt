@@ -3,7 +3,7 @@ ghost use Rattle.std.specs.Prelude.{◌≡◌, ◌<◌, None, Some, MatchOption,
 ghost use Rattle.std.specs.List.{list_all};
 ghost use Rattle.operator_line.specs.Grammar.{is_table_name, is_table_name_byte, cut_at, first_word, key_in, attribute_of};
 
-use rollback_book::KeyType;
+use attr_values::KeyType;
 use step_names::is_name_byte;
 
 /// A key's name and type.

@@ -7,7 +7,7 @@ use Rattle.rollback_book.specs.World.{World}
 use Rattle.rollback_book.specs.Move.{take_step, run}
 use Rattle.rollback_book.specs.Story.{remaining, base_of, run_of, world_of}
 use Rattle.rollback_book.specs.Legal.{IsLegal}
-use Rattle.rollback_book.specs.declared.frame.Frame.{Frame}
+use Rattle.asl_forward.specs.declared.frame.Frame.{Frame}
 use Rattle.rollback_book.specs.declared.log.Entry.{Entry}
 use Rattle.rollback_book.specs.declared.step.Fact.{Fact}
 use Rattle.rollback_book.proofs.Undone.{legal_logs_run, saving_is_running}

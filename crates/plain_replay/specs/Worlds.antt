@@ -5,7 +5,7 @@ use Rattle.step_names.specs.Thread.{Thread}
 use Rattle.step_names.specs.Order.{thread_cmp}
 use Rattle.rollback_book.specs.World.{World}
 use Rattle.rollback_book.specs.Story.{machine_of}
-use Rattle.rollback_book.specs.declared.frame.Frame.{Frame}
+use Rattle.asl_forward.specs.declared.frame.Frame.{Frame}
 use Rattle.rollback_book.specs.declared.log.Entry.{Entry}
 
 -- the log's machines, and these frames

@@ -4,9 +4,10 @@ ghost use Rattle.asl_machine.specs.Find.{state_at};
 ghost use Rattle.rollback_book.specs.Story.{machine_of};
 ghost use Rattle.rollback_book.specs.Move.{ready_state};
 
+use asl_forward::{Frame, Phase};
 use asl_machine::{SharedMachine, State};
 use json_tree::Text;
-use rollback_book::{Entry, Frame, Phase};
+use rollback_book::Entry;
 
 /// The machine that a log defines under a name. Goes through the log.
 pub fn machine_of<'a>(log: &'a [Entry], name: &Text) -> Option<&'a SharedMachine>

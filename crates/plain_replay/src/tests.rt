@@ -1,10 +1,9 @@
 use crate::forward::run;
 use crate::{Replayed, Step, remaining, replay};
+use asl_forward::Frame;
+use attr_values::{KeyAttribute, KeySchema, KeyType};
 use json_tree::{JsonList, Text, read};
-use rollback_book::{
-    Begin, Book, Entry, Frame, KeyAttribute, KeySchema, KeyType, Kind, Readiness, Refusal, Saved,
-    StepRecord,
-};
+use rollback_book::{Begin, Book, Entry, Kind, Readiness, Refusal, Saved, StepRecord};
 use serde_json::Value;
 use std::alloc::{AllocError, Global};
 use std::collections::BTreeMap;

@@ -13,7 +13,8 @@ use Rattle.ref_paths.specs.Picking.{pairs_of}
 use Rattle.ref_paths.specs.TemplateLaws.{FieldsAreFilled}
 use Rattle.ref_paths.specs.Templates.{Payload, named_of, IsTemplate, FieldsAreTemplates, FieldIs, StandsFor, OnMarked, unmarked}
 use Rattle.ref_paths.proofs.Nests.{same_text}
-use Rattle.ref_paths.proofs.PickedAgain.{get_with, get_other, text_same}
+use Rattle.json_tree.proofs.Same.{text_same}
+use Rattle.ref_paths.proofs.PickedAgain.{get_with, get_other}
 use Rattle.ref_paths.proofs.Shapes.{pairs_again}
 
 abbrev Fields : Type 0

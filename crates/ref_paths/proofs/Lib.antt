@@ -4,6 +4,7 @@ pub mod Places
 pub mod Scans
 pub mod PickedAgain
 pub mod Composed
+pub mod PlacedDepth
 pub mod OneSpelling
 pub mod Sources
 pub mod TemplateReadings

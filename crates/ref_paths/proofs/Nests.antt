@@ -18,28 +18,10 @@ use Rattle.ref_paths.proofs.Shapes.{pairs_again}
 pub same_text : (name : List ℕ) → text_cmp name name ≡ Equal
 same_text name = tied_itself nat_list_cmp_total name
 
--- the field of an object that has one
-pub only_field : (name : List ℕ) (d : Data) (ms : List (List ℕ × Data)) → fields (members_of ms) ≡ fields (member name d no_members) → get_field name ms ≡ Some d
-only_field name d ms h =
-    let e : members_of ms ≡ member name d no_members = cc in
-    let p : ms ≡ (name, d) ∷ [] = sym (pairs_again ms) ∙ ap pairs_of e in
-    rw p (rw (same_text name))
-
 -- the first step's object, and in it those of the other steps
 pub nested_more : (step : PathStep) (rest : List PathStep) (d : Data) → nested (step ∷ rest) d ≡ nested (step ∷ []) (nested rest d)
 nested_more (Name name) rest d = refl
 nested_more (Index n) rest d = refl
-
--- what is nested is told apart
-pub nested_one : (path : List PathStep) (d e : Data) → nested path d ≡ nested path e → d ≡ e
-nested_one [] d e h = h
-nested_one (Name name ∷ path) d e h =
-    let k : nested path d ≡ nested path e = cc in
-    nested_one path d e k
-nested_one (Index n ∷ path) d e h = nested_one path d e h
-
-pub back_again : (path : List PathStep) (j v w : Json) → data_of j ≡ nested path (data_of v) → data_of j ≡ nested path (data_of w) → w ≡ v
-back_again path j v w h k = data_of-injective w v (nested_one path (data_of w) (data_of v) (sym k ∙ h))
 
 pub all_dropped : {X : Type 0} (p : X → Bool) (i : ℕ) (xs : List X) → list_all p xs ≡ true → list_all p (drop i xs) ≡ true
 all_dropped p zero xs h = h

@@ -13,6 +13,7 @@ use Rattle.ref_paths.specs.Picking.{values_of, pairs_of, child_at, pick_at}
 use Rattle.ref_paths.specs.Placing.{opened_at, put_at, place_at}
 use Rattle.ref_paths.specs.declared.path.PathStep.{PathStep}
 use Rattle.ref_paths.specs.declared.path.PathStep.TheVariants.{Name, Index}
+use Rattle.json_tree.proofs.Same.{text_same}
 use Rattle.ref_paths.proofs.Nests.{same_text}
 use Rattle.ref_paths.proofs.Shapes.{values_again, pairs_again}
 
@@ -25,9 +26,6 @@ get_with_at Greater n d m ms is h = rw is (rw is h)
 pub get_with : (n : List ℕ) (d : Data) (ms : List (List ℕ × Data)) → get_field n (with_field n d ms) ≡ Some d
 get_with n d [] = rw (same_text n)
 get_with n d (m ∷ ms) = get_with_at (text_cmp n m.0) n d m ms refl (get_with n d ms)
-
-pub text_same : (s t : List ℕ) → text_cmp s t ≡ Equal → s ≡ t
-text_same s t h = (bytes_eq-Decides s t).0 (sym (is_eq-slice_cmp s t) ∙ ap is_eq h)
 
 not_eq_at : (o : Ordering) (q n : List ℕ) → q ≢ n → text_cmp q n ≡ o → is_eq o ≡ false
 not_eq_at Less q n h is = refl

@@ -1,5 +1,5 @@
 -- Placing in the fields of an object and in a list.
-use Rattle.std.proofs.Common.{◌≡◌, ◌↔◌, ℕ, true, false, List, [], ◌∷◌, Option, Some, None, Ordering, Less, Equal, Greater, option_map, refl, sym, ap, ◌∙◌, unwrap_or, slice_get, slice_set, OnSome}
+use Rattle.std.proofs.Common.{◌≡◌, ◌↔◌, ℕ, true, false, List, [], ◌∷◌, Option, Some, None, IsSome, Bool, Ordering, Less, Equal, Greater, option_map, refl, sym, ap, ◌∙◌, unwrap_or, slice_get, slice_set, subst, OnSome}
 use Rattle.std.proofs.lemmas.Cmp.{nat_list_cmp_total}
 use Rattle.std.proofs.lemmas.List.{set-get_or}
 use Rattle.std.proofs.lemmas.Option.{get_or_from_slice_get}
@@ -109,3 +109,27 @@ put_same_element n ds d h = ap (slice_set ds n) (sym (get_or_from_slice_get ds n
 pub some_holds : {T P : Type 0} (r : Option T) (x : T) → r ≡ Some x → OnSome r P → P
 some_holds None x e h = cc
 some_holds (Some y) x e h = h
+
+-- ---- what a value that can be placed tells of the rest of the path
+
+some_mapped : {A B : Type 0} (f : A → B) (o : Option A) → IsSome (option_map f o) → IsSome o
+some_mapped f None h = h
+some_mapped f (Some a) h = refl
+
+not_none : {A : Type 0} (o : Option A) → o ≡ None → IsSome o → ⊥
+not_none None none some = cc some
+not_none (Some a) none some = cc none
+
+names_at : (b : Bool) (n : List ℕ) (p : List PathStep) (v : Data) (ms : List (List ℕ × Data)) → get_field n ms ≡ None → list_all is_name p ≡ b → IsSome (place_at (Name n ∷ p) v (fields (members_of ms))) → b ≡ true
+names_at true n p v ms none is some = refl
+names_at false n p v ms none is some =
+    absurd (not_none _ (place_absent n p v ms none ∙ ap (option_map (λ new. fields (members_of (with_field n new ms)))) (no_names_place p v is)) some)
+
+pub placed_names : (n : List ℕ) (p : List PathStep) (v : Data) (ms : List (List ℕ × Data)) → get_field n ms ≡ None → IsSome (place_at (Name n ∷ p) v (fields (members_of ms))) → list_all is_name p ≡ true
+placed_names n p v ms none some = names_at (list_all is_name p) n p v ms none refl some
+
+pub placed_field : (n : List ℕ) (p : List PathStep) (v : Data) (ms : List (List ℕ × Data)) (d : Data) → get_field n ms ≡ Some d → IsSome (place_at (Name n ∷ p) v (fields (members_of ms))) → IsSome (place_at p v d)
+placed_field n p v ms d has some = some_mapped _ (place_at p v d) (subst IsSome (place_present n p v ms d has) some)
+
+pub placed_element : (n : ℕ) (p : List PathStep) (v : Data) (ds : List Data) (d : Data) → slice_get ds n ≡ Some d → IsSome (place_at (Index n ∷ p) v (list (items_of ds))) → IsSome (place_at p v d)
+placed_element n p v ds d has some = some_mapped _ (place_at p v d) (subst IsSome (place_element n p v ds d has) some)

@@ -2,11 +2,11 @@
 use Rattle.std.proofs.Common.{◌≡◌, ℕ, zero, suc, ◌+◌, ◌*◌, ◌<◌, ◌≤◌, Bool, List, [], ◌∷◌, ◌++◌, length, get_or, drop, string_bytes, ◌⊎◌, ⊎_elim, refl, sym, ap, subst, ◌∙◌, Result, Ok, Err, append_assoc, append-nil, add-one, drop-cons, arith, inl, inr}
 use Rattle.std.proofs.lemmas.List.{map-append, drop_all}
 use Rattle.std.specs.Result.{IsErrAnd, IfErr}
-use Rattle.json_tree.specs.Data.{Data, fields, Items, items_of, members_of, depth, list_depth}
+use Rattle.json_tree.specs.Data.{Data, fields, Items, items_of, members_of, depth, list_depth, fields_depth}
 use Rattle.json_tree.specs.View.{data_of, list_of as datas_of, fields_of as pairs}
 use Rattle.json_tree.specs.declared.tree.Json.{Json}
-use Rattle.json_tree.proofs.Depths.{depth-get_or}
-use Rattle.json_tree.proofs.Views.{Entry}
+use Rattle.json_tree.proofs.Depths.{depth-get_or, depth-field}
+use Rattle.json_tree.specs.declared.tree.Field.{Field}
 use Rattle.ref_paths.specs.PayloadView.{payload_of, list_of, field_of, fields_of}
 use Rattle.ref_paths.specs.TemplateFaults.{HasFault, ItemsHaveFault, FieldsHaveFault, FieldHasFault, OnNamed}
 use Rattle.ref_paths.specs.Templates.{Payload, fields as named_fields, named_of, IsTemplate, ItemsAreTemplates, FieldsAreTemplates, FieldIs}
@@ -32,6 +32,15 @@ item_depth from i j all is within same =
     let below : depth (data_of (get_or from i j)) ≤ list_depth all = subst (λ ds. depth (data_of (get_or from i j)) ≤ list_depth ds) same (depth-get_or from i j within) in
     let here : depth (data_of j) ≤ list_depth all = subst (λ x. depth (data_of x) ≤ list_depth all) (sym is) below in
     omega (arith, here)
+
+pub field_depth : (from : List Field) (i : ℕ) (f : Field) (all : List (List ℕ × Data)) → f ≡ get_or from i f → i < length from → pairs from ≡ all → 3 * depth (data_of f.value) + 1 < 3 * fields_depth all + 2
+field_depth from i f all is within same =
+    let below : depth (data_of (get_or from i f).value) ≤ fields_depth all = subst (λ ms. depth (data_of (get_or from i f).value) ≤ fields_depth ms) same (depth-field from i f within) in
+    let here : depth (data_of f.value) ≤ fields_depth all = subst (λ x. depth (data_of x.value) ≤ fields_depth all) (sym is) below in
+    omega (arith, here)
+
+pub next_field : (from : List Field) (i : ℕ) (f : Field) → f ≡ get_or from i f → i < length from → drop i from ≡ f ∷ drop (i + 1) from
+next_field from i f is within = drop-cons from i f within ∙ rw (← is, add-one)
 
 -- what is read so far, and then what is read of the rest, is what is read of all
 abbrev pub ItemsSoFar : Bool → Items → List Node → List Json → Type 0
@@ -67,19 +76,19 @@ pub item_fault : (it : Bool) (all : List Data) (from : List Json) (i : ℕ) (j :
 item_fault it all from i j e is within same h =
     subst (λ ds. ItemsHaveFault it (items_of ds) e) same (fault_at it from i j e within (subst (λ x. HasFault it (data_of x) e) is h))
 
-abbrev pub FieldsSoFar : Bool → List (List ℕ × Data) → List NodeField → List Entry → Type 0
+abbrev pub FieldsSoFar : Bool → List (List ℕ × Data) → List NodeField → List Field → Type 0
 FieldsSoFar it all done left =
     ((rest : List (List ℕ × Payload)) → FieldsAreTemplates it all (members_of (pairs left)) rest → FieldsAreTemplates it all (members_of all) (fields_of done ++ rest))
     × ((e : TemplateFault) → FieldsHaveFault it all (members_of (pairs left)) e → FieldsHaveFault it all (members_of all) e)
 
-pub fields_start : (it : Bool) (all : List (List ℕ × Data)) (from : List Entry) (done : List NodeField) → pairs from ≡ all → done ≡ [] → FieldsSoFar it all done from
+pub fields_start : (it : Bool) (all : List (List ℕ × Data)) (from : List Field) (done : List NodeField) → pairs from ≡ all → done ≡ [] → FieldsSoFar it all done from
 fields_start it all from done is none = (
   λ rest h. subst (λ fs. FieldsAreTemplates it all (members_of all) (fields_of fs ++ rest)) (sym none) (subst (λ ms. FieldsAreTemplates it all (members_of ms) rest) is h),
   λ e h. subst (λ ms. FieldsHaveFault it all (members_of ms) e) is h,
 )
 
-pub fields_step : (it : Bool) (all : List (List ℕ × Data)) (from left : List Entry) (x : Entry) (done done' : List NodeField) (f : NodeField) → from ≡ x ∷ left
-    → FieldIs it all (string_bytes x.0) (data_of x.1) (field_of f) (IsTemplate it (data_of x.1) (payload_of f.value)) → done' ≡ done ++ f ∷ [] → FieldsSoFar it all done from → FieldsSoFar it all done' left
+pub fields_step : (it : Bool) (all : List (List ℕ × Data)) (from left : List Field) (x : Field) (done done' : List NodeField) (f : NodeField) → from ≡ x ∷ left
+    → FieldIs it all (x.name) (data_of x.value) (field_of f) (IsTemplate it (data_of x.value) (payload_of f.value)) → done' ≡ done ++ f ∷ [] → FieldsSoFar it all done from → FieldsSoFar it all done' left
 fields_step it all from left x done done' f is reads grown before = (
   λ rest h.
       let made : fields_of done' ++ rest ≡ fields_of done ++ field_of f ∷ rest =
@@ -90,13 +99,13 @@ fields_step it all from left x done done' f is reads grown before = (
   λ e h. before.1 e (subst (λ es. FieldsHaveFault it all (members_of (pairs es)) e) (sym is) (inr (inr h))),
 )
 
-pub fields_end : (it : Bool) (all : List (List ℕ × Data)) (from : List Entry) (done : List NodeField) → from ≡ [] → FieldsSoFar it all done from → FieldsAreTemplates it all (members_of all) (fields_of done)
+pub fields_end : (it : Bool) (all : List (List ℕ × Data)) (from : List Field) (done : List NodeField) → from ≡ [] → FieldsSoFar it all done from → FieldsAreTemplates it all (members_of all) (fields_of done)
 fields_end it all from done none before =
     subst (FieldsAreTemplates it all (members_of all)) (append-nil (fields_of done)) (before.0 [] (subst (λ es. FieldsAreTemplates it all (members_of (pairs es)) []) (sym none) refl))
 
 -- the fault of a field
-pub field_fault : (it : Bool) (all : List (List ℕ × Data)) (from left : List Entry) (x : Entry) (done : List NodeField) (e : TemplateFault) → from ≡ x ∷ left
-    → FieldHasFault it all (string_bytes x.0) (data_of x.1) e ⊎ HasFault it (data_of x.1) e → FieldsSoFar it all done from → FieldsHaveFault it all (members_of all) e
+pub field_fault : (it : Bool) (all : List (List ℕ × Data)) (from left : List Field) (x : Field) (done : List NodeField) (e : TemplateFault) → from ≡ x ∷ left
+    → FieldHasFault it all (x.name) (data_of x.value) e ⊎ HasFault it (data_of x.value) e → FieldsSoFar it all done from → FieldsHaveFault it all (members_of all) e
 field_fault it all from left x done e is h before = before.1 e (subst (λ es. FieldsHaveFault it all (members_of (pairs es)) e) (sym is) (⊎_elim inl (λ g. inr (inl g)) h))
 
 pub object_fault : (it : Bool) (ms : List (List ℕ × Data)) (e : TemplateFault) → FieldsHaveFault it ms (members_of ms) e → HasFault it (fields (members_of ms)) e

@@ -1,7 +1,7 @@
 -- What one path picks after another has placed a value.
-use Rattle.std.specs.Prelude.{List, Option, option_map, unwrap_or}
+use Rattle.std.specs.Prelude.{◌≡◌, ◌↔◌, ◌≤◌, ◌+◌, ◌-◌, ◌^◌, ℕ, min, length, List, Option, Some, option_map, unwrap_or}
 use Rattle.std.specs.Borrow.{Bor}
-use Rattle.json_tree.specs.Data.{Data, fields, no_members}
+use Rattle.json_tree.specs.Data.{Data, fields, no_members, depth}
 use Rattle.json_tree.specs.View.{data_of}
 use Rattle.json_tree.specs.declared.tree.Json.{Json}
 use Rattle.ref_paths.specs.Picking.{pick_at}
@@ -15,3 +15,11 @@ pick_placed_at placing picking value root = option_map (pick_at picking) (place_
 -- what is there, or the object that is made where there is nothing
 abbrev pub data_or_made : Option (Bor Json) → Data
 data_or_made json = unwrap_or (option_map (λ j. data_of j.now) json) (fields no_members)
+
+-- how deep a value nests where a path places it, up to what a `u32` tells
+abbrev pub told_depth : List PathStep → Data → ℕ
+told_depth path value = min (length path + depth value) (2 ^ 32 - 1)
+
+-- a root that nests no deeper than some levels does so with the value in it just where the value does there
+abbrev pub DepthIsTold : Type 0
+DepthIsTold = (path : List PathStep) (value root after : Data) (levels : ℕ) → depth root ≤ levels → place_at path value root ≡ Some after → (depth after ≤ levels) ↔ (length path + depth value ≤ levels)

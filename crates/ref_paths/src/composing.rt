@@ -1,22 +1,71 @@
 //! What one path picks after another has placed a value, without placing it.
 
-ghost use Rattle.std.specs.Prelude.{◌≡◌, ◌↔◌, [], None, Some, IsTrue, IfOk, IfErr, option_map, is_some};
+ghost use Rattle.std.specs.Prelude.{◌≡◌, ◌↔◌, ◌<◌, [], None, Some, IsTrue, IsSome, IfOk, IfErr, option_map};
 ghost use Rattle.json_tree.specs.Data.{Data};
 ghost use Rattle.json_tree.specs.View.{data_of};
-ghost use Rattle.ref_paths.specs.Composition.{pick_placed_at, data_or_made};
+ghost use Rattle.ref_paths.specs.Composition.{pick_placed_at, data_or_made, told_depth};
 ghost use Rattle.ref_paths.specs.Laws.{Part};
 ghost use Rattle.ref_paths.specs.Placing.{opened_at, place_at};
 
 use crate::path::{PathStep, RefPath};
 use crate::picking::pick_steps;
-use crate::placing::{PlaceRefusal, place_steps};
-use json_tree::{Json, JsonFields};
+use crate::placing::{PlaceRefusal, can_place, place_steps};
+use json_tree::{Json, JsonFields, depth};
 use std::alloc::Global;
 
+/// Why nothing was picked after a value would have been placed.
+#[derive(Clone, Copy, Debug, Drop, PartialEq, Eq)]
+pub enum PickRefusal {
+    /// The value cannot be placed there.
+    CannotPlace,
+    /// It would nest deeper there than was asked for.
+    TooDeep,
+    /// An allocation was refused.
+    Memory,
+}
+
 /// A copy of what `picking` picks after the value was placed at `placing`, and nothing where it picks nothing. The root
-/// and the value are only lent, and of both no more is copied than what is picked; nothing else is built. Goes over
-/// both paths by loops, but calls itself once for each level of the part of the root that is both picked and placed in.
+/// and the value are only lent. That the value can be placed, and nests no deeper there than `levels`, is seen before
+/// anything is made; so what is made nests no deeper than the root, or `levels`. Goes over both paths by loops, but calls
+/// itself once for each level of the part of the root that is both picked and placed in.
 pub fn pick_placed(
+    alloc: Global,
+    root: &Json,
+    placing: &RefPath,
+    value: &Json,
+    picking: &RefPath,
+    levels: u32,
+) -> Result<Option<Json>, PickRefusal>
+    ensures ok { IfOk result (λ r. pick_placed_at placing.now picking.now (data_of value.now) (data_of root.now) ≡ Some (option_map data_of r)) }
+    ensures cannot { (result ≡ Err PickRefusal.CannotPlace) ↔ (place_at placing.now (data_of value.now) (data_of root.now) ≡ None) }
+    ensures deep { (result ≡ Err PickRefusal.TooDeep) ↔ (IsSome (place_at placing.now (data_of value.now) (data_of root.now)) × (levels < told_depth placing.now (data_of value.now))) }
+{
+    if !can_place(Some(root), placing.steps.as_slice()) {
+        return Err(PickRefusal::CannotPlace);
+    }
+    if placing.placed_depth(value) > levels {
+        return Err(PickRefusal::TooDeep);
+    }
+    match pick_on(alloc, root, placing, value, picking) {
+        Ok(picked) => Ok(picked),
+        Err(_refused) => Err(PickRefusal::Memory),
+    }
+}
+
+impl RefPath {
+    /// How deep a value nests where it is placed by this path: a level for each step, and those that it has. 4,294,967,295
+    /// stands for that depth and every greater one. A root that nests no deeper than some levels nests no deeper than
+    /// these with the value in it just where this is no more, whatever the root; so no root is looked at. Looks at each
+    /// value inside of the one that is placed, and takes no memory.
+    pub fn placed_depth(&self, value: &Json) -> u32
+        ensures { result ≡ told_depth self.now (data_of value.now) }
+    {
+        let steps = u32::try_from(self.steps.len()).unwrap_or(u32::MAX);
+        depth(value).saturating_add(steps)
+    }
+}
+
+fn pick_on(
     alloc: Global,
     root: &Json,
     placing: &RefPath,
@@ -59,7 +108,7 @@ impl PathStep {
 
     /// What the step leads to for a value that is to be placed below: `Some(None)` is an object that is made.
     #[tactic(auto, using(crate::proofs::Shapes::values_again, crate::proofs::Shapes::pairs_again))]
-    fn open<'a>(&self, parent: Option<&'a Json>) -> Option<Option<&'a Json>>
+    pub(crate) fn open<'a>(&self, parent: Option<&'a Json>) -> Option<Option<&'a Json>>
         ensures { option_map data_or_made result ≡ opened_at self.now (data_or_made parent.entry) }
     {
         match (self, parent) {
@@ -72,20 +121,6 @@ impl PathStep {
             _ => None,
         }
     }
-}
-
-/// Whether some value can be placed there.
-fn can_place(root: Option<&Json>, steps: &[PathStep]) -> bool
-    ensures { (value : Data) → result ≡ is_some (place_at steps.now value (data_or_made root.entry)) }
-{
-    let mut current = root;
-    for step in steps {
-        match step.open(current) {
-            Some(child) => current = child,
-            None => return false,
-        }
-    }
-    true
 }
 
 /// All that is there, with the value placed in it.

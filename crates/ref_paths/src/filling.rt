@@ -161,7 +161,7 @@ fn fill_list(
     for node in &nodes.inner {
         items.push(fill_node(alloc, node, input, item)?)?;
     }
-    Ok(JsonList::from_vec(items))
+    Ok(JsonList::from_vec(items)?)
 }
 
 #[cycle(fill)]
@@ -177,7 +177,7 @@ fn fill_fields(
     let mut fields = JsonFields::new(alloc);
     for field in &nodes.inner {
         let value = fill_node(alloc, &field.value, input, item)?;
-        drop(fields.insert(field.name.copy()?.into_string(), value)?);
+        drop(fields.insert(field.name.copy()?, value)?);
     }
     Ok(fields)
 }

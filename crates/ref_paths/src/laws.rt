@@ -1,5 +1,6 @@
 //! Laws of picking, placing and filling: each call does nothing, and its contract is the law.
 
+ghost use Rattle.ref_paths.specs.Composition.{DepthIsTold};
 ghost use Rattle.ref_paths.specs.Laws.{PlacedIsPicked, ElsewhereStays, PlacedAtRoot, TextsSpellOnePath};
 ghost use Rattle.ref_paths.specs.TemplateLaws.{FieldsAreFilled, UnmarkedStays, ValuesAreOneTemplate};
 
@@ -11,6 +12,11 @@ pub fn placed_is_picked()
 /// What a path picks that leads elsewhere than the one that places stays as it was.
 pub fn elsewhere_stays()
     ensures { ElsewhereStays }
+{}
+
+/// A path and the value tell whether a root nests deeper with it than it may.
+pub fn depth_is_told()
+    ensures { DepthIsTold }
 {}
 
 /// Placing at `$` gives the placed value.

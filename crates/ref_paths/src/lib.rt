@@ -15,11 +15,11 @@ mod template_reading;
 #[cfg(test)]
 mod tests;
 
-pub use composing::pick_placed;
+pub use composing::{PickRefusal, pick_placed};
 pub use filling::FillFault;
 pub use laws::{
-    elsewhere_stays, fields_are_filled, placed_at_root, placed_is_picked, texts_spell_one_path,
-    unmarked_stays, values_are_one_template,
+    depth_is_told, elsewhere_stays, fields_are_filled, placed_at_root, placed_is_picked,
+    texts_spell_one_path, unmarked_stays, values_are_one_template,
 };
 pub use path::{PathStep, RefPath};
 pub use placing::{PlaceFault, PlaceRefusal, place};

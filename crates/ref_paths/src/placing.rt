@@ -1,15 +1,16 @@
 //! Placing a value where a path leads.
 
-ghost use Rattle.std.specs.Prelude.{◌≡◌, ◌≢◌, ◌↔◌, ◌∷◌, [], Some, None, IsTrue, IsSome, IfOk, IfErr, OnOk, OnErr};
-ghost use Rattle.json_tree.specs.Data.{fields, list, items_of, members_of};
-ghost use Rattle.json_tree.specs.Fields.{get_field, IsInNameOrder};
+ghost use Rattle.std.specs.Prelude.{◌≡◌, ◌↔◌, ◌∷◌, Some, None, IsSome, is_some, IfOk, IfErr, OnOk, OnErr};
+ghost use Rattle.json_tree.specs.Data.{Data, fields, list, items_of, members_of};
+ghost use Rattle.json_tree.specs.Fields.{get_field};
 ghost use Rattle.json_tree.specs.View.{data_of};
+ghost use Rattle.ref_paths.specs.Composition.{data_or_made};
 ghost use Rattle.ref_paths.specs.Placing.{place_at};
 ghost use Rattle.ref_paths.specs.declared.path.PathStep.TheVariants.{Name, Index};
 
-use crate::nesting::{are_names, insert_nested};
+use crate::nesting::insert_nested;
 use crate::path::{PathStep, RefPath};
-use json_tree::{Json, JsonFields, JsonList, Text};
+use json_tree::{ChangeFault, Json, JsonFields, JsonList, Text};
 use std::alloc::{AllocError, Global};
 
 /// Why a value was not placed.
@@ -40,18 +41,13 @@ pub struct PlaceFault {
     pub value: Json,
 }
 
-/// A value that was not placed, with the root in its place.
-#[derive(Drop)]
-struct Unplaced {
-    refusal: PlaceRefusal,
-    value: Json,
-}
-
 /// The root with the value where the path leads: a name replaces or adds that field of an object, and fields on the
-/// way that are absent are made as objects; an index replaces that element of a list. Takes memory for the fields that
-/// it adds alone. The root and the value are moved, and nothing of them is copied. One look-up for each step; what the
-/// value replaces is dropped. Calls itself once for each level of the root that the path goes down, and for no step
-/// below these.
+/// way that are absent are made as objects; an index replaces that element of a list. Of the root one level is copied for
+/// each step, where it is shared, and everything else stays shared with the other owners; other memory is taken for the
+/// fields that it adds. It is looked at first whether the value can be placed, with one look-up for each step, and then
+/// there are two for each. What the value replaces is dropped. Calls itself once for each level of the root that the path
+/// goes down, and for no step below these. A value that is placed below `n` steps makes a value of `n` levels more than it
+/// has, and to drop that one takes as many calls inside each other: `placed_depth` tells how deep it comes to be.
 pub fn place(alloc: Global, root: Json, path: &RefPath, value: Json) -> Result<Json, PlaceFault>
     ensures ok { IfOk result (λ j. place_at path.now (data_of value) (data_of root) ≡ Some (data_of j)) }
     ensures cannot { IfErr result (λ e. (e.refusal ≡ PlaceRefusal.CannotPlace) ↔ (place_at path.now (data_of value) (data_of root) ≡ None)) }
@@ -73,22 +69,61 @@ pub(crate) fn place_steps(
     ensures root_returned { IfErr result (λ e. e.root ≡ root) }
     ensures value_returned { IfErr result (λ e. e.value ≡ value) }
 {
-    match place_in(alloc, &mut root, steps, value) {
+    if !can_place(Some(&root), steps) {
+        return Err(PlaceFault {
+            refusal: PlaceRefusal::CannotPlace,
+            root,
+            value,
+        });
+    }
+    match place_copy(alloc, &mut root, steps, &value) {
         Ok(()) => Ok(root),
-        Err(Unplaced { refusal, value }) => Err(PlaceFault {
-            refusal,
+        Err(_refused) => Err(PlaceFault {
+            refusal: PlaceRefusal::Memory,
             root,
             value,
         }),
     }
 }
 
-#[cycle(place)]
-fn place_in(alloc: Global, root: &mut Json, steps: &[PathStep], value: Json) -> Result<(), Unplaced>
-    ensures ok { OnOk result (place_at steps.now (data_of value) (data_of root.old) ≡ Some (data_of root.new)) }
-    ensures cannot { IfErr result (λ e. (e.refusal ≡ PlaceRefusal.CannotPlace) ↔ (place_at steps.now (data_of value) (data_of root.old) ≡ None)) }
+/// Whether some value can be placed there.
+pub(crate) fn can_place(root: Option<&Json>, steps: &[PathStep]) -> bool
+    ensures { (value : Data) → result ≡ is_some (place_at steps.now value (data_or_made root.entry)) }
+{
+    let mut current = root;
+    for step in steps {
+        match step.open(current) {
+            Some(child) => current = child,
+            None => return false,
+        }
+    }
+    true
+}
+
+fn place_copy(
+    alloc: Global,
+    root: &mut Json,
+    steps: &[PathStep],
+    value: &Json,
+) -> Result<(), AllocError>
+    requires { IsSome (place_at steps.now (data_of value.now) (data_of root.old)) }
+    ensures ok { OnOk result (place_at steps.now (data_of value.now) (data_of root.old) ≡ Some (data_of root.new)) }
     ensures root_stays { OnErr result (root.new ≡ root.old) }
-    ensures value_returned { IfErr result (λ e. e.value ≡ value) }
+{
+    let copy = value.copy()?;
+    place_in(alloc, root, steps, copy)
+}
+
+#[cycle(place)]
+fn place_in(
+    alloc: Global,
+    root: &mut Json,
+    steps: &[PathStep],
+    value: Json,
+) -> Result<(), AllocError>
+    requires { IsSome (place_at steps.now (data_of value) (data_of root.old)) }
+    ensures ok { OnOk result (place_at steps.now (data_of value) (data_of root.old) ≡ Some (data_of root.new)) }
+    ensures root_stays { OnErr result (root.new ≡ root.old) }
 {
     let Some((step, rest)) = steps.split_first() else {
         *root = value;
@@ -101,10 +136,7 @@ fn place_in(alloc: Global, root: &mut Json, steps: &[PathStep], value: Json) -> 
         (PathStep::Index(index), Json::List(list)) => {
             place_in_item(alloc, list, *index, rest, value)
         }
-        _ => Err(Unplaced {
-            refusal: PlaceRefusal::CannotPlace,
-            value,
-        }),
+        _ => Err(AllocError),
     }
 }
 
@@ -115,19 +147,15 @@ fn place_in_item(
     index: u32,
     rest: &[PathStep],
     value: Json,
-) -> Result<(), Unplaced>
+) -> Result<(), AllocError>
+    requires { IsSome (place_at (Index index ∷ rest.now) (data_of value) (list (items_of items.old))) }
     ensures ok { OnOk result (place_at (Index index ∷ rest.now) (data_of value) (list (items_of items.old)) ≡ Some (list (items_of items.new))) }
-    ensures cannot { IfErr result (λ e. (e.refusal ≡ PlaceRefusal.CannotPlace) ↔ (place_at (Index index ∷ rest.now) (data_of value) (list (items_of items.old)) ≡ None)) }
     ensures root_stays { OnErr result (items.new ≡ items.old) }
-    ensures value_returned { IfErr result (λ e. e.value ≡ value) }
 {
-    match items.get_mut(index as usize) {
-        Some(child) => place_in(alloc, child, rest, value),
-        None => Err(Unplaced {
-            refusal: PlaceRefusal::CannotPlace,
-            value,
-        }),
-    }
+    let Ok(child) = items.get_mut(index as usize) else {
+        return Err(AllocError);
+    };
+    place_in(alloc, child, rest, value)
 }
 
 #[cycle(place)]
@@ -137,19 +165,19 @@ fn place_in_field(
     name: &Text,
     rest: &[PathStep],
     value: Json,
-) -> Result<(), Unplaced>
+) -> Result<(), AllocError>
+    requires { IsSome (place_at (Name name.now ∷ rest.now) (data_of value) (fields (members_of members.old))) }
     ensures ok { OnOk result (place_at (Name name.now ∷ rest.now) (data_of value) (fields (members_of members.old)) ≡ Some (fields (members_of members.new))) }
-    ensures cannot { IfErr result (λ e. (e.refusal ≡ PlaceRefusal.CannotPlace) ↔ (place_at (Name name.now ∷ rest.now) (data_of value) (fields (members_of members.old)) ≡ None)) }
     ensures root_stays { OnErr result (members.new ≡ members.old) }
-    ensures value_returned { IfErr result (λ e. e.value ≡ value) }
 {
     // An object with no field has nothing to look up.
     if members.len() == 0 {
         return add_field(alloc, members, name, rest, value);
     }
     match members.get_mut(name.as_str()) {
-        Some(child) => place_in(alloc, child, rest, value),
-        None => add_field(alloc, members, name, rest, value),
+        Ok(child) => place_in(alloc, child, rest, value),
+        Err(ChangeFault::Absent) => add_field(alloc, members, name, rest, value),
+        Err(ChangeFault::Memory) => Err(AllocError),
     }
 }
 
@@ -160,24 +188,11 @@ fn add_field(
     name: &Text,
     rest: &[PathStep],
     value: Json,
-) -> Result<(), Unplaced>
-    requires { get_field name.now members.old ≡ None }
+) -> Result<(), AllocError>
+    requires absent { get_field name.now members.old ≡ None }
+    requires placed { IsSome (place_at (Name name.now ∷ rest.now) (data_of value) (fields (members_of members.old))) }
     ensures ok { OnOk result (place_at (Name name.now ∷ rest.now) (data_of value) (fields (members_of members.old)) ≡ Some (fields (members_of members.new))) }
-    ensures cannot { IfErr result (λ e. (e.refusal ≡ PlaceRefusal.CannotPlace) ↔ (place_at (Name name.now ∷ rest.now) (data_of value) (fields (members_of members.old)) ≡ None)) }
     ensures root_stays { OnErr result (members.new ≡ members.old) }
-    ensures value_returned { IfErr result (λ e. e.value ≡ value) }
 {
-    if !are_names(rest) {
-        return Err(Unplaced {
-            refusal: PlaceRefusal::CannotPlace,
-            value,
-        });
-    }
-    match insert_nested(alloc, members, name, rest, value) {
-        Ok(()) => Ok(()),
-        Err(value) => Err(Unplaced {
-            refusal: PlaceRefusal::Memory,
-            value,
-        }),
-    }
+    insert_nested(alloc, members, name, rest, value)
 }

@@ -83,8 +83,8 @@ fn read_fields(
     ensures fault { IfErr result (λ e. OnNamed e (FieldsHaveFault item_paths fields.now (members_of fields.now) e)) }
 {
     let mut inner = Vec::with_capacity(alloc, fields.len())?;
-    for (name, value) in fields.iter() {
-        inner.push(read_field(alloc, fields, name, value, item_paths)?)?;
+    for field in fields.as_slice() {
+        inner.push(read_field(alloc, fields, field.name.as_str(), &field.value, item_paths)?)?;
     }
     Ok(NodeFields { inner })
 }

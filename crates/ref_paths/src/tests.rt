@@ -2,9 +2,9 @@
 //! where memory is refused.
 
 use crate::{
-    FillFault, PathFault, PlaceFault, PlaceRefusal, RefPath, Template, TemplateFault,
-    elsewhere_stays, fields_are_filled, pick_placed, place, placed_at_root, placed_is_picked,
-    texts_spell_one_path, unmarked_stays, values_are_one_template,
+    FillFault, PathFault, PickRefusal, PlaceFault, PlaceRefusal, RefPath, Template, TemplateFault,
+    depth_is_told, elsewhere_stays, fields_are_filled, pick_placed, place, placed_at_root,
+    placed_is_picked, texts_spell_one_path, unmarked_stays, values_are_one_template,
 };
 use json_tree::{Json, JsonFault, JsonFields, read, write_text};
 use std::alloc::{AllocError, Global};
@@ -213,13 +213,14 @@ const PICKED_AFTER: &[(&str, &str, &str)] = &[
 
 fn picked_text(
     alloc: Global,
-    picked: Result<Option<Json>, PlaceRefusal>,
+    picked: Result<Option<Json>, PickRefusal>,
 ) -> Result<String, AllocError> {
     match picked {
         Ok(Some(json)) => write_text(alloc, &json),
         Ok(None) => String::from_str(alloc, "none"),
-        Err(PlaceRefusal::CannotPlace) => String::from_str(alloc, "refused"),
-        Err(PlaceRefusal::Memory) => Err(AllocError),
+        Err(PickRefusal::CannotPlace) => String::from_str(alloc, "refused"),
+        Err(PickRefusal::TooDeep) => String::from_str(alloc, "deep"),
+        Err(PickRefusal::Memory) => Err(AllocError),
     }
 }
 
@@ -232,7 +233,7 @@ fn picked_after(
 ) -> Result<String, Fail> {
     let placing = path(alloc, placing)?;
     let picking = path(alloc, picking)?;
-    let picked = pick_placed(alloc, root, &placing, value, &picking);
+    let picked = pick_placed(alloc, root, &placing, value, &picking, 127);
     Ok(picked_text(alloc, picked)?)
 }
 
@@ -259,8 +260,8 @@ fn take_apart(value: Json, levels: u32) -> (u32, Json) {
     for _ in 0..levels {
         match inner {
             Json::Fields(mut fields) => match fields.remove("a") {
-                Some(child) => inner = child,
-                None => return (count, Json::Null),
+                Ok(Some(child)) => inner = child,
+                _ => return (count, Json::Null),
             },
             other => return (count, other),
         }
@@ -284,10 +285,11 @@ fn is_picked_after(
     alloc: Global,
     placing: &RefPath,
     picking: &RefPath,
-    want: Result<Option<Json>, PlaceRefusal>,
+    levels: u32,
+    want: Result<Option<Json>, PickRefusal>,
 ) -> bool {
     let empty = Json::Fields(JsonFields::new(alloc));
-    pick_placed(alloc, &empty, placing, &Json::Whole(1), picking) == want
+    pick_placed(alloc, &empty, placing, &Json::Whole(1), picking, levels) == want
 }
 
 /// Whether 1 is picked where it was placed, nothing is picked beyond it, and all levels are there.
@@ -310,18 +312,88 @@ fn goes_long_paths_on_a_small_stack(rt: HostRuntime) -> Result<(), Fail> {
     let alloc = rt.alloc();
     let long = long_path(alloc, "")?;
     let beyond = long_path(alloc, "[0]")?;
-    assert!(rt; is_picked_after(alloc, &long, &long, Ok(Some(Json::Whole(1)))));
-    assert!(rt; is_picked_after(alloc, &long, &beyond, Ok(None)));
+    assert!(rt; is_picked_after(alloc, &long, &long, 100_000, Ok(Some(Json::Whole(1)))));
+    assert!(rt; is_picked_after(alloc, &long, &beyond, 100_000, Ok(None)));
     let other = path(alloc, "$.b")?;
-    assert!(rt; is_picked_after(alloc, &beyond, &other, Err(PlaceRefusal::CannotPlace)));
+    assert!(rt; is_picked_after(alloc, &beyond, &other, 127, Err(PickRefusal::CannotPlace)));
+    let whole = path(alloc, "$")?;
+    assert!(rt; is_picked_after(alloc, &long, &whole, 99_999, Err(PickRefusal::TooDeep)));
     assert!(rt; is_placed_deep(alloc, &long, &beyond));
     Ok(())
 }
 
+/// A path of that many names.
+fn path_of_names(alloc: Global, names: u32) -> Result<RefPath, Fail> {
+    let mut text = String::from_str(alloc, "$")?;
+    for _ in 0..names {
+        text.push_str(".a")?;
+    }
+    path(alloc, text.as_str())
+}
+
+/// What is picked of all after `[0]` was placed in an object without fields, at most 127 levels deep.
+fn is_as_deep(alloc: Global, names: u32, is_picked: bool) -> Result<bool, Fail> {
+    let placing = path_of_names(alloc, names)?;
+    let value = json(alloc, "[0]")?;
+    let empty = Json::Fields(JsonFields::new(alloc));
+    let whole = path(alloc, "$")?;
+    let picked = pick_placed(alloc, &empty, &placing, &value, &whole, 127);
+    Ok(placing.placed_depth(&value) == names.saturating_add(1) && picked.is_ok() == is_picked)
+}
+
+/// Lengths of paths, and whether what is placed there may be picked.
+const LENGTHS: &[(u32, bool)] = &[
+    (0, true),
+    (1, true),
+    (126, true),
+    (127, false),
+    (1000, false),
+];
+
+#[test]
+fn places_no_deeper_than_asked(rt: HostRuntime) -> Result<(), Fail> {
+    let alloc = rt.alloc();
+    for &(names, is_picked) in LENGTHS {
+        assert!(rt; is_as_deep(alloc, names, is_picked)?, "at {names}");
+    }
+    Ok(())
+}
+
+/// Whether another owner's value is as it was, after one was placed in deep inside.
+fn is_kept(alloc: Global, text: &str, at: &str) -> Result<bool, Fail> {
+    let kept = json(alloc, text)?;
+    let at = path(alloc, at)?;
+    match place(alloc, kept.copy()?, &at, Json::Null) {
+        Ok(placed) => Ok(is_written(alloc, &kept, text) && placed != kept),
+        Err(_fault) => Ok(false),
+    }
+}
+
+const SHARED: &str = "{\"a\":{\"b\":[{\"c\":1,\"d\":2},3]},\"e\":[4]}";
+
+const CHANGED: &[&str] = &[
+    "$",
+    "$.a",
+    "$.a.b",
+    "$.a.b[0]",
+    "$.a.b[0].d",
+    "$.a.b[0].f.g",
+    "$.e[0]",
+];
+
+#[test]
+fn other_owners_keep_theirs(rt: HostRuntime) -> Result<(), Fail> {
+    let alloc = rt.alloc();
+    for at in CHANGED {
+        assert!(rt; is_kept(alloc, SHARED, at)?, "at {at}");
+    }
+    Ok(())
+}
+
 fn picks_or_wants_memory(alloc: Global, root: &Json, path: &RefPath, value: &Json) -> bool {
-    match pick_placed(alloc, root, path, value, path) {
+    match pick_placed(alloc, root, path, value, path, 127) {
         Ok(_picked) => true,
-        Err(refusal) => refusal == PlaceRefusal::Memory,
+        Err(refusal) => refusal == PickRefusal::Memory,
     }
 }
 
@@ -624,4 +696,5 @@ fn states_laws(_rt: HostRuntime) {
     fields_are_filled();
     unmarked_stays();
     values_are_one_template();
+    depth_is_told();
 }

@@ -23,9 +23,9 @@ use Rattle.rollback_book.specs.Move.{ready_state, next_step, take_step}
 use Rattle.rollback_book.specs.Story.{remaining, machine_of, is_same_name, base_of}
 use Rattle.rollback_book.specs.Answers.{is_full_for_define}
 use Rattle.rollback_book.specs.Saving.{held, run_saving, IsTied}
-use Rattle.rollback_book.specs.declared.frame.Frame.{Frame}
-use Rattle.rollback_book.specs.declared.frame.Phase.{Phase}
-use Rattle.rollback_book.specs.declared.frame.Phase.TheVariants.{Ready, Parked, Done, Failed}
+use Rattle.asl_forward.specs.declared.frame.Frame.{Frame}
+use Rattle.asl_forward.specs.declared.frame.Phase.{Phase}
+use Rattle.asl_forward.specs.declared.frame.Phase.TheVariants.{Ready, Parked, Done, Failed}
 use Rattle.rollback_book.specs.declared.log.Begin.{Begin}
 use Rattle.rollback_book.specs.declared.log.Entry.{Entry}
 use Rattle.rollback_book.specs.declared.log.Entry.TheVariants.{Define, Start as StartEntry, Step as StepEntry, Undo}

@@ -5,6 +5,7 @@ use Rattle.std.proofs.lemmas.Bool.{eq-eqb, leb-false, ltb-false}
 use Rattle.std.proofs.lemmas.List.{append-nil}
 use Rattle.std.proofs.lemmas.List.Sums.{fold-append}
 use Rattle.std.proofs.lemmas.Option.{same_Some, none-some, slice_get_within}
+use Rattle.std.proofs.lemmas.Bool.{or_parts}
 use Rattle.std.specs.Prelude.{is_some, IsSome, slice_get, nat_le, nat_lt}
 use Rattle.std.specs.List.{AllByRecursion}
 use Rattle.std.specs.Ordering.{nat_cmp}
@@ -19,12 +20,13 @@ use Rattle.asl_machine.specs.Definition.{Definition}
 use Rattle.asl_machine.specs.declared.state.State.{State}
 use Rattle.rollback_book.specs.Names.{Step, started, moved, name_of, start_name, is_same_thread, is_same_step}
 use Rattle.rollback_book.specs.World.{World, with_frame, set_frame}
-use Rattle.rollback_book.specs.Move.{ready_state, next_step, first_frame, after_state, take_step}
+use Rattle.rollback_book.specs.Move.{ready_state, next_step, take_step}
+use Rattle.asl_forward.specs.Turn.{first_frame, after_state}
 use Rattle.rollback_book.specs.Story.{remaining, steps_after, machine_of, is_same_name, base_of, without, facts_of}
 use Rattle.rollback_book.specs.Answers.{is_full_for_step, undo_answer, found_answer, free_answer, last_answer, from_step}
 use Rattle.rollback_book.specs.Legal.{IsAccepted, GoesOnLegally, IsLegal}
 use Rattle.rollback_book.specs.Saving.{held, run_saving, record_of, saved_frame, frame_of, IsTied, IsStartOf, IsStepOf, is_record_of, is_last}
-use Rattle.rollback_book.specs.declared.frame.Frame.{Frame}
+use Rattle.asl_forward.specs.declared.frame.Frame.{Frame}
 use Rattle.rollback_book.specs.declared.log.Begin.{Begin}
 use Rattle.rollback_book.specs.declared.log.Entry.{Entry}
 use Rattle.rollback_book.specs.declared.log.Entry.TheVariants.{Define, Start as StartEntry, Step as StepEntry, Undo}
@@ -111,15 +113,11 @@ tied_room begin log w rs capacity more h grown = record {
   no_items = h.no_items;
 }
 
-or_false : (a b : Bool) → (a || b) ≡ false → (a ≡ false) × (b ≡ false)
-or_false true b h = cc
-or_false false b h = (refl, h)
-
 -- where a step isn't refused for room, there is room for it and its undoing
 has_room : (begin : Begin) (log : List Entry) (w : World) (rs : List StepRecord) (capacity : ℕ) → IsTied begin log w rs capacity → is_full_for_step log ≡ false
     → (length rs < 65536) × (length log + length rs ≤ 999998)
 has_room begin log w rs capacity h free =
-    let s = or_false (nat_le 65536 (length rs)) (nat_lt 999998 (length log + length rs)) (sym (full_is begin log w rs capacity h) ∙ free) in
+    let s = or_parts (nat_le 65536 (length rs)) (nat_lt 999998 (length log + length rs)) (sym (full_is begin log w rs capacity h) ∙ free) in
     (omega (arith, leb-false 65536 (length rs) s.0), omega (arith, ltb-false 999998 (length log + length rs) s.1))
 
 -- ---- a start

@@ -15,9 +15,10 @@ use Rattle.asl_machine.specs.declared.state.Transition.{Transition}
 use Rattle.asl_machine.specs.declared.state.Transition.TheVariants.{Next, End}
 use Rattle.rollback_book.specs.Names.{Step, started, moved, name_of, is_same_thread, is_same_step}
 use Rattle.rollback_book.specs.World.{World, set_frame}
-use Rattle.rollback_book.specs.Move.{first_frame, after_state, go_on, take_step}
+use Rattle.rollback_book.specs.Move.{take_step}
+use Rattle.asl_forward.specs.Turn.{first_frame, after_state, go_on}
 use Rattle.rollback_book.specs.Story.{base_of, without}
-use Rattle.rollback_book.specs.declared.frame.Frame.{Frame}
+use Rattle.asl_forward.specs.declared.frame.Frame.{Frame}
 use Rattle.rollback_book.specs.declared.log.Entry.{Entry}
 use Rattle.rollback_book.specs.declared.step.Fact.{Fact}
 use Rattle.rollback_book.specs.declared.step.StepRecord.{StepRecord}

@@ -14,14 +14,15 @@ use Rattle.asl_machine.specs.declared.state.Transition.{Transition}
 use Rattle.asl_machine.specs.declared.state.Transition.TheVariants.{Next, End}
 use Rattle.rollback_book.specs.Names.{Step, started, moved}
 use Rattle.rollback_book.specs.World.{World, set_frame}
-use Rattle.rollback_book.specs.Move.{ready_state, moves_to, move_frame, move, first_frame, go_on, after_state, take_step, readiness_of}
+use Rattle.rollback_book.specs.Move.{ready_state, moves_to, move_frame, move, take_step, readiness_of}
+use Rattle.asl_forward.specs.Turn.{first_frame, go_on, after_state}
 use Rattle.rollback_book.specs.Story.{remaining, base_of, machine_of, is_same_name, world_of}
 use Rattle.rollback_book.specs.Answers.{step_answer, thread_answer, moved_answer, is_full_for_step}
 use Rattle.rollback_book.specs.Legal.{GoesOnLegally, IsLegal}
 use Rattle.rollback_book.specs.Laws.{ReadyThreadsMove, ReadyThreadsAreNotRefused}
-use Rattle.rollback_book.specs.declared.frame.Frame.{Frame}
-use Rattle.rollback_book.specs.declared.frame.Phase.{Phase}
-use Rattle.rollback_book.specs.declared.frame.Phase.TheVariants.{Ready, Parked, Done, Failed}
+use Rattle.asl_forward.specs.declared.frame.Frame.{Frame}
+use Rattle.asl_forward.specs.declared.frame.Phase.{Phase}
+use Rattle.asl_forward.specs.declared.frame.Phase.TheVariants.{Ready, Parked, Done, Failed}
 use Rattle.rollback_book.specs.declared.log.Entry.{Entry}
 use Rattle.rollback_book.specs.declared.log.Entry.TheVariants.{Define, Start as StartEntry, Step as StepEntry, Undo}
 use Rattle.rollback_book.specs.declared.refusal.Refusal.TheVariants.{NotReady, Full}

@@ -10,9 +10,10 @@ use Rattle.asl_machine.specs.Definition.{Definition}
 use Rattle.asl_machine.specs.declared.state.State.{State}
 use Rattle.rollback_book.specs.Names.{Step, started, moved, name_of, start_name}
 use Rattle.rollback_book.specs.World.{World, set_frame}
-use Rattle.rollback_book.specs.Move.{ready_state, moves_to, move_frame, move, first_frame, if_numbered, after_state, take_step, run}
+use Rattle.rollback_book.specs.Move.{ready_state, moves_to, move_frame, move, if_numbered, take_step, run}
+use Rattle.asl_forward.specs.Turn.{first_frame, after_state}
 use Rattle.rollback_book.specs.Saving.{record_of, run_saving}
-use Rattle.rollback_book.specs.declared.frame.Frame.{Frame}
+use Rattle.asl_forward.specs.declared.frame.Frame.{Frame}
 use Rattle.rollback_book.specs.declared.step.Fact.{Fact}
 use Rattle.rollback_book.specs.declared.step.Kind.TheVariants.{Start, Plain}
 use Rattle.rollback_book.specs.declared.step.StepRecord.{StepRecord}

@@ -6,11 +6,12 @@ use Rattle.asl_machine.specs.Definition.{Definition}
 use Rattle.asl_machine.specs.declared.state.State.{State}
 use Rattle.rollback_book.specs.Names.{Step, started, moved, start_name}
 use Rattle.rollback_book.specs.World.{World}
-use Rattle.rollback_book.specs.Move.{ready_state, next_step, moves_to, move_frame, move, after_state, readiness_of, take_step}
+use Rattle.rollback_book.specs.Move.{ready_state, next_step, moves_to, move_frame, move, readiness_of, take_step}
+use Rattle.asl_forward.specs.Turn.{after_state}
 use Rattle.rollback_book.specs.Story.{remaining, machine_of, base_of, run_of, world_of, facts_of}
 use Rattle.rollback_book.specs.Answers.{is_full_for_step, is_full_for_define, start_answer, step_answer, thread_answer, moved_answer}
 use Rattle.rollback_book.specs.Saving.{IsTied}
-use Rattle.rollback_book.specs.declared.frame.Frame.{Frame}
+use Rattle.asl_forward.specs.declared.frame.Frame.{Frame}
 use Rattle.rollback_book.specs.declared.log.Begin.{Begin}
 use Rattle.rollback_book.specs.declared.log.Entry.{Entry}
 use Rattle.rollback_book.specs.declared.refusal.Refusal.TheVariants.{NoMachine, ExecTaken, NoThread, NotReady, Full}

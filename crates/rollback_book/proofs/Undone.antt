@@ -10,15 +10,16 @@ use Rattle.asl_machine.specs.Definition.{Definition}
 use Rattle.asl_machine.specs.declared.state.State.{State}
 use Rattle.rollback_book.specs.Names.{Step, started, moved, name_of, start_name, is_same_step}
 use Rattle.rollback_book.specs.World.{World, set_frame}
-use Rattle.rollback_book.specs.Move.{ready_state, next_step, first_frame, after_state, take_step, run}
+use Rattle.rollback_book.specs.Move.{ready_state, next_step, take_step, run}
+use Rattle.asl_forward.specs.Turn.{first_frame, after_state}
 use Rattle.rollback_book.specs.Story.{remaining, steps_after, base_of, without, world_of, run_of}
 use Rattle.rollback_book.specs.Answers.{is_full_for_step, step_answer, undo_answer}
 use Rattle.rollback_book.specs.Legal.{IsAccepted, GoesOnLegally, IsLegal}
 use Rattle.rollback_book.specs.Saving.{run_saving, record_of, frame_of, IsTied, IsStartOf, IsStepOf, is_record_of, is_last}
 use Rattle.rollback_book.specs.Laws.{IsSaved, LeavesTheSame, entry_of, IsTakenAgain, IsGivenBack}
-use Rattle.rollback_book.specs.declared.frame.Frame.{Frame}
+use Rattle.asl_forward.specs.declared.frame.Frame.{Frame}
 use Rattle.rollback_book.specs.declared.log.Begin.{Begin}
-use Rattle.rollback_book.specs.declared.log.KeyType.TheVariants.{S}
+use Rattle.attr_values.specs.declared.key.KeyType.TheVariants.{S}
 use Rattle.rollback_book.specs.declared.log.Entry.{Entry}
 use Rattle.rollback_book.specs.declared.log.Entry.TheVariants.{Define, Start as StartEntry, Step as StepEntry, Undo}
 use Rattle.rollback_book.specs.declared.refusal.Refusal.{Refusal}

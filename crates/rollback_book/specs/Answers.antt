@@ -13,7 +13,7 @@ use Rattle.rollback_book.specs.World.{World}
 use Rattle.rollback_book.specs.Move.{move, readiness_of}
 use Rattle.rollback_book.specs.Dependence.{depends_directly}
 use Rattle.rollback_book.specs.Story.{remaining, machine_of, world_of, facts_of}
-use Rattle.rollback_book.specs.declared.frame.Frame.{Frame}
+use Rattle.asl_forward.specs.declared.frame.Frame.{Frame}
 use Rattle.rollback_book.specs.declared.log.Entry.{Entry}
 use Rattle.rollback_book.specs.declared.refusal.Refusal.{Refusal}
 use Rattle.rollback_book.specs.declared.refusal.Refusal.TheVariants.{NoMachine, MachineTaken, BadMachine, ExecTaken, NoThread, NotReady, NoStep, HasDependents, Full, Memory, NotLast}

@@ -10,8 +10,8 @@ use Rattle.rollback_book.specs.Story.{remaining, base_of, world_of}
 use Rattle.rollback_book.specs.Answers.{start_answer, step_answer, undo_answer, is_full_for_step}
 use Rattle.rollback_book.specs.Legal.{IsAccepted, IsLegal}
 use Rattle.rollback_book.specs.Saving.{run_saving, saved_frame}
-use Rattle.rollback_book.specs.declared.frame.Frame.{Frame}
-use Rattle.rollback_book.specs.declared.frame.Phase.TheVariants.{Ready}
+use Rattle.asl_forward.specs.declared.frame.Frame.{Frame}
+use Rattle.asl_forward.specs.declared.frame.Phase.TheVariants.{Ready}
 use Rattle.rollback_book.specs.declared.log.Entry.{Entry}
 use Rattle.rollback_book.specs.declared.log.Entry.TheVariants.{Start, Step as Stepped, Undo}
 use Rattle.rollback_book.specs.declared.refusal.Refusal.TheVariants.{NotReady}

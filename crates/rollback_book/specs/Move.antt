@@ -6,35 +6,16 @@ use Rattle.step_names.specs.declared.step.StepName.{StepName}
 use Rattle.asl_machine.specs.Definition.{Definition}
 use Rattle.asl_machine.specs.Find.{state_at}
 use Rattle.asl_machine.specs.declared.state.State.{State}
-use Rattle.asl_machine.specs.declared.state.State.TheVariants.{Pass}
-use Rattle.asl_machine.specs.declared.state.Transition.{Transition}
-use Rattle.asl_machine.specs.declared.state.Transition.TheVariants.{Next, End}
+use Rattle.asl_forward.specs.Turn.{after_state, first_frame}
 use Rattle.rollback_book.specs.Names.{Step, started, moved, start_name}
 use Rattle.rollback_book.specs.World.{World, set_frame}
-use Rattle.rollback_book.specs.declared.frame.Frame.{Frame}
-use Rattle.rollback_book.specs.declared.frame.Phase.{Phase}
-use Rattle.rollback_book.specs.declared.frame.Phase.TheVariants.{Ready, Parked, Done, Failed}
+use Rattle.asl_forward.specs.declared.frame.Frame.{Frame}
+use Rattle.asl_forward.specs.declared.frame.Phase.{Phase}
+use Rattle.asl_forward.specs.declared.frame.Phase.TheVariants.{Ready, Parked, Done, Failed}
 use Rattle.rollback_book.specs.declared.step.Fact.{Fact}
 use Rattle.rollback_book.specs.declared.step.Kind.TheVariants.{Start, Plain}
 use Rattle.rollback_book.specs.declared.step.Readiness.{Readiness}
 use Rattle.rollback_book.specs.declared.step.Readiness.TheVariants as readiness
-
--- ---- one state
-
--- where a frame goes with its state's output: to the next state, or to the end
-abbrev pub go_on : Transition → Frame → Json → Frame
-go_on (Next name) f output = record { level = f.level; state = name; raw = output; retries = []; count = f.count + 1; phase = Ready }
-go_on End f output = record { level = f.level; state = f.state; raw = f.raw; retries = f.retries; count = f.count + 1; phase = Done output }
-
--- a Pass state's result, or its input where it has none
-abbrev pub pass_output : Option Json → Json → Json
-pass_output (Some result) raw = result
-pass_output None raw = raw
-
--- the frame after a state; only machines of Pass and Succeed states are defined
-abbrev pub after_state : State → Frame → Frame
-after_state (Pass p) f = go_on p.transition f (pass_output p.result f.raw)
-after_state _ f = go_on End f f.raw
 
 -- ---- one move
 
@@ -67,17 +48,6 @@ readiness_of (Done output) = readiness.Done
 readiness_of (Failed fault) = readiness.Failed
 
 -- ---- one start
-
--- the frame with which an execution of a machine starts
-abbrev pub first_frame : List ℕ → Definition → Json → Frame
-first_frame machine d input = record {
-  level = record { machine = machine; path = [] };
-  state = d.start;
-  raw = input;
-  retries = [];
-  count = 0;
-  phase = Ready;
-}
 
 -- a start needs a known machine, and that no execution of its name is there
 abbrev pub start : World → Thread → List ℕ → Json → Option (World × Fact)

@@ -13,11 +13,12 @@ use Rattle.asl_machine.specs.Definition.{Definition}
 use Rattle.asl_machine.specs.declared.state.State.{State}
 use Rattle.rollback_book.specs.Names.{Step, name_of, start_name, is_same_step}
 use Rattle.rollback_book.specs.World.{World}
-use Rattle.rollback_book.specs.Move.{take_step, ready_state, after_state, first_frame, next_step}
+use Rattle.rollback_book.specs.Move.{take_step, ready_state, next_step}
+use Rattle.asl_forward.specs.Turn.{after_state, first_frame}
 use Rattle.rollback_book.specs.Answers.{start_answer, step_answer}
 use Rattle.rollback_book.specs.Story.{remaining, base_of, machine_of, world_of}
 use Rattle.rollback_book.specs.Legal.{IsLegal}
-use Rattle.rollback_book.specs.declared.frame.Frame.{Frame}
+use Rattle.asl_forward.specs.declared.frame.Frame.{Frame}
 use Rattle.rollback_book.specs.declared.log.Begin.{Begin}
 use Rattle.rollback_book.specs.declared.log.Entry.{Entry}
 use Rattle.rollback_book.specs.declared.log.Entry.TheVariants.{Start as StartEntry, Step as StepEntry}

@@ -5,7 +5,7 @@ use Rattle.json_tree.specs.declared.tree.Json.{Json}
 use Rattle.step_names.specs.Thread.{Thread}
 use Rattle.asl_machine.specs.Definition.{Definition}
 use Rattle.rollback_book.specs.Names.{is_same_thread}
-use Rattle.rollback_book.specs.declared.frame.Frame.{Frame}
+use Rattle.asl_forward.specs.declared.frame.Frame.{Frame}
 
 -- The machines by name, the frames by thread, and the items by their keys as they are written. The frames are one flat
 -- map: a thread of a branch stands beside the thread that forked it.

@@ -13,13 +13,13 @@ ghost use Rattle.rollback_book.specs.Saving.{run_saving, IsStartOf, IsStepOf};
 ghost use Rattle.rollback_book.specs.Answers.{Gives, IsDefineRefusal, IsReadRefusal, is_full_for_define, start_answer, step_answer, undo_answer};
 ghost use Rattle.rollback_book.specs.Legal.{IsLegal};
 
-use crate::frame::Frame;
 use crate::log::{Begin, Entry};
 use crate::making::{MadeDefine, MadeStart, MadeStep, make_define, make_start, make_step};
 use crate::refusal::{BeginFault, Refusal};
 use crate::room::Room;
 use crate::step::{Kind, Moved, Saved, StepRecord};
 use crate::{maps, turn, undoing};
+use asl_forward::Frame;
 use asl_machine::{Machine, MachineFault, SharedMachine, State};
 use json_tree::{Json, Text};
 use serde_json::Value;
@@ -257,9 +257,21 @@ impl Book {
         ensures ok { OnOk result (self.new ≡ accepted self.old made.entry) }
         ensures err { OnErr result (self.new ≡ self.old) }
     {
-        self.log.reserve(self.records.len() + 1)?;
-        drop(self.machines.insert(made.name, made.machine)?);
-        maps::push_with_room(&mut self.log, made.entry);
+        let Ok(()) = self.log.reserve(self.records.len() + 1) else {
+            drop(made);
+            return Err(AllocError);
+        };
+        let MadeDefine {
+            name,
+            machine,
+            entry,
+        } = made;
+        let Ok(replaced) = self.machines.insert(name, machine) else {
+            drop(entry);
+            return Err(AllocError);
+        };
+        drop(replaced);
+        maps::push_with_room(&mut self.log, entry);
         Ok(())
     }
 
@@ -270,11 +282,24 @@ impl Book {
         ensures ok { OnOk result (self.new ≡ accepted self.old made.entry) }
         ensures err { OnErr result (self.new ≡ self.old) }
     {
-        maps::reserve_step(&mut self.log, &mut self.records)?;
-        maps::insert_frame(&mut self.frames, made.thread, made.frame)?;
-        maps::push_with_room(&mut self.records, made.kept);
-        maps::push_with_room(&mut self.log, made.entry);
-        Ok(made.name)
+        let Ok(()) = maps::reserve_step(&mut self.log, &mut self.records) else {
+            drop(made);
+            return Err(AllocError);
+        };
+        let MadeStart {
+            thread,
+            frame,
+            kept,
+            entry,
+            name,
+        } = made;
+        let Ok(()) = maps::insert_frame(&mut self.frames, thread, frame) else {
+            drop((kept, entry, name));
+            return Err(AllocError);
+        };
+        maps::push_with_room(&mut self.records, kept);
+        maps::push_with_room(&mut self.log, entry);
+        Ok(name)
     }
 
     /// Enters a step that may be taken. Only its room can be refused, and then nothing is changed.
@@ -284,7 +309,10 @@ impl Book {
         ensures ok { OnOk result (self.new ≡ accepted self.old made.entry) }
         ensures err { OnErr result (self.new ≡ self.old) }
     {
-        maps::reserve_step(&mut self.log, &mut self.records)?;
+        let Ok(()) = maps::reserve_step(&mut self.log, &mut self.records) else {
+            drop(made);
+            return Err(AllocError);
+        };
         let before = maps::replace_frame(&mut self.frames, thread, made.frame);
         let kept = StepRecord {
             fact: made.fact,

@@ -3,7 +3,6 @@
 //! The book: executions of state machines, the commands that were accepted, and the undoing of their steps.
 mod book;
 mod depend;
-mod frame;
 mod laws;
 mod log;
 mod making;
@@ -18,10 +17,8 @@ mod undoing;
 
 pub use book::Book;
 pub use depend::depends;
-pub use frame::{Fault, Frame, Origin, Phase, Retries};
 pub use laws::{ready_threads_move, records_are_of_the_run, undoing_is_exact};
-pub use log::{Begin, Entry, KeyAttribute, KeySchema, KeyType};
+pub use log::{Begin, Entry};
 pub use refusal::{BeginFault, Refusal};
 pub use room::Room;
 pub use step::{Access, AccessMode, Fact, Kind, Moved, Readiness, Saved, StepRecord};
-pub use turn::{after_state, first_frame};

@@ -1,12 +1,13 @@
 // What a start and a step need, made before anything is changed.
 ghost use Rattle.std.specs.Prelude.{◌≡◌, ◌+◌, ◌^◌, ◌<◌, IfOk, None};
 ghost use Rattle.rollback_book.specs.Names.{start_name};
-ghost use Rattle.rollback_book.specs.Move.{after_state, first_frame, next_step};
+ghost use Rattle.rollback_book.specs.Move.{next_step};
+ghost use Rattle.asl_forward.specs.Turn.{after_state, first_frame};
 
-use crate::frame::Frame;
 use crate::log::Entry;
 use crate::step::{Fact, Kind, Moved, Saved, StepRecord};
 use crate::turn;
+use asl_forward::{Frame, after_state, first_frame};
 use asl_machine::{Machine, SharedMachine, State};
 use json_tree::{Json, Text};
 use std::alloc::{AllocError, Global};
@@ -64,7 +65,7 @@ pub fn make_start(
     ensures entry { IfOk result (λ m. m.entry ≡ Entry.Start exec.now name.now input) }
     ensures name { IfOk result (λ m. m.name ≡ start_name exec.now) }
 {
-    let frame = turn::first_frame(alloc, name, machine, &input)?;
+    let frame = first_frame(alloc, name, machine, &input)?;
     let fact = Fact {
         name: start_of(exec)?,
         kind: Kind::Start,
@@ -123,7 +124,7 @@ pub fn make_step(
         kind: Kind::Plain,
     };
     Ok(MadeStep {
-        frame: turn::after_state(alloc, state, frame)?,
+        frame: after_state(alloc, state, frame)?,
         fact,
         entry,
         moved,

@@ -9,9 +9,9 @@ ghost use Rattle.rollback_book.specs.World.{with_frame};
 ghost use Rattle.rollback_book.specs.Move.{ready_state};
 ghost use Rattle.rollback_book.specs.Saving.{frame_of};
 
-use crate::frame::{Frame, Phase};
 use crate::log::Entry;
 use crate::step::{Saved, StepRecord};
+use asl_forward::{Frame, Phase};
 use asl_machine::{SharedMachine, State};
 use json_tree::Text;
 use std::alloc::AllocError;

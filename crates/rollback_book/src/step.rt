@@ -1,5 +1,5 @@
 // Steps: their kinds, what is known of each, and what is kept to undo it.
-use crate::frame::Frame;
+use asl_forward::Frame;
 use json_tree::Text;
 use step_names::StepName;
 

@@ -1,8 +1,7 @@
-use crate::{
-    Access, AccessMode, Begin, BeginFault, Book, Fact, Frame, KeyAttribute, KeySchema, KeyType,
-    Kind, Phase, Refusal, Retries, Room, after_state, depends, first_frame,
-};
+use crate::{Access, AccessMode, Begin, BeginFault, Book, Fact, Kind, Refusal, Room, depends};
+use asl_forward::{Frame, Phase, Retries, after_state, first_frame};
 use asl_machine::Machine;
+use attr_values::{KeyAttribute, KeySchema, KeyType};
 use json_tree::{Json, JsonList, Text, read};
 use serde_json::Value;
 use std::alloc::{AllocError, Global};

@@ -1,7 +1,8 @@
 // Lists of lines drawn at random, and the book after each line beside the plain program.
+use asl_forward::Frame;
 use operator_line::{ServeFault, Session, serve};
 use plain_replay::{Step, replay};
-use rollback_book::{Book, Frame};
+use rollback_book::Book;
 use std::alloc::{AllocError, Global};
 use std::collections::BTreeMap;
 use std::io::{Read, Write};

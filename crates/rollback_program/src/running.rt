@@ -67,6 +67,7 @@ fn serve_streams<R: Read, W: Write, E: Write>(
 {
     let mut session = Session::new(alloc);
     let outcome = serve(alloc, reader, writer, &mut session);
+    drop(session);
     tell(outcome, faults)
 }
 

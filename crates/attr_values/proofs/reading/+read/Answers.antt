@@ -1,33 +1,37 @@
-use Rattle.std.proofs.Common.{ap, ◌∙◌, sym, ◌-◌, inr, Some}
+use Rattle.std.proofs.Common.{ap, ◌∙◌, sym, ◌-◌, drop, inr, Some}
+use Rattle.std.proofs.lemmas.List.{drop_all}
 use Rattle.json_tree.specs.Data.{items_of, members_of}
 use Rattle.json_tree.specs.View.{data_of, fields_of}
 use Rattle.attr_values.specs.Datum.{list, document}
 use Rattle.attr_values.specs.Faults.{result_map}
 use Rattle.attr_values.specs.Reading as spec
 use Rattle.attr_values.specs.declared.reading.Kind.TheVariants.{L, M}
-use Rattle.attr_values.proofs.ReadingLemmas.{element_step, elements_end, attributes_start, attribute_step, attributes_end, attributes_ordered, read_datum-field, read_datum-other, read_kind-none, read_kind-list, read_kind-map, mapped_fault}
+use Rattle.attr_values.proofs.ReadingLemmas.{element_step, elements_end, attributes_start, attribute_step, next_field, attributes_end, attributes_ordered, read_datum-field, read_datum-other, read_kind-none, read_kind-list, read_kind-map, mapped_fault}
 use Rattle.attr_values.proofs.reading.+read.Goals as goal
 
-pub read_attributes-loop-name-init : goal.read_attributes-loop-name-init
-read_attributes-loop-name-init t c =
-    let from = c.into_iter-name-iterator.ensures.into_iter_gives in
-    attributes_start c.args.levels c.into_iter-name-iterator.result c.args.fields.now c.new-inner.result.entries c.new-inner.ensures.empty (ap fields_of from ∙ c.iter-name-items.ensures.fields) c.iter-name-items.ensures.ordered
+pub read_attributes-loop-field-init : goal.read_attributes-loop-field-init
+read_attributes-loop-field-init t c =
+    attributes_start c.args.levels c.as_slice-field-items.result.now c.args.fields.now c.new-inner.result.entries c.new-inner.ensures.empty c.as_slice-field-items.ensures.fields c.as_slice-field-items.ensures.ordered
 
-pub read_attributes-loop-name-preserved : goal.read_attributes-loop-name-preserved
-read_attributes-loop-name-preserved t c =
-    let l = c.loop-name in
-    attribute_step c.args.levels l.name-iterator c.next.new.self c.in-Some.name.now c.in-Some.json.now l.inner.entries c.insert.new.self.entries c.in_ok-clone.field-0 c.in_ok-value.value _
-    c.in-Some.ensures.steps c.in_ok-clone.ensures.cases c.in_ok-value.ensures.read c.in_ok-insert.ensures.entries l.invariant
+pub read_attributes-loop-field-preserved : goal.read_attributes-loop-field-preserved
+read_attributes-loop-field-preserved t c =
+    let l = c.loop-field in
+    let f = c.field-item.result in
+    let next = next_field c.as_slice-field-items.result.now l.field-index f c.field-item.is c.loop-field-test.true in
+    attribute_step c.args.levels (drop l.field-index c.as_slice-field-items.result.now) _ f l.inner.entries c.insert.new.self.entries c.in_ok-name.name c.in_ok-value.value _
+    next (c.in_ok-name.ensures.ok ∙ c.as_str.ensures) c.in_ok-value.ensures.read c.in_ok-insert.ensures.entries l.invariant
 
 pub read_attributes-returns-clause-read : goal.read_attributes-returns-clause-read
 read_attributes-returns-clause-read t c =
-    let l = c.loop-name in
-    attributes_end c.args.levels l.name-iterator l.inner.entries _ c.in-None.ensures.steps.0 l.invariant
+    let l = c.loop-field in
+    let from = c.as_slice-field-items.result.now in
+    attributes_end c.args.levels (drop l.field-index from) l.inner.entries _ (drop_all l.field-index from c.loop-field-test.false) l.invariant
 
 pub read_attributes-returns-clause-ordered : goal.read_attributes-returns-clause-ordered
 read_attributes-returns-clause-ordered t c =
-    let l = c.loop-name in
-    attributes_ordered c.args.levels l.name-iterator l.inner.entries _ c.in-None.ensures.steps.0 l.invariant
+    let l = c.loop-field in
+    let from = c.as_slice-field-items.result.now in
+    attributes_ordered c.args.levels (drop l.field-index from) l.inner.entries _ (drop_all l.field-index from c.loop-field-test.false) l.invariant
 
 pub read_elements-loop-json-preserved : goal.read_elements-loop-json-preserved
 read_elements-loop-json-preserved t c =

@@ -15,11 +15,11 @@ invariant-read_elements-loop-json l =
     spec.read_elements l.levels (items_of l.list)
     ≡ result_map (elements_before (list_of l.inner.items)) (spec.read_elements l.levels (items_of (json_list_of (drop l.json-index l.json-items))))
 
-abbrev pub invariant-read_attributes-loop-name : goal.invariant-read_attributes-loop-name
-invariant-read_attributes-loop-name l =
-    IsStrictlySortedBy text_cmp (keys_of (entries_of l.inner.entries) ++ keys_of (fields_of l.name-iterator))
+abbrev pub invariant-read_attributes-loop-field : goal.invariant-read_attributes-loop-field
+invariant-read_attributes-loop-field l =
+    IsStrictlySortedBy text_cmp (keys_of (entries_of l.inner.entries) ++ keys_of (fields_of (drop l.field-index l.field-items)))
     × (spec.read_attributes l.levels (members_of l.fields)
-    ≡ result_map (attributes_before (entries_of l.inner.entries)) (spec.read_attributes l.levels (members_of (fields_of l.name-iterator))))
+    ≡ result_map (attributes_before (entries_of l.inner.entries)) (spec.read_attributes l.levels (members_of (fields_of (drop l.field-index l.field-items)))))
 
 abbrev pub decreases-read_within : goal.decreases-read_within
 decreases-read_within l = 4 * l.levels + 2

@@ -27,7 +27,7 @@ write_map-loop-name-preserved t c =
     let before : l.fields ++ (string_bytes name, json_of (datum_of value)) ∷ rest ≡ json_entries c.args.map.now = ap (λ es. l.fields ++ json_entries (entries_of es)) (sym c.in-Some.ensures.steps) ∙ l.invariant.1 in
     let sorted : IsStrictlySortedBy text_cmp (keys_of (json_entries c.args.map.now)) = subst (IsStrictlySortedBy text_cmp) (sym (keys_of-json c.args.map.now)) l.invariant.0 in
     let put : c.insert.new.self ≡ with_field (string_bytes name) (json_of (datum_of value)) l.fields =
-    c.in_ok-insert.ensures.ok ∙ ap₂ (λ k d. with_field k d l.fields) c.in_ok-name.ensures.cases c.in_ok-write_value.ensures in (
+    c.in_ok-insert.ensures.ok ∙ ap₂ (λ k d. with_field k d l.fields) (c.in_ok-name.ensures ∙ c.as_str.ensures.value) c.in_ok-write_value.ensures in (
       l.invariant.0,
       ap (λ fs. fs ++ rest) put ∙ field_step l.fields (string_bytes name) (json_of (datum_of value)) rest (json_entries c.args.map.now) sorted before,
     )

@@ -21,20 +21,19 @@ pub take_items-returns-clause-ok : goal.take_items-returns-clause-ok
 take_items-returns-clause-ok t c =
     let l = c.loop-item in
     let none : into_iter_items l.item-iterator ≡ [] = length_zero_nil (into_iter_items l.item-iterator) (sym l.invariant.1 ∙ c.in-None.ensures.steps.0) in
-    items_last (into_iter_items l.item-iterator) l.inner.items _ none l.invariant.0 ∙ ap (λ ds. Some (items_of ds)) (sym c.from_vec.ensures)
+    items_last (into_iter_items l.item-iterator) l.inner.items _ none l.invariant.0 ∙ ap (λ ds. Some (items_of ds)) (sym c.in_ok-from_vec.ensures.ok)
 
 pub take_members-loop-name-init : goal.take_members-loop-name-init
 take_members-loop-name-init t c =
     let given = c.into_iter-name-iterator.ensures.into_iter_gives in
-    members_start c.into_iter-name-iterator.result c.args.members.entries c.new-inner.result.entries c.new-inner.ensures.empty given.0 given.5
+    members_start c.into_iter-name-iterator.result c.args.members.entries _ c.in_ok-inner.ensures.items given.0 given.5
 
 pub take_members-loop-name-preserved : goal.take_members-loop-name-preserved
 take_members-loop-name-preserved t c =
     let l = c.loop-name in
-    members_step l.name-iterator c.next.new.self c.in-Some.name c.in-Some.member l.inner.entries c.insert.new.self.entries c.in-Some.name c.in_ok-take_value.field-0 _ c.in-Some.ensures.steps refl
-    c.in_ok-take_value.ensures.ok c.in_ok-insert.ensures.entries l.invariant
+    members_step l.name-iterator c.next.new.self c.in-Some.name c.in-Some.member l.inner.items c.push.new.self.items _ _ c.in-Some.ensures.steps c.in_ok-name.ensures.ok c.in_ok-value.ensures.ok c.in_ok-push.ensures.items l.invariant
 
 pub take_members-returns-clause-ok : goal.take_members-returns-clause-ok
 take_members-returns-clause-ok t c =
     let l = c.loop-name in
-    members_end l.name-iterator l.inner.entries _ c.in-None.ensures.steps.0 l.invariant ∙ ap (λ ms. Some (members_of ms)) (sym c.from_map.ensures)
+    members_end l.name-iterator l.inner.items _ c.in-None.ensures.steps.0 l.invariant ∙ ap (λ ms. Some (members_of ms)) (sym c.in_ok-from_sorted.ensures.ok)

@@ -14,4 +14,4 @@ invariant-take_items-loop-item l =
     × (into_iter_len l.item-iterator ≡ length (into_iter_items l.item-iterator))
 
 abbrev pub invariant-take_members-loop-name : goal.invariant-take_members-loop-name
-invariant-take_members-loop-name l = IsReadSoFar l.inner.entries l.name-iterator (whole_members (members_view l.fn.members.entries))
+invariant-take_members-loop-name l = IsReadSoFar l.inner.items l.name-iterator (whole_members (members_view l.fn.members.entries))

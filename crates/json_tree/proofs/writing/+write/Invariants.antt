@@ -7,12 +7,11 @@ use Rattle.json_tree.specs.View.{list_of, fields_of}
 use Rattle.json_tree.proofs.writing.+write.Given as goal
 
 -- what is left to write makes the whole
-abbrev pub invariant-write_fields-loop-name : goal.invariant-write_fields-loop-name
-invariant-write_fields-loop-name l =
+abbrev pub invariant-write_fields-loop-field : goal.invariant-write_fields-loop-field
+invariant-write_fields-loop-field l =
     (l.out.before ≡ l.initial.out.before)
-    × (l.out.tokens ++ members_tokens (members_of (fields_of l.name-iterator)) ≡ l.initial.out.tokens ++ members_tokens (members_of l.fields))
-    × IsInNameOrder l.fields
-    × (MembersAreProper (members_of (fields_of l.name-iterator)) → MembersAreProper (members_of l.fields))
+    × (l.out.tokens ++ members_tokens (members_of (fields_of (drop l.field-index l.field-items))) ≡ l.initial.out.tokens ++ members_tokens (members_of (fields_of l.field-items)))
+    × (MembersAreProper (members_of (fields_of (drop l.field-index l.field-items))) → MembersAreProper (members_of (fields_of l.field-items)))
 
 abbrev pub invariant-write_list-loop-item : goal.invariant-write_list-loop-item
 invariant-write_list-loop-item l =

@@ -3,7 +3,7 @@ use Rattle.std.specs.Prelude.{option_map}
 use Rattle.std.specs.BTreeMap.{BTreeMap, get}
 use Rattle.step_names.specs.Thread.{Thread}
 use Rattle.step_names.specs.Order.{thread_cmp}
-use Rattle.rollback_book.specs.declared.frame.Frame.{Frame}
+use Rattle.asl_forward.specs.declared.frame.Frame.{Frame}
 use Rattle.plain_replay.specs.Steps.{step_of}
 use Rattle.plain_replay.specs.Worlds.{world_at}
 use Rattle.plain_replay.specs.declared.forward.Replayed.{Replayed}

@@ -6,7 +6,7 @@ use Rattle.step_names.specs.Order.{thread_cmp}
 use Rattle.rollback_book.specs.Names.{name_of}
 use Rattle.rollback_book.specs.World.{World, set_frame, with_frame}
 use Rattle.rollback_book.specs.Move.{run, take_step}
-use Rattle.rollback_book.specs.declared.frame.Frame.{Frame}
+use Rattle.asl_forward.specs.declared.frame.Frame.{Frame}
 use Rattle.plain_replay.specs.Steps.{step_of}
 use Rattle.plain_replay.specs.Worlds.{world_at, worlds}
 use Rattle.plain_replay.specs.declared.step.Step.{Step}

@@ -1,26 +1,25 @@
-use Rattle.std.proofs.Common.{◌≡◌, ◌∷◌, subst, arith}
+use Rattle.std.proofs.Common.{◌≡◌, ◌+◌, ◌∷◌, drop, subst, arith}
+use Rattle.std.proofs.lemmas.List.{drop_all}
 use Rattle.json_tree.specs.Data.{items_of}
 use Rattle.json_tree.specs.View.{data_of}
-use Rattle.json_tree.proofs.Depths.{depth-rest}
-use Rattle.json_tree.proofs.Views.{Entry}
 use Rattle.ref_paths.specs.PayloadView.{payload_of, field_of}
 use Rattle.ref_paths.specs.Templates.{IsTemplate, FieldIs}
-use Rattle.ref_paths.proofs.TemplateReadings.{on_named, passed_on, item_depth, items_step, items_end, item_fault, fields_step, fields_end, object_fault, object_reads}
+use Rattle.ref_paths.proofs.TemplateReadings.{on_named, passed_on, item_depth, next_field, field_depth, items_step, items_end, item_fault, fields_step, fields_end, object_fault, object_reads}
 use Rattle.ref_paths.proofs.template_reading.+read_node.Goals as goal
 
-pub read_fields-loop-name-preserved : goal.read_fields-loop-name-preserved
-read_fields-loop-name-preserved t c =
-    let l = c.loop-name in
-    let e : Entry = (c.in-Some.name.now, c.in-Some.value.now) in
-    let next : l.name-iterator ≡ e ∷ c.next.new.self = c.in-Some.ensures.steps in
+pub read_fields-loop-field-preserved : goal.read_fields-loop-field-preserved
+read_fields-loop-field-preserved t c =
+    let l = c.loop-field in
+    let from = c.as_slice-field-items.result.now in
+    let x = c.field-item.result in
     let f = c.in_ok-read_field.field-0 in
-    let reads = subst (λ k. FieldIs c.args.item_paths c.args.fields.now k (data_of e.1) (field_of f) (IsTemplate c.args.item_paths (data_of e.1) (payload_of f.value))) c.deref.ensures c.in_ok-read_field.ensures.ok in (
-      omega (arith, depth-rest l.name-iterator c.next.new.self e next, l.invariant.0),
-      fields_step c.args.item_paths c.args.fields.now l.name-iterator c.next.new.self e l.inner.items c.push.new.self.items f next reads c.in_ok-push.ensures.items l.invariant.1,
-    )
+    let reads = subst (λ k. FieldIs c.args.item_paths c.args.fields.now k (data_of x.value) (field_of f) (IsTemplate c.args.item_paths (data_of x.value) (payload_of f.value))) c.as_str.ensures c.in_ok-read_field.ensures.ok in
+    fields_step c.args.item_paths c.args.fields.now (drop l.field-index from) (drop (l.field-index + 1) from) x l.inner.items c.push.new.self.items f (next_field from l.field-index x c.field-item.is c.loop-field-test.true) reads c.in_ok-push.ensures.items l.invariant
 
 pub read_fields-returns-clause-ok : goal.read_fields-returns-clause-ok
-read_fields-returns-clause-ok t c = fields_end c.args.item_paths c.args.fields.now c.loop-name.name-iterator c.loop-name.inner.items c.in-None.ensures.steps.0 c.loop-name.invariant.1
+read_fields-returns-clause-ok t c =
+    let from = c.as_slice-field-items.result.now in
+    fields_end c.args.item_paths c.args.fields.now (drop c.loop-field.field-index from) c.loop-field.inner.items (drop_all c.loop-field.field-index from c.loop-field-test.false) c.loop-field.invariant
 
 pub read_list-read_node-requires : goal.read_list-read_node-requires
 read_list-read_node-requires t c =
@@ -49,3 +48,7 @@ read_node-returns-in_err-read_fields-in-Fields-clause-fault t c =
 pub read_node-returns-in_ok-read_fields-in-Fields-clause-ok : goal.read_node-returns-in_ok-read_fields-in-Fields-clause-ok
 read_node-returns-in_ok-read_fields-in-Fields-clause-ok t c =
     rw c.in-Fields.is (object_reads c.args.item_paths c.in-Fields.fields c.in_ok-read_fields-in-Fields.field-0 c.in_ok-read_fields-in-Fields.ensures.ok)
+
+pub read_fields-read_field-requires : goal.read_fields-read_field-requires
+read_fields-read_field-requires t c =
+    (omega (arith, field_depth c.as_slice-field-items.result.now c.loop-field.field-index c.field-item.result c.args.fields.now c.field-item.is c.loop-field-test.true c.as_slice-field-items.ensures.fields, c.decreases), tt)

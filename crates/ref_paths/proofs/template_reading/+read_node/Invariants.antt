@@ -1,15 +1,14 @@
-use Rattle.std.proofs.Common.{◌+◌, ◌*◌, ◌≤◌, drop}
+use Rattle.std.proofs.Common.{◌+◌, ◌*◌, drop}
 use Rattle.json_tree.specs.Data.{depth, list_depth, fields_depth, items_of}
-use Rattle.json_tree.specs.View.{data_of, fields_of}
+use Rattle.json_tree.specs.View.{data_of}
 use Rattle.ref_paths.proofs.TemplateReadings.{ItemsSoFar, FieldsSoFar}
 use Rattle.ref_paths.proofs.template_reading.+read_node.Given as goal
 
 abbrev pub invariant-read_list-loop-json : goal.invariant-read_list-loop-json
 invariant-read_list-loop-json l = ItemsSoFar l.item_paths (items_of l.list) l.inner.items (drop l.json-index l.json-items)
 
-abbrev pub invariant-read_fields-loop-name : goal.invariant-read_fields-loop-name
-invariant-read_fields-loop-name l =
-    (fields_depth (fields_of l.name-iterator) ≤ fields_depth l.fields) × FieldsSoFar l.item_paths l.fields l.inner.items l.name-iterator
+abbrev pub invariant-read_fields-loop-field : goal.invariant-read_fields-loop-field
+invariant-read_fields-loop-field l = FieldsSoFar l.item_paths l.fields l.inner.items (drop l.field-index l.field-items)
 
 abbrev pub decreases-read_node : goal.decreases-read_node
 decreases-read_node l = 3 * depth (data_of l.json.now)

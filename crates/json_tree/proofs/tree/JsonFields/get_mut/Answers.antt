@@ -1,24 +1,46 @@
-use Rattle.std.proofs.Common.{◌≡◌, Option, Some, None, MutBor, option_map, refl, ap, ◌∙◌}
-use Rattle.std.specs.Option.{option_copied_mut}
-use Rattle.json_tree.specs.Fields.{get_field}
-use Rattle.json_tree.specs.View.{data_of, fields_of}
-use Rattle.json_tree.specs.declared.tree.Json.{Json}
-use Rattle.json_tree.proofs.Views.{data_of-lookup, written}
+use Rattle.std.proofs.Common.{◌≡◌, Some, is_ok, refl, sym, ap, ◌∙◌, subst, arith}
+use Rattle.std.specs.Arc.{arc_value}
+use Rattle.json_tree.specs.Fields.{get_field, with_field, IsInNameOrder}
+use Rattle.json_tree.specs.View.{data_of, fields_of, held}
+use Rattle.json_tree.specs.declared.tree.Field.{Field}
+use Rattle.json_tree.proofs.Nodes.{same_items}
+use Rattle.json_tree.proofs.Views.{within, field_at, set_there, order_with, at_named}
 use Rattle.json_tree.proofs.tree.JsonFields.get_mut.Goals as goal
 
-behind : (r : Option (MutBor Json)) → option_map (λ j. data_of j.now) r ≡ option_map data_of (option_copied_mut r)
-behind None = refl
-behind (Some x) = refl
+pub index_mut-requires : goal.index_mut-requires
+index_mut-requires c =
+    let items = c.in-Ok-make_mut.fields.now.items in
+    let own : items ≡ (arc_value c.in-Some.node.now).items = same_items _ _ c.in-Ok-make_mut.ensures.value in
+    let same : c.as_slice.result.now ≡ items = c.as_slice.ensures.value ∙ ap (λ v. v.items) c.deref.ensures ∙ sym own in
+    omega (arith, within c.args.name.now items c.in-Ok.at (at_named _ _ _ items c.in-Ok.at refl same c.in-Ok.ensures.found))
+
+pub invariant_of-self-lent : goal.invariant_of-self-lent
+invariant_of-self-lent c =
+    let items = c.in-Ok-make_mut.fields.now.items in
+    let name = c.args.name.now in
+    let own : items ≡ (arc_value c.in-Some.node.now).items = same_items _ _ c.in-Ok-make_mut.ensures.value in
+    let same : c.as_slice.result.now ≡ items = c.as_slice.ensures.value ∙ ap (λ v. v.items) c.deref.ensures ∙ sym own in
+    let at = at_named _ name _ items c.in-Ok.at refl same c.in-Ok.ensures.found in
+    let is : fields_of items ≡ fields_of (held c.self.inside.inner) = ap fields_of own ∙ ap (λ n. fields_of (held n)) c.in-Some.ensures.value in
+    let sorted = subst IsInNameOrder (sym is) c.self.invariant in
+    λ w. subst IsInNameOrder
+    (sym (ap (λ v. fields_of v.items) (c.make_mut.follows.holds _ (ap is_ok c.in-Ok-make_mut.is)) ∙ set_there name items c.in-Ok.at c.index_mut.result.now w c.index_mut.ensures.value at)) (order_with name (data_of w) (fields_of items) sorted)
 
 pub returns : goal.returns
 returns c =
-    let lent = c.get_mut in
-    let es = c.self.inside.inner.entries in
-    let name = c.args.name.now in (
+    let items = c.in-Ok-make_mut.fields.now.items in
+    let name = c.args.name.now in
+    let own : items ≡ (arc_value c.in-Some.node.now).items = same_items _ _ c.in-Ok-make_mut.ensures.value in
+    let same : c.as_slice.result.now ≡ items = c.as_slice.ensures.value ∙ ap (λ v. v.items) c.deref.ensures ∙ sym own in
+    let at = at_named _ name _ items c.in-Ok.at refl same c.in-Ok.ensures.found in
+    let is : fields_of items ≡ c.args.self.now = ap fields_of own ∙ ap (λ n. fields_of (held n)) c.in-Some.ensures.value ∙ c.self.view_is in (
       (
         refl,
-        λ w. written lent.result es _ name w _ lent.ensures.value lent.ensures.ordered (lent.follows.holds w).0 c.self.view_is,
-        ap (λ m. fields_of m.entries) lent.follows.holds-at-none ∙ c.self.view_is,
+        λ w ok. ap (λ v. fields_of v.items) (c.make_mut.follows.holds _ (ap is_ok c.in-Ok-make_mut.is)) ∙ set_there name items c.in-Ok.at c.index_mut.result.now w c.index_mut.ensures.value at ∙ ap (with_field name (data_of w)) is,
+        tt,
       ),
-      behind lent.result ∙ ap (option_map data_of) lent.ensures.value ∙ data_of-lookup name es ∙ ap (get_field name) c.self.view_is,
+      (
+        ap (get_field name) (sym is) ∙ field_at name items c.in-Ok.at c.index_mut.result.now at ∙ ap (λ (f : Field). Some (data_of f.value)) (sym c.index_mut.ensures.value),
+        tt,
+      ),
     )

@@ -14,11 +14,11 @@ invariant_of-self-2 c =
     let room = ap (λ (s : Story). is_full_for_define s.log) c.self.view_is ∙ c.requires.room in
     let old = held c.self.inside.machines c.self.inside.frames in
     let world : held c.insert.new.self c.self.inside.frames ≡ with_machines old (λ (q : List ℕ). cond (is_same_name c.args.made.name q) (Some c.args.made.machine) (old.machines q)) =
-    ap (with_machines old) (fun_ext (λ (q : List ℕ). c.in_ok-insert.ensures.updates.0 q)) in
+    ap (with_machines old) (fun_ext (λ (q : List ℕ). c.in-Ok-insert.ensures.updates.0 q)) in
     let log_is : c.push_with_room.new.list.items ≡ c.self.inside.log.items ++ Define c.args.made.name c.args.made.machine ∷ [] =
     c.push_with_room.ensures.items ∙ ap₂ (λ (es : List Entry) (e : Entry). es ++ e ∷ []) c.reserve.ensures.items c.requires.entry in
     let grown : length c.self.inside.log.items + length c.self.inside.records.items + 1 ≤ vec_capacity c.push_with_room.new.list =
-    let more = c.in_ok-reserve.ensures.ok in
+    let more = c.in-Ok.ensures.ok in
     let kept = c.push_with_room.ensures.kept in
     let len = c.len.ensures in
     let same = c.reserve.ensures.len in

@@ -30,7 +30,7 @@ invariant_of-self-2 c =
     let grown : length c.self.inside.log.items + length c.self.inside.records.items + 2 ≤ vec_capacity c.push_with_room-2.new.list =
     let logs = ap length c.reserve_step.ensures.log in
     let records = ap length c.reserve_step.ensures.records in
-    let room = c.in_ok-reserve_step.ensures.log_room in
+    let room = c.in-Ok.ensures.log_room in
     let more = c.push_with_room-2.ensures.kept in
     omega (arith, logs, records, room, more, c.reserve_step.new.log.ok.0, c.reserve_step.new.records.ok.0) in
     rw (log_is, records_are, world)

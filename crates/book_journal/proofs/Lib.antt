@@ -1,0 +1,7 @@
+mod Changes
+mod Keeping
+mod Lists
+mod Numbers
+mod Queries
+mod Selects
+pub mod Statements

@@ -1,0 +1,146 @@
+// The calls of a list.
+ghost use Rattle.std.specs.Prelude.{◌≡◌, ◌↔◌, ◌++◌, ◌∷◌, [], length, None, Some, option_map, IsTrue, IfOk, IfErr, OnOk, OnErr, slice_get};
+ghost use Rattle.json_tree.specs.View.{data_of, list_of};
+
+use crate::tree::{ChangeFault, Json, JsonList};
+use std::alloc::{AllocError, AllocFailed, Global};
+use std::sync::Arc;
+
+impl JsonList {
+    ghost use Rattle.std.specs.Borrow.{sem};
+    ghost use Rattle.json_tree.specs.Lending.{LendsItem};
+
+    /// An empty list, which takes no memory.
+    pub fn new(alloc: Global) -> JsonList
+        ensures { result ≡ [] }
+    {
+        JsonList { alloc, inner: None }
+    }
+
+    /// The same values, in the memory that they have. Takes memory for a node, unless there is no value; the error has the
+    /// values.
+    pub fn from_vec(items: Vec<Json>) -> Result<JsonList, AllocFailed<Vec<Json>>>
+        ensures ok { IfOk result (λ l. l ≡ list_of items.items) }
+        ensures value_returned { IfErr result (λ e. e.value ≡ items) }
+    {
+        let alloc = *items.allocator();
+        if items.is_empty() {
+            return Ok(JsonList::new(alloc));
+        }
+        match Arc::new(alloc, items) {
+            Ok(node) => Ok(JsonList {
+                alloc,
+                inner: Some(node),
+            }),
+            Err(refused) => Err(refused),
+        }
+    }
+
+    /// The same values: in the memory that they have, or in new memory where the list is shared.
+    pub fn into_vec(self) -> Result<Vec<Json>, AllocError>
+        ensures { IfOk result (λ v. list_of v.items ≡ self) }
+    {
+        let JsonList { alloc, inner } = self;
+        match inner {
+            Some(node) => Arc::unwrap_or_clone(node),
+            None => Ok(Vec::new(alloc)),
+        }
+    }
+
+    /// The values in order, lent.
+    pub fn as_slice(&self) -> &[Json]
+        ensures { list_of result.now ≡ self.now }
+    {
+        match &self.inner {
+            Some(items) => items.as_slice(),
+            None => &[],
+        }
+    }
+
+    /// How many values the list has, told at once.
+    pub fn len(&self) -> usize
+        ensures { result ≡ length self.now }
+    {
+        self.as_slice().len()
+    }
+
+    /// Whether the list has no value.
+    pub fn is_empty(&self) -> bool
+        ensures { IsTrue result ↔ (self.now ≡ []) }
+    {
+        self.as_slice().is_empty()
+    }
+
+    /// The value at an index from 0, in one step. Takes no memory.
+    pub fn get(&self, index: usize) -> Option<&Json>
+        ensures { option_map (λ j. data_of j.now) result ≡ slice_get self.now index }
+    {
+        self.as_slice().get(index)
+    }
+
+    /// The same, to be written: what is left there stands in this list, and in none that shares its values. Where it is
+    /// shared, memory for a list as long is taken first, whose values stay shared.
+    pub fn get_mut(&mut self, index: usize) -> Result<&mut Json, ChangeFault>
+        ensures* writes_back { sem 𝓛 (LendsItem self.entry index result) }
+        ensures value { IfOk result (λ j. slice_get self.old index ≡ Some (data_of j.now)) }
+        ensures absent { IfErr result (λ e. (e ≡ ChangeFault.Absent) ↔ (slice_get self.old index ≡ None)) }
+    {
+        let Some(node) = self.inner.as_mut() else {
+            return Err(ChangeFault::Absent);
+        };
+        if index >= node.len() {
+            return Err(ChangeFault::Absent);
+        }
+        let Ok(items) = Arc::make_mut(node) else {
+            return Err(ChangeFault::Memory);
+        };
+        Ok(&mut items[index])
+    }
+
+    /// Puts a value at the end, on average in one step, where the list is not shared: the memory grows as a `Vec`'s does.
+    /// Where it is, memory for a longer list is taken. The error has the value.
+    pub fn push(&mut self, value: Json) -> Result<(), AllocFailed<Json>>
+        ensures ok { OnOk result (self.new ≡ self.old ++ data_of value ∷ []) }
+        ensures err { OnErr result (self.new ≡ self.old) }
+        ensures value_returned { IfErr result (λ e. e.value ≡ value) }
+    {
+        let Some(node) = self.inner.as_mut() else {
+            return self.push_first(value);
+        };
+        let Ok(items) = Arc::make_mut(node) else {
+            return Err(AllocFailed { value });
+        };
+        items.push(value)
+    }
+
+    fn push_first(&mut self, value: Json) -> Result<(), AllocFailed<Json>>
+        requires { self.old ≡ [] }
+        ensures ok { OnOk result (self.new ≡ data_of value ∷ []) }
+        ensures err { OnErr result (self.new ≡ self.old) }
+        ensures value_returned { IfErr result (λ e. e.value ≡ value) }
+    {
+        let Ok(mut node) = Arc::new(self.alloc, Vec::new(self.alloc)) else {
+            return Err(AllocFailed { value });
+        };
+        let Some(empty) = Arc::get_mut(&mut node) else {
+            return Err(AllocFailed { value });
+        };
+        empty.push(value)?;
+        self.inner = Some(node);
+        Ok(())
+    }
+
+    /// The same list, shared, in one step. Takes no memory, and is refused only where its owners cannot be counted.
+    pub fn copy(&self) -> Result<JsonList, AllocError>
+        ensures { IfOk result (λ j. j ≡ self.now) }
+    {
+        let inner = match &self.inner {
+            Some(items) => Some(Arc::try_clone(items)?),
+            None => None,
+        };
+        Ok(JsonList {
+            alloc: self.alloc,
+            inner,
+        })
+    }
+}

@@ -1,0 +1,15 @@
+pub mod Lists
+pub mod Runs
+pub mod Commuting
+pub mod After
+pub mod Least
+pub mod Orders
+pub mod Arranged
+pub mod Held
+pub mod Planned
+pub mod CounterPaths
+pub mod CounterWorlds
+pub mod Names
+pub mod CounterLaws
+pub mod CounterPremise
+pub mod Records

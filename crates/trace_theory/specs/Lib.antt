@@ -1,0 +1,4 @@
+pub mod Traces
+pub mod Footprints
+pub mod Counters
+pub mod CounterRows

@@ -1,0 +1,47 @@
+// Laws over the definitions: each function's contract is the law, and it does nothing.
+ghost use Rattle.trace_theory.specs.Traces.{Machine, IsLawful, HasNames, NeighboursSwap, FreeStepsUndo, AfterIsLeast, OrdersUndo, ArrangementsAgree, HeldIsLeft};
+ghost use Rattle.trace_theory.specs.Counters.{CountersAreLawful, CountersHaveNames, PremiseIsNeeded};
+ghost use Rattle.trace_theory.specs.Footprints.{PlansAreLawful};
+
+/// Neighbours that do not depend on each other swap.
+pub fn neighbours_swap<W, N, F, S>()
+    ensures { (m : Machine W N F S) (base : W) → IsLawful m base → NeighboursSwap m base }
+{}
+
+/// A step on which no later one depends directly can be undone from the present world, and taken again it stands last.
+pub fn free_steps_undo<W, N, F, S>()
+    ensures { (m : Machine W N F S) (base : W) → IsLawful m base → FreeStepsUndo m base }
+{}
+
+/// What one pass forward marks is the least set that holds a step and its consequences.
+pub fn consequences_are_least<W, N, F, S>()
+    ensures { (m : Machine W N F S) (base : W) → HasNames m base → AfterIsLeast m base }
+{}
+
+/// Every allowed order of undoings leaves the run of the rest, and one that holds a step holds its consequences, which have
+/// such an order.
+pub fn orders_undo<W, N, F, S>()
+    ensures { (m : Machine W N F S) (base : W) → IsLawful m base → HasNames m base → OrdersUndo m base }
+{}
+
+/// Every arrangement of a run gives the same world, facts and saved contents.
+pub fn arrangements_agree<W, N, F, S>()
+    ensures { (m : Machine W N F S) (base : W) → IsLawful m base → HasNames m base → ArrangementsAgree m base }
+{}
+
+/// What is left of held consequences shrinks by one with each undoing of a member, and by nothing else.
+pub fn held_consequences_are_left<W, N, F, S>()
+    ensures { (m : Machine W N F S) (base : W) → IsLawful m base → HasNames m base → HeldIsLeft m base }
+{}
+
+/// A machine is lawful where its steps are plans, and independent neighbours write nothing that the other touches.
+pub fn plans_are_lawful<W, N, F, S, C, V, P>()
+    ensures { PlansAreLawful W N F S C V P }
+{}
+
+/// A machine of threads that fork and join over shared counters is lawful, and is so only in worlds that runs reach.
+pub fn counters_are_lawful()
+    ensures lawful { CountersAreLawful }
+    ensures names { CountersHaveNames }
+    ensures premise { PremiseIsNeeded }
+{}
