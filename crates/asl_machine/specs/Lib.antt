@@ -15,3 +15,5 @@ pub mod Reading
 pub mod Profile
 pub mod Faults
 pub mod Laws
+pub mod ErrorFields
+pub mod ErrorFaults

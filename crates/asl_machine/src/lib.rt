@@ -2,6 +2,7 @@
 
 //! Definitions of state machines (Amazon States Language), read from JSON and checked once.
 mod choice;
+mod error_readers;
 mod errors;
 mod fault;
 mod field_readers;
