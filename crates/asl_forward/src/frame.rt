@@ -1,7 +1,8 @@
 // A thread's frame: where it stands, and what it has.
-ghost use Rattle.std.specs.Prelude.{◌≡◌, [], IfOk};
+ghost use Rattle.std.specs.Prelude.{◌≡◌, [], map, IfOk};
+ghost use Rattle.asl_machine.specs.declared.errors.Retrier.{Retrier};
 
-use asl_machine::Level;
+use asl_machine::{Level, Retrier};
 use json_tree::{Json, Text};
 use std::alloc::{AllocError, Global};
 use std::marker::Model;
@@ -61,6 +62,17 @@ impl Retries {
         }
     }
 
+    /// A counter of 0 for each of these retriers. Takes memory for each.
+    pub fn fresh(alloc: Global, retriers: &[Retrier]) -> Result<Retries, AllocError>
+        ensures { IfOk result (λ r. r ≡ map (λ (q : Retrier). 0) retriers.now) }
+    {
+        let mut inner = Vec::with_capacity(alloc, retriers.len())?;
+        for _retrier in retriers {
+            inner.push(0)?;
+        }
+        Ok(Retries { inner })
+    }
+
     /// Equal counters. Takes memory for each.
     pub fn copy(&self) -> Result<Retries, AllocError>
         ensures { IfOk result (λ r. r ≡ self.now) }
@@ -81,4 +93,25 @@ pub struct Frame {
     pub retries: Retries,
     pub count: u32,
     pub phase: Phase,
+}
+
+impl Frame {
+    /// An equal frame of one that is ready, which shares its raw input. Takes memory for long names and for the counters.
+    pub(crate) fn copy_ready(&self) -> Result<Frame, AllocError>
+        requires { self.now.phase ≡ Phase.Ready }
+        ensures { IfOk result (λ f. f ≡ self.now) }
+    {
+        let retries = self.retries.copy()?;
+        let state = self.state.copy()?;
+        let level = self.level.copy()?;
+        let raw = self.raw.copy()?;
+        Ok(Frame {
+            level,
+            state,
+            raw,
+            retries,
+            count: self.count,
+            phase: Phase::Ready,
+        })
+    }
 }

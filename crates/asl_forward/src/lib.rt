@@ -1,8 +1,14 @@
 #![tactic(auto)]
 
 //! Frames, and what a state makes of one.
+mod error;
 mod frame;
+mod prepare;
+mod processing;
+#[cfg(test)]
+mod tests;
 mod turn;
 
 pub use frame::{Fault, Frame, Origin, Phase, Retries};
-pub use turn::{after_state, first_frame};
+pub use prepare::{Outcome, Prepared, prepare};
+pub use turn::{first_frame, next_frame, standing};

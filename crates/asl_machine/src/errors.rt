@@ -1,4 +1,6 @@
 // What a state does with errors (Amazon States Language, "Errors").
+ghost use Rattle.std.specs.Prelude.{◌≡◌};
+
 use json_tree::Text;
 use ref_paths::RefPath;
 use std::marker::Model;
@@ -41,6 +43,15 @@ impl Model for Retriers {
     ghost coded = { Prim.hlevel (codes, retrier.the_row.coded) };
 
     ghost view = { λ a. a.inner.items };
+}
+
+impl Retriers {
+    /// The retriers in the order in which they are asked, lent.
+    pub fn as_slice(&self) -> &[Retrier]
+        ensures { result.now ≡ self.now }
+    {
+        self.inner.as_slice()
+    }
 }
 
 /// Where a state goes after certain errors, and where the error is placed: `result_path` is `None` where it is dropped

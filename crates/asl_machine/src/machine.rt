@@ -88,6 +88,13 @@ impl Machine {
         &self.start
     }
 
+    /// The state of this name in this machine's own `States` object, found in time logarithmic in the number of states.
+    pub fn state(&self, name: &Text) -> Option<&State>
+        ensures { option_copied result ≡ state_of name.now self.now.states }
+    {
+        self.states.get(name)
+    }
+
     /// The branch or the processor that the path leads to; this machine, where the path is outermost. Takes, for each step,
     /// time logarithmic in the number of states.
     pub fn machine_at(&self, path: &LevelPath) -> Option<&Machine>

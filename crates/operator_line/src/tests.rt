@@ -255,8 +255,8 @@ const DEFINITION_ROWS: [(&str, &str); 20] = [
         "no 3 2 \"End\"\n",
     ),
     (
-        r#"define p {"StartAt":"P","States":{"P":{"Type":"Pass","InputPath":"$","End":true}}}"#,
-        "no 3 3 \"InputPath\"\n",
+        r#"define p {"StartAt":"P","States":{"P":{"Type":"Pass","InputPath":7,"End":true}}}"#,
+        "no 3 4 \"InputPath\"\n",
     ),
     (
         r#"define p {"StartAt":"P","States":{"P":{"Type":"Pass","Result":1.5,"End":true}}}"#,
@@ -285,6 +285,46 @@ const DEFINITION_ROWS: [(&str, &str); 20] = [
 #[test]
 fn faults_of_definitions(rt: HostRuntime) -> Result<(), Fail> {
     expect(&rt, rt.alloc(), DEFINITION_ROWS.as_slice())
+}
+
+const PATH_ROWS: [(&str, &str); 20] = [
+    ("table items id:S []", "ok\n"),
+    (
+        r#"define f {"StartAt":"P","States":{"P":{"Type":"Pass","InputPath":"$.x","Parameters":{"y.$":"$.z","k":[{"w.$":"$"}]},"ResultPath":"$.r","OutputPath":"$.r","End":true}}}"#,
+        "ok\n",
+    ),
+    (
+        r#"define h {"StartAt":"P","States":{"P":{"Type":"Pass","Result":7,"ResultPath":"$.r","End":true}}}"#,
+        "ok\n",
+    ),
+    (r#"start a f {"x":{"z":5}}"#, "ok a#0\n"),
+    ("step a", "ok a#1 plain\n"),
+    ("show a", "ok done {\"k\":[{\"w\":{\"z\":5}}],\"y\":5}\n"),
+    (r#"start b f {"x":{}}"#, "ok b#0\n"),
+    ("step b", "ok b#1 plain\n"),
+    ("show b", "ok failed \"States.ParameterPathFailure\" \"\"\n"),
+    (r#"start c h {"a":1}"#, "ok c#0\n"),
+    ("step c", "ok c#1 plain\n"),
+    ("show c", "ok done {\"a\":1,\"r\":7}\n"),
+    ("start d h 1", "ok d#0\n"),
+    ("step d", "ok d#1 plain\n"),
+    ("show d", "ok failed \"States.ResultPathMatchFailure\" \"\"\n"),
+    ("step d", "no 6 failed\n"),
+    ("undo d#1", "ok\n"),
+    ("show d", "ok ready \"P\" 0\n"),
+    (
+        r#"define e {"StartAt":"F","States":{"F":{"Type":"Fail","Comment":"x","InputPath":"$"}}}"#,
+        "no 3 2 \"InputPath\"\n",
+    ),
+    (
+        r#"define e {"StartAt":"P","States":{"P":{"Type":"Pass","OutputPath":"a","End":true}}}"#,
+        "no 3 4 \"OutputPath\"\n",
+    ),
+];
+
+#[test]
+fn paths_and_templates(rt: HostRuntime) -> Result<(), Fail> {
+    expect(&rt, rt.alloc(), PATH_ROWS.as_slice())
 }
 
 #[test]

@@ -13,7 +13,7 @@ ghost use Rattle.plain_replay.specs.Worlds.{world_at, worlds};
 use crate::history::remaining;
 use crate::machines::{machine_of, ready_state};
 use crate::step::Step;
-use asl_forward::{Frame, after_state, first_frame};
+use asl_forward::{Frame, first_frame, next_frame};
 use json_tree::{Json, Text};
 use rollback_book::Entry;
 use std::alloc::{AllocError, Global};
@@ -137,11 +137,11 @@ fn moved(
     let Some(frame) = frames.get(&name.thread) else {
         return Ok(None);
     };
-    let Some(state) = ready_state(log, frame) else {
+    let Some((level, state)) = ready_state(log, frame) else {
         return Ok(None);
     };
     if name.no == 0 || name.no - 1 != frame.count {
         return Ok(None);
     }
-    Ok(Some(after_state(alloc, state, frame)?))
+    Ok(Some(next_frame(alloc, level, state, frame)?))
 }

@@ -1,11 +1,11 @@
 // The machines of a log.
-ghost use Rattle.std.specs.Prelude.{◌≡◌, ◌∷◌, [], option_copied, option_and_then};
-ghost use Rattle.asl_machine.specs.Find.{state_at};
+ghost use Rattle.std.specs.Prelude.{◌≡◌, ◌∷◌, [], option_copied, option_map, option_and_then};
+ghost use Rattle.asl_forward.specs.Turn.{standing};
 ghost use Rattle.rollback_book.specs.Story.{machine_of};
 ghost use Rattle.rollback_book.specs.Move.{ready_state};
 
-use asl_forward::{Frame, Phase};
-use asl_machine::{SharedMachine, State};
+use asl_forward::{Frame, Phase, standing};
+use asl_machine::{Machine, SharedMachine, State};
 use json_tree::Text;
 use rollback_book::Entry;
 
@@ -34,23 +34,23 @@ fn defined<'a>(entry: &'a Entry, name: &Text) -> Option<&'a SharedMachine>
     }
 }
 
-/// The state that a frame is ready to run.
-pub fn ready_state<'a>(log: &'a [Entry], frame: &Frame) -> Option<&'a State>
-    ensures { option_copied result ≡ ready_state (λ name. machine_of name log.now) frame.now frame.now.phase }
+/// The state that a frame is ready to run, after its level.
+pub fn ready_state<'a>(log: &'a [Entry], frame: &Frame) -> Option<(&'a Machine, &'a State)>
+    ensures { option_map (λ p. (p.0.now, p.1.now)) result ≡ ready_state (λ name. machine_of name log.now) frame.now frame.now.phase }
 {
     match frame.phase {
-        Phase::Ready => state_of(log, frame),
+        Phase::Ready => standing_in(log, frame),
         _ => None,
     }
 }
 
-/// The state before which a frame stands.
-fn state_of<'a>(log: &'a [Entry], frame: &Frame) -> Option<&'a State>
-    ensures { option_copied result ≡ option_and_then (λ d. state_at frame.now.level.path frame.now.state d)
+/// Where a frame stands.
+fn standing_in<'a>(log: &'a [Entry], frame: &Frame) -> Option<(&'a Machine, &'a State)>
+    ensures { option_map (λ p. (p.0.now, p.1.now)) result ≡ option_and_then (λ d. standing d frame.now)
         (machine_of frame.now.level.machine log.now) }
 {
     match machine_of(log, &frame.level.machine) {
-        Some(shared) => shared.machine().state_at(&frame.level.path, &frame.state),
+        Some(shared) => standing(shared.machine(), frame),
         None => None,
     }
 }

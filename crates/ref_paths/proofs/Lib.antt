@@ -5,6 +5,7 @@ pub mod Scans
 pub mod PickedAgain
 pub mod Composed
 pub mod PlacedDepth
+pub mod Inside
 pub mod OneSpelling
 pub mod Sources
 pub mod TemplateReadings

@@ -42,11 +42,11 @@ field_low_at Equal n m ms c b is low has rest =
     rw (← one) (omega (arith, low))
 field_low_at Greater n m ms c b is low has rest = let later : get_field n ms ≡ Some c = rw is at has in rest later
 
-field_low : (n : List ℕ) (ms : Pairs) (c : Data) (b : ℕ) → fields_depth ms ≤ b → get_field n ms ≡ Some c → depth c ≤ b
+pub field_low : (n : List ℕ) (ms : Pairs) (c : Data) (b : ℕ) → fields_depth ms ≤ b → get_field n ms ≡ Some c → depth c ≤ b
 field_low n [] c b low has = cc has
 field_low n (m ∷ ms) c b low has = field_low_at (text_cmp n m.0) n m ms c b refl low has (field_low n ms c b (omega (arith, low)))
 
-item_low : (n : ℕ) (ds : List Data) (c : Data) (b : ℕ) → list_depth ds ≤ b → slice_get ds n ≡ Some c → depth c ≤ b
+pub item_low : (n : ℕ) (ds : List Data) (c : Data) (b : ℕ) → list_depth ds ≤ b → slice_get ds n ≡ Some c → depth c ≤ b
 item_low n [] c b low has = cc has
 item_low zero (d ∷ ds) c b low has =
     let one : d ≡ c = cc has in

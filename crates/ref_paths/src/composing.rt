@@ -1,33 +1,44 @@
 //! What one path picks after another has placed a value, without placing it.
 
-ghost use Rattle.std.specs.Prelude.{◌≡◌, ◌↔◌, ◌<◌, [], None, Some, IsTrue, IsSome, IfOk, IfErr, option_map};
+ghost use Rattle.std.specs.Prelude.{◌≡◌, ◌↔◌, [], None, Some, Err, IsTrue, IsSome, is_some, IfOk, IfErr, option_map};
 ghost use Rattle.json_tree.specs.Data.{Data};
 ghost use Rattle.json_tree.specs.View.{data_of};
-ghost use Rattle.ref_paths.specs.Composition.{pick_placed_at, data_or_made, told_depth};
+ghost use Rattle.ref_paths.specs.Composition.{NestsWithin, PicksDeeper, pick_placed_at, data_or_made, told_depth};
 ghost use Rattle.ref_paths.specs.Laws.{Part};
 ghost use Rattle.ref_paths.specs.Placing.{opened_at, place_at};
 
 use crate::path::{PathStep, RefPath};
 use crate::picking::pick_steps;
-use crate::placing::{PlaceRefusal, can_place, place_steps};
+use crate::placing::{can_place, place_steps};
 use json_tree::{Json, JsonFields, depth};
-use std::alloc::Global;
+use std::alloc::{AllocError, Global};
 
 /// Why nothing was picked after a value would have been placed.
 #[derive(Clone, Copy, Debug, Drop, PartialEq, Eq)]
 pub enum PickRefusal {
     /// The value cannot be placed there.
     CannotPlace,
-    /// It would nest deeper there than was asked for.
+    /// What is picked would nest deeper than was asked for.
     TooDeep,
     /// An allocation was refused.
     Memory,
 }
 
+impl From<AllocError> for PickRefusal {
+    ghost use Rattle.std.specs.Prelude.{◌≡◌};
+    ghost use Rattle.ref_paths.specs.declared.composing.PickRefusal.TheVariants.{Memory};
+
+    ghost from_gives = { λ _ e. e ≡ Memory };
+
+    fn from(_refused: AllocError) -> PickRefusal {
+        PickRefusal::Memory
+    }
+}
+
 /// A copy of what `picking` picks after the value was placed at `placing`, and nothing where it picks nothing. The root
-/// and the value are only lent. That the value can be placed, and nests no deeper there than `levels`, is seen before
-/// anything is made; so what is made nests no deeper than the root, or `levels`. Goes over both paths by loops, but calls
-/// itself once for each level of the part of the root that is both picked and placed in.
+/// and the value are only lent. That the value can be placed, and that what is picked nests no deeper than `levels`, is
+/// seen before anything deeper than the root or `levels` is made. Goes over both paths by loops, but calls itself once for
+/// each level of the part of the root that is both picked and placed in. Looks at each value inside of what is picked.
 pub fn pick_placed(
     alloc: Global,
     root: &Json,
@@ -37,19 +48,28 @@ pub fn pick_placed(
     levels: u32,
 ) -> Result<Option<Json>, PickRefusal>
     ensures ok { IfOk result (λ r. pick_placed_at placing.now picking.now (data_of value.now) (data_of root.now) ≡ Some (option_map data_of r)) }
+    ensures shallow { IfOk result (λ r. NestsWithin levels (option_map data_of r)) }
     ensures cannot { (result ≡ Err PickRefusal.CannotPlace) ↔ (place_at placing.now (data_of value.now) (data_of root.now) ≡ None) }
-    ensures deep { (result ≡ Err PickRefusal.TooDeep) ↔ (IsSome (place_at placing.now (data_of value.now) (data_of root.now)) × (levels < told_depth placing.now (data_of value.now))) }
+    ensures deep { result ≡ Err PickRefusal.TooDeep → PicksDeeper levels (pick_placed_at placing.now picking.now (data_of value.now) (data_of root.now)) }
 {
-    if !can_place(Some(root), placing.steps.as_slice()) {
-        return Err(PickRefusal::CannotPlace);
+    let mut current = Some(root);
+    let mut to_place = placing.steps.as_slice();
+    let mut to_pick = picking.steps.as_slice();
+    while let Some((step, rest)) = to_place.split_first() {
+        let Some((other, others)) = to_pick.split_first() else {
+            return pick_whole(alloc, current, to_place, value, levels);
+        };
+        if !step.is_same(other) {
+            return pick_apart(current, to_place, to_pick, levels);
+        }
+        let Some(child) = step.open(current) else {
+            return Err(PickRefusal::CannotPlace);
+        };
+        current = child;
+        to_place = rest;
+        to_pick = others;
     }
-    if placing.placed_depth(value) > levels {
-        return Err(PickRefusal::TooDeep);
-    }
-    match pick_on(alloc, root, placing, value, picking) {
-        Ok(picked) => Ok(picked),
-        Err(_refused) => Err(PickRefusal::Memory),
-    }
+    copy_picked(pick_steps(to_pick, value), levels)
 }
 
 impl RefPath {
@@ -60,39 +80,22 @@ impl RefPath {
     pub fn placed_depth(&self, value: &Json) -> u32
         ensures { result ≡ told_depth self.now (data_of value.now) }
     {
-        let steps = u32::try_from(self.steps.len()).unwrap_or(u32::MAX);
-        depth(value).saturating_add(steps)
+        placed_depth(self.steps.as_slice(), value)
+    }
+
+    /// Whether some value can be placed where the path leads. Takes no memory, and a look-up for each step.
+    pub fn can_place(&self, root: &Json) -> bool
+        ensures { (value : Data) → result ≡ is_some (place_at self.now value (data_of root.now)) }
+    {
+        can_place(Some(root), self.steps.as_slice())
     }
 }
 
-fn pick_on(
-    alloc: Global,
-    root: &Json,
-    placing: &RefPath,
-    value: &Json,
-    picking: &RefPath,
-) -> Result<Option<Json>, PlaceRefusal>
-    ensures ok { IfOk result (λ r. pick_placed_at placing.now picking.now (data_of value.now) (data_of root.now) ≡ Some (option_map data_of r)) }
-    ensures cannot { (result ≡ Err PlaceRefusal.CannotPlace) ↔ (place_at placing.now (data_of value.now) (data_of root.now) ≡ None) }
+fn placed_depth(steps: &[PathStep], value: &Json) -> u32
+    ensures { result ≡ told_depth steps.now (data_of value.now) }
 {
-    let mut current = Some(root);
-    let mut to_place = placing.steps.as_slice();
-    let mut to_pick = picking.steps.as_slice();
-    while let Some((step, rest)) = to_place.split_first() {
-        let Some((other, others)) = to_pick.split_first() else {
-            return pick_whole(alloc, current, to_place, value);
-        };
-        if !step.is_same(other) {
-            return pick_apart(current, to_place, to_pick);
-        }
-        let Some(child) = step.open(current) else {
-            return Err(PlaceRefusal::CannotPlace);
-        };
-        current = child;
-        to_place = rest;
-        to_pick = others;
-    }
-    copy_picked(pick_steps(to_pick, value))
+    let steps = u32::try_from(steps.len()).unwrap_or(u32::MAX);
+    depth(value).saturating_add(steps)
 }
 
 impl PathStep {
@@ -129,20 +132,52 @@ fn pick_whole(
     root: Option<&Json>,
     to_place: &[PathStep],
     value: &Json,
-) -> Result<Option<Json>, PlaceRefusal>
+    levels: u32,
+) -> Result<Option<Json>, PickRefusal>
     ensures ok { IfOk result (λ r. pick_placed_at to_place.now [] (data_of value.now) (data_or_made root.entry) ≡ Some (option_map data_of r)) }
-    ensures cannot { (result ≡ Err PlaceRefusal.CannotPlace) ↔ (place_at to_place.now (data_of value.now) (data_or_made root.entry) ≡ None) }
+    ensures shallow { IfOk result (λ r. NestsWithin levels (option_map data_of r)) }
+    ensures cannot { (result ≡ Err PickRefusal.CannotPlace) ↔ (place_at to_place.now (data_of value.now) (data_or_made root.entry) ≡ None) }
+    ensures deep { result ≡ Err PickRefusal.TooDeep → PicksDeeper levels (pick_placed_at to_place.now [] (data_of value.now) (data_or_made root.entry)) }
 {
     if !can_place(root, to_place) {
-        return Err(PlaceRefusal::CannotPlace);
+        return Err(PickRefusal::CannotPlace);
     }
+    if placed_depth(to_place, value) > levels {
+        return Err(PickRefusal::TooDeep);
+    }
+    let placed = place_on(alloc, root, to_place, value)?;
+    if depth(&placed) > levels {
+        drop(placed);
+        return Err(PickRefusal::TooDeep);
+    }
+    Ok(Some(placed))
+}
+
+/// A copy of the root with the value placed in it.
+fn place_on(
+    alloc: Global,
+    root: Option<&Json>,
+    to_place: &[PathStep],
+    value: &Json,
+) -> Result<Json, PickRefusal>
+    requires { IsSome (place_at to_place.now (data_of value.now) (data_or_made root)) }
+    ensures ok { IfOk result (λ j. place_at to_place.now (data_of value.now) (data_or_made root.entry) ≡ Some (data_of j)) }
+    ensures refused { IfErr result (λ e. e ≡ PickRefusal.Memory) }
+{
     let copy = match root {
         Some(json) => json.copy()?,
         None => Json::Fields(JsonFields::new(alloc)),
     };
-    match place_steps(alloc, copy, to_place, value.copy()?) {
-        Ok(placed) => Ok(Some(placed)),
-        Err(fault) => Err(fault.refusal),
+    let Ok(value) = value.copy() else {
+        drop(copy);
+        return Err(PickRefusal::Memory);
+    };
+    match place_steps(alloc, copy, to_place, value) {
+        Ok(placed) => Ok(placed),
+        Err(fault) => {
+            drop(fault);
+            Err(PickRefusal::Memory)
+        }
     }
 }
 
@@ -151,26 +186,34 @@ fn pick_apart(
     root: Option<&Json>,
     to_place: &[PathStep],
     to_pick: &[PathStep],
-) -> Result<Option<Json>, PlaceRefusal>
+    levels: u32,
+) -> Result<Option<Json>, PickRefusal>
     requires { Part to_place.now to_pick.now }
     ensures ok { (value : Data) → IfOk result (λ r. pick_placed_at to_place.now to_pick.now value (data_or_made root.entry) ≡ Some (option_map data_of r)) }
-    ensures cannot { (value : Data) → (result ≡ Err PlaceRefusal.CannotPlace) ↔ (place_at to_place.now value (data_or_made root.entry) ≡ None) }
+    ensures shallow { IfOk result (λ r. NestsWithin levels (option_map data_of r)) }
+    ensures cannot { (value : Data) → (result ≡ Err PickRefusal.CannotPlace) ↔ (place_at to_place.now value (data_or_made root.entry) ≡ None) }
+    ensures deep { (value : Data) → result ≡ Err PickRefusal.TooDeep → PicksDeeper levels (pick_placed_at to_place.now to_pick.now value (data_or_made root.entry)) }
 {
     if !can_place(root, to_place) {
-        return Err(PlaceRefusal::CannotPlace);
+        return Err(PickRefusal::CannotPlace);
     }
     match root {
-        Some(json) => copy_picked(pick_steps(to_pick, json)),
+        Some(json) => copy_picked(pick_steps(to_pick, json), levels),
         None => Ok(None),
     }
 }
 
-fn copy_picked(picked: Option<&Json>) -> Result<Option<Json>, PlaceRefusal>
+fn copy_picked(picked: Option<&Json>, levels: u32) -> Result<Option<Json>, PickRefusal>
     ensures ok { IfOk result (λ r. option_map data_of r ≡ option_map (λ j. data_of j.now) picked.entry) }
-    ensures memory { IfErr result (λ e. e ≡ PlaceRefusal.Memory) }
+    ensures shallow { IfOk result (λ r. NestsWithin levels (option_map data_of r)) }
+    ensures cannot { result ≡ Err PickRefusal.CannotPlace → ⊥ }
+    ensures deep { result ≡ Err PickRefusal.TooDeep → PicksDeeper levels (Some (option_map (λ j. data_of j.now) picked.entry)) }
 {
-    match picked {
-        Some(json) => Ok(Some(json.copy()?)),
-        None => Ok(None),
+    let Some(json) = picked else {
+        return Ok(None);
+    };
+    if depth(json) > levels {
+        return Err(PickRefusal::TooDeep);
     }
+    Ok(Some(json.copy()?))
 }

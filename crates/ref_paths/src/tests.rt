@@ -312,8 +312,10 @@ fn goes_long_paths_on_a_small_stack(rt: HostRuntime) -> Result<(), Fail> {
     let alloc = rt.alloc();
     let long = long_path(alloc, "")?;
     let beyond = long_path(alloc, "[0]")?;
-    assert!(rt; is_picked_after(alloc, &long, &long, 100_000, Ok(Some(Json::Whole(1)))));
-    assert!(rt; is_picked_after(alloc, &long, &beyond, 100_000, Ok(None)));
+    assert!(rt; is_picked_after(alloc, &long, &long, 0, Ok(Some(Json::Whole(1)))));
+    assert!(rt; is_picked_after(alloc, &long, &beyond, 0, Ok(None)));
+    let empty = Json::Fields(JsonFields::new(alloc));
+    assert!(rt; long.can_place(&empty) && !beyond.can_place(&empty));
     let other = path(alloc, "$.b")?;
     assert!(rt; is_picked_after(alloc, &beyond, &other, 127, Err(PickRefusal::CannotPlace)));
     let whole = path(alloc, "$")?;

@@ -8,6 +8,7 @@ use Rattle.std.specs.Ordering.{nat_cmp}
 use Rattle.std.specs.Cmp.Lexicographic.{slice_cmp}
 use Rattle.std.specs.BTreeMap.{BTreeMap, get, is_at}
 use Rattle.std.specs.Map.{lookup}
+use Rattle.asl_forward.specs.Turn.{Standing, standing}
 use Rattle.rollback_book.specs.Legal.{IsLegal}
 use Rattle.std.specs.Prelude.{option_and_then}
 use Rattle.step_names.specs.Thread.{Thread}
@@ -15,8 +16,6 @@ use Rattle.step_names.specs.Order.{thread_cmp}
 use Rattle.step_names.specs.declared.step.StepName.{StepName}
 use Rattle.asl_machine.specs.Complete.{IsComplete}
 use Rattle.asl_machine.specs.Definition.{Definition}
-use Rattle.asl_machine.specs.Find.{state_at}
-use Rattle.asl_machine.specs.declared.state.State.{State}
 use Rattle.rollback_book.specs.Names.{Step, started, moved}
 use Rattle.rollback_book.specs.World.{World}
 use Rattle.rollback_book.specs.Move.{ready_state, next_step, take_step}
@@ -80,10 +79,10 @@ with_machines w m = record { machines = m; frames = w.frames; table = w.table }
 abbrev Grows : (List ℕ → Option Definition) → (List ℕ → Option Definition) → Type 0
 Grows old new = (q : List ℕ) (d : Definition) → old q ≡ Some d → new q ≡ Some d
 
-ready_wider : (old new : List ℕ → Option Definition) (f : Frame) (p : Phase) (s : State) → Grows old new → ready_state old f p ≡ Some s → ready_state new f p ≡ Some s
+ready_wider : (old new : List ℕ → Option Definition) (f : Frame) (p : Phase) (s : Standing) → Grows old new → ready_state old f p ≡ Some s → ready_state new f p ≡ Some s
 ready_wider old new f Ready s grows h =
-    let a = and_then_some (λ (d : Definition). state_at f.level.path f.state d) (old f.level.machine) s h in
-    ap (λ (o : Option Definition). option_and_then (λ (d : Definition). state_at f.level.path f.state d) o) (grows f.level.machine a.0 a.1) ∙ a.2
+    let a = and_then_some (λ (d : Definition). standing d f) (old f.level.machine) s h in
+    ap (λ (o : Option Definition). option_and_then (λ (d : Definition). standing d f) o) (grows f.level.machine a.0 a.1) ∙ a.2
 ready_wider old new f (Parked n) s grows h = cc
 ready_wider old new f (Done output) s grows h = cc
 ready_wider old new f (Failed fault) s grows h = cc

@@ -17,11 +17,10 @@ use Rattle.step_names.specs.declared.step.StepName.{StepName}
 use Rattle.step_names.proofs.OrderLaws.{thread_same, thread_itself}
 use Rattle.json_tree.specs.declared.tree.Json.{Json}
 use Rattle.asl_machine.specs.Definition.{Definition}
-use Rattle.asl_machine.specs.declared.state.State.{State}
 use Rattle.rollback_book.specs.Names.{Step, started, moved, name_of, start_name, is_same_thread, is_same_step}
 use Rattle.rollback_book.specs.World.{World, with_frame, set_frame}
 use Rattle.rollback_book.specs.Move.{ready_state, next_step, take_step}
-use Rattle.asl_forward.specs.Turn.{first_frame, after_state}
+use Rattle.asl_forward.specs.Turn.{Standing, first_frame, after_state}
 use Rattle.rollback_book.specs.Story.{remaining, steps_after, machine_of, is_same_name, base_of, without, facts_of}
 use Rattle.rollback_book.specs.Answers.{is_full_for_step, undo_answer, found_answer, free_answer, last_answer, from_step}
 use Rattle.rollback_book.specs.Legal.{IsAccepted, GoesOnLegally, IsLegal}
@@ -170,7 +169,7 @@ ok_step : (full : Bool) (m : Moved) → cond full (Err Full) (Ok m) ≡ Ok m →
 ok_step true m h = cc
 ok_step false m h = refl
 
-pub step_taken_by : (w : World) (t : Thread) (f : Frame) (s : State) → w.frames t ≡ Some f → ready_state w.machines f f.phase ≡ Some s
+pub step_taken_by : (w : World) (t : Thread) (f : Frame) (s : Standing) → w.frames t ≡ Some f → ready_state w.machines f f.phase ≡ Some s
     → take_step w (moved (next_step t f)) ≡ Some (set_frame w t (Some (after_state s f)), record { name = next_step t f; kind = Plain; access = None })
 step_taken_by w t f s stands ready = rw (stands, ready, eq-eqb (f.count + 1) (f.count + 1) refl) refl
 

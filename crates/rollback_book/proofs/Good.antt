@@ -9,14 +9,11 @@ use Rattle.json_tree.specs.declared.tree.Json.{Json}
 use Rattle.step_names.specs.Thread.{Thread}
 use Rattle.step_names.specs.declared.step.StepName.{StepName}
 use Rattle.step_names.proofs.OrderLaws.{thread_same, thread_itself}
-use Rattle.asl_machine.specs.declared.state.State.{State}
-use Rattle.asl_machine.specs.declared.state.State.TheVariants.{Pass}
-use Rattle.asl_machine.specs.declared.state.Transition.{Transition}
-use Rattle.asl_machine.specs.declared.state.Transition.TheVariants.{Next, End}
 use Rattle.rollback_book.specs.Names.{Step, started, moved, name_of, is_same_thread, is_same_step}
 use Rattle.rollback_book.specs.World.{World, set_frame}
 use Rattle.rollback_book.specs.Move.{take_step}
-use Rattle.asl_forward.specs.Turn.{first_frame, after_state, go_on}
+use Rattle.asl_forward.specs.Turn.{first_frame, after_state}
+use Rattle.asl_forward.proofs.Turns.{next_frame-count}
 use Rattle.rollback_book.specs.Story.{base_of, without}
 use Rattle.asl_forward.specs.declared.frame.Frame.{Frame}
 use Rattle.rollback_book.specs.declared.log.Entry.{Entry}
@@ -32,14 +29,6 @@ IsCounted w name = (f : Frame) × (w.frames name.thread ≡ Some f) × (name.no 
 pub record IsGood (steps : List Step) (w : World) : Type 0 where
   pub few : (t : Thread) (f : Frame) → w.frames t ≡ Some f → f.count ≤ length steps
   pub counted : AllByRecursion (λ (s : Step). IsCounted w (name_of s)) steps
-
-go_on-count : (n : Transition) (f : Frame) (output : Json) → (go_on n f output).count ≡ f.count + 1
-go_on-count (Next name) f output = refl
-go_on-count End f output = refl
-
-pub after_state-count : (s : State) (f : Frame) → (after_state s f).count ≡ f.count + 1
-after_state-count (Pass p) f = go_on-count p.transition f _
-after_state-count _ f = refl
 
 -- what is at a thread after a frame was set
 pub at_set : (w : World) (t q : Thread) (g f : Frame) → (set_frame w t (Some g)).frames q ≡ Some f
@@ -90,7 +79,7 @@ good_step steps w (started exec machine input) v f good h =
 good_step steps w (moved name) v f good h =
     let i = move_is w name v f h in
     let g = after_state i.state i.frame in
-    let c : g.count ≡ i.frame.count + 1 = after_state-count i.state i.frame in
+    let c : g.count ≡ i.frame.count + 1 = next_frame-count i.state.0 i.state.1 i.frame in
     let bound = good.few name.thread i.frame i.stands in
     subst (IsGood (steps ++ moved name ∷ [])) (sym i.world)
     (good_set steps w (moved name) name.thread g good

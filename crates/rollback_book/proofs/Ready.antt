@@ -6,16 +6,15 @@ use Rattle.json_tree.specs.declared.tree.Json.{Json}
 use Rattle.step_names.specs.Thread.{Thread}
 use Rattle.asl_machine.specs.Complete.{IsComplete, LeadsInto, StaysInside, state_of}
 use Rattle.asl_machine.specs.Definition.{Definition}
-use Rattle.asl_machine.specs.Find.{state_at}
+use Rattle.asl_machine.specs.Find.{machine_at}
+use Rattle.asl_machine.specs.declared.level.Level.{Level}
 use Rattle.asl_machine.specs.declared.level.LevelStep.{LevelStep}
 use Rattle.asl_machine.specs.declared.state.State.{State}
-use Rattle.asl_machine.specs.declared.state.State.TheVariants.{Pass}
-use Rattle.asl_machine.specs.declared.state.Transition.{Transition}
-use Rattle.asl_machine.specs.declared.state.Transition.TheVariants.{Next, End}
 use Rattle.rollback_book.specs.Names.{Step, started, moved}
 use Rattle.rollback_book.specs.World.{World, set_frame}
 use Rattle.rollback_book.specs.Move.{ready_state, moves_to, move_frame, move, take_step, readiness_of}
-use Rattle.asl_forward.specs.Turn.{first_frame, go_on, after_state}
+use Rattle.asl_forward.specs.Turn.{Standing, first_frame, next_frame, after_state}
+use Rattle.asl_forward.proofs.Turns.{next_frame-level, next_frame-state}
 use Rattle.rollback_book.specs.Story.{remaining, base_of, machine_of, is_same_name, world_of}
 use Rattle.rollback_book.specs.Answers.{step_answer, thread_answer, moved_answer, is_full_for_step}
 use Rattle.rollback_book.specs.Legal.{GoesOnLegally, IsLegal}
@@ -45,20 +44,31 @@ record Stands (m : List ℕ → Option Definition) (f : Frame) : Type 0 where
   pub outermost : f.level.path ≡ []
   pub before : IsSome (state_of f.state machine.states)
 
-stands_on : (m : List ℕ → Option Definition) (n : Transition) (f : Frame) (output : Json) (st : Stands m f) → LeadsInto st.machine.states n → Stands m (go_on n f output)
-stands_on m (Next name) f output st leads = record { machine = st.machine; known = st.known; outermost = st.outermost; before = leads }
-stands_on m End f output st leads = record { machine = st.machine; known = st.known; outermost = st.outermost; before = st.before }
+stands_after : (m : List ℕ → Option Definition) (s : State) (f : Frame) (st : Stands m f) → StaysInside st.machine.states s → Stands m (next_frame st.machine s f)
+stands_after m s f st inside =
+    let level = next_frame-level st.machine s f in
+    record {
+      machine = st.machine;
+      known = ap (λ (l : Level). m l.machine) level ∙ st.known;
+      outermost = ap (λ (l : Level). l.path) level ∙ st.outermost;
+      before = next_frame-state st.machine s f inside st.before;
+    }
 
-stands_after : (m : List ℕ → Option Definition) (s : State) (f : Frame) (st : Stands m f) → StaysInside st.machine.states s → Stands m (after_state s f)
-stands_after m (Pass p) f st inside = stands_on m p.transition f _ st inside
-stands_after m _ f st inside = stands_on m End f f.raw st tt
+abbrev at_level : Definition → Option State → Option Standing
+at_level d o = option_map (λ s. (d, s)) o
 
-ready_by : (m : List ℕ → Option Definition) (f : Frame) (st : Stands m f) → ready_state m f Ready ≡ state_of f.state st.machine.states
+ready_by : (m : List ℕ → Option Definition) (f : Frame) (st : Stands m f) → ready_state m f Ready ≡ at_level st.machine (state_of f.state st.machine.states)
 ready_by m f st =
-    ap₂ (λ (path : List LevelStep) (o : Option Definition). option_and_then (λ (d : Definition). state_at path f.state d) o) st.outermost st.known
+    ap₂ (λ (path : List LevelStep) (o : Option Definition). option_and_then (λ (d : Definition). option_and_then (λ (level : Definition). at_level level (state_of f.state level.states)) (machine_at path d)) o) st.outermost st.known
 
-ready_is : (m : List ℕ → Option Definition) (f : Frame) (p : Phase) (s : State) (st : Stands m f) → ready_state m f p ≡ Some s → state_of f.state st.machine.states ≡ Some s
-ready_is m f Ready s st h = sym (ready_by m f st) ∙ h
+at_level_is : (d : Definition) (o : Option State) (s : Standing) → at_level d o ≡ Some s → (s.0 ≡ d) × (o ≡ Some s.1)
+at_level_is d None s h = cc h
+at_level_is d (Some x) s h =
+    let same = same_Some (d, x) s h in
+    (sym (ap (λ (p : Standing). p.0) same), ap (λ (p : Standing). Some p.1) same)
+
+ready_is : (m : List ℕ → Option Definition) (f : Frame) (p : Phase) (s : Standing) (st : Stands m f) → ready_state m f p ≡ Some s → (s.0 ≡ st.machine) × (state_of f.state st.machine.states ≡ Some s.1)
+ready_is m f Ready s st h = at_level_is st.machine (state_of f.state st.machine.states) s (sym (ready_by m f st) ∙ h)
 ready_is m f (Parked n) s st h = cc
 ready_is m f (Done output) s st h = cc
 ready_is m f (Failed fault) s st h = cc
@@ -85,8 +95,10 @@ stand_step w (moved name) v fact complete all h =
     let st = all name.thread i.frame i.stands in
     let here = ready_is w.machines i.frame i.frame.phase i.state st i.ready in
     let whole = (complete i.frame.level.machine st.machine st.known).stays i.frame.state in
-    let inside : StaysInside st.machine.states i.state = subst (λ (o : Option State). IfSome o (StaysInside st.machine.states)) here whole in
-    subst AllStand (sym i.world) (stand_set w name.thread (after_state i.state i.frame) all (stands_after w.machines i.state i.frame st inside))
+    let inside : StaysInside st.machine.states i.state.1 = subst (λ (o : Option State). IfSome o (StaysInside st.machine.states)) here.1 whole in
+    let after : Stands w.machines (after_state i.state i.frame) =
+    subst (λ (d : Definition). Stands w.machines (next_frame d i.state.1 i.frame)) (sym here.0) (stands_after w.machines i.state.1 i.frame st inside) in
+    subst AllStand (sym i.world) (stand_set w name.thread (after_state i.state i.frame) all after)
 
 stand_run : (steps : List Step) (w v : World) (rs : List StepRecord) → AreComplete w.machines → AllStand w → Runs w steps v rs → AllStand v
 stand_run [] w v rs complete all h = subst AllStand h.0 all
@@ -116,16 +128,21 @@ all_stand log legal =
 
 -- ---- the laws
 
-some_moves : (w : World) (t : Thread) (f : Frame) (o : Option State) → IsSome o → IsSome (option_map (λ (s : State). moves_to w t f (after_state s f)) o)
+some_moves : (w : World) (t : Thread) (f : Frame) (o : Option Standing) → IsSome o → IsSome (option_map (λ (s : Standing). moves_to w t f (after_state s f)) o)
 some_moves w t f None h = h
 some_moves w t f (Some s) h = refl
+
+some_at_level : (d : Definition) (o : Option State) → IsSome o → IsSome (at_level d o)
+some_at_level d None h = h
+some_at_level d (Some s) h = refl
 
 pub ready_threads_move : ReadyThreadsMove
 ready_threads_move log t f legal there ready =
     let w = world_of log in
     let st = all_stand log legal t f there in
-    let is : ready_state w.machines f f.phase ≡ state_of f.state st.machine.states = ap (ready_state w.machines f) ready ∙ ready_by w.machines f st in
-    let moves : IsSome (move_frame w t f) = some_moves w t f (ready_state w.machines f f.phase) (subst (λ (o : Option State). IsSome o) (sym is) st.before) in
+    let is : ready_state w.machines f f.phase ≡ at_level st.machine (state_of f.state st.machine.states) = ap (ready_state w.machines f) ready ∙ ready_by w.machines f st in
+    let some = some_at_level st.machine (state_of f.state st.machine.states) st.before in
+    let moves : IsSome (move_frame w t f) = some_moves w t f (ready_state w.machines f f.phase) (subst (λ (o : Option Standing). IsSome o) (sym is) some) in
     subst (λ (o : Option Frame). IsSome (option_and_then (move_frame w t) o)) (sym there) moves
 
 phase_ready : (p : Phase) → readiness_of p ≡ readiness.Ready → p ≡ Ready

@@ -7,11 +7,10 @@ use Rattle.json_tree.specs.declared.tree.Json.{Json}
 use Rattle.step_names.specs.Thread.{Thread}
 use Rattle.step_names.specs.declared.step.StepName.{StepName}
 use Rattle.asl_machine.specs.Definition.{Definition}
-use Rattle.asl_machine.specs.declared.state.State.{State}
 use Rattle.rollback_book.specs.Names.{Step, started, moved, name_of, start_name}
 use Rattle.rollback_book.specs.World.{World, set_frame}
 use Rattle.rollback_book.specs.Move.{ready_state, moves_to, move_frame, move, if_numbered, take_step, run}
-use Rattle.asl_forward.specs.Turn.{first_frame, after_state}
+use Rattle.asl_forward.specs.Turn.{Standing, first_frame, after_state}
 use Rattle.rollback_book.specs.Saving.{record_of, run_saving}
 use Rattle.asl_forward.specs.declared.frame.Frame.{Frame}
 use Rattle.rollback_book.specs.declared.step.Fact.{Fact}
@@ -59,7 +58,7 @@ start_is w exec machine input v f h =
 
 pub record IsMove (w : World) (name : StepName) (v : World) (f : Fact) : Type 0 where
   pub frame : Frame
-  pub state : State
+  pub state : Standing
   pub stands : w.frames name.thread ≡ Some frame
   pub ready : ready_state w.machines frame frame.phase ≡ Some state
   pub numbered : frame.count + 1 ≡ name.no

@@ -3,11 +3,10 @@ use Rattle.std.proofs.Common.{◌≡◌, ℕ, ◌+◌, ◌<◌, Bool, true, fals
 use Rattle.std.specs.Prelude.{is_some, option_map, option_and_then, ◌^◌, suc, nat_le, nat_lt, unwrap_or}
 use Rattle.step_names.specs.Thread.{Thread}
 use Rattle.asl_machine.specs.Definition.{Definition}
-use Rattle.asl_machine.specs.declared.state.State.{State}
 use Rattle.rollback_book.specs.Names.{Step, started, moved, start_name}
 use Rattle.rollback_book.specs.World.{World}
 use Rattle.rollback_book.specs.Move.{ready_state, next_step, moves_to, move_frame, move, readiness_of, take_step}
-use Rattle.asl_forward.specs.Turn.{after_state}
+use Rattle.asl_forward.specs.Turn.{Standing, after_state}
 use Rattle.rollback_book.specs.Story.{remaining, machine_of, base_of, run_of, world_of, facts_of}
 use Rattle.rollback_book.specs.Answers.{is_full_for_step, is_full_for_define, start_answer, step_answer, thread_answer, moved_answer}
 use Rattle.rollback_book.specs.Saving.{IsTied}
@@ -106,25 +105,25 @@ module _ (begin : Begin) (log : List Entry) (w : World) (rs : List StepRecord) (
   pub step_absent : (t : Thread) → w.frames t ≡ None → step_answer log t ≡ Err NoThread
   step_absent t e = step_by t None e
 
-  move_by : (t : Thread) (f : Frame) (o : Option State) → w.frames t ≡ Some f → ready_state w.machines f f.phase ≡ o → move (world_of log) t ≡ option_map (λ s. moves_to w t f (after_state s f)) o
+  move_by : (t : Thread) (f : Frame) (o : Option Standing) → w.frames t ≡ Some f → ready_state w.machines f f.phase ≡ o → move (world_of log) t ≡ option_map (λ s. moves_to w t f (after_state s f)) o
   move_by t f o e r =
       ap (λ (x : World). move x t) world_is
       ∙ ap (λ (x : Option Frame). option_and_then (move_frame w t) x) e
-      ∙ ap (λ (x : Option State). option_map (λ s. moves_to w t f (after_state s f)) x) r
+      ∙ ap (λ (x : Option Standing). option_map (λ s. moves_to w t f (after_state s f)) x) r
 
   pub step_stuck : (t : Thread) (f : Frame) → w.frames t ≡ Some f → ready_state w.machines f f.phase ≡ None → step_answer log t ≡ Err (NotReady (readiness_of f.phase))
   step_stuck t f e r = step_by t (Some f) e ∙ ap (moved_answer log (readiness_of f.phase)) (move_by t f None e r)
 
-  pub step_ready : (t : Thread) (f : Frame) (s : State) (full : Bool) → w.frames t ≡ Some f → ready_state w.machines f f.phase ≡ Some s → is_full_for_step log ≡ full
+  pub step_ready : (t : Thread) (f : Frame) (s : Standing) (full : Bool) → w.frames t ≡ Some f → ready_state w.machines f f.phase ≡ Some s → is_full_for_step log ≡ full
       → step_answer log t ≡ cond full (Err Full) (Ok (let m : Moved = record { name = next_step t f; kind = Plain } in m))
   step_ready t f s full e r b =
       step_by t (Some f) e ∙ ap (moved_answer log (readiness_of f.phase)) (move_by t f (Some s) e r)
       ∙ ap (λ (x : Bool). cond x (Err Full) (Ok (let m : Moved = record { name = next_step t f; kind = Plain } in m))) b
 
-  pub step_full : (t : Thread) (f : Frame) (s : State) → w.frames t ≡ Some f → ready_state w.machines f f.phase ≡ Some s → is_full_for_step log ≡ true → step_answer log t ≡ Err Full
+  pub step_full : (t : Thread) (f : Frame) (s : Standing) → w.frames t ≡ Some f → ready_state w.machines f f.phase ≡ Some s → is_full_for_step log ≡ true → step_answer log t ≡ Err Full
   step_full t f s e r b = step_ready t f s true e r b
 
-  pub step_free : (t : Thread) (f : Frame) (s : State) → w.frames t ≡ Some f → ready_state w.machines f f.phase ≡ Some s → is_full_for_step log ≡ false
+  pub step_free : (t : Thread) (f : Frame) (s : Standing) → w.frames t ≡ Some f → ready_state w.machines f f.phase ≡ Some s → is_full_for_step log ≡ false
       → step_answer log t ≡ Ok (record { name = next_step t f; kind = Plain })
   step_free t f s e r b = step_ready t f s false e r b
 

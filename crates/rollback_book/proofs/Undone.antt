@@ -7,11 +7,10 @@ use Rattle.json_tree.specs.declared.tree.Json.{Json}
 use Rattle.step_names.specs.Thread.{Thread}
 use Rattle.step_names.specs.declared.step.StepName.{StepName}
 use Rattle.asl_machine.specs.Definition.{Definition}
-use Rattle.asl_machine.specs.declared.state.State.{State}
 use Rattle.rollback_book.specs.Names.{Step, started, moved, name_of, start_name, is_same_step}
 use Rattle.rollback_book.specs.World.{World, set_frame}
 use Rattle.rollback_book.specs.Move.{ready_state, next_step, take_step, run}
-use Rattle.asl_forward.specs.Turn.{first_frame, after_state}
+use Rattle.asl_forward.specs.Turn.{Standing, first_frame, after_state}
 use Rattle.rollback_book.specs.Story.{remaining, steps_after, base_of, without, world_of, run_of}
 use Rattle.rollback_book.specs.Answers.{is_full_for_step, step_answer, undo_answer}
 use Rattle.rollback_book.specs.Legal.{IsAccepted, GoesOnLegally, IsLegal}
@@ -171,7 +170,7 @@ module _ (log : List Entry) (w : World) (rs : List StepRecord) (h : IsTied no_be
         tied = tied_start no_begin log w rs enough enough exec frame kept (StartEntry exec machine input) h is room_for;
       }
 
-  moved_of : (name : StepName) (kind : Kind) (f : Frame) (s : State) → w.frames name.thread ≡ Some f → ready_state w.machines f f.phase ≡ Some s → is_full_for_step log ≡ false
+  moved_of : (name : StepName) (kind : Kind) (f : Frame) (s : Standing) → w.frames name.thread ≡ Some f → ready_state w.machines f f.phase ≡ Some s → is_full_for_step log ≡ false
       → step_answer log name.thread ≡ Ok (record { name = name; kind = kind }) → IsMovedBy log w rs name kind
   moved_of name kind f s stands ready free a =
       let t = name.thread in

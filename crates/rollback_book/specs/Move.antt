@@ -4,9 +4,7 @@ use Rattle.json_tree.specs.declared.tree.Json.{Json}
 use Rattle.step_names.specs.Thread.{Thread}
 use Rattle.step_names.specs.declared.step.StepName.{StepName}
 use Rattle.asl_machine.specs.Definition.{Definition}
-use Rattle.asl_machine.specs.Find.{state_at}
-use Rattle.asl_machine.specs.declared.state.State.{State}
-use Rattle.asl_forward.specs.Turn.{after_state, first_frame}
+use Rattle.asl_forward.specs.Turn.{Standing, standing, after_state, first_frame}
 use Rattle.rollback_book.specs.Names.{Step, started, moved, start_name}
 use Rattle.rollback_book.specs.World.{World, set_frame}
 use Rattle.asl_forward.specs.declared.frame.Frame.{Frame}
@@ -19,9 +17,9 @@ use Rattle.rollback_book.specs.declared.step.Readiness.TheVariants as readiness
 
 -- ---- one move
 
--- the state that a frame in this phase is ready to run, by the machines
-abbrev pub ready_state : (List ℕ → Option Definition) → Frame → Phase → Option State
-ready_state machines f Ready = option_and_then (λ d. state_at f.level.path f.state d) (machines f.level.machine)
+-- where a frame in this phase is ready to run a state, by the machines
+abbrev pub ready_state : (List ℕ → Option Definition) → Frame → Phase → Option Standing
+ready_state machines f Ready = option_and_then (λ d. standing d f) (machines f.level.machine)
 ready_state machines f (Parked n) = None
 ready_state machines f (Done output) = None
 ready_state machines f (Failed fault) = None

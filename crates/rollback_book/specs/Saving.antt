@@ -10,11 +10,10 @@ use Rattle.json_tree.specs.Data.{depth}
 use Rattle.json_tree.specs.View.{data_of}
 use Rattle.json_tree.specs.declared.tree.Json.{Json}
 use Rattle.asl_machine.specs.Definition.{Definition}
-use Rattle.asl_machine.specs.declared.state.State.{State}
 use Rattle.rollback_book.specs.Names.{Step, name_of, start_name, is_same_step}
 use Rattle.rollback_book.specs.World.{World}
 use Rattle.rollback_book.specs.Move.{take_step, ready_state, next_step}
-use Rattle.asl_forward.specs.Turn.{after_state, first_frame}
+use Rattle.asl_forward.specs.Turn.{Standing, after_state, first_frame}
 use Rattle.rollback_book.specs.Answers.{start_answer, step_answer}
 use Rattle.rollback_book.specs.Story.{remaining, base_of, machine_of, world_of}
 use Rattle.rollback_book.specs.Legal.{IsLegal}
@@ -90,7 +89,7 @@ pub record IsStartOf (log : List Entry) (thread : Thread) (frame : Frame) (kept 
 -- what a step that is accepted puts into the book
 pub record IsStepOf (log : List Entry) (thread : Thread) (frame : Frame) (fact : Fact) (entry : Entry) : Type 0 where
   pub before : Frame
-  pub state : State
+  pub state : Standing
   pub stands : (world_of log).frames thread ≡ Some before
   pub ready : ready_state (world_of log).machines before before.phase ≡ Some state
   pub frame_is : frame ≡ after_state state before

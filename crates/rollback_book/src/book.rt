@@ -123,8 +123,8 @@ impl Book {
         ensures ok { IfOk result (λ m. self.new ≡ accepted self.old (Entry.Step m.name m.kind)) }
         ensures err { OnErr result (self.new ≡ self.old) }
     {
-        let (frame, state) = self.check_step(thread)?;
-        let made = make_step(alloc, thread, frame, state)?;
+        let (frame, level, state) = self.check_step(thread)?;
+        let made = make_step(alloc, thread, frame, level, state)?;
         Ok(self.enter_step(thread, made)?)
     }
 
@@ -228,24 +228,24 @@ impl Book {
     }
 
     /// The frame of a thread that may move, and the state that it is ready to run.
-    fn check_step(&self, thread: &ThreadName) -> Result<(&Frame, &State), Refusal>
+    fn check_step(&self, thread: &ThreadName) -> Result<(&Frame, &Machine, &State), Refusal>
         ensures answer { MatchResult result
             (λ p. step_answer self.now.log thread.now ≡ Ok (record { name = next_step thread.now p.0.now; kind = Kind.Plain }))
             (λ e. step_answer self.now.log thread.now ≡ Err e) }
         ensures frame { IfOk result (λ p. (world_of self.now.log).frames thread.now ≡ Some p.0.now) }
-        ensures state { IfOk result (λ p. ready_state (world_of self.now.log).machines p.0.now p.0.now.phase ≡ Some p.1.now) }
+        ensures state { IfOk result (λ p. ready_state (world_of self.now.log).machines p.0.now p.0.now.phase ≡ Some (p.1.now, p.2.now)) }
         ensures count { IfOk result (λ p. p.0.now.count + 1 < 2 ^ 32) }
     {
         let Some(frame) = self.frames.get(thread) else {
             return Err(Refusal::NoThread);
         };
-        let Some(state) = maps::ready_state(&self.machines, frame) else {
+        let Some((level, state)) = maps::ready_state(&self.machines, frame) else {
             return Err(Refusal::NotReady(turn::readiness_of(&frame.phase)));
         };
         if maps::is_full_for_step(self.log.len(), self.records.len()) {
             return Err(Refusal::Full);
         }
-        Ok((frame, state))
+        Ok((frame, level, state))
     }
 
     /// Enters a definition that may be taken. Only its room can be refused, and then nothing is changed.

@@ -7,7 +7,7 @@ ghost use Rattle.asl_forward.specs.Turn.{after_state, first_frame};
 use crate::log::Entry;
 use crate::step::{Fact, Kind, Moved, Saved, StepRecord};
 use crate::turn;
-use asl_forward::{Frame, after_state, first_frame};
+use asl_forward::{Frame, first_frame, next_frame};
 use asl_machine::{Machine, SharedMachine, State};
 use json_tree::{Json, Text};
 use std::alloc::{AllocError, Global};
@@ -97,15 +97,16 @@ pub struct MadeStep {
     pub moved: Moved,
 }
 
-/// Makes all that the step of a thread with this frame needs, which runs this state.
+/// Makes all that the step of a thread with this frame needs, which runs this state of its level.
 pub fn make_step(
     alloc: Global,
     thread: &ThreadName,
     frame: &Frame,
+    level: &Machine,
     state: &State,
 ) -> Result<MadeStep, AllocError>
     requires { frame.now.count + 1 < 2 ^ 32 }
-    ensures frame { IfOk result (λ m. m.frame ≡ after_state state.now frame.now) }
+    ensures frame { IfOk result (λ m. m.frame ≡ after_state (level.now, state.now) frame.now) }
     ensures fact { IfOk result (λ m. m.fact ≡ record { name = next_step thread.now frame.now; kind = Kind.Plain; access = None }) }
     ensures entry { IfOk result (λ m. m.entry ≡ Entry.Step (next_step thread.now frame.now) Kind.Plain) }
     ensures moved { IfOk result (λ m. m.moved ≡ record { name = next_step thread.now frame.now; kind = Kind.Plain }) }
@@ -124,7 +125,7 @@ pub fn make_step(
         kind: Kind::Plain,
     };
     Ok(MadeStep {
-        frame: after_state(alloc, state, frame)?,
+        frame: next_frame(alloc, level, state, frame)?,
         fact,
         entry,
         moved,

@@ -1,9 +1,9 @@
 // What the book does to the maps and lists that it keeps.
-ghost use Rattle.std.specs.Prelude.{◌≡◌, ◌+◌, ◌<◌, ◌≤◌, ◌∷◌, ◌++◌, [], None, Some, IfSome, IfNone, OnOk, OnErr, IsSome, ◌||◌, nat_le, nat_lt, ◌^◌, option_copied, option_and_then, vec_len, vec_capacity};
+ghost use Rattle.std.specs.Prelude.{◌≡◌, ◌+◌, ◌<◌, ◌≤◌, ◌∷◌, ◌++◌, [], None, Some, IfSome, IfNone, OnOk, OnErr, IsSome, ◌||◌, nat_le, nat_lt, ◌^◌, option_map, option_and_then, vec_len, vec_capacity};
 ghost use Rattle.std.specs.Ordering.{nat_cmp};
 ghost use Rattle.std.specs.Cmp.Lexicographic.{slice_cmp};
 ghost use Rattle.std.specs.BTreeMap.{get};
-ghost use Rattle.asl_machine.specs.Find.{state_at};
+ghost use Rattle.asl_forward.specs.Turn.{standing};
 ghost use Rattle.step_names.specs.Order.{thread_cmp};
 ghost use Rattle.rollback_book.specs.World.{with_frame};
 ghost use Rattle.rollback_book.specs.Move.{ready_state};
@@ -11,34 +11,37 @@ ghost use Rattle.rollback_book.specs.Saving.{frame_of};
 
 use crate::log::Entry;
 use crate::step::{Saved, StepRecord};
-use asl_forward::{Frame, Phase};
-use asl_machine::{SharedMachine, State};
+use asl_forward::{Frame, Phase, standing};
+use asl_machine::{Machine, SharedMachine, State};
 use json_tree::Text;
 use std::alloc::AllocError;
 use std::collections::BTreeMap;
 use std::mem;
 use step_names::ThreadName;
 
-/// The state before which a frame stands.
-pub fn state_in<'a>(machines: &'a BTreeMap<Text, SharedMachine>, frame: &Frame) -> Option<&'a State>
-    ensures { option_copied result ≡ option_and_then (λ d. state_at frame.now.level.path frame.now.state d)
+/// Where a frame stands.
+pub fn standing_in<'a>(
+    machines: &'a BTreeMap<Text, SharedMachine>,
+    frame: &Frame,
+) -> Option<(&'a Machine, &'a State)>
+    ensures { option_map (λ p. (p.0.now, p.1.now)) result ≡ option_and_then (λ d. standing d frame.now)
         (get (slice_cmp nat_cmp) machines.now frame.now.level.machine) }
 {
     match machines.get(&frame.level.machine) {
-        Some(shared) => shared.machine().state_at(&frame.level.path, &frame.state),
+        Some(shared) => standing(shared.machine(), frame),
         None => None,
     }
 }
 
-/// The state that a frame is ready to run.
+/// The state that a frame is ready to run, after its level.
 pub fn ready_state<'a>(
     machines: &'a BTreeMap<Text, SharedMachine>,
     frame: &Frame,
-) -> Option<&'a State>
-    ensures { option_copied result ≡ ready_state (λ name. get (slice_cmp nat_cmp) machines.now name) frame.now frame.now.phase }
+) -> Option<(&'a Machine, &'a State)>
+    ensures { option_map (λ p. (p.0.now, p.1.now)) result ≡ ready_state (λ name. get (slice_cmp nat_cmp) machines.now name) frame.now frame.now.phase }
 {
     match frame.phase {
-        Phase::Ready => state_in(machines, frame),
+        Phase::Ready => standing_in(machines, frame),
         _ => None,
     }
 }

@@ -1,5 +1,5 @@
 use crate::{Access, AccessMode, Begin, BeginFault, Book, Fact, Kind, Refusal, Room, depends};
-use asl_forward::{Frame, Phase, Retries, after_state, first_frame};
+use asl_forward::{Frame, Phase, Retries, first_frame, next_frame, standing};
 use asl_machine::Machine;
 use attr_values::{KeyAttribute, KeySchema, KeyType};
 use json_tree::{Json, JsonList, Text, read};
@@ -142,8 +142,8 @@ fn next_of(
     first: &Frame,
 ) -> Result<Frame, Fail> {
     assert!(rt; first.count == 0);
-    let state = machine.state_at(&first.level.path, &first.state);
-    Ok(after_state(alloc, state.ok_or("no state")?, first)?)
+    let (level, state) = standing(machine, first).ok_or("no state")?;
+    Ok(next_frame(alloc, level, state, first)?)
 }
 
 fn has_two_frames(rt: &impl Abort, alloc: Global, machine: &Machine) -> Result<(), Fail> {

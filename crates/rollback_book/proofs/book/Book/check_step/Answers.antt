@@ -23,13 +23,13 @@ pub returns-then-is_full_for_step-clause-answer : goal.returns-then-is_full_for_
 returns-then-is_full_for_step-clause-answer c =
     let full : is_full_for_step c.self.inside.log.items ≡ true = full_by _ _ _ _ _ c.self.invariant _ _ _ (c.len.ensures ∙ c.self.inside.log.ok.0) (c.len-2.ensures ∙ c.self.inside.records.ok.0) c.is_full_for_step.ensures ∙ c.if-is_full_for_step.true in
     ap (λ (s : Story). step_answer s.log c.args.thread.now) (sym c.self.view_is)
-    ∙ step_full _ _ _ _ _ c.self.invariant c.args.thread.now c.in-Some.frame.now c.in-Some-ready_state.state.now (sym c.in-Some.ensures.value) (sym c.in-Some-ready_state.ensures) full
+    ∙ step_full _ _ _ _ _ c.self.invariant c.args.thread.now c.in-Some.frame.now (c.in-Some-ready_state.level.now, c.in-Some-ready_state.state.now) (sym c.in-Some.ensures.value) (sym c.in-Some-ready_state.ensures) full
 
 pub returns-clause-answer : goal.returns-clause-answer
 returns-clause-answer c =
     let free : is_full_for_step c.self.inside.log.items ≡ false = full_by _ _ _ _ _ c.self.invariant _ _ _ (c.len.ensures ∙ c.self.inside.log.ok.0) (c.len-2.ensures ∙ c.self.inside.records.ok.0) c.is_full_for_step.ensures ∙ c.if-is_full_for_step.false in
     ap (λ (s : Story). step_answer s.log c.args.thread.now) (sym c.self.view_is)
-    ∙ step_free _ _ _ _ _ c.self.invariant c.args.thread.now c.in-Some.frame.now c.in-Some-ready_state.state.now (sym c.in-Some.ensures.value) (sym c.in-Some-ready_state.ensures) free
+    ∙ step_free _ _ _ _ _ c.self.invariant c.args.thread.now c.in-Some.frame.now (c.in-Some-ready_state.level.now, c.in-Some-ready_state.state.now) (sym c.in-Some.ensures.value) (sym c.in-Some-ready_state.ensures) free
 
 pub returns-clause-frame : goal.returns-clause-frame
 returns-clause-frame c =
