@@ -7,7 +7,7 @@ use Rattle.asl_machine.specs.Complete.{state_of}
 use Rattle.asl_machine.specs.Definition.{Definition}
 use Rattle.asl_machine.specs.Find.{machine_at}
 use Rattle.asl_machine.specs.Reading.{json_of}
-use Rattle.asl_machine.specs.declared.errors.Retrier.{Retrier}
+use Rattle.asl_errors.specs.declared.errors.Retrier.{Retrier}
 use Rattle.asl_machine.specs.declared.state.Fail.{Fail}
 use Rattle.asl_machine.specs.declared.state.Pass.{Pass}
 use Rattle.asl_machine.specs.declared.state.Processing.{Processing}

@@ -1,6 +1,6 @@
 // A thread's frame: where it stands, and what it has.
 ghost use Rattle.std.specs.Prelude.{◌≡◌, [], map, IfOk};
-ghost use Rattle.asl_machine.specs.declared.errors.Retrier.{Retrier};
+ghost use Rattle.asl_errors.specs.declared.errors.Retrier.{Retrier};
 
 use asl_machine::{Level, Retrier};
 use json_tree::{Json, Text};

@@ -3,7 +3,7 @@ ghost use Rattle.std.specs.Prelude.{◌≡◌, ◌+◌, ◌^◌, ◌<◌, map, o
 ghost use Rattle.json_tree.specs.Data.{Data};
 ghost use Rattle.json_tree.specs.View.{data_of};
 ghost use Rattle.asl_machine.specs.Definition.{Definition};
-ghost use Rattle.asl_machine.specs.declared.errors.Retrier.{Retrier};
+ghost use Rattle.asl_errors.specs.declared.errors.Retrier.{Retrier};
 ghost use Rattle.asl_forward.specs.Errors.{Tells, error_name};
 ghost use Rattle.asl_forward.specs.Turn.{retriers_of, counters_at, enters, is_done, has_failed, own_fault, declared_fault, go_on, ends, first_frame, pass_result, pass_output, idle_output, after_state, standing};
 

@@ -1,5 +1,5 @@
 -- Where no name is missing, a machine is whole.
-use Rattle.std.proofs.Common.{◌≡◌, ℕ, List, [], ◌∷◌, Option, Some, None, Bool, true, false, cond, not, is_some, option_map, is_eq, refl, sym}
+use Rattle.std.proofs.Common.{◌≡◌, ℕ, List, [], ◌∷◌, Option, Some, None, true, false, cond, not, is_some, option_map, is_eq, refl, sym}
 use Rattle.std.specs.Prelude.{IsSome, IfSome}
 use Rattle.std.specs.BTreeMap.{is_at}
 use Rattle.std.specs.Cmp.Lexicographic.{slice_cmp}
@@ -12,9 +12,9 @@ use Rattle.asl_machine.specs.Definition.{StateTree, Definition}
 use Rattle.asl_machine.specs.Profile.{Defines}
 use Rattle.asl_machine.specs.Targets.{if_missing, or_else, missing_next, missing_catcher, missing_rule, missing_default, missing_target, first_missing}
 use Rattle.asl_machine.specs.TreeView.{state_in}
-use Rattle.asl_machine.specs.declared.choice.Rule.{Rule}
-use Rattle.asl_machine.specs.declared.errors.Catcher.{Catcher}
-use Rattle.asl_machine.specs.declared.fault.MachineFault.TheVariants.{NoTarget}
+use Rattle.asl_choice.specs.declared.choice.Rule.{Rule}
+use Rattle.asl_errors.specs.declared.errors.Catcher.{Catcher}
+use Rattle.asl_fields.specs.declared.fault.MachineFault.TheVariants.{NoTarget}
 use Rattle.asl_machine.specs.declared.state.State.{State}
 use Rattle.asl_machine.specs.declared.state.State.TheVariants.{Pass, Task, Choice, Wait, Succeed, Fail, Parallel, Map}
 use Rattle.asl_machine.specs.declared.state.Transition.{Transition}

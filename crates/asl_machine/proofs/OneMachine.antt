@@ -1,19 +1,16 @@
 -- A definition is one machine at most.
-use Rattle.std.proofs.Common.{◌≡◌, ℕ, List, [], Option, Some, None, Bool, false, refl, sym, ap, subst, ◌∙◌, codes}
+use Rattle.std.proofs.Common.{◌≡◌, ℕ, List, [], Option, Some, None, false, refl, sym, ap, subst, ◌∙◌, codes}
 use Rattle.std.specs.BTreeMap.{insert_entry}
 use Rattle.std.specs.Cmp.Lexicographic.{slice_cmp}
 use Rattle.std.specs.Ordering.{nat_cmp}
-use Rattle.serde_json.specs.Data.{Data as Source, null, boolean, number, string, array, object, Members, no_members, member}
+use Rattle.serde_json.specs.Data.{Data as Source, Members, no_members, member}
 use Rattle.serde_json.specs.Find.{get}
-use Rattle.json_tree.specs.Data.{Data}
-use Rattle.json_tree.specs.Reading.{whole_of}
 use Rattle.json_tree.specs.declared.tree.Json.{Json}
-use Rattle.ref_paths.proofs.OneSpelling.{texts_spell_one_path}
-use Rattle.ref_paths.proofs.OneTemplate.{values_are_one_template}
 use Rattle.ref_paths.specs.Templates.{Payload}
 use Rattle.ref_paths.specs.declared.path.PathStep.{PathStep}
+use Rattle.asl_fields.proofs.OneField.{one_path, one_template}
 use Rattle.asl_machine.specs.Definition.{StateTree, Definition}
-use Rattle.asl_machine.specs.Profile.{IsPathText, IsPathField, IsWholeTemplate, IsTemplateField, IsProcessing, HasParameters, IsPass, IsWait, IsSucceed, IsFail, IsPassState, IsWaitState, IsSucceedState, IsFailState, IsOfKind, kind_of, IsState, StatesAre, MembersAre, states_in, Defines}
+use Rattle.asl_machine.specs.Profile.{IsProcessing, IsPass, IsWait, IsSucceed, IsFail, IsPassState, IsWaitState, IsSucceedState, IsFailState, IsOfKind, kind_of, IsState, StatesAre, MembersAre, states_in, Defines}
 use Rattle.asl_machine.specs.TreeView.{tree_of}
 use Rattle.asl_machine.specs.declared.kind.StateKind.{StateKind}
 use Rattle.asl_machine.specs.declared.kind.StateKind.TheVariants as kind
@@ -21,34 +18,10 @@ use Rattle.asl_machine.specs.declared.state.Fail.{Fail}
 use Rattle.asl_machine.specs.declared.state.Pass.{Pass}
 use Rattle.asl_machine.specs.declared.state.Processing.{Processing}
 use Rattle.asl_machine.specs.declared.state.State.{State}
-use Rattle.asl_machine.specs.declared.state.State.TheVariants.{Pass as PassState, Task, Choice, Wait as WaitState, Succeed as SucceedState, Fail as FailState, Parallel, Map}
+use Rattle.asl_machine.specs.declared.state.State.TheVariants.{Pass as PassState, Wait as WaitState, Succeed as SucceedState, Fail as FailState}
 use Rattle.asl_machine.specs.declared.state.Succeed.{Succeed}
 use Rattle.asl_machine.specs.declared.state.Transition.{Transition}
 use Rattle.asl_machine.specs.declared.state.Wait.{Wait}
-
-one_path_text : (s : List ℕ) (p q : Option (List PathStep)) → IsPathText s p → IsPathText s q → p ≡ q
-one_path_text s None q h k = absurd h
-one_path_text s (Some p) None h k = absurd k
-one_path_text s (Some p) (Some q) h k = ap Some (texts_spell_one_path s p q h k)
-
-one_path : (d : Option Source) (p q : Option (List PathStep)) → IsPathField d p → IsPathField d q → p ≡ q
-one_path None p q h k = h ∙ sym k
-one_path (Some null) p q h k = h ∙ sym k
-one_path (Some (boolean b)) p q h k = absurd h
-one_path (Some (number n)) p q h k = absurd h
-one_path (Some (string s)) p q h k = one_path_text s p q h k
-one_path (Some (array ds)) p q h k = absurd h
-one_path (Some (object ms)) p q h k = absurd h
-
-one_whole_template : (b : Bool) (d : Option Data) (p q : Option Payload) → IsWholeTemplate b d p → IsWholeTemplate b d q → p ≡ q
-one_whole_template b None p q h k = absurd h
-one_whole_template b (Some j) None q h k = absurd h
-one_whole_template b (Some j) (Some p) None h k = absurd k
-one_whole_template b (Some j) (Some p) (Some q) h k = ap Some (values_are_one_template b j p q h k)
-
-one_template : (b : Bool) (d : Option Source) (p q : Option Payload) → IsTemplateField b d p → IsTemplateField b d q → p ≡ q
-one_template b None p q h k = h ∙ sym k
-one_template b (Some d) p q h k = one_whole_template b (whole_of d) p q h k
 
 abbrev made_processing : Option (List PathStep) → Option Payload → Option Payload → Option (List PathStep) → Option (List PathStep) → Processing
 made_processing input parameters selector result output =

@@ -1,24 +1,18 @@
 -- A definition that has a fault is no machine's.
-use Rattle.std.proofs.Common.{◌≡◌, ℕ, List, [], Option, Some, None, Bool, true, false, ◌&&◌, ◌⊎◌, inl, inr, cond, if◌then◌else◌, option_map, option_and_then, refl, sym, ap, ◌∙◌, codes}
+use Rattle.std.proofs.Common.{◌≡◌, ℕ, List, [], Option, Some, None, Bool, true, false, ◌&&◌, ◌⊎◌, inl, inr, if◌then◌else◌, option_map, option_and_then, sym, ap, ◌∙◌, codes}
 use Rattle.serde_json.specs.Data.{Data as Source, null, boolean, number, string, array, object, Members, no_members, member}
 use Rattle.serde_json.specs.Find.{get, as_str, as_object}
-use Rattle.json_tree.specs.Data.{Data}
-use Rattle.json_tree.specs.Reading.{whole_of}
 use Rattle.json_tree.specs.declared.tree.Json.{Json}
-use Rattle.ref_paths.specs.Templates.{Payload}
+use Rattle.asl_fields.specs.FieldFaults.{text_fault}
+use Rattle.asl_fields.proofs.FieldsRefused.{fields_refused, template_refused, optional_refused, required_refused}
 use Rattle.asl_machine.proofs.OneMachine.{is_pass, is_wait, is_succeed, is_fail, one_members}
 use Rattle.asl_machine.specs.Definition.{StateTree, Definition}
-use Rattle.asl_machine.specs.Faults.{fault_of_standing, NamesFault, text_fault, required_text_fault, optional_text_fault, language_fault, query_language_fault, whole_fault, result_fault, transition_fault, MembersFault, FieldsFault, WholeTemplateFault, TemplateFieldFault, ProcessingFault, PassFault, WaitFault, SucceedFault, FailFault, KindFault, TypeFault, StateFault, StatesFault, StatesFieldFault, RequiredStatesFault, TargetsFault, DefinitionFault}
-use Rattle.asl_machine.specs.Fields.{is_text, is_known, is_left_out, all_known, known_in, names_json_path, is_json_path}
-use Rattle.asl_machine.specs.Profile.{HasFields, IsWholeTemplate, IsTemplateField, IsProcessing, IsPass, IsWait, IsSucceed, IsFail, IsOfKind, kind_named, IsState, StatesAre, MembersAre, states_in, start_in, Defines}
-use Rattle.asl_machine.specs.Reading.{is_end, goes_to, whole_json, result_of, text_or_empty}
+use Rattle.asl_machine.specs.Faults.{whole_fault, result_fault, transition_fault, ProcessingFault, PassFault, WaitFault, SucceedFault, FailFault, KindFault, TypeFault, StateFault, StatesFault, StatesFieldFault, RequiredStatesFault, TargetsFault, DefinitionFault}
+use Rattle.asl_machine.specs.Profile.{IsProcessing, IsPass, IsWait, IsSucceed, IsFail, IsOfKind, kind_named, IsState, StatesAre, MembersAre, states_in, Defines}
+use Rattle.asl_machine.specs.Reading.{is_end, goes_to, whole_json, result_of}
 use Rattle.asl_machine.specs.Targets.{target_fault}
-use Rattle.asl_machine.specs.TreeView.{tree_of}
-use Rattle.asl_machine.specs.declared.fault.MachineFault.{MachineFault}
-use Rattle.asl_machine.specs.declared.fields.Place.{Place}
-use Rattle.asl_machine.specs.declared.fields.Place.TheVariants as at
-use Rattle.asl_machine.specs.declared.fields.Standing.{Standing}
-use Rattle.asl_machine.specs.declared.fields.Standing.TheVariants.{Known, Unsupported, Unknown}
+use Rattle.asl_fields.specs.declared.fault.MachineFault.{MachineFault}
+use Rattle.asl_fields.specs.declared.fields.Place.TheVariants as at
 use Rattle.asl_machine.specs.declared.kind.StateKind.{StateKind}
 use Rattle.asl_machine.specs.declared.kind.StateKind.TheVariants as kind
 use Rattle.asl_machine.specs.declared.state.Processing.{Processing}
@@ -31,60 +25,15 @@ use Rattle.asl_machine.specs.declared.state.Wait.{Wait}
 
 -- ---- fields
 
-not_known : (known left_out : Bool) (name : List ℕ) (e : MachineFault) → fault_of_standing (if known then Known else (if left_out then Unsupported else Unknown)) name ≡ Some e → known ≡ false
-not_known true left_out name e h = cc h
-not_known false left_out name e h = refl
-
-and_false : (b : Bool) → (b && false) ≡ false
-and_false true = refl
-and_false false = refl
-
-names_refused : (place : Place) (ms : Members) (e : MachineFault) → NamesFault place ms e → all_known place ms ≡ false
-names_refused place no_members e fault = absurd fault
-names_refused place (member name d ms) e fault =
-    elim fault [
-      | inl h ↦ ap (λ b. b && all_known place ms) (not_known (is_known place name) (is_left_out name) name e h)
-      | inr h ↦ ap (λ b. is_known place name && b) (names_refused place ms e h) ∙ and_false (is_known place name)
-    ]
-
-members_refused : (place : Place) (ms : Option Members) (e : MachineFault) → MembersFault place ms e → known_in place ms ≡ true → ⊥
-members_refused place None e fault known = fault
-members_refused place (Some ms) e fault known = let no : true ≡ false = sym known ∙ names_refused place ms e fault in cc
-
-json_path_fault : (b : Bool) (o : Option MachineFault) (e : MachineFault) → (if b then None else o) ≡ Some e → b ≡ true → ⊥
-json_path_fault true o e h known = cc h
-json_path_fault false o e h known = cc known
-
-named_language_refused : (language : Option (List ℕ)) (e : MachineFault) → language_fault language ≡ Some e → names_json_path language ≡ true → ⊥
-named_language_refused None e fault known = cc known
-named_language_refused (Some language) e fault known = json_path_fault (is_text language (codes "JSONPath")) _ e fault known
-
-language_refused : (d : Option Source) (e : MachineFault) → query_language_fault d ≡ Some e → is_json_path d ≡ true → ⊥
-language_refused None e fault known = cc fault
-language_refused (Some d) e fault known = named_language_refused (as_str d) e fault known
-
-fields_refused : (place : Place) (d : Source) (e : MachineFault) → FieldsFault place d e → HasFields place d → ⊥
-fields_refused place d e fault has =
-    elim fault [ inl h ↦ members_refused place (as_object d) e h has.0 | inr h ↦ language_refused (get (codes "QueryLanguage") d) e h has.1 ]
-
-whole_template_refused : (b : Bool) (field : List ℕ) (d : Option Data) (p : Option Payload) (e : MachineFault) → WholeTemplateFault b field d e → IsWholeTemplate b d p → ⊥
-whole_template_refused b field None p e fault is = is
-whole_template_refused b field (Some j) None e fault is = is
-whole_template_refused b field (Some j) (Some p) e fault is = fault.1 p is
-
-template_refused : (b : Bool) (field : List ℕ) (d : Option Source) (p : Option Payload) (e : MachineFault) → TemplateFieldFault b field d e → IsTemplateField b d p → ⊥
-template_refused b field None p e fault is = fault
-template_refused b field (Some d) p e fault is = whole_template_refused b field (whole_of d) p e fault is
-
 processing_refused : (d : Source) (p : Processing) (e : MachineFault) → ProcessingFault d e → IsProcessing d p → ⊥
 processing_refused d p e fault is =
     elim fault [
       | inl h ↦ h.1 p.input_path is.0
       | inr later ↦
-        elim later [
-          | inl h ↦ template_refused false (codes "ResultSelector") (get (codes "ResultSelector") d) p.result_selector e h is.1
-          | inr last ↦ elim last [ inl h ↦ h.1 p.result_path is.2 | inr h ↦ h.1 p.output_path is.3 ]
-        ]
+          elim later [
+            | inl h ↦ template_refused false (codes "ResultSelector") (get (codes "ResultSelector") d) p.result_selector e h is.1
+            | inr last ↦ elim last [ inl h ↦ h.1 p.result_path is.2 | inr h ↦ h.1 p.output_path is.3 ]
+          ]
     ]
 
 whole_refused : (o : Option Json) (r : Option Json) (e : MachineFault) → whole_fault o ≡ Some e → option_map Some o ≡ Some r → ⊥
@@ -113,18 +62,18 @@ pass_refused name d s e fault is =
     elim fault [
       | inl h ↦ fields_refused at.Pass d e h is.0
       | inr a ↦
-        elim a [
-          | inl h ↦ template_refused false (codes "Parameters") (get (codes "Parameters") d) s.processing.parameters e h is.1
-          | inr b ↦
-            elim b [
-              | inl h ↦ processing_refused d s.processing e h is.2
-              | inr f ↦
-                elim f [
-                  | inl h ↦ result_refused (get (codes "Result") d) s.result e h is.3
-                  | inr h ↦ transition_refused name (is_end (get (codes "End") d)) (get (codes "Next") d) s.transition e h is.4
+          elim a [
+            | inl h ↦ template_refused false (codes "Parameters") (get (codes "Parameters") d) s.processing.parameters e h is.1
+            | inr b ↦
+                elim b [
+                  | inl h ↦ processing_refused d s.processing e h is.2
+                  | inr f ↦
+                      elim f [
+                        | inl h ↦ result_refused (get (codes "Result") d) s.result e h is.3
+                        | inr h ↦ transition_refused name (is_end (get (codes "End") d)) (get (codes "Next") d) s.transition e h is.4
+                      ]
                 ]
-            ]
-        ]
+          ]
     ]
 
 succeed_refused : (d : Source) (s : Succeed) (e : MachineFault) → SucceedFault d e → IsSucceed d s → ⊥
@@ -137,16 +86,12 @@ wait_refused name d s e fault is =
       | inr a ↦ elim a [ inl h ↦ processing_refused d s.processing e h is.2 | inr h ↦ transition_refused name (is_end (get (codes "End") d)) (get (codes "Next") d) s.transition e h is.3 ]
     ]
 
-optional_refused : (field : List ℕ) (d : Option Source) (text : List ℕ) (e : MachineFault) → optional_text_fault field d ≡ Some e → text_or_empty d ≡ Some text → ⊥
-optional_refused field None text e fault is = cc fault
-optional_refused field (Some d) text e fault is = elim (as_str d) as (λ o. text_fault field o ≡ Some e → o ≡ Some text → ⊥) [ None ↦ λ f i. cc i | Some t ↦ λ f i. cc f ] fault is
-
 fail_refused : (d : Source) (s : Fail) (e : MachineFault) → FailFault d e → IsFail d s → ⊥
 fail_refused d s e fault is =
     elim fault [
       | inl h ↦ fields_refused at.Fail d e h is.0
       | inr a ↦
-        elim a [ inl h ↦ optional_refused (codes "Error") (get (codes "Error") d) s.error e h is.1 | inr h ↦ optional_refused (codes "Cause") (get (codes "Cause") d) s.cause e h is.2 ]
+          elim a [ inl h ↦ optional_refused (codes "Error") (get (codes "Error") d) s.error e h is.1 | inr h ↦ optional_refused (codes "Cause") (get (codes "Cause") d) s.cause e h is.2 ]
     ]
 
 kind_refused : (name : List ℕ) (k : Option StateKind) (d : Source) (s : State) (e : MachineFault) → KindFault name k d e → IsOfKind k d s → ⊥
@@ -175,10 +120,6 @@ states_refused (member name d ms) before ss e fault is =
 
 -- ---- machines
 
-start_refused : (field : List ℕ) (d : Option Source) (start : List ℕ) (e : MachineFault) → required_text_fault field d ≡ Some e → option_and_then as_str d ≡ Some start → ⊥
-start_refused field None start e fault is = cc is
-start_refused field (Some d) start e fault is = elim (as_str d) as (λ o. text_fault field o ≡ Some e → o ≡ Some start → ⊥) [ None ↦ λ f i. cc i | Some t ↦ λ f i. cc f ] fault is
-
 members_field_refused : (ms : Option Members) (ss : List (List ℕ × StateTree)) (e : MachineFault) → StatesFieldFault ms e → MembersAre ms ss → ⊥
 members_field_refused None ss e fault is = is
 members_field_refused (Some ms) ss e fault is = states_refused ms [] ss e fault is
@@ -206,8 +147,8 @@ definition_refused (object ms) e fault m is =
     elim fault [
       | inl h ↦ fields_refused at.Top d e h is.0
       | inr a ↦
-        elim a [
-          | inl h ↦ start_refused (codes "StartAt") (get (codes "StartAt") d) m.start e h is.1
-          | inr b ↦ elim b [ inl h ↦ states_field_refused (get (codes "States") d) m.states e h is.2 | inr h ↦ targets_refused d m e h is ]
-        ]
+          elim a [
+            | inl h ↦ required_refused (codes "StartAt") (get (codes "StartAt") d) m.start e h is.1
+            | inr b ↦ elim b [ inl h ↦ states_field_refused (get (codes "States") d) m.states e h is.2 | inr h ↦ targets_refused d m e h is ]
+          ]
     ]

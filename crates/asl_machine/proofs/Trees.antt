@@ -1,5 +1,5 @@
 -- A machine's tree gives the machine back; and a state is found by its name among the trees as it is among the states.
-use Rattle.std.proofs.Common.{◌≡◌, ℕ, List, [], ◌∷◌, Option, Some, None, Bool, true, false, cond, Ordering, Less, Equal, Greater, option_map, is_eq, refl, ap, ◌∙◌}
+use Rattle.std.proofs.Common.{◌≡◌, ℕ, List, [], ◌∷◌, Option, Some, Bool, true, false, cond, Ordering, Less, Equal, Greater, option_map, is_eq, refl, ap, ◌∙◌}
 use Rattle.std.specs.BTreeMap.{insert_entry, is_at}
 use Rattle.std.specs.Cmp.Lexicographic.{slice_cmp}
 use Rattle.std.specs.Map.{lookup}

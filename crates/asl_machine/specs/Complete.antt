@@ -1,5 +1,5 @@
 -- A machine is whole: it starts at a state that it has, and each transition leads to one.
-use Rattle.std.specs.Prelude.{◌≡◌, ℕ, List, Option, None, Some, IsSome, IfSome, option_map}
+use Rattle.std.specs.Prelude.{◌≡◌, ℕ, List, Option, IsSome, IfSome, option_map}
 use Rattle.std.specs.Ordering.{nat_cmp}
 use Rattle.std.specs.Cmp.Lexicographic.{slice_cmp}
 use Rattle.std.specs.BTreeMap.{is_at}
@@ -7,8 +7,8 @@ use Rattle.std.specs.List.{AllByRecursion}
 use Rattle.std.specs.Map.{lookup}
 use Rattle.asl_machine.specs.Definition.{StateTree, Definition}
 use Rattle.asl_machine.specs.TreeView.{state_in}
-use Rattle.asl_machine.specs.declared.choice.Rule.{Rule}
-use Rattle.asl_machine.specs.declared.errors.Catcher.{Catcher}
+use Rattle.asl_choice.specs.declared.choice.Rule.{Rule}
+use Rattle.asl_errors.specs.declared.errors.Catcher.{Catcher}
 use Rattle.asl_machine.specs.declared.state.State.{State}
 use Rattle.asl_machine.specs.declared.state.State.TheVariants.{Pass, Task, Choice, Wait, Succeed, Fail, Parallel, Map}
 use Rattle.asl_machine.specs.declared.state.Transition.{Transition}

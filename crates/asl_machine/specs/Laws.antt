@@ -5,7 +5,7 @@ use Rattle.asl_machine.specs.Complete.{IsComplete}
 use Rattle.asl_machine.specs.Definition.{Definition}
 use Rattle.asl_machine.specs.Faults.{DefinitionFault}
 use Rattle.asl_machine.specs.Profile.{Defines, DefinesNone}
-use Rattle.asl_machine.specs.declared.fault.MachineFault.{MachineFault}
+use Rattle.asl_fields.specs.declared.fault.MachineFault.{MachineFault}
 
 -- a definition is one machine at most
 abbrev pub OneMachine : Type 0

@@ -1,7 +1,3 @@
-pub mod TestTree
-pub mod TestCode
-pub mod TestView
-pub mod TestFalls
 pub mod Definition
 pub mod TreeCode
 pub mod TreeView
@@ -9,11 +5,7 @@ pub mod TreeFalls
 pub mod Complete
 pub mod Targets
 pub mod Find
-pub mod Fields
-pub mod Refusal
 pub mod Reading
 pub mod Profile
 pub mod Faults
 pub mod Laws
-pub mod ErrorFields
-pub mod ErrorFaults

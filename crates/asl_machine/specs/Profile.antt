@@ -1,22 +1,18 @@
 -- Which machine a definition is ("State Machine Structure", "State Types"), by the tables of its objects' fields.
-use Rattle.std.specs.Prelude.{◌≡◌, ℕ, Bool, false, true, List, [], Option, None, Some, option_and_then, if◌then◌else◌, codes}
+use Rattle.std.specs.Prelude.{◌≡◌, ℕ, false, List, [], Option, None, Some, option_and_then, if◌then◌else◌, codes}
 use Rattle.std.specs.BTreeMap.{insert_entry}
 use Rattle.std.specs.Cmp.Lexicographic.{slice_cmp}
 use Rattle.std.specs.Ordering.{nat_cmp}
-use Rattle.serde_json.specs.Data.{Data as Source, null, boolean, number, string, array, object, Members, no_members, member}
+use Rattle.serde_json.specs.Data.{Data as Source, Members, no_members, member}
 use Rattle.serde_json.specs.Find.{get, as_str, as_object}
-use Rattle.json_tree.specs.Data.{Data}
-use Rattle.json_tree.specs.Reading.{whole_of}
-use Rattle.ref_paths.specs.Grammar.{SpellsPath}
-use Rattle.ref_paths.specs.Templates.{Payload, IsTemplate}
-use Rattle.ref_paths.specs.declared.path.PathStep.{PathStep}
+use Rattle.asl_fields.specs.Values.{HasFields, IsPathField, IsTemplateField, text_or_empty}
 use Rattle.asl_machine.specs.Definition.{StateTree, Definition}
-use Rattle.asl_machine.specs.Fields.{is_text, has_known_fields, speaks_json_path}
-use Rattle.asl_machine.specs.Reading.{transition_of, result_of, text_or_empty}
+use Rattle.asl_fields.specs.Fields.{is_text}
+use Rattle.asl_machine.specs.Reading.{transition_of, result_of}
 use Rattle.asl_machine.specs.Targets.{target_fault}
 use Rattle.asl_machine.specs.TreeView.{tree_of}
-use Rattle.asl_machine.specs.declared.fields.Place.{Place}
-use Rattle.asl_machine.specs.declared.fields.Place.TheVariants as at
+use Rattle.asl_fields.specs.declared.fields.Place.{Place}
+use Rattle.asl_fields.specs.declared.fields.Place.TheVariants as at
 use Rattle.asl_machine.specs.declared.kind.StateKind.{StateKind}
 use Rattle.asl_machine.specs.declared.kind.StateKind.TheVariants as kind
 use Rattle.asl_machine.specs.declared.state.Fail.{Fail}
@@ -28,38 +24,6 @@ use Rattle.asl_machine.specs.declared.state.Succeed.{Succeed}
 use Rattle.asl_machine.specs.declared.state.Wait.{Wait}
 
 -- ---- fields
-
--- each name may stand here, and a query language that is named is JSONPath
-abbrev pub HasFields : Place → Source → Type 0
-HasFields place d = (has_known_fields place d ≡ true) × (speaks_json_path d ≡ true)
-
-abbrev pub IsPathText : List ℕ → Option (List PathStep) → Type 0
-IsPathText s None = ⊥
-IsPathText s (Some path) = SpellsPath path s
-
--- `null`, or a path's text
-abbrev pub IsPath : Source → Option (List PathStep) → Type 0
-IsPath null p = p ≡ None
-IsPath (boolean b) p = ⊥
-IsPath (number n) p = ⊥
-IsPath (string s) p = IsPathText s p
-IsPath (array ds) p = ⊥
-IsPath (object ms) p = ⊥
-
--- the path of a field, which is `$` where there is none
-abbrev pub IsPathField : Option Source → Option (List PathStep) → Type 0
-IsPathField None p = p ≡ Some []
-IsPathField (Some d) p = IsPath d p
-
-abbrev pub IsWholeTemplate : Bool → Option Data → Option Payload → Type 0
-IsWholeTemplate item_paths None p = ⊥
-IsWholeTemplate item_paths (Some j) None = ⊥
-IsWholeTemplate item_paths (Some j) (Some p) = IsTemplate item_paths j p
-
--- the template of a field, whose numbers are whole; none where there is none
-abbrev pub IsTemplateField : Bool → Option Source → Option Payload → Type 0
-IsTemplateField item_paths None p = p ≡ None
-IsTemplateField item_paths (Some d) p = IsWholeTemplate item_paths (whole_of d) p
 
 -- what all states with an input and an output may have, but for parameters
 abbrev pub IsProcessing : Source → Processing → Type 0

@@ -53,8 +53,3 @@ transition_of d = goes_to (is_end (get (codes "End") d)) (get (codes "Next") d)
 abbrev pub result_of : Option source.Data → Option (Option Json)
 result_of None = Some None
 result_of (Some d) = option_map Some (whole_json d)
-
--- the text of a field, which is empty where there is none
-abbrev pub text_or_empty : Option source.Data → Option (List ℕ)
-text_or_empty None = Some []
-text_or_empty (Some d) = as_str d

@@ -6,7 +6,7 @@ use Rattle.std.proofs.Common.{ap, ap₂}
 use Rattle.ref_paths.specs.PayloadCode.{payload_code, steps_code}
 use Rattle.ref_paths.specs.Templates.{Payload}
 use Rattle.asl_machine.specs.Definition.{StateTree, pass, task, choice, wait, succeed, fail, parallel, map_over, MachineTree, machine, MachineTrees, no_machines, branch, NamedStates, no_states, named, Definition}
-use Rattle.asl_machine.specs.contracts.errors.ErrorHandling as error_handling
+use Rattle.asl_errors.specs.contracts.errors.ErrorHandling as error_handling
 use Rattle.asl_machine.specs.contracts.state.Choice as choice_state
 use Rattle.asl_machine.specs.contracts.state.Fail as fail_state
 use Rattle.asl_machine.specs.contracts.state.Pass as pass_state
@@ -15,9 +15,6 @@ use Rattle.asl_machine.specs.contracts.state.Succeed as succeed_state
 use Rattle.asl_machine.specs.contracts.state.Task as task_state
 use Rattle.asl_machine.specs.contracts.state.Transition as transition
 use Rattle.asl_machine.specs.contracts.state.Wait as wait_state
-use Rattle.asl_machine.specs.declared.errors.ErrorHandling.{ErrorHandling}
-use Rattle.asl_machine.specs.declared.state.Processing.{Processing}
-use Rattle.asl_machine.specs.declared.state.Transition.{Transition}
 
 abbrev text_code : Coded (List ℕ)
 text_code = coded_list coded_ℕ

@@ -1,31 +1,24 @@
 #![tactic(auto)]
 
 //! Definitions of state machines (Amazon States Language), read from JSON and checked once.
-mod choice;
-mod error_readers;
-mod errors;
-mod fault;
-mod field_readers;
-mod fields;
 mod kind;
 mod laws;
 mod level;
 mod machine;
+mod processing;
 mod read;
 mod shared;
 mod state;
 #[cfg(test)]
 mod tests;
 
-pub use choice::{Comparison, InnerTest, Relation, Rule, Rules, Test, Tests};
-pub use errors::{Catcher, Catchers, ErrorHandling, ErrorNames, Retrier, Retriers};
-pub use fault::MachineFault;
-pub use laws::{
-    definitions_are_one_machine, faulty_definitions_are_none, machines_are_whole,
-};
+pub use asl_choice::{Comparison, InnerTest, Relation, Rule, Rules, Test, Tests};
+pub use asl_errors::{Catcher, Catchers, ErrorHandling, ErrorNames, Retrier, Retriers};
+pub use asl_fields::MachineFault;
+pub use laws::{definitions_are_one_machine, faulty_definitions_are_none, machines_are_whole};
 pub use level::{Level, LevelPath, LevelStep};
 pub use shared::SharedMachine;
 pub use state::{
-    Branches, Choice, Fail, Machine, Map, Parallel, Pass, Processing, Resource, State, States, Succeed,
-    Task, Transition, Wait,
+    Branches, Choice, Fail, Machine, Map, Parallel, Pass, Processing, Resource, State, States,
+    Succeed, Task, Transition, Wait,
 };

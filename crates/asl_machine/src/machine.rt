@@ -5,15 +5,15 @@ ghost use Rattle.std.specs.Cmp.Lexicographic.{slice_cmp};
 ghost use Rattle.std.specs.Ordering.{nat_cmp};
 ghost use Rattle.asl_machine.specs.Complete.{state_of, IsComplete};
 ghost use Rattle.asl_machine.specs.Find.{branch_of, machine_at, state_at};
-ghost use Rattle.asl_machine.specs.Refusal.{Refuses};
+ghost use Rattle.asl_fields.specs.Refusal.{Refuses};
 ghost use Rattle.asl_machine.specs.Targets.{if_missing, missing_next, missing_catcher, missing_rule, missing_default, missing_target, first_missing, or_else, target_fault};
 ghost use Rattle.asl_machine.specs.TreeView.{tree_of};
 
-use crate::choice::Rules;
-use crate::errors::Catchers;
-use crate::fault::MachineFault;
 use crate::level::LevelPath;
 use crate::state::{Machine, State, States, Transition};
+use asl_choice::Rules;
+use asl_errors::Catchers;
+use asl_fields::MachineFault;
 use json_tree::Text;
 use std::alloc::{AllocError, Global};
 use std::collections::BTreeMap;
@@ -148,15 +148,9 @@ fn missing_target<'a>(states: &States, state: &'a State) -> Option<&'a Text>
     match state {
         State::Pass(s) => missing_next(states, &s.transition),
         State::Wait(s) => missing_next(states, &s.transition),
-        State::Task(s) => {
-            missing_on_error(states, &s.transition, &s.errors.catchers)
-        }
-        State::Parallel(s) => {
-            missing_on_error(states, &s.transition, &s.errors.catchers)
-        }
-        State::Map(s) => {
-            missing_on_error(states, &s.transition, &s.errors.catchers)
-        }
+        State::Task(s) => { missing_on_error(states, &s.transition, &s.errors.catchers) }
+        State::Parallel(s) => { missing_on_error(states, &s.transition, &s.errors.catchers) }
+        State::Map(s) => { missing_on_error(states, &s.transition, &s.errors.catchers) }
         State::Choice(s) => match missing_rule(states, &s.rules) {
             Some(missing) => Some(missing),
             None => missing_default(states, &s.default),
@@ -200,7 +194,7 @@ fn missing_on_error<'a>(
 fn missing_catcher<'a>(states: &States, catchers: &'a Catchers) -> Option<&'a Text>
     ensures { option_copied result ≡ missing_catcher states.now catchers.now }
 {
-    for catcher in &catchers.inner {
+    for catcher in catchers.as_slice() {
         if let Some(missing) = if_missing(states, &catcher.next) {
             return Some(missing);
         }
@@ -211,7 +205,7 @@ fn missing_catcher<'a>(states: &States, catchers: &'a Catchers) -> Option<&'a Te
 fn missing_rule<'a>(states: &States, rules: &'a Rules) -> Option<&'a Text>
     ensures { option_copied result ≡ missing_rule states.now rules.now }
 {
-    for rule in &rules.inner {
+    for rule in rules.as_slice() {
         if let Some(missing) = if_missing(states, &rule.next) {
             return Some(missing);
         }

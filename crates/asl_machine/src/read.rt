@@ -5,13 +5,14 @@ ghost use Rattle.serde_json.specs.View.{view, members_view};
 ghost use Rattle.asl_machine.specs.Faults.{DefinitionFault, StatesFault, StateFault, KindFault, PassFault, WaitFault, SucceedFault, FailFault, result_fault, transition_fault};
 ghost use Rattle.asl_machine.specs.Profile.{Defines, DefinesNone, StatesAre, IsState, IsOfKind, IsPass, IsWait, IsSucceed, IsFail, kind_named};
 ghost use Rattle.asl_machine.specs.Reading.{result_of, transition_of, is_end};
-ghost use Rattle.asl_machine.specs.Refusal.{Refuses};
+ghost use Rattle.asl_fields.specs.Refusal.{Refuses};
 
-use crate::fault::MachineFault;
-use crate::field_readers::{check_fields, optional_text, read_processing, read_template, required, text_of};
-use crate::fields::Place;
 use crate::kind::{StateKind, kind_named};
+use crate::processing::read_processing;
 use crate::state::{Fail, Machine, Pass, State, States, Succeed, Transition, Wait};
+use asl_fields::{
+    MachineFault, Place, check_fields, optional_text, read_template, required, text_of,
+};
 use json_tree::{Json, JsonFault, Text, from_value};
 use serde_json::{Map, Value};
 use std::alloc::Global;
@@ -56,9 +57,14 @@ fn read_states(alloc: Global, states: &Map<String, Value>) -> Result<States, Mac
 {
     let mut read = States::new(alloc);
     for (name, value) in states {
-        let state = read_state(alloc, name.as_str(), value)?;
-        let name = Text::new(alloc, name.as_str())?;
-        read.insert(name, state)?;
+        let key = Text::new(alloc, name.as_str())?;
+        match read_state(alloc, name.as_str(), value) {
+            Ok(state) => read.insert(key, state)?,
+            Err(fault) => {
+                drop(key);
+                return Err(fault);
+            }
+        }
     }
     Ok(read)
 }

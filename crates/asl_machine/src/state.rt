@@ -1,6 +1,6 @@
 // The states of a machine (Amazon States Language, "States"), and the machine that holds them.
-use crate::choice::Rules;
-use crate::errors::ErrorHandling;
+use asl_choice::Rules;
+use asl_errors::ErrorHandling;
 use json_tree::{Json, Text};
 use ref_paths::{RefPath, Template};
 use std::collections::BTreeMap;

@@ -429,7 +429,8 @@ fn finds_states(rt: HostRuntime) -> Result<(), Fail> {
 }
 
 /// A Pass state with each of its fields.
-const PROCESSED: &str = r#"{"StartAt":"A","States":{"A":{"Type":"Pass","InputPath":"$.a","OutputPath":null,"Parameters":{"x.$":"$.c"},"Next":"B"},"B":{"Type":"Succeed"}}}"#;
+const PROCESSED: &str =
+    r#"{"StartAt":"A","States":{"A":{"Type":"Pass","InputPath":"$.a","OutputPath":null,"Parameters":{"x.$":"$.c"},"Next":"B"},"B":{"Type":"Succeed"}}}"#;
 
 /// Whether paths are those of that state: one is read, one is `$`, and one is none.
 fn is_processed(processing: &Processing) -> bool {

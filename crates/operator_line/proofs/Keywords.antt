@@ -1,7 +1,7 @@
 -- A line by its words.
 use Rattle.std.proofs.Common.{◌≡◌, ℕ, Bool, true, false, List, Some, None, codes, refl}
 use Rattle.std.specs.Cmp.Lexicographic.{bytes_decides}
-use Rattle.asl_machine.specs.Fields.{is_text}
+use Rattle.asl_fields.specs.Fields.{is_text}
 use Rattle.operator_line.specs.Grammar.{cut_at, text_command, command_by}
 
 pub other_text : (a b : List ℕ) → (a ≡ b → ⊥) → is_text a b ≡ false

@@ -14,7 +14,7 @@ use Rattle.step_names.proofs.Numbers.{number_parts, number_writes}
 use Rattle.attr_values.specs.declared.key.KeyAttribute.{KeyAttribute}
 use Rattle.attr_values.specs.declared.key.KeyType.{KeyType}
 use Rattle.attr_values.specs.declared.key.KeyType.TheVariants.{S, N}
-use Rattle.asl_machine.specs.Fields.{is_text}
+use Rattle.asl_fields.specs.Fields.{is_text}
 use Rattle.operator_line.specs.Grammar.{Spoken, table, step, undo, show, items, history, cut_at, is_table_name, thread_in, step_in, type_in, key_name_in, key_in, first_word, table_by, table_of, define_of, start_of, command_by, text_command}
 use Rattle.operator_line.specs.Spelled.{type_text, key_text, items_text, is_key_name, IsExecution, IsSort, IsProper, line_of}
 use Rattle.operator_line.specs.GrammarLaws.{LineSaysOne, LineIsSpelled}

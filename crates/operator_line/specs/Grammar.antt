@@ -11,7 +11,7 @@ use Rattle.std.specs.Prelude.{◌≡◌, ℕ, ◌==◌, Bool, ◌&&◌, ◌||◌
 use Rattle.std.specs.List.{list_all}
 use Rattle.std.specs.Option.{option_map_or}
 use Rattle.std.specs.Str.{is_utf8}
-use Rattle.asl_machine.specs.Fields.{is_text}
+use Rattle.asl_fields.specs.Fields.{is_text}
 use Rattle.step_names.specs.Thread.{Thread, execution, is_name, is_name_byte}
 use Rattle.step_names.specs.Grammar.{read_number}
 use Rattle.step_names.specs.declared.step.StepName.{StepName}

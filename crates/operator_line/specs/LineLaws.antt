@@ -1,6 +1,6 @@
 -- Laws over what lines are answered, each the contract of a function of the crate.
 use Rattle.std.specs.Prelude.{◌≡◌, ℕ, Bool, true, List, Option, take, codes}
-use Rattle.asl_machine.specs.Fields.{is_text}
+use Rattle.asl_fields.specs.Fields.{is_text}
 use Rattle.rollback_book.specs.Story.{Story}
 use Rattle.operator_line.specs.Answers.{AnswersLine}
 

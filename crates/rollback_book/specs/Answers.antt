@@ -2,7 +2,7 @@
 use Rattle.std.specs.Prelude.{◌≡◌, ℕ, ◌+◌, ◌||◌, List, [], ◌∷◌, length, Bool, Option, None, Some, Result, Ok, Err, is_some, IsSome, IsTrue, ◌⊎◌, nat_le, nat_lt, if◌then◌else◌}
 use Rattle.std.specs.List.{find}
 use Rattle.serde_json.specs.Data.{Data}
-use Rattle.asl_machine.specs.Refusal.{Names}
+use Rattle.asl_fields.specs.Refusal.{Names}
 use Rattle.asl_machine.specs.Definition.{Definition}
 use Rattle.asl_machine.specs.Faults.{DefinitionFault}
 use Rattle.asl_machine.specs.Profile.{Defines, DefinesNone}

@@ -1,7 +1,7 @@
 -- On which earlier steps a step depends directly (Danos and Krivine, "Reversible Communicating Systems", 2004:
 -- causality; the items that steps share are added).
 use Rattle.std.specs.Prelude.{◌-◌, Bool, true, false, ◌&&◌, ◌||◌, Option, None, Some}
-use Rattle.asl_machine.specs.Fields.{is_text}
+use Rattle.asl_fields.specs.Fields.{is_text}
 use Rattle.step_names.specs.Thread.{Thread}
 use Rattle.step_names.specs.Under.{is_under}
 use Rattle.step_names.specs.declared.step.StepName.{StepName}

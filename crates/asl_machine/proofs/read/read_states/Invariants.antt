@@ -3,7 +3,7 @@ use Rattle.serde_json.specs.View.{members_view}
 use Rattle.asl_machine.specs.Definition.{StateTree}
 use Rattle.asl_machine.specs.Faults.{StatesFault}
 use Rattle.asl_machine.specs.Profile.{StatesAre}
-use Rattle.asl_machine.specs.declared.fault.MachineFault.{MachineFault}
+use Rattle.asl_fields.specs.declared.fault.MachineFault.{MachineFault}
 use Rattle.asl_machine.proofs.read.read_states.Given as goal
 
 -- what the rest adds to those that are read is what all are; a fault of the rest is one of all

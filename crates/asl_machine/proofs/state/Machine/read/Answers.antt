@@ -6,9 +6,9 @@ use Rattle.asl_machine.proofs.Refused.{definition_refused}
 use Rattle.asl_machine.specs.Definition.{Definition}
 use Rattle.asl_machine.specs.Faults.{DefinitionFault}
 use Rattle.asl_machine.specs.Profile.{DefinesNone}
-use Rattle.asl_machine.specs.Refusal.{Refuses}
-use Rattle.asl_machine.specs.declared.fault.MachineFault.{MachineFault}
-use Rattle.asl_machine.specs.declared.fault.MachineFault.TheVariants.{Missing, UnknownField, Unsupported, BadField, NoTarget, NextAndEnd, StatesAllPlace, TooDeep, Memory}
+use Rattle.asl_fields.specs.Refusal.{Refuses}
+use Rattle.asl_fields.specs.declared.fault.MachineFault.{MachineFault}
+use Rattle.asl_fields.specs.declared.fault.MachineFault.TheVariants.{Missing, UnknownField, Unsupported, BadField, NoTarget, NextAndEnd, StatesAllPlace, TooDeep, Memory}
 use Rattle.asl_machine.proofs.state.Machine.read.Goals as goal
 
 refuses : (d : Source) (e : MachineFault) → Refuses e (DefinitionFault d e) → Refuses e (DefinesNone d)

@@ -1,0 +1,4 @@
+pub mod TestTree
+pub mod TestCode
+pub mod TestView
+pub mod TestFalls

@@ -1,0 +1,2 @@
+pub mod OneErrors
+pub mod ErrorsRefused

@@ -1,0 +1,2 @@
+pub mod ErrorFields
+pub mod ErrorFaults

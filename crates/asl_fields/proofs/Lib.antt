@@ -1,0 +1,4 @@
+pub mod Names
+pub mod NoPaths
+pub mod OneField
+pub mod FieldsRefused
