@@ -1,5 +1,5 @@
 -- What a state makes of a frame (Amazon States Language: "States", "Transitions", "Errors").
-use Rattle.std.specs.Prelude.{ℕ, ◌+◌, List, [], Option, None, Some, Result, Ok, Err, map, option_map, option_and_then, codes}
+use Rattle.std.specs.Prelude.{ℕ, ◌+◌, List, [], Option, None, Some, Result, Ok, Err, length, replicate, option_map, option_and_then, codes}
 use Rattle.json_tree.specs.Data.{Data}
 use Rattle.json_tree.specs.View.{data_of}
 use Rattle.json_tree.specs.declared.tree.Json.{Json}
@@ -32,7 +32,7 @@ retriers_of _ = []
 
 abbrev pub counters_of : Option State → List ℕ
 counters_of None = []
-counters_of (Some s) = map (λ (r : Retrier). 0) (retriers_of s)
+counters_of (Some s) = replicate (length (retriers_of s)) 0
 
 -- a state is entered with a counter of 0 for each of its retriers
 abbrev pub counters_at : Definition → List ℕ → List ℕ

@@ -1,8 +1,7 @@
 // A thread's frame: where it stands, and what it has.
-ghost use Rattle.std.specs.Prelude.{◌≡◌, [], map, IfOk};
-ghost use Rattle.asl_errors.specs.declared.errors.Retrier.{Retrier};
+ghost use Rattle.std.specs.Prelude.{◌≡◌, [], replicate, IfOk};
 
-use asl_machine::{Level, Retrier};
+use asl_machine::Level;
 use json_tree::{Json, Text};
 use std::alloc::{AllocError, Global};
 use std::marker::Model;
@@ -62,15 +61,13 @@ impl Retries {
         }
     }
 
-    /// A counter of 0 for each of these retriers. Takes memory for each.
-    pub fn fresh(alloc: Global, retriers: &[Retrier]) -> Result<Retries, AllocError>
-        ensures { IfOk result (λ r. r ≡ map (λ (q : Retrier). 0) retriers.now) }
+    /// So many counters of 0. Takes memory for each.
+    pub fn fresh(alloc: Global, count: usize) -> Result<Retries, AllocError>
+        ensures { IfOk result (λ r. r ≡ replicate count 0) }
     {
-        let mut inner = Vec::with_capacity(alloc, retriers.len())?;
-        for _retrier in retriers {
-            inner.push(0)?;
-        }
-        Ok(Retries { inner })
+        Ok(Retries {
+            inner: Vec::from_elem(alloc, 0, count)?,
+        })
     }
 
     /// Equal counters. Takes memory for each.

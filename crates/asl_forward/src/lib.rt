@@ -3,12 +3,12 @@
 //! Frames, and what a state makes of one.
 mod error;
 mod frame;
-mod prepare;
+mod prepared;
 mod processing;
 #[cfg(test)]
 mod tests;
 mod turn;
 
 pub use frame::{Fault, Frame, Origin, Phase, Retries};
-pub use prepare::{Outcome, Prepared, prepare};
+pub use prepared::{Outcome, Prepared, prepare};
 pub use turn::{first_frame, next_frame, standing};

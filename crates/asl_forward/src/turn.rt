@@ -1,9 +1,8 @@
 // What a state makes of a frame.
-ghost use Rattle.std.specs.Prelude.{◌≡◌, ◌+◌, ◌^◌, ◌<◌, map, option_map, IfOk, IfErr, Ok, List, ℕ, Result};
+ghost use Rattle.std.specs.Prelude.{◌≡◌, ◌+◌, ◌^◌, ◌<◌, option_map, IfOk, IfErr, Ok, List, ℕ, Result};
 ghost use Rattle.json_tree.specs.Data.{Data};
 ghost use Rattle.json_tree.specs.View.{data_of};
 ghost use Rattle.asl_machine.specs.Definition.{Definition};
-ghost use Rattle.asl_errors.specs.declared.errors.Retrier.{Retrier};
 ghost use Rattle.asl_forward.specs.Errors.{Tells, error_name};
 ghost use Rattle.asl_forward.specs.Turn.{retriers_of, counters_at, enters, is_done, has_failed, own_fault, declared_fault, go_on, ends, first_frame, pass_result, pass_output, idle_output, after_state, standing};
 
@@ -173,7 +172,7 @@ fn counters_at(alloc: Global, level: &Machine, name: &Text) -> Result<Retries, A
     ensures { IfOk result (λ r. r ≡ counters_at level.now name.now) }
 {
     match level.state(name) {
-        Some(state) => Retries::fresh(alloc, retriers_of(state)),
+        Some(state) => Retries::fresh(alloc, retriers_of(state).len()),
         None => Ok(Retries::none(alloc)),
     }
 }
@@ -202,12 +201,13 @@ fn with_phase(frame: &Frame, phase: Phase) -> Result<Frame, AllocError>
         drop(phase);
         return Err(AllocError);
     };
+    let count = frame.count + 1;
     Ok(Frame {
         level,
         state,
         raw,
         retries,
-        count: frame.count + 1,
+        count,
         phase,
     })
 }

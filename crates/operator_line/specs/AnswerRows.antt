@@ -6,7 +6,7 @@ use Rattle.step_names.specs.declared.step.StepName.{StepName}
 use Rattle.rollback_book.specs.declared.refusal.Refusal.TheVariants.{NoThread, NotReady, HasDependents, NotLast, Full}
 use Rattle.rollback_book.specs.declared.step.Kind.TheVariants.{Plain}
 use Rattle.rollback_book.specs.declared.step.Readiness.TheVariants.{Done}
-use Rattle.asl_machine.specs.declared.fault.MachineFault.TheVariants.{Missing}
+use Rattle.asl_fields.specs.declared.fault.MachineFault.TheVariants.{Missing}
 use Rattle.rollback_book.specs.declared.refusal.Refusal.TheVariants.{BadMachine}
 use Rattle.operator_line.specs.Replies.{step_reply, moved_reply, list_reply, refused, refused_by, refusal_reply}
 use Rattle.operator_line.specs.Texts.{lines_of}

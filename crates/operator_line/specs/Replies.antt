@@ -5,8 +5,8 @@ use Rattle.json_tree.specs.declared.fault.JsonFault.{JsonFault}
 use Rattle.json_tree.specs.declared.fault.JsonFault.TheVariants as json_faults
 use Rattle.json_tree.specs.View.{data_of}
 use Rattle.json_tree.specs.Written.{quoted, text_of}
-use Rattle.asl_machine.specs.declared.fault.MachineFault.{MachineFault}
-use Rattle.asl_machine.specs.declared.fault.MachineFault.TheVariants as faults
+use Rattle.asl_fields.specs.declared.fault.MachineFault.{MachineFault}
+use Rattle.asl_fields.specs.declared.fault.MachineFault.TheVariants as faults
 use Rattle.step_names.specs.Written.{step_text}
 use Rattle.step_names.specs.declared.step.StepName.{StepName}
 use Rattle.asl_forward.specs.declared.frame.Fault.{Fault}

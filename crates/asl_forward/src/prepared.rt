@@ -40,12 +40,12 @@ pub fn prepare(
         unreachable!()
     };
     let next = next_frame(alloc, level, state, frame)?;
-    let (Ok(frame), Ok(machine)) = (frame.copy_ready(), machine.share()) else {
+    let (Ok(kept), Ok(machine)) = (frame.copy_ready(), machine.share()) else {
         drop(next);
         return Err(AllocError);
     };
     Ok(Prepared {
-        frame,
+        frame: kept,
         machine,
         outcome: Outcome::Next(next),
     })
