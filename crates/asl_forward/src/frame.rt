@@ -66,7 +66,7 @@ impl Retries {
         ensures { IfOk result (λ r. r ≡ replicate count 0) }
     {
         Ok(Retries {
-            inner: Vec::from_elem(alloc, 0, count)?,
+            inner: vec![in alloc; 0u32; count]?,
         })
     }
 
