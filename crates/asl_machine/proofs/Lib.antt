@@ -3,3 +3,4 @@ pub mod Whole
 pub mod Inside
 pub mod OneMachine
 pub mod Refused
+pub mod Within

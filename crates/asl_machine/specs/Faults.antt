@@ -1,17 +1,20 @@
 -- The faults that a definition has. One that has several is refused with any of them.
-use Rattle.std.specs.Prelude.{◌≡◌, ℕ, List, Bool, false, true, ◌⊎◌, Option, Some, None, option_and_then, if◌then◌else◌, codes}
-use Rattle.serde_json.specs.Data.{Data as Source, Members, no_members, member}
-use Rattle.serde_json.specs.Find.{get, as_str, as_object}
+use Rattle.std.specs.Prelude.{◌≡◌, ℕ, zero, suc, List, Bool, false, true, ◌<◌, ◌⊎◌, Option, Some, None, option_and_then, codes}
+use Rattle.serde_json.specs.Data.{Data as Source, Items, no_items, item, Members, no_members, member}
+use Rattle.serde_json.specs.Find.{get, as_str, as_array, as_object}
 use Rattle.json_tree.specs.declared.tree.Json.{Json}
-use Rattle.asl_fields.specs.FieldFaults.{FieldsFault, PathFieldFault, TemplateFieldFault, required_text_fault, optional_text_fault, text_fault}
-use Rattle.asl_machine.specs.Definition.{StateTree}
-use Rattle.asl_machine.specs.Profile.{MembersAre, kind_named, start_in, states_in}
-use Rattle.asl_machine.specs.Reading.{is_end, whole_json}
-use Rattle.asl_machine.specs.Targets.{target_fault}
+use Rattle.ref_paths.specs.declared.path.PathStep.{PathStep}
+use Rattle.asl_fields.specs.FieldFaults.{FieldsFault, PathFieldFault, TemplateFieldFault, required_text_fault, optional_text_fault}
+use Rattle.asl_fields.specs.Values.{IsPathField}
 use Rattle.asl_fields.specs.declared.fault.MachineFault.{MachineFault}
-use Rattle.asl_fields.specs.declared.fault.MachineFault.TheVariants.{Missing, Unsupported, BadField, NextAndEnd}
+use Rattle.asl_fields.specs.declared.fault.MachineFault.TheVariants.{Missing, Unsupported, BadField, NextAndEnd, TooDeep}
 use Rattle.asl_fields.specs.declared.fields.Place.{Place}
 use Rattle.asl_fields.specs.declared.fields.Place.TheVariants as at
+use Rattle.asl_errors.specs.ErrorFaults.{ErrorHandlingFault}
+use Rattle.asl_machine.specs.Definition.{StateTree, Definition}
+use Rattle.asl_machine.specs.Profile.{MembersAre, StatesWithin, kind_named, start_in, states_in}
+use Rattle.asl_machine.specs.Reading.{is_end, whole_json, resource_named, config_fault, concurrency_fault, name_of_two, count_items}
+use Rattle.asl_machine.specs.Targets.{target_fault}
 use Rattle.asl_machine.specs.declared.kind.StateKind.{StateKind}
 use Rattle.asl_machine.specs.declared.kind.StateKind.TheVariants as kind
 
@@ -57,54 +60,135 @@ abbrev pub FailFault : Source → MachineFault → Type 0
 FailFault d e =
     FieldsFault at.Fail d e ⊎ (optional_text_fault (codes "Error") (get (codes "Error") d) ≡ Some e) ⊎ (optional_text_fault (codes "Cause") (get (codes "Cause") d) ≡ Some e)
 
+abbrev pub WorkFault : List ℕ → Source → MachineFault → Type 0
+WorkFault name d e = ProcessingFault d e ⊎ ErrorHandlingFault d e ⊎ (transition_fault name (is_end (get (codes "End") d)) (get (codes "Next") d) ≡ Some e)
+
+abbrev pub ResourceTextFault : Option (List ℕ) → MachineFault → Type 0
+ResourceTextFault None e = e ≡ BadField (codes "Resource")
+ResourceTextFault (Some name) e = (e ≡ Unsupported (codes "Resource")) × (resource_named name ≡ None)
+
+-- a resource is a text, and one that isn't among the three calls is left out
+abbrev pub ResourceFault : Option Source → MachineFault → Type 0
+ResourceFault None e = e ≡ Missing (codes "Resource")
+ResourceFault (Some d) e = ResourceTextFault (as_str d) e
+
+abbrev pub TaskFault : List ℕ → Source → MachineFault → Type 0
+TaskFault name d e = FieldsFault at.Task d e ⊎ ResourceFault (get (codes "Resource") d) e ⊎ ParametersFault d e ⊎ WorkFault name d e
+
+-- ---- a state that holds machines: what is a fault of an object at a place, `F` says
+
+abbrev pub BranchFault : (Place → Source → MachineFault → Type 0) → Source → Option Members → MachineFault → Type 0
+BranchFault F d None e = e ≡ BadField (codes "Branches")
+BranchFault F d (Some ms) e = F at.Branch d e
+
+abbrev pub BranchesFault : (Place → Source → MachineFault → Type 0) → Items → MachineFault → Type 0
+BranchesFault F no_items e = ⊥
+BranchesFault F (item d ds) e = BranchFault F d (as_object d) e ⊎ BranchesFault F ds e
+
+abbrev pub ListedBranchesFault : (Place → Source → MachineFault → Type 0) → Option Items → MachineFault → Type 0
+ListedBranchesFault F None e = e ≡ BadField (codes "Branches")
+ListedBranchesFault F (Some ds) e = BranchesFault F ds e ⊎ ((e ≡ BadField (codes "Branches")) × (4096 < count_items ds))
+
+abbrev pub BranchesFieldFault : (Place → Source → MachineFault → Type 0) → Option Source → MachineFault → Type 0
+BranchesFieldFault F None e = e ≡ Missing (codes "Branches")
+BranchesFieldFault F (Some d) e = ListedBranchesFault F (as_array d) e
+
+abbrev pub ParallelFault : (Place → Source → MachineFault → Type 0) → List ℕ → Source → MachineFault → Type 0
+ParallelFault F name d e =
+    FieldsFault at.Parallel d e ⊎ ParametersFault d e ⊎ WorkFault name d e ⊎ BranchesFieldFault F (get (codes "Branches") d) e
+
+abbrev pub ProcessorObjectFault : (Place → Source → MachineFault → Type 0) → List ℕ → Source → Option Members → MachineFault → Type 0
+ProcessorObjectFault F field d None e = e ≡ BadField field
+ProcessorObjectFault F field d (Some ms) e = (config_fault (get (codes "ProcessorConfig") d) ≡ Some e) ⊎ F at.Processor d e
+
+abbrev pub ProcessorFault : (Place → Source → MachineFault → Type 0) → List ℕ → Option Source → MachineFault → Type 0
+ProcessorFault F field None e = e ≡ Missing field
+ProcessorFault F field (Some d) e = ProcessorObjectFault F field d (as_object d) e
+
+-- of a field that has an older name: where both stand, the older one's
+abbrev pub NamedProcessorFault : (Place → Source → MachineFault → Type 0) → Source → Option (List ℕ) → MachineFault → Type 0
+NamedProcessorFault F d None e = e ≡ BadField (codes "Iterator")
+NamedProcessorFault F d (Some name) e = ProcessorFault F name (get name d) e
+
+abbrev pub NamedSelectorFault : Source → Option (List ℕ) → MachineFault → Type 0
+NamedSelectorFault d None e = e ≡ BadField (codes "Parameters")
+NamedSelectorFault d (Some name) e = TemplateFieldFault true name (get name d) e
+
+-- it is no path, nor may it be `null`
+abbrev pub ItemsPathFault : Option Source → MachineFault → Type 0
+ItemsPathFault d e = (e ≡ BadField (codes "ItemsPath")) × ((p : List PathStep) → IsPathField d (Some p) → ⊥)
+
+abbrev pub HasProcessorFault : (Place → Source → MachineFault → Type 0) → Source → MachineFault → Type 0
+HasProcessorFault F d e = NamedProcessorFault F d (name_of_two (codes "ItemProcessor") (codes "Iterator") d) e
+
+abbrev pub HasSelectorFault : Source → MachineFault → Type 0
+HasSelectorFault d e = NamedSelectorFault d (name_of_two (codes "ItemSelector") (codes "Parameters") d) e
+
+abbrev pub MapFault : (Place → Source → MachineFault → Type 0) → List ℕ → Source → MachineFault → Type 0
+MapFault F name d e =
+    FieldsFault at.Map d e ⊎ (concurrency_fault (get (codes "MaxConcurrency") d) ≡ Some e) ⊎ ItemsPathFault (get (codes "ItemsPath") d) e ⊎ HasSelectorFault d e ⊎ WorkFault name d e
+    ⊎ HasProcessorFault F d e
+
 -- of the state of this name; a type that is left out is unsupported, and another is bad
-abbrev pub KindFault : List ℕ → Option StateKind → Source → MachineFault → Type 0
-KindFault name (Some kind.Pass) d e = PassFault name d e
-KindFault name (Some kind.Succeed) d e = SucceedFault d e
-KindFault name (Some kind.Task) d e = e ≡ Unsupported (codes "Type")
-KindFault name (Some kind.Choice) d e = e ≡ Unsupported (codes "Type")
-KindFault name (Some kind.Wait) d e = WaitFault name d e
-KindFault name (Some kind.Fail) d e = FailFault d e
-KindFault name (Some kind.Parallel) d e = e ≡ Unsupported (codes "Type")
-KindFault name (Some kind.Map) d e = e ≡ Unsupported (codes "Type")
-KindFault name None d e = e ≡ BadField (codes "Type")
+abbrev pub KindFault : (Place → Source → MachineFault → Type 0) → List ℕ → Option StateKind → Source → MachineFault → Type 0
+KindFault F name (Some kind.Pass) d e = PassFault name d e
+KindFault F name (Some kind.Succeed) d e = SucceedFault d e
+KindFault F name (Some kind.Task) d e = TaskFault name d e
+KindFault F name (Some kind.Choice) d e = e ≡ Unsupported (codes "Type")
+KindFault F name (Some kind.Wait) d e = WaitFault name d e
+KindFault F name (Some kind.Fail) d e = FailFault d e
+KindFault F name (Some kind.Parallel) d e = ParallelFault F name d e
+KindFault F name (Some kind.Map) d e = MapFault F name d e
+KindFault F name None d e = e ≡ BadField (codes "Type")
 
-abbrev pub TypeFault : List ℕ → Source → Option (List ℕ) → MachineFault → Type 0
-TypeFault name d None e = required_text_fault (codes "Type") (get (codes "Type") d) ≡ Some e
-TypeFault name d (Some type) e = KindFault name (kind_named type) d e
+abbrev pub TypeFault : (Place → Source → MachineFault → Type 0) → List ℕ → Source → Option (List ℕ) → MachineFault → Type 0
+TypeFault F name d None e = required_text_fault (codes "Type") (get (codes "Type") d) ≡ Some e
+TypeFault F name d (Some type) e = KindFault F name (kind_named type) d e
 
-abbrev pub ObjectFault : List ℕ → Source → Option Members → MachineFault → Type 0
-ObjectFault name d None e = e ≡ BadField (codes "States")
-ObjectFault name d (Some ms) e = TypeFault name d (option_and_then as_str (get (codes "Type") d)) e
+abbrev pub ObjectFault : (Place → Source → MachineFault → Type 0) → List ℕ → Source → Option Members → MachineFault → Type 0
+ObjectFault F name d None e = e ≡ BadField (codes "States")
+ObjectFault F name d (Some ms) e = TypeFault F name d (option_and_then as_str (get (codes "Type") d)) e
 
 -- of the state of this name
-abbrev pub StateFault : List ℕ → Source → MachineFault → Type 0
-StateFault name d e = ObjectFault name d (as_object d) e
+abbrev pub StateFault : (Place → Source → MachineFault → Type 0) → List ℕ → Source → MachineFault → Type 0
+StateFault F name d e = ObjectFault F name d (as_object d) e
 
-abbrev pub StatesFault : Members → MachineFault → Type 0
-StatesFault no_members e = ⊥
-StatesFault (member name d ms) e = StateFault name d e ⊎ StatesFault ms e
+abbrev pub StatesFault : (Place → Source → MachineFault → Type 0) → Members → MachineFault → Type 0
+StatesFault F no_members e = ⊥
+StatesFault F (member name d ms) e = StateFault F name d e ⊎ StatesFault F ms e
 
 -- ---- a machine
 
-abbrev pub StatesFieldFault : Option Members → MachineFault → Type 0
-StatesFieldFault None e = e ≡ BadField (codes "States")
-StatesFieldFault (Some ms) e = StatesFault ms e
+-- of the members of `States`, `S` says
+abbrev pub StatesFieldFault : (Members → MachineFault → Type 0) → Option Members → MachineFault → Type 0
+StatesFieldFault S None e = e ≡ BadField (codes "States")
+StatesFieldFault S (Some ms) e = S ms e
 
-abbrev pub RequiredStatesFault : Option Source → MachineFault → Type 0
-RequiredStatesFault None e = e ≡ Missing (codes "States")
-RequiredStatesFault (Some d) e = StatesFieldFault (as_object d) e
+abbrev pub RequiredStatesFault : (Members → MachineFault → Type 0) → Option Source → MachineFault → Type 0
+RequiredStatesFault S None e = e ≡ Missing (codes "States")
+RequiredStatesFault S (Some d) e = StatesFieldFault S (as_object d) e
 
 -- where the machine starts and its states are read, a name that is no state's
-abbrev pub TargetsFault : Source → MachineFault → Type 0
-TargetsFault d e =
-    (start : List ℕ) × (states : List (List ℕ × StateTree)) × (start_in d ≡ Some start) × MembersAre (states_in d) states × (target_fault start states ≡ Some e)
+abbrev pub TargetsFault : (Members → List (List ℕ × StateTree) → Type 0) → Source → MachineFault → Type 0
+TargetsFault S d e =
+    (start : List ℕ) × (states : List (List ℕ × StateTree)) × (start_in d ≡ Some start) × MembersAre S (states_in d) states × (target_fault start states ≡ Some e)
 
-abbrev pub MachineObjectFault : Place → Source → Option Members → MachineFault → Type 0
-MachineObjectFault place d None e = e ≡ Missing (codes "StartAt")
-MachineObjectFault place d (Some ms) e =
-    FieldsFault place d e ⊎ (required_text_fault (codes "StartAt") (get (codes "StartAt") d) ≡ Some e) ⊎ RequiredStatesFault (get (codes "States") d) e ⊎ TargetsFault d e
+abbrev pub FaultOver : (Members → MachineFault → Type 0) → (Members → List (List ℕ × StateTree) → Type 0) → Place → Source → MachineFault → Type 0
+FaultOver F S place d e =
+    FieldsFault place d e ⊎ (required_text_fault (codes "StartAt") (get (codes "StartAt") d) ≡ Some e) ⊎ RequiredStatesFault F (get (codes "States") d) e ⊎ TargetsFault S d e
+
+-- of a `States` object, where such objects may nest so many levels deep from this one on
+abbrev pub StatesFaultWithin : ℕ → Members → MachineFault → Type 0
+StatesFaultWithin zero ms e = e ≡ TooDeep
+StatesFaultWithin (suc levels) ms e = StatesFault (FaultOver (StatesFaultWithin levels) (StatesWithin levels)) ms e
+
+abbrev pub LevelFault : ℕ → Place → Source → MachineFault → Type 0
+LevelFault levels place d e = FaultOver (StatesFaultWithin levels) (StatesWithin levels) place d e
+
+abbrev pub WholeFault : Source → Option Members → MachineFault → Type 0
+WholeFault d None e = e ≡ Missing (codes "StartAt")
+WholeFault d (Some ms) e = LevelFault 32 at.Top d e
 
 -- a fault of a definition
 abbrev pub DefinitionFault : Source → MachineFault → Type 0
-DefinitionFault d e = MachineObjectFault at.Top d (as_object d) e
+DefinitionFault d e = WholeFault d (as_object d) e

@@ -1,11 +1,16 @@
--- What a state's `Result`, `Next` and `End` say.
-use Rattle.std.specs.Prelude.{ℕ, List, [], ◌∷◌, Bool, true, false, Option, Some, None, option_map, codes}
+-- What the fields say that only some states have.
+use Rattle.std.specs.Prelude.{ℕ, suc, ◌==◌, List, [], ◌∷◌, Bool, true, false, Option, Some, None, is_some, option_map, option_and_then, if◌then◌else◌, codes}
 use Rattle.serde_json.specs.Data as source
-use Rattle.serde_json.specs.Find.{get, as_str, as_bool}
+use Rattle.serde_json.specs.Find.{get, as_str, as_bool, as_number, as_u64, as_object}
 use Rattle.json_tree.specs.Data.{Data, null, boolean, whole, text, list, fields, Items, no_items, item, Members, no_members, member}
 use Rattle.json_tree.specs.Reading.{whole_of}
 use Rattle.json_tree.specs.declared.tree.Json.{Json}
 use Rattle.json_tree.specs.declared.tree.Json.TheVariants.{Null, Bool as Boolean, Whole, Text, List as ListOf, Fields}
+use Rattle.asl_fields.specs.Fields.{is_text}
+use Rattle.asl_fields.specs.declared.fault.MachineFault.{MachineFault}
+use Rattle.asl_fields.specs.declared.fault.MachineFault.TheVariants.{Unsupported, BadField}
+use Rattle.asl_machine.specs.declared.state.Resource.{Resource}
+use Rattle.asl_machine.specs.declared.state.Resource.TheVariants.{GetItem, PutItem, DeleteItem}
 use Rattle.asl_machine.specs.declared.state.Transition.{Transition}
 use Rattle.asl_machine.specs.declared.state.Transition.TheVariants.{Next, End}
 
@@ -53,3 +58,53 @@ transition_of d = goes_to (is_end (get (codes "End") d)) (get (codes "Next") d)
 abbrev pub result_of : Option source.Data → Option (Option Json)
 result_of None = Some None
 result_of (Some d) = option_map Some (whole_json d)
+
+-- the call that a resource is ("Task State")
+abbrev pub resource_named : List ℕ → Option Resource
+resource_named name =
+    if is_text name (codes "arn:aws:states:::dynamodb:getItem") then Some GetItem
+    else (if is_text name (codes "arn:aws:states:::dynamodb:putItem") then Some PutItem
+    else (if is_text name (codes "arn:aws:states:::dynamodb:deleteItem") then Some DeleteItem
+    else None))
+
+abbrev pub resource_of : Option source.Data → Option Resource
+resource_of d = option_and_then resource_named (option_and_then as_str d)
+
+-- ---- a Map
+
+-- the name of the field that stands, of a name and an older one of the same meaning; none where both stand, and the newer
+-- where neither does
+abbrev pub name_of_two : List ℕ → List ℕ → source.Data → Option (List ℕ)
+name_of_two newer older d = if is_some (get older d) then (if is_some (get newer d) then None else Some older) else Some newer
+
+abbrev pub mode_named_fault : Option (List ℕ) → Option MachineFault
+mode_named_fault None = Some (BadField (codes "Mode"))
+mode_named_fault (Some mode) =
+    if is_text mode (codes "INLINE") then None
+    else (if is_text mode (codes "DISTRIBUTED") then Some (Unsupported (codes "Mode")) else Some (BadField (codes "Mode")))
+
+abbrev pub mode_fault : Option source.Data → Option MachineFault
+mode_fault None = None
+mode_fault (Some d) = mode_named_fault (as_str d)
+
+abbrev pub config_object_fault : source.Data → Option source.Members → Option MachineFault
+config_object_fault d None = Some (BadField (codes "ProcessorConfig"))
+config_object_fault d (Some ms) = mode_fault (get (codes "Mode") d)
+
+-- a processor runs inline, whether or not its `ProcessorConfig` says so
+abbrev pub config_fault : Option source.Data → Option MachineFault
+config_fault None = None
+config_fault (Some d) = config_object_fault d (as_object d)
+
+abbrev pub bound_fault : Option ℕ → Option MachineFault
+bound_fault None = Some (BadField (codes "MaxConcurrency"))
+bound_fault (Some n) = if n == 0 then None else Some (Unsupported (codes "MaxConcurrency"))
+
+-- a bound of 0 is none, and any other is left out
+abbrev pub concurrency_fault : Option source.Data → Option MachineFault
+concurrency_fault None = None
+concurrency_fault (Some d) = bound_fault (option_and_then as_u64 (as_number d))
+
+abbrev pub count_items : source.Items → ℕ
+count_items source.no_items = 0
+count_items (source.item d ds) = suc (count_items ds)

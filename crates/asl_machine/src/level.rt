@@ -1,5 +1,5 @@
 // Where a `States` object stands in its machine.
-ghost use Rattle.std.specs.Prelude.{◌≡◌, [], IfOk, length, ◌==◌};
+ghost use Rattle.std.specs.Prelude.{◌≡◌, [], ◌∷◌, ◌++◌, IfOk, length, ◌==◌};
 
 use json_tree::Text;
 use std::alloc::{AllocError, Global};
@@ -62,6 +62,17 @@ impl LevelPath {
         ensures { result.now ≡ self.now }
     {
         self.inner.as_slice()
+    }
+
+    /// The path one step further inwards, into this branch of a state that stands where this path leads. Takes memory for
+    /// each step.
+    pub fn inward(&self, state: &Text, branch: u32) -> Result<LevelPath, AllocError>
+        ensures { IfOk result (λ p. p ≡ self.now ++ record { state = state.now; branch = branch } ∷ []) }
+    {
+        let state = state.copy()?;
+        let mut path = self.copy()?;
+        path.inner.push(LevelStep { state, branch })?;
+        Ok(path)
     }
 
     /// An equal path. Takes memory for each step.

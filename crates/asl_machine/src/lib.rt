@@ -5,10 +5,13 @@ mod kind;
 mod laws;
 mod level;
 mod machine;
-mod processing;
+mod map_readers;
 mod read;
 mod shared;
 mod state;
+mod state_readers;
+#[cfg(test)]
+mod state_tests;
 #[cfg(test)]
 mod tests;
 

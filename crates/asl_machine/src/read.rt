@@ -1,21 +1,25 @@
 // Reading a definition.
-ghost use Rattle.std.specs.Prelude.{◌≡◌, ◌⊎◌, IfOk, IfErr, OnOk, OnErr, [], Some, None, true, false, codes};
-ghost use Rattle.serde_json.specs.Find.{get, as_object};
-ghost use Rattle.serde_json.specs.View.{view, members_view};
-ghost use Rattle.asl_machine.specs.Faults.{DefinitionFault, StatesFault, StateFault, KindFault, PassFault, WaitFault, SucceedFault, FailFault, result_fault, transition_fault};
-ghost use Rattle.asl_machine.specs.Profile.{Defines, DefinesNone, StatesAre, IsState, IsOfKind, IsPass, IsWait, IsSucceed, IsFail, kind_named};
-ghost use Rattle.asl_machine.specs.Reading.{result_of, transition_of, is_end};
+ghost use Rattle.std.specs.Prelude.{◌≡◌, IfOk, IfErr, [], Some, None, option_and_then, codes};
+ghost use Rattle.serde_json.specs.Find.{get, as_array, as_object};
+ghost use Rattle.serde_json.specs.View.{view, items_view, members_view};
 ghost use Rattle.asl_fields.specs.Refusal.{Refuses};
+ghost use Rattle.asl_machine.specs.Faults.{DefinitionFault, LevelFault, StatesFaultWithin, StatesFault, StateFault, KindFault, ParallelFault, BranchesFault, BranchesFieldFault, MapFault, HasProcessorFault};
+ghost use Rattle.asl_machine.specs.Profile.{Defines, DefinesNone, IsMachine, StatesWithin, StatesAre, IsState, IsOfKind, IsParallel, BranchesAre, ListedBranches, IsMap, HasProcessor, kind_named};
 
 use crate::kind::{StateKind, kind_named};
-use crate::processing::read_processing;
-use crate::state::{Fail, Machine, Pass, State, States, Succeed, Transition, Wait};
-use asl_fields::{
-    MachineFault, Place, check_fields, optional_text, read_template, required, text_of,
-};
-use json_tree::{Json, JsonFault, Text, from_value};
-use serde_json::{Map, Value};
+use crate::map_readers::{check_concurrency, check_config, name_of_two, read_elements};
+use crate::state::{Branches, Machine, Map, Parallel, State, States};
+use crate::state_readers::{read_fail, read_pass, read_succeed, read_task, read_wait, read_work};
+use asl_fields::{MachineFault, Place, check_fields, read_template, required, text_of};
+use json_tree::Text;
+use serde_json::{Map as Object, Value};
 use std::alloc::Global;
+
+/// How many levels deep `States` objects may nest.
+const MOST_LEVELS: u32 = 32;
+
+/// How many branches a Parallel may have.
+const MOST_BRANCHES: usize = 4096;
 
 impl Machine {
     /// The machine of a definition ("State Machine Structure"). Takes time linear in the definition, and memory for what
@@ -27,38 +31,77 @@ impl Machine {
         ensures refused { IfErr result (λ e. Refuses e (DefinesNone (view definition.now))) }
         ensures fault { IfErr result (λ e. Refuses e (DefinitionFault (view definition.now) e)) }
     {
-        read_machine(alloc, definition)
+        read_definition(alloc, definition)
     }
 }
 
-/// The machine of a definition.
-fn read_machine(alloc: Global, definition: &Value) -> Result<Machine, MachineFault>
+fn read_definition(alloc: Global, definition: &Value) -> Result<Machine, MachineFault>
     ensures ok { IfOk result (Defines (view definition.now)) }
     ensures fault { IfErr result (λ e. Refuses e (DefinitionFault (view definition.now) e)) }
 {
     let Some(fields) = definition.as_object() else {
         return Err(MachineFault::Missing(Text::new(alloc, "StartAt")?));
     };
-    check_fields(alloc, Place::Top, definition, fields)?;
-    let start = required(alloc, definition, "StartAt")?;
+    read_machine(alloc, Place::Top, MOST_LEVELS, definition, fields)
+}
+
+/// The machine of an object at this place, whose fields are `fields` too, where `States` objects may nest so many levels
+/// deep.
+#[cycle(read)]
+fn read_machine(
+    alloc: Global,
+    place: Place,
+    levels: u32,
+    object: &Value,
+    fields: &Object<String, Value>,
+) -> Result<Machine, MachineFault>
+    requires { as_object (view object.now) ≡ Some (members_view fields.now.entries) }
+    ensures ok { IfOk result (IsMachine levels place (view object.now)) }
+    ensures fault { IfErr result (λ e. Refuses e (LevelFault levels place (view object.now) e)) }
+{
+    check_fields(alloc, place, object, fields)?;
+    let start = required(alloc, object, "StartAt")?;
     let start = text_of(alloc, start, "StartAt")?;
-    let states = required(alloc, definition, "States")?;
+    let states = required(alloc, object, "States")?;
     let Some(states) = states.as_object() else {
         return Err(MachineFault::BadField(Text::new(alloc, "States")?));
     };
-    let states = read_states(alloc, states)?;
+    let states = read_states(alloc, levels, states)?;
     Machine::new(start, states)
 }
 
-fn read_states(alloc: Global, states: &Map<String, Value>) -> Result<States, MachineFault>
-    ensures ok { IfOk result (StatesAre (members_view states.now.entries) []) }
+/// The states of a `States` object, where such objects may nest so many levels deep from this one on.
+#[cycle(read)]
+fn read_states(
+    alloc: Global,
+    levels: u32,
+    states: &Object<String, Value>,
+) -> Result<States, MachineFault>
+    ensures ok { IfOk result (StatesWithin levels (members_view states.now.entries)) }
     ensures fault { IfErr result
-        (λ e. Refuses e (StatesFault (members_view states.now.entries) e)) }
+        (λ e. Refuses e (StatesFaultWithin levels (members_view states.now.entries) e)) }
+{
+    if levels > 0 {
+        read_each_state(alloc, levels - 1, states)
+    } else {
+        Err(MachineFault::TooDeep)
+    }
+}
+
+#[cycle(read)]
+fn read_each_state(
+    alloc: Global,
+    levels: u32,
+    states: &Object<String, Value>,
+) -> Result<States, MachineFault>
+    ensures ok { IfOk result (StatesAre (IsMachine levels) (members_view states.now.entries) []) }
+    ensures fault { IfErr result
+        (λ e. Refuses e (StatesFault (LevelFault levels) (members_view states.now.entries) e)) }
 {
     let mut read = States::new(alloc);
     for (name, value) in states {
         let key = Text::new(alloc, name.as_str())?;
-        match read_state(alloc, name.as_str(), value) {
+        match read_state(alloc, levels, name.as_str(), value) {
             Ok(state) => read.insert(key, state)?,
             Err(fault) => {
                 drop(key);
@@ -69,9 +112,11 @@ fn read_states(alloc: Global, states: &Map<String, Value>) -> Result<States, Mac
     Ok(read)
 }
 
-fn read_state(alloc: Global, name: &str, value: &Value) -> Result<State, MachineFault>
-    ensures ok { IfOk result (IsState (view value.now)) }
-    ensures fault { IfErr result (λ e. Refuses e (StateFault name.now (view value.now) e)) }
+#[cycle(read)]
+fn read_state(alloc: Global, levels: u32, name: &str, value: &Value) -> Result<State, MachineFault>
+    ensures ok { IfOk result (IsState (IsMachine levels) (view value.now)) }
+    ensures fault { IfErr result
+        (λ e. Refuses e (StateFault (LevelFault levels) name.now (view value.now) e)) }
 {
     let Some(fields) = value.as_object() else {
         return Err(MachineFault::BadField(Text::new(alloc, "States")?));
@@ -80,150 +125,163 @@ fn read_state(alloc: Global, name: &str, value: &Value) -> Result<State, Machine
     let Some(kind) = kind.as_str() else {
         return Err(MachineFault::BadField(Text::new(alloc, "Type")?));
     };
-    read_kind(alloc, name, kind, value, fields)
+    read_kind(alloc, levels, name, kind, value, fields)
 }
 
 /// The state of an object of this type, whose fields are `fields` too.
+#[cycle(read)]
 fn read_kind(
     alloc: Global,
+    levels: u32,
     name: &str,
     kind: &str,
     object: &Value,
-    fields: &Map<String, Value>,
+    fields: &Object<String, Value>,
 ) -> Result<State, MachineFault>
     requires { as_object (view object.now) ≡ Some (members_view fields.now.entries) }
-    ensures ok { IfOk result (IsOfKind (kind_named kind.now) (view object.now)) }
+    ensures ok { IfOk result (IsOfKind (IsMachine levels) (kind_named kind.now) (view object.now)) }
     ensures fault { IfErr result
-        (λ e. Refuses e (KindFault name.now (kind_named kind.now) (view object.now) e)) }
+        (λ e. Refuses e (KindFault (LevelFault levels) name.now (kind_named kind.now) (view object.now) e)) }
 {
     match kind_named(kind) {
         Some(StateKind::Pass) => Ok(State::Pass(read_pass(alloc, name, object, fields)?)),
+        Some(StateKind::Task) => Ok(State::Task(read_task(alloc, name, object, fields)?)),
         Some(StateKind::Wait) => Ok(State::Wait(read_wait(alloc, name, object, fields)?)),
         Some(StateKind::Fail) => Ok(State::Fail(read_fail(alloc, object, fields)?)),
         Some(StateKind::Succeed) => Ok(State::Succeed(read_succeed(alloc, object, fields)?)),
-        Some(_) => Err(MachineFault::Unsupported(Text::new(alloc, "Type")?)),
+        Some(StateKind::Parallel) => {
+            Ok(State::Parallel(read_parallel(alloc, levels, name, object, fields)?))
+        }
+        Some(StateKind::Map) => Ok(State::Map(read_map(alloc, levels, name, object, fields)?)),
+        Some(StateKind::Choice) => Err(MachineFault::Unsupported(Text::new(alloc, "Type")?)),
         None => Err(MachineFault::BadField(Text::new(alloc, "Type")?)),
     }
 }
 
-fn read_pass(
+#[cycle(read)]
+fn read_parallel(
     alloc: Global,
+    levels: u32,
     name: &str,
     object: &Value,
-    fields: &Map<String, Value>,
-) -> Result<Pass, MachineFault>
+    fields: &Object<String, Value>,
+) -> Result<Parallel, MachineFault>
     requires { as_object (view object.now) ≡ Some (members_view fields.now.entries) }
-    ensures ok { IfOk result (IsPass (view object.now)) }
-    ensures fault { IfErr result (λ e. Refuses e (PassFault name.now (view object.now) e)) }
+    ensures ok { IfOk result (IsParallel (IsMachine levels) (view object.now)) }
+    ensures fault { IfErr result
+        (λ e. Refuses e (ParallelFault (LevelFault levels) name.now (view object.now) e)) }
 {
-    check_fields(alloc, Place::Pass, object, fields)?;
-    let transition = read_transition(alloc, name, object)?;
-    let result = read_result(alloc, object)?;
+    check_fields(alloc, Place::Parallel, object, fields)?;
     let parameters = read_template(alloc, object, "Parameters", false)?;
-    let processing = read_processing(alloc, object, parameters)?;
-    Ok(Pass {
-        processing,
-        result,
-        transition,
-    })
+    let work = read_work(alloc, name, object, parameters)?;
+    match read_branches(alloc, levels, object) {
+        Ok(branches) => Ok(Parallel {
+            branches,
+            processing: work.processing,
+            errors: work.errors,
+            transition: work.transition,
+        }),
+        Err(fault) => {
+            drop(work);
+            Err(fault)
+        }
+    }
 }
 
-fn read_succeed(
-    alloc: Global,
-    object: &Value,
-    fields: &Map<String, Value>,
-) -> Result<Succeed, MachineFault>
-    requires { as_object (view object.now) ≡ Some (members_view fields.now.entries) }
-    ensures ok { IfOk result (IsSucceed (view object.now)) }
-    ensures fault { IfErr result (λ e. Refuses e (SucceedFault (view object.now) e)) }
+#[cycle(read)]
+fn read_branches(alloc: Global, levels: u32, object: &Value) -> Result<Branches, MachineFault>
+    ensures ok { IfOk result (ListedBranches (IsMachine levels) (option_and_then as_array (get (codes "Branches") (view object.now)))) }
+    ensures fault { IfErr result
+        (λ e. Refuses e (BranchesFieldFault (LevelFault levels) (get (codes "Branches") (view object.now)) e)) }
 {
-    check_fields(alloc, Place::Succeed, object, fields)?;
-    let processing = read_processing(alloc, object, None)?;
-    Ok(Succeed { processing })
+    let value = required(alloc, object, "Branches")?;
+    let Some(items) = value.as_array() else {
+        return Err(MachineFault::BadField(Text::new(alloc, "Branches")?));
+    };
+    if items.len() > MOST_BRANCHES {
+        return Err(MachineFault::BadField(Text::new(alloc, "Branches")?));
+    }
+    read_each_branch(alloc, levels, items)
 }
 
-fn read_wait(
+#[cycle(read)]
+fn read_each_branch(
     alloc: Global,
+    levels: u32,
+    items: &Vec<Value>,
+) -> Result<Branches, MachineFault>
+    ensures ok { IfOk result (BranchesAre (IsMachine levels) (items_view items.now.items) []) }
+    ensures fault { IfErr result
+        (λ e. Refuses e (BranchesFault (LevelFault levels) (items_view items.now.items) e)) }
+{
+    let mut inner = Vec::new(alloc);
+    for item in items {
+        let Some(fields) = item.as_object() else {
+            return Err(MachineFault::BadField(Text::new(alloc, "Branches")?));
+        };
+        match read_machine(alloc, Place::Branch, levels, item, fields) {
+            Ok(machine) => inner.push(machine)?,
+            Err(fault) => {
+                drop(inner);
+                return Err(fault);
+            }
+        }
+    }
+    Ok(Branches { inner })
+}
+
+#[cycle(read)]
+fn read_map(
+    alloc: Global,
+    levels: u32,
     name: &str,
     object: &Value,
-    fields: &Map<String, Value>,
-) -> Result<Wait, MachineFault>
+    fields: &Object<String, Value>,
+) -> Result<Map, MachineFault>
     requires { as_object (view object.now) ≡ Some (members_view fields.now.entries) }
-    ensures ok { IfOk result (IsWait (view object.now)) }
-    ensures fault { IfErr result (λ e. Refuses e (WaitFault name.now (view object.now) e)) }
-{
-    check_fields(alloc, Place::Wait, object, fields)?;
-    let transition = read_transition(alloc, name, object)?;
-    let processing = read_processing(alloc, object, None)?;
-    Ok(Wait {
-        processing,
-        transition,
-    })
-}
-
-fn read_fail(
-    alloc: Global,
-    object: &Value,
-    fields: &Map<String, Value>,
-) -> Result<Fail, MachineFault>
-    requires { as_object (view object.now) ≡ Some (members_view fields.now.entries) }
-    ensures ok { IfOk result (IsFail (view object.now)) }
-    ensures fault { IfErr result (λ e. Refuses e (FailFault (view object.now) e)) }
-{
-    check_fields(alloc, Place::Fail, object, fields)?;
-    let error = optional_text(alloc, object, "Error")?;
-    let cause = optional_text(alloc, object, "Cause")?;
-    Ok(Fail { error, cause })
-}
-
-/// The `Result` of a Pass state, if it has one.
-fn read_result(alloc: Global, object: &Value) -> Result<Option<Json>, MachineFault>
-    ensures ok { IfOk result (λ r. result_of (get (codes "Result") (view object.now)) ≡ Some r) }
-    ensures refused { IfErr result
-        (λ e. Refuses e (result_of (get (codes "Result") (view object.now)) ≡ None)) }
+    ensures ok { IfOk result (IsMap (IsMachine levels) (view object.now)) }
     ensures fault { IfErr result
-        (λ e. Refuses e (result_fault (get (codes "Result") (view object.now)) ≡ Some e)) }
+        (λ e. Refuses e (MapFault (LevelFault levels) name.now (view object.now) e)) }
 {
-    let Some(value) = object.get("Result") else {
-        return Ok(None);
+    check_fields(alloc, Place::Map, object, fields)?;
+    check_concurrency(alloc, object)?;
+    let elements = read_elements(alloc, object)?;
+    let work = match read_work(alloc, name, object, None) {
+        Ok(work) => work,
+        Err(fault) => {
+            drop(elements);
+            return Err(fault);
+        }
     };
-    match from_value(alloc, value) {
-        Ok(json) => Ok(Some(json)),
-        Err(JsonFault::Memory) => Err(MachineFault::Memory),
-        Err(_) => Err(MachineFault::BadField(Text::new(alloc, "Result")?)),
+    match read_processor(alloc, levels, object) {
+        Ok(processor) => Ok(Map {
+            processor,
+            items_path: elements.items_path,
+            item_selector: elements.item_selector,
+            processing: work.processing,
+            errors: work.errors,
+            transition: work.transition,
+        }),
+        Err(fault) => {
+            drop(elements);
+            drop(work);
+            Err(fault)
+        }
     }
 }
 
-/// Where the state of this name goes: it has exactly one of `Next` and `End: true`, `End: false` being none.
-fn read_transition(alloc: Global, name: &str, object: &Value) -> Result<Transition, MachineFault>
-    ensures ok { IfOk result (λ transition. transition_of (view object.now) ≡ Some transition) }
-    ensures refused { IfErr result (λ e. Refuses e (transition_of (view object.now) ≡ None)) }
+/// The processor of a Map.
+#[cycle(read)]
+fn read_processor(alloc: Global, levels: u32, object: &Value) -> Result<Machine, MachineFault>
+    ensures ok { IfOk result (HasProcessor (IsMachine levels) (view object.now)) }
     ensures fault { IfErr result
-        (λ e. Refuses e
-        (transition_fault name.now (is_end (get (codes "End") (view object.now)))
-        (get (codes "Next") (view object.now)) ≡ Some e)) }
+        (λ e. Refuses e (HasProcessorFault (LevelFault levels) (view object.now) e)) }
 {
-    let ends = read_end(alloc, object)?;
-    match object.get("Next") {
-        None if ends => Ok(Transition::End),
-        None => Err(MachineFault::Missing(Text::new(alloc, "Next")?)),
-        Some(_) if ends => Err(MachineFault::NextAndEnd(Text::new(alloc, name)?)),
-        Some(next) => Ok(Transition::Next(text_of(alloc, next, "Next")?)),
-    }
-}
-
-/// Whether `End: true` stands.
-fn read_end(alloc: Global, object: &Value) -> Result<bool, MachineFault>
-    ensures ok { IfOk result (λ ends. is_end (get (codes "End") (view object.now)) ≡ Some ends) }
-    ensures refused { IfErr result
-        (λ e. Refuses e (is_end (get (codes "End") (view object.now)) ≡ None)) }
-    ensures fault { IfErr result (λ e. Refuses e (e ≡ MachineFault.BadField (codes "End"))) }
-{
-    let Some(end) = object.get("End") else {
-        return Ok(false);
+    let name = name_of_two(alloc, object, "ItemProcessor", "Iterator")?;
+    let processor = required(alloc, object, name)?;
+    let Some(fields) = processor.as_object() else {
+        return Err(MachineFault::BadField(Text::new(alloc, name)?));
     };
-    match end.as_bool() {
-        Some(ends) => Ok(ends),
-        None => Err(MachineFault::BadField(Text::new(alloc, "End")?)),
-    }
+    check_config(alloc, processor)?;
+    read_machine(alloc, Place::Processor, levels, processor, fields)
 }

@@ -1,4 +1,6 @@
 // The states of a machine (Amazon States Language, "States"), and the machine that holds them.
+ghost use Rattle.std.specs.Prelude.{◌≡◌, length, option_copied, slice_get};
+
 use asl_choice::Rules;
 use asl_errors::ErrorHandling;
 use json_tree::{Json, Text};
@@ -168,6 +170,29 @@ impl Model for Branches {
     ghost use Rattle.asl_machine.specs.TreeFalls.{branches_fall};
 
     ghost size_decreases = { λ a h. branches_fall a.inner.items };
+}
+
+impl Branches {
+    /// How many there are.
+    pub fn len(&self) -> usize
+        ensures { result ≡ length self.now }
+    {
+        self.inner.len()
+    }
+
+    /// The branch of this number, from 0.
+    pub fn get(&self, number: u32) -> Option<&Machine>
+        ensures { option_copied result ≡ slice_get self.now number }
+    {
+        self.inner.get(number as usize)
+    }
+
+    /// The branches, in their order, lent.
+    pub fn as_slice(&self) -> &[Machine]
+        ensures { result.now ≡ self.now }
+    {
+        self.inner.as_slice()
+    }
 }
 
 /// The states of one `States` object. Contracts see the list of names and trees of states, in the order of the names'

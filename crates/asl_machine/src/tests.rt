@@ -20,19 +20,19 @@ fn told(fault: &MachineFault) -> (u32, &str) {
 }
 
 /// The machine that a text defines, or what its refusal is told as.
-fn machine_of(alloc: Global, text: &str) -> Result<Result<Machine, MachineFault>, Fail> {
+pub fn machine_of(alloc: Global, text: &str) -> Result<Result<Machine, MachineFault>, Fail> {
     let definition = Value::from_str(alloc, text)?;
     Ok(Machine::read(alloc, &definition))
 }
 
-fn is_refused(alloc: Global, text: &str, number: u32, name: &str) -> Result<bool, Fail> {
+pub fn is_refused(alloc: Global, text: &str, number: u32, name: &str) -> Result<bool, Fail> {
     match machine_of(alloc, text)? {
         Ok(_) => Ok(false),
         Err(fault) => Ok(told(&fault) == (number, name)),
     }
 }
 
-fn is_read(alloc: Global, text: &str) -> Result<bool, Fail> {
+pub fn is_read(alloc: Global, text: &str) -> Result<bool, Fail> {
     Ok(machine_of(alloc, text)?.is_ok())
 }
 
@@ -87,11 +87,6 @@ const FAULTS: &[(&str, u32, &str)] = &[
         r#"{"StartAt":"P","States":{"P":{"Type":"Succeed","QueryLanguage":"JSONata"}}}"#,
         3,
         "QueryLanguage",
-    ),
-    (
-        r#"{"StartAt":"P","States":{"P":{"Type":"Task"}}}"#,
-        3,
-        "Type",
     ),
     (
         r#"{"StartAt":"P","States":{"P":{"Type":"Succeed"}},"QueryLanguage":"SQL"}"#,
@@ -346,7 +341,7 @@ fn leaves_names_out_everywhere(rt: HostRuntime) -> Result<(), Fail> {
     Ok(())
 }
 
-const LEFT_OUT_TYPES: &[&str] = &["Task", "Choice", "Parallel", "Map"];
+const LEFT_OUT_TYPES: &[&str] = &["Choice"];
 
 #[test]
 fn leaves_types_out(rt: HostRuntime) -> Result<(), Fail> {

@@ -27,4 +27,4 @@ all_refuse d (Ok m) h = h
 all_refuse d (Err e) h = refuses d e h
 
 pub returns-clause-refused : goal.returns-clause-refused
-returns-clause-refused c = all_refuse (view c.args.definition.now) c.read_machine.result c.read_machine.ensures.fault
+returns-clause-refused c = all_refuse (view c.args.definition.now) c.read_definition.result c.read_definition.ensures.fault
