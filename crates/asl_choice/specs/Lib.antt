@@ -2,3 +2,4 @@ pub mod TestTree
 pub mod TestCode
 pub mod TestView
 pub mod TestFalls
+pub mod Holding

@@ -2,7 +2,7 @@
 use Rattle.std.specs.Prelude.{◌≡◌, ℕ, List, Result, Ok, Err, codes}
 use Rattle.json_tree.specs.Data.{Data}
 use Rattle.asl_forward.specs.declared.error.StateError.{StateError}
-use Rattle.asl_forward.specs.declared.error.StateError.TheVariants.{Runtime, ParameterPathFailure, ResultPathMatchFailure}
+use Rattle.asl_forward.specs.declared.error.StateError.TheVariants.{Runtime, ParameterPathFailure, ResultPathMatchFailure, NoChoiceMatched}
 use Rattle.asl_forward.specs.declared.error.TurnFault.{TurnFault}
 use Rattle.asl_forward.specs.declared.error.TurnFault.TheVariants.{Error, Memory}
 
@@ -10,6 +10,7 @@ abbrev pub error_name : StateError → List ℕ
 error_name Runtime = codes "States.Runtime"
 error_name ParameterPathFailure = codes "States.ParameterPathFailure"
 error_name ResultPathMatchFailure = codes "States.ResultPathMatchFailure"
+error_name NoChoiceMatched = codes "States.NoChoiceMatched"
 
 -- a fault tells the error that stands; want of memory tells nothing of it
 abbrev pub Tells : TurnFault → Result Data (List ℕ) → Type 0

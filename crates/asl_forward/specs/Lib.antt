@@ -1,3 +1,4 @@
+pub mod Choosing
 pub mod Errors
 pub mod Processing
 pub mod Turn

@@ -8,6 +8,7 @@ use Rattle.asl_machine.specs.Definition.{Definition}
 use Rattle.asl_machine.specs.Find.{machine_at}
 use Rattle.asl_machine.specs.Reading.{json_of}
 use Rattle.asl_errors.specs.declared.errors.Retrier.{Retrier}
+use Rattle.asl_machine.specs.declared.state.Choice.{Choice}
 use Rattle.asl_machine.specs.declared.state.Fail.{Fail}
 use Rattle.asl_machine.specs.declared.state.Pass.{Pass}
 use Rattle.asl_machine.specs.declared.state.Processing.{Processing}
@@ -15,6 +16,7 @@ use Rattle.asl_machine.specs.declared.state.State.{State}
 use Rattle.asl_machine.specs.declared.state.State.TheVariants as state
 use Rattle.asl_machine.specs.declared.state.Transition.{Transition}
 use Rattle.asl_machine.specs.declared.state.Transition.TheVariants.{Next, End}
+use Rattle.asl_forward.specs.Choosing.{chosen}
 use Rattle.asl_forward.specs.Processing.{and_then, effective, passed_on}
 use Rattle.asl_forward.specs.declared.frame.Fault.{Fault}
 use Rattle.asl_forward.specs.declared.frame.Frame.{Frame}
@@ -83,12 +85,22 @@ pass_output s raw = and_then (λ input. passed_on s.processing raw (pass_result 
 abbrev pub idle_output : Processing → Data → Result Data (List ℕ)
 idle_output p raw = and_then (λ input. passed_on p raw input) (effective p raw)
 
+-- a Choice state goes where it chooses, with its effective input; the choice comes before the output path
+abbrev pub goes_where : Definition → Processing → Frame → Data → Result (List ℕ) (List ℕ) → Frame
+goes_where level p f input (Ok name) = ends level (Next name) f (passed_on p (data_of f.raw) input)
+goes_where level p f input (Err error) = has_failed f (own_fault error)
+
+abbrev pub choice_frame : Definition → Choice → Frame → Result Data (List ℕ) → Frame
+choice_frame level s f (Ok input) = goes_where level s.processing f input (chosen s.rules s.default input)
+choice_frame level s f (Err error) = has_failed f (own_fault error)
+
 abbrev pub declared_fault : Fail → Fault
 declared_fault s = record { error = s.error; cause = s.cause; origin = Other }
 
--- The next frame that a state of this level gives. Of the other types no machine has a state yet; they would fail.
+-- The next frame that a state of this level gives. A Task, a Parallel and a Map are not run yet; they would fail.
 abbrev pub next_frame : Definition → State → Frame → Frame
 next_frame level (state.Pass s) f = ends level s.transition f (pass_output s (data_of f.raw))
+next_frame level (state.Choice s) f = choice_frame level s f (effective s.processing (data_of f.raw))
 next_frame level (state.Wait s) f = ends level s.transition f (idle_output s.processing (data_of f.raw))
 next_frame level (state.Succeed s) f = ends level End f (idle_output s.processing (data_of f.raw))
 next_frame level (state.Fail s) f = has_failed f (declared_fault s)

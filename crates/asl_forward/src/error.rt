@@ -10,6 +10,7 @@ pub enum StateError {
     Runtime,
     ParameterPathFailure,
     ResultPathMatchFailure,
+    NoChoiceMatched,
 }
 
 impl StateError {
@@ -21,6 +22,7 @@ impl StateError {
             StateError::Runtime => "States.Runtime",
             StateError::ParameterPathFailure => "States.ParameterPathFailure",
             StateError::ResultPathMatchFailure => "States.ResultPathMatchFailure",
+            StateError::NoChoiceMatched => "States.NoChoiceMatched",
         }
     }
 }

@@ -1,6 +1,7 @@
 #![tactic(auto)]
 
 //! Frames, and what a state makes of one.
+mod choosing;
 mod error;
 mod frame;
 mod prepared;

@@ -4,12 +4,15 @@ ghost use Rattle.json_tree.specs.Data.{Data};
 ghost use Rattle.json_tree.specs.View.{data_of};
 ghost use Rattle.asl_machine.specs.Definition.{Definition};
 ghost use Rattle.asl_forward.specs.Errors.{Tells, error_name};
-ghost use Rattle.asl_forward.specs.Turn.{retriers_of, counters_at, enters, is_done, has_failed, own_fault, declared_fault, go_on, ends, first_frame, pass_result, pass_output, idle_output, after_state, standing};
+ghost use Rattle.asl_forward.specs.Turn.{retriers_of, counters_at, enters, is_done, has_failed, own_fault, declared_fault, go_on, ends, first_frame, pass_result, pass_output, idle_output, after_state, standing, choice_frame, goes_where};
+ghost use Rattle.asl_forward.specs.Choosing.{chosen};
+ghost use Rattle.asl_forward.specs.Processing.{effective};
 
+use crate::choosing::choose;
 use crate::error::{StateError, TurnFault};
 use crate::frame::{Fault, Frame, Origin, Phase, Retries};
 use crate::processing::{effective_input, output_of};
-use asl_machine::{Fail, Level, LevelPath, Machine, Pass, Processing, Retrier, State, Transition};
+use asl_machine::{Choice, Fail, Level, LevelPath, Machine, Pass, Processing, Retrier, State, Transition};
 use json_tree::{Json, Text};
 use std::alloc::{AllocError, Global};
 
@@ -44,6 +47,7 @@ pub fn next_frame(
             let output = pass_output(alloc, pass, &frame.raw);
             end(alloc, level, &pass.transition, frame, output)
         }
+        State::Choice(choice) => choice_frame(alloc, level, choice, frame),
         State::Wait(wait) => {
             let output = idle_output(alloc, &wait.processing, &frame.raw);
             end(alloc, level, &wait.transition, frame, output)
@@ -87,6 +91,48 @@ fn idle_output(alloc: Global, processing: &Processing, raw: &Json) -> Result<Jso
 {
     let input = effective_input(alloc, processing, raw)?;
     output_of(alloc, processing, raw, input)
+}
+
+/// The frame after a Choice state.
+fn choice_frame(
+    alloc: Global,
+    level: &Machine,
+    choice: &Choice,
+    frame: &Frame,
+) -> Result<Frame, AllocError>
+    requires { frame.now.count + 1 < 2 ^ 32 }
+    ensures { IfOk result (λ g. g ≡ choice_frame level.now choice.now frame.now (effective choice.now.processing (data_of frame.now.raw))) }
+{
+    match effective_input(alloc, &choice.processing, &frame.raw) {
+        Ok(input) => go_where(alloc, level, choice, frame, input),
+        Err(TurnFault::Error(error)) => failed(frame, own_fault(alloc, error)?),
+        Err(TurnFault::Memory) => Err(AllocError),
+    }
+}
+
+/// The frame before the state that a Choice state goes to with its effective input.
+fn go_where(
+    alloc: Global,
+    level: &Machine,
+    choice: &Choice,
+    frame: &Frame,
+    input: Json,
+) -> Result<Frame, AllocError>
+    requires { frame.now.count + 1 < 2 ^ 32 }
+    ensures { IfOk result (λ g. g ≡ goes_where level.now choice.now.processing frame.now (data_of input) (chosen choice.now.rules choice.now.default (data_of input))) }
+{
+    let name = match choose(choice, &input) {
+        Ok(name) => name,
+        Err(error) => {
+            drop(input);
+            return failed(frame, own_fault(alloc, error)?);
+        }
+    };
+    match output_of(alloc, &choice.processing, &frame.raw, input) {
+        Ok(output) => enter(alloc, level, name, frame, output),
+        Err(TurnFault::Error(error)) => failed(frame, own_fault(alloc, error)?),
+        Err(TurnFault::Memory) => Err(AllocError),
+    }
 }
 
 /// The frame after what its state passes on.

@@ -5,6 +5,7 @@ pub mod TreeFalls
 pub mod Complete
 pub mod Targets
 pub mod Find
+pub mod Alone
 pub mod Reading
 pub mod Profile
 pub mod Faults

@@ -8,7 +8,7 @@ use Rattle.json_tree.specs.Reading.{source_of, whole_of}
 use Rattle.json_tree.specs.View.{data_of}
 use Rattle.json_tree.specs.declared.tree.Json.{Json}
 use Rattle.asl_machine.specs.Definition.{Definition}
-use Rattle.asl_machine.specs.Profile.{Defines as IsMachineOf}
+use Rattle.rollback_book.specs.Taking.{Takes as IsMachineOf}
 use Rattle.step_names.specs.Thread.{Thread}
 use Rattle.step_names.specs.Written.{step_text}
 use Rattle.step_names.specs.declared.step.StepName.{StepName}

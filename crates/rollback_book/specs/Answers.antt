@@ -5,13 +5,14 @@ use Rattle.serde_json.specs.Data.{Data}
 use Rattle.asl_fields.specs.Refusal.{Names}
 use Rattle.asl_machine.specs.Definition.{Definition}
 use Rattle.asl_machine.specs.Faults.{DefinitionFault}
-use Rattle.asl_machine.specs.Profile.{Defines, DefinesNone}
+use Rattle.asl_machine.specs.Profile.{DefinesNone}
 use Rattle.step_names.specs.Thread.{Thread}
 use Rattle.step_names.specs.declared.step.StepName.{StepName}
 use Rattle.rollback_book.specs.Names.{start_name, is_same_step}
 use Rattle.rollback_book.specs.World.{World}
 use Rattle.rollback_book.specs.Move.{move, readiness_of}
 use Rattle.rollback_book.specs.Dependence.{depends_directly}
+use Rattle.rollback_book.specs.Taking.{Takes, LeavesOut}
 use Rattle.rollback_book.specs.Story.{remaining, machine_of, world_of, facts_of}
 use Rattle.asl_forward.specs.declared.frame.Frame.{Frame}
 use Rattle.rollback_book.specs.declared.log.Entry.{Entry}
@@ -38,9 +39,9 @@ is_full_for_define log = nat_le 1000000 (length log + length (remaining log))
 
 -- ---- define
 
--- a definition that isn't read is no machine's, for the fault that is told, or memory was refused
+-- a definition that isn't read is no machine's, for the fault that is told, or one that is left out, or memory was refused
 abbrev pub IsReadRefusal : Data → Refusal → Type 0
-IsReadRefusal d (BadMachine fault) = DefinesNone d × Names fault (DefinitionFault d fault)
+IsReadRefusal d (BadMachine fault) = (DefinesNone d × Names fault (DefinitionFault d fault)) ⊎ LeavesOut d fault
 IsReadRefusal d Memory = Unit {0}
 IsReadRefusal d MachineTaken = ⊥
 IsReadRefusal d Full = ⊥
@@ -56,7 +57,7 @@ IsReadRefusal d (NotLast step) = ⊥
 abbrev pub IsDefineRefusal : List Entry → List ℕ → Data → Refusal → Type 0
 IsDefineRefusal log name d MachineTaken = IsSome (machine_of name log)
 IsDefineRefusal log name d (BadMachine fault) = (machine_of name log ≡ None) × IsReadRefusal d (BadMachine fault)
-IsDefineRefusal log name d Full = (machine_of name log ≡ None) × (((machine : Definition) × Defines d machine) × IsTrue (is_full_for_define log))
+IsDefineRefusal log name d Full = (machine_of name log ≡ None) × (((machine : Definition) × Takes d machine) × IsTrue (is_full_for_define log))
 IsDefineRefusal log name d Memory = machine_of name log ≡ None
 IsDefineRefusal log name d NoMachine = ⊥
 IsDefineRefusal log name d ExecTaken = ⊥

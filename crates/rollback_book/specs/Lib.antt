@@ -4,6 +4,7 @@ pub mod Move
 pub mod Dependence
 pub mod Story
 pub mod Saving
+pub mod Taking
 pub mod Answers
 pub mod Legal
 pub mod Laws

@@ -1,11 +1,11 @@
 // The book: the executions' frames, and the log of what was accepted.
-ghost use Rattle.std.specs.Prelude.{◌≡◌, ◌+◌, ◌^◌, ◌<◌, ◌≤◌, ◌∷◌, ◌++◌, [], map, length, false, IfOk, IfErr, IsSome, IsTrue, OnOk, OnErr, MatchResult, Some, None, Ok, Err};
+ghost use Rattle.std.specs.Prelude.{◌≡◌, ◌+◌, ◌^◌, ◌<◌, ◌≤◌, ◌∷◌, ◌++◌, [], map, length, false, IfOk, IfErr, IsSome, IsTrue, OnOk, OnErr, MatchResult, Some, None, Ok, Err, ◌⊎◌, codes};
 ghost use Rattle.json_tree.specs.Data.{depth};
 ghost use Rattle.json_tree.specs.View.{data_of, list_of};
 ghost use Rattle.serde_json.specs.View.{view};
 ghost use Rattle.asl_machine.specs.Complete.{IsComplete};
 ghost use Rattle.asl_machine.specs.Definition.{Definition};
-ghost use Rattle.asl_machine.specs.Profile.{Defines};
+ghost use Rattle.rollback_book.specs.Taking.{Takes};
 ghost use Rattle.rollback_book.specs.Names.{name_of, start_name};
 ghost use Rattle.rollback_book.specs.Story.{Story, accepted, base_of, remaining, machine_of, world_of};
 ghost use Rattle.rollback_book.specs.Move.{next_step, ready_state};
@@ -79,9 +79,10 @@ impl Book {
         })
     }
 
-    /// Defines a machine. Takes time linear in the definition and logarithmic in the number of machines.
+    /// Defines a machine. One that has a Task, a Parallel or a Map isn't taken yet: it is Unsupported(`Type`), after every
+    /// fault of the definition itself. Takes time linear in the definition and logarithmic in the number of machines.
     pub fn define(&mut self, alloc: Global, name: &Text, definition: &Value) -> Result<(), Refusal>
-        ensures ok { OnOk result ((machine : Definition) × Defines (view definition.now) machine
+        ensures ok { OnOk result ((machine : Definition) × Takes (view definition.now) machine
             × (self.new ≡ accepted self.old (Entry.Define name.now machine))) }
         ensures free { OnOk result (machine_of name.now self.old.log ≡ None) }
         ensures room { OnOk result (is_full_for_define self.old.log ≡ false) }
@@ -336,18 +337,32 @@ impl Book {
     }
 }
 
-/// The machine of a definition.
+/// The machine of a definition, unless it has a state that calls the table or has branches.
 fn read_machine(alloc: Global, definition: &Value) -> Result<Machine, Refusal>
     ensures complete { IfOk result IsComplete }
-    ensures read { IfOk result (Defines (view definition.now)) }
+    ensures read { IfOk result (Takes (view definition.now)) }
     ensures refused { IfErr result (IsReadRefusal (view definition.now)) }
 {
     match Machine::read(alloc, definition) {
         Ok(machine) => {
             let _start = machine.start();
-            Ok(machine)
+            if machine.runs_alone() {
+                return Ok(machine);
+            }
+            drop(machine);
+            Err(left_out(alloc))
         }
         Err(MachineFault::Memory) => Err(Refusal::Memory),
         Err(fault) => Err(Refusal::BadMachine(fault)),
+    }
+}
+
+/// What a machine is refused for that the book can't run.
+fn left_out(alloc: Global) -> Refusal
+    ensures { (result ≡ Refusal.BadMachine (MachineFault.Unsupported (codes "Type"))) ⊎ (result ≡ Refusal.Memory) }
+{
+    match Text::new(alloc, "Type") {
+        Ok(name) => Refusal::BadMachine(MachineFault::Unsupported(name)),
+        Err(_refused) => Refusal::Memory,
     }
 }
