@@ -2,3 +2,5 @@ pub mod TestTree
 pub mod TestCode
 pub mod TestView
 pub mod TestFalls
+pub mod TestFields
+pub mod TestFaults
