@@ -5,6 +5,8 @@ mod choice;
 mod kind;
 mod rule_readers;
 mod test_readers;
+#[cfg(test)]
+mod tests;
 
 pub use choice::{Comparison, InnerTest, Relation, Rule, Rules, Test, Tests};
 pub use rule_readers::read_rules;
