@@ -11,14 +11,17 @@ use Rattle.ref_paths.specs.declared.path.PathStep.{PathStep}
 use Rattle.asl_fields.proofs.OneField.{one_path, one_template}
 use Rattle.asl_fields.specs.declared.fields.Place.{Place}
 use Rattle.asl_fields.specs.declared.fields.Place.TheVariants as at
+use Rattle.asl_choice.proofs.OneTest.{rules_are_one}
+use Rattle.asl_choice.specs.declared.choice.Rule.{Rule}
 use Rattle.asl_errors.proofs.OneErrors.{one_error_handling}
 use Rattle.asl_errors.specs.declared.errors.ErrorHandling.{ErrorHandling}
 use Rattle.asl_machine.specs.Definition.{StateTree, Definition}
-use Rattle.asl_machine.specs.Profile.{IsProcessing, HasWork, IsPass, IsWait, IsSucceed, IsFail, IsTask, BranchesAre, ListedBranches, IsParallel, IsProcessor, NamedProcessor, NamedSelector, IsMap, IsPassState, IsWaitState, IsSucceedState, IsFailState, IsTaskState, IsParallelState, IsMapState, IsOfKind, kind_of, IsState, StatesAre, MembersAre, states_in, MachineOver, StatesWithin, Defines}
+use Rattle.asl_machine.specs.Profile.{IsProcessing, HasWork, IsPass, IsWait, IsSucceed, IsFail, IsTask, IsChoice, BranchesAre, ListedBranches, IsParallel, IsProcessor, NamedProcessor, NamedSelector, IsMap, IsPassState, IsWaitState, IsSucceedState, IsFailState, IsTaskState, IsChoiceState, IsParallelState, IsMapState, IsOfKind, kind_of, IsState, StatesAre, MembersAre, states_in, MachineOver, StatesWithin, Defines}
 use Rattle.asl_machine.specs.Reading.{name_of_two}
 use Rattle.asl_machine.specs.TreeView.{tree_of}
 use Rattle.asl_machine.specs.declared.kind.StateKind.{StateKind}
 use Rattle.asl_machine.specs.declared.kind.StateKind.TheVariants as kind
+use Rattle.asl_machine.specs.declared.state.Choice.{Choice}
 use Rattle.asl_machine.specs.declared.state.Fail.{Fail}
 use Rattle.asl_machine.specs.declared.state.Map.{Map}
 use Rattle.asl_machine.specs.declared.state.Parallel.{Parallel}
@@ -111,6 +114,19 @@ one_task d s u h k =
     ap (λ r. make r s.processing s.errors s.transition) resource ∙ ap (λ p. make u.resource p s.errors s.transition) work.0
     ∙ ap (λ e. make u.resource u.processing e s.transition) work.1 ∙ ap (λ t. make u.resource u.processing u.errors t) work.2
 
+one_choice : (d : Source) (s u : Choice) → IsChoice d s → IsChoice d u → s ≡ u
+one_choice d s u h k =
+    let rules : s.rules ≡ u.rules = rules_are_one d s.rules u.rules h.1 k.1 in
+    let defaults : Some s.default ≡ Some u.default = sym h.2 ∙ k.2 in
+    let default : s.default ≡ u.default = cc in
+    let processing : s.processing ≡ u.processing = one_processing d s.processing u.processing (h.3 ∙ sym k.3) h.4 k.4 in
+    let make : Processing → List Rule → Option (List ℕ) → Choice = λ p r o. record { processing = p; rules = r; default = o } in
+    ap (λ p. make p s.rules s.default) processing ∙ ap (λ r. make u.processing r s.default) rules ∙ ap (λ o. make u.processing u.rules o) default
+
+pub is_choice : (d : Source) (s : State) → IsChoiceState d s → (p : Choice) × (s ≡ ChoiceState p) × IsChoice d p
+is_choice d (ChoiceState p) h = (p, refl, h)
+is_choice d _ h = absurd h
+
 pub is_task : (d : Source) (s : State) → IsTaskState d s → (p : Task) × (s ≡ TaskState p) × IsTask d p
 is_task d (TaskState p) h = (p, refl, h)
 is_task d _ h = absurd h
@@ -180,6 +196,10 @@ one_of_kind P one (Some kind.Task) d s u h k =
     let a = is_task d s h in
     let b = is_task d u k in
     a.1 ∙ ap TaskState (one_task d a.0 b.0 a.2 b.2) ∙ sym b.1
+one_of_kind P one (Some kind.Choice) d s u h k =
+    let a = is_choice d s h in
+    let b = is_choice d u k in
+    a.1 ∙ ap ChoiceState (one_choice d a.0 b.0 a.2 b.2) ∙ sym b.1
 one_of_kind P one (Some kind.Succeed) d s u h k =
     let a = is_succeed d s h in
     let b = is_succeed d u k in
@@ -200,7 +220,7 @@ one_of_kind P one (Some kind.Map) d s u h k =
     let a = is_map P d s h in
     let b = is_map P d u k in
     a.1 ∙ ap MapState (one_map P one d a.0 b.0 a.2 b.2) ∙ sym b.1
-one_of_kind P one _ d s u h k = absurd h
+one_of_kind P one None d s u h k = absurd h
 
 one_state : (P : Place → Source → Definition → Type 0) → IsOne P → (d : Source) (s u : State) → IsState P d s → IsState P d u → s ≡ u
 one_state P one d s u h k = one_of_kind P one (kind_of d) d s u h k

@@ -4,22 +4,24 @@ use Rattle.serde_json.specs.Data.{Data as Source, null, boolean, number, string,
 use Rattle.serde_json.specs.Find.{get, as_str, as_array, as_object}
 use Rattle.json_tree.specs.declared.tree.Json.{Json}
 use Rattle.ref_paths.specs.Templates.{Payload}
-use Rattle.asl_fields.specs.FieldFaults.{text_fault, required_text_fault}
+use Rattle.asl_fields.specs.FieldFaults.{optional_text_fault, text_fault, required_text_fault}
 use Rattle.asl_fields.proofs.FieldsRefused.{fields_refused, template_refused, optional_refused, required_refused}
 use Rattle.asl_fields.specs.declared.fault.MachineFault.{MachineFault}
 use Rattle.asl_fields.specs.declared.fault.MachineFault.TheVariants.{TooDeep}
 use Rattle.asl_fields.specs.declared.fields.Place.{Place}
 use Rattle.asl_fields.specs.declared.fields.Place.TheVariants as at
+use Rattle.asl_choice.proofs.RulesRefused.{rules_refused}
 use Rattle.asl_errors.proofs.ErrorsRefused.{error_handling_refused}
 use Rattle.asl_errors.specs.declared.errors.ErrorHandling.{ErrorHandling}
-use Rattle.asl_machine.proofs.OneMachine.{is_pass, is_wait, is_succeed, is_fail, is_task, is_parallel, is_map, AreOne, one_members, one_within}
+use Rattle.asl_machine.proofs.OneMachine.{is_pass, is_wait, is_succeed, is_fail, is_task, is_choice, is_parallel, is_map, AreOne, one_members, one_within}
 use Rattle.asl_machine.specs.Definition.{StateTree, Definition}
-use Rattle.asl_machine.specs.Faults.{whole_fault, result_fault, transition_fault, ProcessingFault, PassFault, WaitFault, SucceedFault, FailFault, WorkFault, ResourceTextFault, ResourceFault, TaskFault, BranchFault, BranchesFault, ListedBranchesFault, BranchesFieldFault, ParallelFault, ProcessorObjectFault, ProcessorFault, NamedProcessorFault, NamedSelectorFault, MapFault, KindFault, TypeFault, StateFault, StatesFault, StatesFieldFault, RequiredStatesFault, TargetsFault, FaultOver, StatesFaultWithin, DefinitionFault}
-use Rattle.asl_machine.specs.Profile.{IsProcessing, HasWork, IsPass, IsWait, IsSucceed, IsFail, IsTask, BranchesAre, ListedBranches, IsParallel, IsProcessor, NamedProcessor, NamedSelector, IsMap, IsOfKind, kind_named, IsState, StatesAre, MembersAre, states_in, start_in, MachineOver, StatesWithin, Defines}
-use Rattle.asl_machine.specs.Reading.{is_end, goes_to, whole_json, result_of, resource_named, count_items, config_fault, name_of_two}
+use Rattle.asl_machine.specs.Faults.{whole_fault, result_fault, transition_fault, ProcessingFault, PassFault, WaitFault, SucceedFault, FailFault, WorkFault, ResourceTextFault, ResourceFault, TaskFault, ChoiceFault, BranchFault, BranchesFault, ListedBranchesFault, BranchesFieldFault, ParallelFault, ProcessorObjectFault, ProcessorFault, NamedProcessorFault, NamedSelectorFault, MapFault, KindFault, TypeFault, StateFault, StatesFault, StatesFieldFault, RequiredStatesFault, TargetsFault, FaultOver, StatesFaultWithin, DefinitionFault}
+use Rattle.asl_machine.specs.Profile.{IsProcessing, HasWork, IsPass, IsWait, IsSucceed, IsFail, IsTask, IsChoice, BranchesAre, ListedBranches, IsParallel, IsProcessor, NamedProcessor, NamedSelector, IsMap, IsOfKind, kind_named, IsState, StatesAre, MembersAre, states_in, start_in, MachineOver, StatesWithin, Defines}
+use Rattle.asl_machine.specs.Reading.{is_end, goes_to, whole_json, result_of, default_of, resource_named, count_items, config_fault, name_of_two}
 use Rattle.asl_machine.specs.Targets.{target_fault}
 use Rattle.asl_machine.specs.declared.kind.StateKind.{StateKind}
 use Rattle.asl_machine.specs.declared.kind.StateKind.TheVariants as kind
+use Rattle.asl_machine.specs.declared.state.Choice.{Choice}
 use Rattle.asl_machine.specs.declared.state.Fail.{Fail}
 use Rattle.asl_machine.specs.declared.state.Map.{Map}
 use Rattle.asl_machine.specs.declared.state.Parallel.{Parallel}
@@ -134,6 +136,21 @@ task_refused name d s e fault is =
           ]
     ]
 
+default_refused : (d : Option Source) (o : Option (List ℕ)) (e : MachineFault) → optional_text_fault (codes "Default") d ≡ Some e → default_of d ≡ Some o → ⊥
+default_refused None o e fault is = cc fault
+default_refused (Some d) o e fault is = elim (as_str d) as (λ t. text_fault (codes "Default") t ≡ Some e → option_map Some t ≡ Some o → ⊥) [ None ↦ λ f i. cc i | Some t ↦ λ f i. cc f ] fault is
+
+choice_refused : (d : Source) (s : Choice) (e : MachineFault) → ChoiceFault d e → IsChoice d s → ⊥
+choice_refused d s e fault is =
+    elim fault [
+      | inl h ↦ fields_refused at.Choice d e h is.0
+      | inr a ↦
+          elim a [
+            | inl h ↦ rules_refused d s.rules e h is.1
+            | inr b ↦ elim b [ inl h ↦ default_refused (get (codes "Default") d) s.default e h is.2 | inr h ↦ processing_refused d s.processing e h is.4 ]
+          ]
+    ]
+
 -- ---- states that hold machines: where an object with a fault is no machine's
 
 abbrev pub IsRefused : (Place → Source → MachineFault → Type 0) → (Place → Source → Definition → Type 0) → Type 0
@@ -220,12 +237,13 @@ module _ (F : Place → Source → MachineFault → Type 0) (P : Place → Sourc
   kind_refused : (name : List ℕ) (k : Option StateKind) (d : Source) (s : State) (e : MachineFault) → KindFault F name k d e → IsOfKind P k d s → ⊥
   kind_refused name (Some kind.Pass) d s e fault is = let p = is_pass d s is in pass_refused name d p.0 e fault p.2
   kind_refused name (Some kind.Task) d s e fault is = let p = is_task d s is in task_refused name d p.0 e fault p.2
+  kind_refused name (Some kind.Choice) d s e fault is = let p = is_choice d s is in choice_refused d p.0 e fault p.2
   kind_refused name (Some kind.Succeed) d s e fault is = let p = is_succeed d s is in succeed_refused d p.0 e fault p.2
   kind_refused name (Some kind.Wait) d s e fault is = let p = is_wait d s is in wait_refused name d p.0 e fault p.2
   kind_refused name (Some kind.Fail) d s e fault is = let p = is_fail d s is in fail_refused d p.0 e fault p.2
   kind_refused name (Some kind.Parallel) d s e fault is = let p = is_parallel P d s is in parallel_refused name d p.0 e fault p.2
   kind_refused name (Some kind.Map) d s e fault is = let p = is_map P d s is in map_refused name d p.0 e fault p.2
-  kind_refused name _ d s e fault is = is
+  kind_refused name None d s e fault is = is
 
   type_refused : (name : List ℕ) (d : Source) (type : Option (List ℕ)) (s : State) (e : MachineFault) → TypeFault F name d type e → IsOfKind P (option_and_then kind_named type) d s → ⊥
   type_refused name d None s e fault is = is

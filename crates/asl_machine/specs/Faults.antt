@@ -10,6 +10,7 @@ use Rattle.asl_fields.specs.declared.fault.MachineFault.{MachineFault}
 use Rattle.asl_fields.specs.declared.fault.MachineFault.TheVariants.{Missing, Unsupported, BadField, NextAndEnd, TooDeep}
 use Rattle.asl_fields.specs.declared.fields.Place.{Place}
 use Rattle.asl_fields.specs.declared.fields.Place.TheVariants as at
+use Rattle.asl_choice.specs.TestFaults.{ChoicesFault}
 use Rattle.asl_errors.specs.ErrorFaults.{ErrorHandlingFault}
 use Rattle.asl_machine.specs.Definition.{StateTree, Definition}
 use Rattle.asl_machine.specs.Profile.{MembersAre, StatesWithin, kind_named, start_in, states_in}
@@ -75,6 +76,10 @@ ResourceFault (Some d) e = ResourceTextFault (as_str d) e
 abbrev pub TaskFault : List ℕ → Source → MachineFault → Type 0
 TaskFault name d e = FieldsFault at.Task d e ⊎ ResourceFault (get (codes "Resource") d) e ⊎ ParametersFault d e ⊎ WorkFault name d e
 
+abbrev pub ChoiceFault : Source → MachineFault → Type 0
+ChoiceFault d e =
+    FieldsFault at.Choice d e ⊎ ChoicesFault (get (codes "Choices") d) e ⊎ (optional_text_fault (codes "Default") (get (codes "Default") d) ≡ Some e) ⊎ ProcessingFault d e
+
 -- ---- a state that holds machines: what is a fault of an object at a place, `F` says
 
 abbrev pub BranchFault : (Place → Source → MachineFault → Type 0) → Source → Option Members → MachineFault → Type 0
@@ -129,12 +134,12 @@ MapFault F name d e =
     FieldsFault at.Map d e ⊎ (concurrency_fault (get (codes "MaxConcurrency") d) ≡ Some e) ⊎ ItemsPathFault (get (codes "ItemsPath") d) e ⊎ HasSelectorFault d e ⊎ WorkFault name d e
     ⊎ HasProcessorFault F d e
 
--- of the state of this name; a type that is left out is unsupported, and another is bad
+-- of the state of this name, and of a type that is none
 abbrev pub KindFault : (Place → Source → MachineFault → Type 0) → List ℕ → Option StateKind → Source → MachineFault → Type 0
 KindFault F name (Some kind.Pass) d e = PassFault name d e
 KindFault F name (Some kind.Succeed) d e = SucceedFault d e
 KindFault F name (Some kind.Task) d e = TaskFault name d e
-KindFault F name (Some kind.Choice) d e = e ≡ Unsupported (codes "Type")
+KindFault F name (Some kind.Choice) d e = ChoiceFault d e
 KindFault F name (Some kind.Wait) d e = WaitFault name d e
 KindFault F name (Some kind.Fail) d e = FailFault d e
 KindFault F name (Some kind.Parallel) d e = ParallelFault F name d e

@@ -12,21 +12,23 @@ use Rattle.asl_fields.specs.Values.{HasFields, IsPathField, IsTemplateField, tex
 use Rattle.asl_fields.specs.declared.fault.MachineFault.{MachineFault}
 use Rattle.asl_fields.specs.declared.fields.Place.{Place}
 use Rattle.asl_fields.specs.declared.fields.Place.TheVariants as at
+use Rattle.asl_choice.specs.TestFields.{AreRules}
 use Rattle.asl_errors.specs.ErrorFields.{IsErrorHandling}
 use Rattle.asl_errors.specs.declared.errors.ErrorHandling.{ErrorHandling}
 use Rattle.asl_machine.specs.Definition.{StateTree, Definition}
-use Rattle.asl_machine.specs.Reading.{transition_of, result_of, resource_of, config_fault, concurrency_fault, name_of_two, count_items}
+use Rattle.asl_machine.specs.Reading.{transition_of, result_of, default_of, resource_of, config_fault, concurrency_fault, name_of_two, count_items}
 use Rattle.asl_machine.specs.Targets.{target_fault}
 use Rattle.asl_machine.specs.TreeView.{tree_of}
 use Rattle.asl_machine.specs.declared.kind.StateKind.{StateKind}
 use Rattle.asl_machine.specs.declared.kind.StateKind.TheVariants as kind
+use Rattle.asl_machine.specs.declared.state.Choice.{Choice}
 use Rattle.asl_machine.specs.declared.state.Fail.{Fail}
 use Rattle.asl_machine.specs.declared.state.Map.{Map}
 use Rattle.asl_machine.specs.declared.state.Parallel.{Parallel}
 use Rattle.asl_machine.specs.declared.state.Pass.{Pass}
 use Rattle.asl_machine.specs.declared.state.Processing.{Processing}
 use Rattle.asl_machine.specs.declared.state.State.{State}
-use Rattle.asl_machine.specs.declared.state.State.TheVariants.{Pass as PassState, Task as TaskState, Wait as WaitState, Succeed as SucceedState, Fail as FailState, Parallel as ParallelState, Map as MapState}
+use Rattle.asl_machine.specs.declared.state.State.TheVariants.{Pass as PassState, Task as TaskState, Choice as ChoiceState, Wait as WaitState, Succeed as SucceedState, Fail as FailState, Parallel as ParallelState, Map as MapState}
 use Rattle.asl_machine.specs.declared.state.Succeed.{Succeed}
 use Rattle.asl_machine.specs.declared.state.Task.{Task}
 use Rattle.asl_machine.specs.declared.state.Transition.{Transition}
@@ -62,6 +64,10 @@ HasWork d p errors transition = IsProcessing d p × IsErrorHandling d errors × 
 
 abbrev pub IsTask : Source → Task → Type 0
 IsTask d s = HasFields at.Task d × (resource_of (get (codes "Resource") d) ≡ Some s.resource) × HasParameters d s.processing × HasWork d s.processing s.errors s.transition
+
+abbrev pub IsChoice : Source → Choice → Type 0
+IsChoice d s =
+    HasFields at.Choice d × AreRules d s.rules × (default_of (get (codes "Default") d) ≡ Some s.default) × (s.processing.parameters ≡ None) × IsProcessing d s.processing
 
 -- ---- states that hold machines: which machine an object at a place is, `P` says
 
@@ -136,6 +142,10 @@ abbrev pub IsTaskState : Source → State → Type 0
 IsTaskState d (TaskState s) = IsTask d s
 IsTaskState d _ = ⊥
 
+abbrev pub IsChoiceState : Source → State → Type 0
+IsChoiceState d (ChoiceState s) = IsChoice d s
+IsChoiceState d _ = ⊥
+
 abbrev pub IsParallelState : (Place → Source → Definition → Type 0) → Source → State → Type 0
 IsParallelState P d (ParallelState s) = IsParallel P d s
 IsParallelState P d _ = ⊥
@@ -144,16 +154,17 @@ abbrev pub IsMapState : (Place → Source → Definition → Type 0) → Source 
 IsMapState P d (MapState s) = IsMap P d s
 IsMapState P d _ = ⊥
 
--- a state of this type; the other types are left out
+-- a state of this type
 abbrev pub IsOfKind : (Place → Source → Definition → Type 0) → Option StateKind → Source → State → Type 0
 IsOfKind P (Some kind.Pass) d s = IsPassState d s
 IsOfKind P (Some kind.Task) d s = IsTaskState d s
+IsOfKind P (Some kind.Choice) d s = IsChoiceState d s
 IsOfKind P (Some kind.Wait) d s = IsWaitState d s
 IsOfKind P (Some kind.Succeed) d s = IsSucceedState d s
 IsOfKind P (Some kind.Fail) d s = IsFailState d s
 IsOfKind P (Some kind.Parallel) d s = IsParallelState P d s
 IsOfKind P (Some kind.Map) d s = IsMapState P d s
-IsOfKind P _ d s = ⊥
+IsOfKind P None d s = ⊥
 
 abbrev pub kind_of : Source → Option StateKind
 kind_of d = option_and_then kind_named (option_and_then as_str (get (codes "Type") d))

@@ -59,6 +59,11 @@ abbrev pub result_of : Option source.Data → Option (Option Json)
 result_of None = Some None
 result_of (Some d) = option_map Some (whole_json d)
 
+-- the name of a state where a Choice goes by default, if it says so
+abbrev pub default_of : Option source.Data → Option (Option (List ℕ))
+default_of None = Some None
+default_of (Some d) = option_map Some (as_str d)
+
 -- the call that a resource is ("Task State")
 abbrev pub resource_named : List ℕ → Option Resource
 resource_named name =

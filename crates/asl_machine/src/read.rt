@@ -9,7 +9,9 @@ ghost use Rattle.asl_machine.specs.Profile.{Defines, DefinesNone, IsMachine, Sta
 use crate::kind::{StateKind, kind_named};
 use crate::map_readers::{check_concurrency, check_config, name_of_two, read_elements};
 use crate::state::{Branches, Machine, Map, Parallel, State, States};
-use crate::state_readers::{read_fail, read_pass, read_succeed, read_task, read_wait, read_work};
+use crate::state_readers::{
+    read_choice, read_fail, read_pass, read_succeed, read_task, read_wait, read_work,
+};
 use asl_fields::{MachineFault, Place, check_fields, read_template, required, text_of};
 use json_tree::Text;
 use serde_json::{Map as Object, Value};
@@ -153,7 +155,7 @@ fn read_kind(
             Ok(State::Parallel(read_parallel(alloc, levels, name, object, fields)?))
         }
         Some(StateKind::Map) => Ok(State::Map(read_map(alloc, levels, name, object, fields)?)),
-        Some(StateKind::Choice) => Err(MachineFault::Unsupported(Text::new(alloc, "Type")?)),
+        Some(StateKind::Choice) => Ok(State::Choice(read_choice(alloc, object, fields)?)),
         None => Err(MachineFault::BadField(Text::new(alloc, "Type")?)),
     }
 }

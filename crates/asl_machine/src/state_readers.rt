@@ -2,12 +2,14 @@
 ghost use Rattle.std.specs.Prelude.{◌≡◌, IfOk, IfErr, OnErr, Some, None, true, false, codes};
 ghost use Rattle.serde_json.specs.Find.{get, as_object};
 ghost use Rattle.serde_json.specs.View.{view, members_view};
+ghost use Rattle.asl_fields.specs.FieldFaults.{optional_text_fault};
 ghost use Rattle.asl_fields.specs.Refusal.{Refuses};
-ghost use Rattle.asl_machine.specs.Faults.{PassFault, WaitFault, SucceedFault, FailFault, TaskFault, WorkFault, ResourceFault, ProcessingFault, result_fault, transition_fault};
-ghost use Rattle.asl_machine.specs.Profile.{IsPass, IsWait, IsSucceed, IsFail, IsTask, HasWork, IsProcessing};
-ghost use Rattle.asl_machine.specs.Reading.{result_of, transition_of, is_end, resource_of, resource_named};
+ghost use Rattle.asl_machine.specs.Faults.{PassFault, WaitFault, SucceedFault, FailFault, TaskFault, ChoiceFault, WorkFault, ResourceFault, ProcessingFault, result_fault, transition_fault};
+ghost use Rattle.asl_machine.specs.Profile.{IsPass, IsWait, IsSucceed, IsFail, IsTask, IsChoice, HasWork, IsProcessing};
+ghost use Rattle.asl_machine.specs.Reading.{result_of, transition_of, is_end, default_of, resource_of, resource_named};
 
-use crate::state::{Fail, Pass, Processing, Resource, Succeed, Task, Transition, Wait};
+use crate::state::{Choice, Fail, Pass, Processing, Resource, Succeed, Task, Transition, Wait};
+use asl_choice::read_rules;
 use asl_errors::{ErrorHandling, read_error_handling};
 use asl_fields::{
     MachineFault, Place, check_fields, optional_text, read_path, read_template, required, text_of,
@@ -112,6 +114,50 @@ pub fn read_task(
         errors: work.errors,
         transition: work.transition,
     })
+}
+
+/// Where a Choice goes by default, if it says so.
+fn read_default(alloc: Global, object: &Value) -> Result<Option<Text>, MachineFault>
+    ensures ok { IfOk result (λ o. default_of (get (codes "Default") (view object.now)) ≡ Some o) }
+    ensures fault { IfErr result
+        (λ e. Refuses e (optional_text_fault (codes "Default") (get (codes "Default") (view object.now)) ≡ Some e)) }
+{
+    match object.get("Default") {
+        Some(value) => Ok(Some(text_of(alloc, value, "Default")?)),
+        None => Ok(None),
+    }
+}
+
+pub fn read_choice(
+    alloc: Global,
+    object: &Value,
+    fields: &Map<String, Value>,
+) -> Result<Choice, MachineFault>
+    requires { as_object (view object.now) ≡ Some (members_view fields.now.entries) }
+    ensures ok { IfOk result (IsChoice (view object.now)) }
+    ensures fault { IfErr result (λ e. Refuses e (ChoiceFault (view object.now) e)) }
+{
+    check_fields(alloc, Place::Choice, object, fields)?;
+    let default = read_default(alloc, object)?;
+    let processing = match read_processing(alloc, object, None) {
+        Ok(processing) => processing,
+        Err(fault) => {
+            drop(default);
+            return Err(fault);
+        }
+    };
+    match read_rules(alloc, object) {
+        Ok(rules) => Ok(Choice {
+            processing,
+            rules,
+            default,
+        }),
+        Err(fault) => {
+            drop(processing);
+            drop(default);
+            Err(fault)
+        }
+    }
 }
 
 pub fn read_pass(

@@ -6,6 +6,58 @@ use std::test::Fail;
 
 /// States with one fault each, the fault's number, and what it is about; the machine's one state is `S`.
 const FAULTS: &[(&str, u32, &str)] = &[
+    (r#"{"Type":"Choice"}"#, 1, "Choices"),
+    (r#"{"Type":"Choice","Choices":[]}"#, 4, "Choices"),
+    (
+        r#"{"Type":"Choice","Choices":[{"Variable":"$.a","IsNull":true,"Next":"S"}],"End":true}"#,
+        2,
+        "End",
+    ),
+    (
+        r#"{"Type":"Choice","Choices":[{"Variable":"$.a","IsNull":true,"Next":"S"}],"End":false}"#,
+        2,
+        "End",
+    ),
+    (
+        r#"{"Type":"Choice","Choices":[{"Variable":"$.a","IsNull":true,"Next":"S"}],"Next":"S"}"#,
+        2,
+        "Next",
+    ),
+    (
+        r#"{"Type":"Choice","Choices":[{"Variable":"$.a","IsNull":true,"Next":"S"}],"Parameters":1}"#,
+        2,
+        "Parameters",
+    ),
+    (
+        r#"{"Type":"Choice","Choices":[{"Variable":"$.a","IsNull":true,"Next":"S"}],"ResultPath":"$"}"#,
+        2,
+        "ResultPath",
+    ),
+    (
+        r#"{"Type":"Choice","Choices":[{"Variable":"$.a","IsNull":true,"Next":"S"}],"Default":7}"#,
+        4,
+        "Default",
+    ),
+    (
+        r#"{"Type":"Choice","Choices":[{"Variable":"$.a","IsNull":true,"Next":"S"}],"Default":"Q"}"#,
+        5,
+        "Q",
+    ),
+    (
+        r#"{"Type":"Choice","Choices":[{"Variable":"$.a","IsNull":true,"Next":"Q"}]}"#,
+        5,
+        "Q",
+    ),
+    (
+        r#"{"Type":"Choice","Choices":[{"Variable":"$.a","IsNull":true,"Next":"S"}],"InputPath":1}"#,
+        4,
+        "InputPath",
+    ),
+    (
+        r#"{"Type":"Choice","Choices":[{"Not":{"Variable":"$.a","IsNull":true,"Next":"S"},"Next":"S"}]}"#,
+        2,
+        "Next",
+    ),
     (r#"{"Type":"Task","End":true}"#, 1, "Resource"),
     (r#"{"Type":"Task","Resource":7,"End":true}"#, 4, "Resource"),
     (
@@ -311,6 +363,8 @@ fn names_each_fault_of_a_state(rt: HostRuntime) -> Result<(), Fail> {
 }
 
 const STATES: &[&str] = &[
+    r#"{"Type":"Choice","Choices":[{"Variable":"$.a","IsNull":true,"Next":"S"}]}"#,
+    r#"{"Type":"Choice","Choices":[{"Or":[{"Variable":"$.a","IsNull":true}],"Next":"S","Comment":7}],"Default":"S","InputPath":null,"OutputPath":"$.b"}"#,
     r#"{"Type":"Task","Resource":"arn:aws:states:::dynamodb:getItem","End":true}"#,
     r#"{"Type":"Task","Resource":"arn:aws:states:::dynamodb:getItem","End":true,"TimeoutSeconds":1.5,"TimeoutSecondsPath":7,"HeartbeatSeconds":"x","HeartbeatSecondsPath":null,"Comment":1.5}"#,
     r#"{"Type":"Task","Resource":"arn:aws:states:::dynamodb:putItem","Next":"S","Parameters":{"x.$":"$.a"},"ResultSelector":{"y.$":"$.b"},"ResultPath":null,"Retry":[{"ErrorEquals":["States.ALL"]}],"Catch":[{"ErrorEquals":["A"],"Next":"S"}]}"#,

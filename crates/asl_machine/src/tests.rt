@@ -341,18 +341,6 @@ fn leaves_names_out_everywhere(rt: HostRuntime) -> Result<(), Fail> {
     Ok(())
 }
 
-const LEFT_OUT_TYPES: &[&str] = &["Choice"];
-
-#[test]
-fn leaves_types_out(rt: HostRuntime) -> Result<(), Fail> {
-    let alloc = rt.alloc();
-    for &kind in LEFT_OUT_TYPES {
-        let text = format!(in alloc; r#"{{"StartAt":"P","States":{{"P":{{"Type":"{kind}"}}}}}}"#)?;
-        assert!(rt; is_refused(alloc, &text, 3, "Type")?, "at {text}");
-    }
-    Ok(())
-}
-
 const MACHINES: &[&str] = &[
     r#"{"StartAt":"P","States":{"P":{"Type":"Pass","Result":7,"End":true}}}"#,
     r#"{"Comment":1,"Version":1.5,"TimeoutSeconds":"x","QueryLanguage":"JSONPath","StartAt":"","States":{"":{"Type":"Succeed"}}}"#,

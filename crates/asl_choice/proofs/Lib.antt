@@ -1,0 +1,4 @@
+pub mod TestReadings
+pub mod Shapes
+pub mod OneTest
+pub mod RulesRefused
