@@ -230,7 +230,10 @@ const MACHINES: &[(&str, &str, u32, Want)] = &[
 fn runs_machines(rt: HostRuntime) -> Result<(), Fail> {
     let alloc = rt.alloc();
     for &(definition, input, moves, want) in MACHINES {
-        assert!(rt; comes_to(alloc, definition, input, moves, want)?, "{definition} {input}");
+        assert!(rt;
+            comes_to(alloc, definition, input, moves, want)?,
+            "{definition} {input}"
+        );
     }
     Ok(())
 }
@@ -312,7 +315,10 @@ fn goes_long_paths(rt: HostRuntime) -> Result<(), Fail> {
     for &(fields, want) in LONG {
         let long = with_long_paths(alloc, fields)?;
         let definition = pass_with(alloc, long.as_str())?;
-        assert!(rt; comes_to(alloc, definition.as_str(), "{}", 1, want)?, "{fields}");
+        assert!(rt;
+            comes_to(alloc, definition.as_str(), "{}", 1, want)?,
+            "{fields}"
+        );
     }
     Ok(())
 }

@@ -3,7 +3,7 @@ ghost use Rattle.sqlite.specs.Held.{state};
 ghost use Rattle.sqlite.specs.State.{HasCleanDisk, Survives};
 ghost use Rattle.book_journal.specs.Change.{HasTable};
 ghost use Rattle.book_journal.specs.Entries.{texts, AddLines, HaveGap, HoldLines};
-ghost use Rattle.book_journal.specs.Faults.{fault_of};
+ghost use Rattle.book_journal.specs.Faults.{fault_of, IsNamed};
 ghost use Rattle.book_journal.specs.Kept.{lines_in, IsKept, IsAtRest, IsOpened, IsSame, LeavesAllOrNone, MayAdd};
 
 use crate::fault::JournalFault;
@@ -103,6 +103,7 @@ impl<S: Alter> Journal<S> {
     pub fn load(&mut self, alloc: Global) -> Result<Vec<String>, JournalFault>
         ensures ok { HasCleanDisk (state S.Store self.new) → IfOk result (λ lines. HoldLines (lines_in (state S.Store self.old)) (map string_bytes lines.items)) }
         ensures gap { HasCleanDisk (state S.Store self.new) → (n : ℕ) → result ≡ Err (JournalFault.Gap n) → HaveGap (lines_in (state S.Store self.old)) n }
+        ensures named { IfErr result IsNamed }
         ensures same { HasCleanDisk (state S.Store self.new) → IsSame (state S.Store self.old) (state S.Store self.new) }
         ensures survives { Survives (state S.Store self.old) (state S.Store self.new) (λ _. ⊥) }
         ensures at_rest { IsAtRest (state S.Store self.new) }

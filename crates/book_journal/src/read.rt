@@ -1,6 +1,6 @@
 //! The statements that read.
 
-ghost use Rattle.std.specs.Prelude.{◌≡◌, ◌≢◌, ◌⊎◌, ℕ, pos, [], map, false, Err, OnOk, OnErr, IfOk, string_bytes};
+ghost use Rattle.std.specs.Prelude.{◌≡◌, ◌≢◌, ◌⊎◌, ℕ, pos, [], map, false, Err, OnOk, OnErr, IfOk, IfErr, string_bytes};
 ghost use Rattle.sqlite.specs.declared.types.Value.TheVariants.{Int};
 ghost use Rattle.sqlite.specs.Held.{state};
 ghost use Rattle.sqlite.specs.State.{HasCleanDisk, IsUnchanged, Survives, Shown};
@@ -8,6 +8,7 @@ ghost use Rattle.sqlite.specs.Given.{IsPlain};
 ghost use Rattle.sqlite.specs.Listing.{understood};
 ghost use Rattle.book_journal.specs.Change.{IsBack};
 ghost use Rattle.book_journal.specs.Entries.{entries, entry, numbered, number_of, pair, IsLast, AreInOrder, HaveGapAt};
+ghost use Rattle.book_journal.specs.Faults.{IsNamed};
 ghost use Rattle.book_journal.specs.Table.{journal_schema};
 
 use crate::fault::JournalFault;
@@ -65,6 +66,7 @@ pub(crate) fn all_rows<S: Alter>(conn: &mut Connection<S>) -> Result<Vec<Row>, E
 fn line_at(row: &Row, position: usize) -> Result<String, JournalFault>
     ensures ok { IfOk result (λ line. pair row.now ≡ entry (pos position) (string_bytes line)) }
     ensures gap { (n : ℕ) → result ≡ Err (JournalFault.Gap n) → (n ≡ position) × (number_of row.now ≢ Int (pos position)) }
+    ensures named { IfErr result IsNamed }
 {
     let no: i64 = row.get(0)?;
     if i128::from(no) != position as i128 {
@@ -77,6 +79,7 @@ fn line_at(row: &Row, position: usize) -> Result<String, JournalFault>
 pub(crate) fn lines_of(alloc: Global, rows: &[Row]) -> Result<Vec<String>, JournalFault>
     ensures ok { IfOk result (λ lines. map pair rows.now ≡ numbered (pos 0) (map string_bytes lines.items)) }
     ensures gap { (n : ℕ) → result ≡ Err (JournalFault.Gap n) → HaveGapAt n (map pair rows.now) }
+    ensures named { IfErr result IsNamed }
 {
     let mut lines = Vec::new(alloc);
     for row in rows {

@@ -5,6 +5,7 @@ use sqlite::{Alter, Connection, Error, ErrorCode, MemStore};
 use std::alloc::Global;
 use std::test::Fail;
 
+mod files;
 mod stops;
 
 // These have no clause, so that the proof of a test does not carry the state of each call.

@@ -1,5 +1,6 @@
-// Appends lines to a journal, one a call, and loads them. With a file's name and a number of lines as its arguments it does so
-// on the file, which `sqlite3` can open afterwards, and prints how many appends it made in a second and how long the load took.
+// Appends lines to a journal in memory, one a call, and loads them. With a file's name, or `:memory:`, and a number of lines as
+// its arguments it does so there, and prints how many appends it made in a second and how long the load took. `sqlite3` can
+// open the file afterwards.
 #![tactic(auto)]
 
 use anyhow::Context;
@@ -57,6 +58,11 @@ fn on_file(rt: &HostRuntime, path: &str, count: u32) -> anyhow::Result<()> {
 
 fn in_memory(rt: &HostRuntime, count: u32) -> anyhow::Result<()> {
     let mut journal = opened(Connection::open_in_memory(rt.alloc())?)?;
+    timed(rt, &mut journal, count)
+}
+
+fn counted(rt: &HostRuntime, count: u32) -> anyhow::Result<()> {
+    let mut journal = opened(Connection::open_in_memory(rt.alloc())?)?;
     append_each(rt.alloc(), &mut journal, count)?;
     let lines = loaded(rt.alloc(), &mut journal)?;
     println!(rt; "{lines} lines")?;
@@ -66,11 +72,12 @@ fn in_memory(rt: &HostRuntime, count: u32) -> anyhow::Result<()> {
 fn main(rt: HostRuntime) -> anyhow::Result<()> {
     let path = env::args(&rt)?.nth(1);
     let count = env::args(&rt)?.nth(2);
-    match (path, count) {
-        (Some(path), Some(count)) => {
-            let count: u32 = count.parse().context("the number of lines")?;
-            on_file(&rt, path.as_str(), count)
-        }
-        _ => in_memory(&rt, 100),
+    let (Some(path), Some(count)) = (path, count) else {
+        return counted(&rt, 100);
+    };
+    let count: u32 = count.parse().context("the number of lines")?;
+    match path.as_str() {
+        ":memory:" => in_memory(&rt, count),
+        file => on_file(&rt, file, count),
     }
 }

@@ -1,18 +1,23 @@
-// Reads and writes one document by `json_tree` and by `serde_json` alone. With a number of rounds as its argument it also
-// prints how many megabytes a second each of the four took.
+// Reads a document by `json_tree` and by `serde_json` alone, copies it, puts a value three steps deep into a copy, writes it,
+// compares it with another of its text, and drops it. With a number of rounds as its argument it prints how long each took
+// on average, for a document of 8 kB and, in a hundredth of the rounds, for one of 1 MB. With `hold`, a count and a name of
+// those that `hold` lists it reads that many times and keeps what was read, so that the process' peak of memory tells its size.
 #![tactic(auto)]
 
+mod holding;
+mod timing;
+
 use anyhow::Context;
+use holding::{hold_copies, hold_trees, hold_values};
 use json_tree::{read, write_text};
-use serde_json::Value;
 use std::alloc::Global;
 use std::env;
 use std::rt::Runtime;
-use std::time::{Duration, Instant};
+use timing::time_all;
 
+/// An object with that many orders.
 fn orders(alloc: Global, count: u32) -> anyhow::Result<String> {
-    let mut text = String::new(alloc);
-    text.push('[')?;
+    let mut text = String::from_str(alloc, "{\"orders\":[")?;
     for i in 0..count {
         if i > 0 {
             text.push(',')?;
@@ -22,61 +27,76 @@ fn orders(alloc: Global, count: u32) -> anyhow::Result<String> {
         )?;
         text.push_str(&order)?;
     }
+    text.push_str("]}")?;
+    Ok(text)
+}
+
+/// A list of that many objects of three short fields.
+fn points(alloc: Global, count: u32) -> anyhow::Result<String> {
+    let mut text = String::from_str(alloc, "[")?;
+    for i in 0..count {
+        if i > 0 {
+            text.push(',')?;
+        }
+        let point = format!(in alloc; "{{\"id\":{i},\"name\":\"p{i}\",\"open\":true}}")?;
+        text.push_str(&point)?;
+    }
     text.push(']')?;
     Ok(text)
 }
 
-// Megabytes a second.
-fn rate(bytes: usize, rounds: u32, took: Duration) -> u128 {
-    (bytes as u128).saturating_mul(rounds as u128) / took.as_micros().max(1)
+/// Reads, keeps what was read, and tells how many: `trees` of orders or of points (`point-trees`), `copies` of one tree of
+/// orders, or `serde_json`'s own values of orders (`values`) or of points (`point-values`).
+fn hold(alloc: Global, what: &str, count: u32) -> anyhow::Result<usize> {
+    let orders = orders(alloc, 60)?;
+    let points = points(alloc, 250)?;
+    Ok(match what {
+        "trees" => hold_trees(alloc, &orders, count),
+        "point-trees" => hold_trees(alloc, &points, count),
+        "copies" => hold_copies(alloc, &orders, count),
+        "values" => hold_values(alloc, &orders, count),
+        "point-values" => hold_values(alloc, &points, count),
+        _ => 0,
+    })
 }
 
-fn time_reading(rt: &impl Runtime, alloc: Global, text: &str, rounds: u32) -> anyhow::Result<()> {
-    let mut lists = 0u32;
-    let start = Instant::now(rt)?;
-    for _ in 0..rounds {
-        lists = lists.saturating_add(Value::from_slice(alloc, text.as_bytes())?.is_array() as u32);
-    }
-    let alone = rate(text.len(), rounds, start.elapsed(rt)?);
-    let start = Instant::now(rt)?;
-    for _ in 0..rounds {
-        lists = lists.saturating_add(
-            matches!(read(alloc, text.as_bytes())?, json_tree::Json::List(_)) as u32,
-        );
-    }
-    let tree = rate(text.len(), rounds, start.elapsed(rt)?);
-    println!(rt; "reading: serde_json {alone} MB/s, json_tree {tree} MB/s ({lists} lists)")?;
-    Ok(())
-}
-
-fn time_writing(rt: &impl Runtime, alloc: Global, text: &str, rounds: u32) -> anyhow::Result<()> {
-    let value = Value::from_str(alloc, text)?;
+fn is_written_as_read(alloc: Global, text: &str) -> anyhow::Result<bool> {
     let json = read(alloc, text.as_bytes())?;
-    let mut bytes = 0usize;
-    let start = Instant::now(rt)?;
-    for _ in 0..rounds {
-        bytes = bytes.saturating_add(value.to_string(alloc)?.len());
+    let written = write_text(alloc, &json);
+    drop(json);
+    Ok(written?.as_str() == text)
+}
+
+fn number(word: &str) -> anyhow::Result<u32> {
+    let number: u32 = word.parse().context("a number")?;
+    Ok(number)
+}
+
+fn time_documents(rt: &impl Runtime, alloc: Global, rounds: u32) -> anyhow::Result<()> {
+    time_all(rt, alloc, &orders(alloc, 66)?, rounds)?;
+    time_all(rt, alloc, &orders(alloc, 8000)?, rounds / 100)
+}
+
+fn run(rt: &impl Runtime, alloc: Global, words: &[String]) -> anyhow::Result<()> {
+    match words {
+        [] => Ok(()),
+        [word, count, what] if word.as_str() == "hold" => {
+            let held = hold(alloc, what.as_str(), number(count.as_str())?)?;
+            println!(rt; "{held} held")?;
+            Ok(())
+        }
+        [rounds, ..] => time_documents(rt, alloc, number(rounds.as_str())?),
     }
-    let alone = rate(text.len(), rounds, start.elapsed(rt)?);
-    let start = Instant::now(rt)?;
-    for _ in 0..rounds {
-        bytes = bytes.saturating_add(write_text(alloc, &json)?.len());
-    }
-    let tree = rate(text.len(), rounds, start.elapsed(rt)?);
-    println!(rt; "writing: serde_json {alone} MB/s, json_tree {tree} MB/s ({bytes} bytes)")?;
-    Ok(())
 }
 
 fn main(rt: HostRuntime) -> anyhow::Result<()> {
     let alloc = rt.alloc();
     let text = orders(alloc, 1000)?;
-    let json = read(alloc, text.as_bytes())?;
-    let same = write_text(alloc, &json)? == text;
+    let same = is_written_as_read(alloc, &text)?;
     println!(rt; "{} bytes, written as they were read: {same}", text.len())?;
-    if let Some(rounds) = env::args(&rt)?.nth(1) {
-        let rounds: u32 = rounds.parse().context("the number of rounds")?;
-        time_reading(&rt, alloc, &text, rounds)?;
-        time_writing(&rt, alloc, &text, rounds)?;
+    let mut words = Vec::new(alloc);
+    for word in env::args(&rt)?.skip(1) {
+        words.push(word)?;
     }
-    Ok(())
+    run(&rt, alloc, words.as_slice())
 }

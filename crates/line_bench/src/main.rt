@@ -1,12 +1,15 @@
 // Serves lines: starts executions of one Pass state, takes the step of each, shows each, and undoes the steps from the last
 // to the first, each kind as one input of one session. With a number of executions as its argument it does so with that
 // many, and prints how many lines of each kind were answered in a second, and how much of the time of the starts
-// `json_tree` takes to read their inputs alone.
+// `json_tree` takes to read their inputs alone. Then the same of a machine of three Pass states, over inputs of two sizes.
 #![tactic(auto)]
+
+mod passing;
 
 use anyhow::Context;
 use json_tree::{Json, read};
 use operator_line::{Session, serve};
+use passing::time_both;
 use std::alloc::Global;
 use std::env;
 use std::rt::Runtime;
@@ -70,30 +73,35 @@ fn accepted(replies: &[u8]) -> anyhow::Result<usize> {
 
 /// How many lines were accepted, or texts read, and in what time.
 #[derive(Clone, Copy)]
-struct Timed {
-    count: usize,
+pub(crate) struct Timed {
+    pub(crate) count: usize,
     took: Duration,
 }
 
 impl Timed {
     /// How many in a second.
-    fn rate(&self) -> u128 {
+    pub(crate) fn rate(&self) -> u128 {
         (self.count as u128).saturating_mul(1_000_000_000) / self.took.as_nanos().max(1)
     }
 
     /// How many hundredths of the other's time this took.
-    fn share_of(&self, other: &Timed) -> u128 {
+    pub(crate) fn share_of(&self, other: &Timed) -> u128 {
         self.took.as_nanos().saturating_mul(100) / other.took.as_nanos().max(1)
     }
 }
 
 /// Whether the lines were served to their end.
-fn serve_lines(alloc: Global, session: &mut Session, lines: &str, replies: &mut Vec<u8>) -> bool {
+pub(crate) fn serve_lines(
+    alloc: Global,
+    session: &mut Session,
+    lines: &str,
+    replies: &mut Vec<u8>,
+) -> bool {
     let mut reader = lines.as_bytes();
     serve(alloc, &mut reader, replies, session).is_ok()
 }
 
-fn time_lines(
+pub(crate) fn time_lines(
     rt: &impl Runtime,
     alloc: Global,
     session: &mut Session,
@@ -225,12 +233,14 @@ fn time_again(rt: &impl Runtime, alloc: Global, word: &str) -> anyhow::Result<()
     let count: u32 = word.parse().context("the number of executions")?;
     let times = time_all(rt, alloc, count)?;
     print_counts(rt, &times)?;
-    print_rates(rt, &times)
+    print_rates(rt, &times)?;
+    time_both(rt, alloc, count / 10, true)
 }
 
 fn main(rt: HostRuntime) -> anyhow::Result<()> {
     let alloc = rt.alloc();
     print_counts(&rt, &time_all(&rt, alloc, 300)?)?;
+    time_both(&rt, alloc, 20, false)?;
     if let Some(word) = env::args(&rt)?.nth(1) {
         time_again(&rt, alloc, &word)?;
     }

@@ -308,7 +308,10 @@ const PATH_ROWS: [(&str, &str); 20] = [
     ("show c", "ok done {\"a\":1,\"r\":7}\n"),
     ("start d h 1", "ok d#0\n"),
     ("step d", "ok d#1 plain\n"),
-    ("show d", "ok failed \"States.ResultPathMatchFailure\" \"\"\n"),
+    (
+        "show d",
+        "ok failed \"States.ResultPathMatchFailure\" \"\"\n",
+    ),
     ("step d", "no 6 failed\n"),
     ("undo d#1", "ok\n"),
     ("show d", "ok ready \"P\" 0\n"),

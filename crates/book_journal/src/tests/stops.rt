@@ -9,7 +9,7 @@ use std::test::Fail;
 
 const FOREVER: u64 = u64::MAX;
 
-fn on_files<D: Disk + Drop>(
+pub(super) fn on_files<D: Disk + Drop>(
     alloc: Global,
     files: Files<D>,
 ) -> Result<Journal<FileStore<D>>, Files<D>> {
@@ -111,7 +111,7 @@ fn stops(
 }
 
 /// The bytes of a database file with a journal of two lines.
-fn two_lines(alloc: Global) -> Option<Memory> {
+pub(super) fn two_lines(alloc: Global) -> Option<Memory> {
     let files = Files {
         log: Memory::new(alloc),
         db: Memory::new(alloc),

@@ -1,6 +1,8 @@
-use Rattle.std.proofs.Common.{◌≡◌, ◌≢◌, ◌∙◌, pos, ◌<◌, ℕ, [], ◌∷◌, map, length, Err, ap, sym, string_bytes, rules}
+use Rattle.std.proofs.Common.{◌≡◌, ◌≢◌, ◌∙◌, pos, ◌<◌, ℕ, [], ◌∷◌, map, length, Err, ap, refl, sym, inr, string_bytes, rules}
 use Rattle.std.proofs.lemmas.List.{map-append, length-map}
-use Rattle.book_journal.specs.declared.fault.JournalFault.TheVariants.{Gap}
+use Rattle.book_journal.specs.declared.fault.JournalFault.TheVariants.{Gap, Memory}
+use Rattle.sqlite.specs.declared.error.ErrorCode.TheVariants.{OutOfMemory}
+use Rattle.sqlite.specs.declared.error.Error.TheVariants.{SqliteFailure}
 use Rattle.sqlite.specs.declared.types.Value.TheVariants.{Int}
 use Rattle.book_journal.specs.Entries.{number_of}
 use Rattle.book_journal.proofs.Numbers.{one_more, gap_at}
@@ -34,3 +36,8 @@ loop-row-preserved c =
       search rules,
       rw (items, map-append string_bytes c.loop-row.lines.items (c.in_ok-line_at.field-0 ∷ [])) (one_more at rows lines c.row-item.result c.row-item.result (string_bytes c.in_ok-line_at.field-0) low count c.loop-row.invariant.1 item line),
     )
+
+pub returns-in_err-push-clause-named : goal.returns-in_err-push-clause-named
+returns-in_err-push-clause-named c =
+    let refused : c.from_residual-in_err-push.result ≡ Err Memory = search rules in
+    rw refused (inr (SqliteFailure OutOfMemory, refl))

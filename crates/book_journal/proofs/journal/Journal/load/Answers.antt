@@ -1,8 +1,13 @@
-use Rattle.std.proofs.Common.{map, string_bytes}
+use Rattle.std.proofs.Common.{map, string_bytes, inr, refl}
 use Rattle.std.proofs.lemmas.Result.{IfOk-weaker}
 use Rattle.sqlite.specs.Held.{state}
+use Rattle.sqlite.specs.declared.error.ErrorCode.TheVariants.{Closed}
+use Rattle.sqlite.specs.declared.error.Error.TheVariants.{SqliteFailure}
 use Rattle.book_journal.proofs.Keeping.{read_lines, read_gap}
 use Rattle.book_journal.proofs.journal.Journal.load.Goals as goal
+
+pub returns-then-not-is_journal-clause-named : goal.returns-then-not-is_journal-clause-named
+returns-then-not-is_journal-clause-named g c = inr (SqliteFailure Closed, refl)
 
 pub returns-clause-ok : goal.returns-clause-ok
 returns-clause-ok g c clean =
