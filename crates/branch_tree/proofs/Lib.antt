@@ -1,0 +1,7 @@
+mod Flat
+mod Nodes
+mod Descent
+mod Changes
+mod Progress
+mod Grafts
+mod Leaves

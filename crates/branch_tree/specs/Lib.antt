@@ -1,0 +1,6 @@
+pub mod Paths
+pub mod FlatMap
+pub mod Tree
+pub mod Falls
+pub mod Ready
+pub mod Laws
