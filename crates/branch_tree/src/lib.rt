@@ -4,6 +4,8 @@
 mod branch;
 mod laws;
 mod readiness;
+#[cfg(test)]
+mod tests;
 mod tree;
 
 pub use branch::Branch;

@@ -83,14 +83,14 @@ impl Tree {
 
     /// Puts a frame that is parked over these branches in the place of the one at a path, which comes back. The branches
     /// are moved. Takes no memory, in time of the path's length.
-    pub fn fork(&mut self, path: &[(u32, u32)], frame: Frame, kids: Vec<Branch>) -> Frame
+    pub fn fork(&mut self, path: &[(u32, u32)], frame: Frame, branches: Vec<Branch>) -> Frame
         requires open { IsSomeAnd (frame_at self.old path.now) (λ f. is_parked f.phase ≡ false) }
-        requires node { IsNode frame kids.items }
+        requires node { IsNode frame branches.items }
         ensures before { frame_at self.old path.now ≡ Some result }
-        ensures frames { (q : Path) → frame_at self.new q ≡ grafted (frame_at self.old) path.now (node_at frame kids.items) q }
+        ensures frames { (q : Path) → frame_at self.new q ≡ grafted (frame_at self.old) path.now (node_at frame branches.items) q }
         ensures tree { IsTree (frame_at self.new) }
     {
-        self.root.give(path, frame, kids)
+        self.root.give(path, frame, branches)
     }
 
     /// Takes out the branches of the frame at a path, with all under them, and puts a frame without branches in its place.
