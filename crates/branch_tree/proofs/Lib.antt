@@ -5,3 +5,6 @@ mod Changes
 mod Progress
 mod Grafts
 mod Leaves
+mod FirstOf
+mod Names
+mod Below

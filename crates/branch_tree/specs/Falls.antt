@@ -4,7 +4,7 @@ use Rattle.std.proofs.Common.{arith, length-append, suc, refl, ap}
 use denote.Param.Weighed.{most}
 use Rattle.branch_tree.specs.Tree.{Rows, under, rows_from}
 
-under_len : (b : ℕ × ℕ) (rows : Rows) → length (under b rows) ≡ length rows
+pub under_len : (b : ℕ × ℕ) (rows : Rows) → length (under b rows) ≡ length rows
 under_len b [] = refl
 under_len b (e ∷ rows) = ap suc (under_len b rows)
 

@@ -4,3 +4,4 @@ pub mod Tree
 pub mod Falls
 pub mod Ready
 pub mod Laws
+pub mod First

@@ -15,8 +15,8 @@ use std::mem;
 /// A frame, and the branches of the fork that it is parked over. Contracts see the paths under it with their frames.
 #[derive(Drop)]
 pub struct Branch {
-    frame: Frame,
-    kids: Vec<Branch>,
+    pub(crate) frame: Frame,
+    pub(crate) kids: Vec<Branch>,
 }
 
 impl Model for Branch {
@@ -78,13 +78,13 @@ impl Branch {
         self.frame
     }
 
-    fn is_done(&self) -> bool
+    pub(crate) fn is_done(&self) -> bool
         ensures { result ≡ frame_is is_done (frame_at self.now []) }
     {
         matches!(&self.frame.phase, Phase::Done(_))
     }
 
-    fn has_failed(&self) -> bool
+    pub(crate) fn has_failed(&self) -> bool
         ensures { result ≡ frame_is has_failed (frame_at self.now []) }
     {
         matches!(&self.frame.phase, Phase::Failed(_))

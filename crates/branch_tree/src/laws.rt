@@ -1,6 +1,6 @@
 //! Laws over the calls of a tree: each function's contract is the law, and it does nothing.
 
-ghost use Rattle.branch_tree.specs.Laws.{GivenBack, ForkTakenBack, RestIsExact};
+ghost use Rattle.branch_tree.specs.Laws.{GivenBack, ForkTakenBack, RestIsExact, NamesByPath, BelowIsParked};
 
 /// Taking branches out and giving them back changes nothing.
 pub fn given_back()
@@ -15,4 +15,14 @@ pub fn fork_taken_back()
 /// What a path goes on by.
 pub fn paths_go_on()
     ensures { RestIsExact }
+{}
+
+/// Names under one thread are ordered by their paths under it.
+pub fn names_by_path()
+    ensures { NamesByPath }
+{}
+
+/// What stands under a thread stands there while it is parked over it.
+pub fn below_is_parked()
+    ensures { BelowIsParked }
 {}

@@ -5,12 +5,14 @@ ghost use Rattle.std.specs.List.{All};
 ghost use Rattle.branch_tree.specs.FlatMap.{IsTree, is_parked};
 ghost use Rattle.branch_tree.specs.Tree.{frame_at, IsNode};
 
-use crate::{Branch, Readiness, Tree, fork_taken_back, given_back, paths_go_on};
+use crate::{Branch, Readiness, Tree, fork_taken_back, given_back, names_by_path, paths_go_on};
 use asl_forward::{Fault, Frame, Origin, Phase, Retries};
 use asl_machine::{Level, LevelPath};
 use json_tree::{Json, Text};
 use std::alloc::{AllocError, Global};
+use std::collections::BTreeSet;
 use std::test::Fail;
+use step_names::ThreadName;
 
 /// Where a thread is, without its values.
 #[derive(Clone, Copy, Debug, PartialEq, Eq)]
@@ -310,6 +312,62 @@ fn shows_threads(rt: HostRuntime) -> Result<(), Fail> {
     Ok(())
 }
 
+/// Which thread is first, where some are passed by.
+const FIRSTS: &[(&[&str], Option<&str>)] = &[
+    (&[], Some("E/2.0")),
+    (&["E", "F/2.0", "E/1.0"], Some("E/2.0")),
+    (&["E/2.0"], Some("E/2.1")),
+    (&["E/2.1"], Some("E/2.0")),
+    (&["E/2.0", "E/2.1"], Some("E/2.1/1.0")),
+    (&["E/2.1/1.0", "E/2.0"], Some("E/2.1")),
+    (&["E/2.1/1.0", "E/2.1", "E/2.0"], None),
+];
+
+fn thread(alloc: Global, text: &str) -> Result<ThreadName, Fail> {
+    Ok(ThreadName::read(alloc, text)?)
+}
+
+fn threads(alloc: Global, texts: &[&str]) -> Result<BTreeSet<ThreadName>, Fail> {
+    let mut names = BTreeSet::new(alloc);
+    for &text in texts {
+        names.insert(thread(alloc, text)?)?;
+    }
+    Ok(names)
+}
+
+fn is_first(alloc: Global, tree: &Tree, passed: &[&str], text: Option<&str>) -> Result<bool, Fail> {
+    let execution = thread(alloc, "E")?;
+    let passed = threads(alloc, passed)?;
+    let first = tree.first_ready(alloc, &execution, &passed)?;
+    match (first, text) {
+        (Some(first), Some(text)) => Ok(thread(alloc, text)? == first),
+        (None, None) => Ok(true),
+        _ => Ok(false),
+    }
+}
+
+fn odd_first(alloc: Global, tree: &Tree) -> Result<Option<usize>, Fail> {
+    for (i, &(passed, first)) in FIRSTS.iter().enumerate() {
+        if !is_first(alloc, tree, passed, first)? {
+            return Ok(Some(i));
+        }
+    }
+    Ok(None)
+}
+
+#[test]
+fn finds_the_first(rt: HostRuntime) -> Result<(), Fail> {
+    let alloc = rt.alloc();
+    let mut tree = ready_tree(alloc)?;
+    let is_ready = is_first(alloc, &tree, &[], Some("E"))?;
+    let is_done = acts(alloc, &mut tree, FORKED)?;
+    let odd = odd_first(alloc, &tree)?;
+    drop(tree);
+    assert!(rt; is_ready && is_done);
+    assert_eq!(rt; odd, None);
+    Ok(())
+}
+
 /// Branches are taken out and given back at a path of the tree above. How many there were, where all was right.
 fn rounds(alloc: Global, path: &[(u32, u32)], looks: &[Look]) -> Result<Option<usize>, AllocError> {
     let mut tree = ready_tree(alloc)?;
@@ -486,6 +544,8 @@ fn begins_and_ends(rt: HostRuntime) -> Result<(), Fail> {
     given_back();
     fork_taken_back();
     paths_go_on();
+    names_by_path();
+    below_is_parked();
     assert_eq!(rt; count, 5);
     assert_eq!(rt;
         (branch_end, tree_end),

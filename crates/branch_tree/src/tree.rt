@@ -1,5 +1,8 @@
 // The frames of an execution.
-ghost use Rattle.std.specs.Prelude.{◌≡◌, [], ◌++◌, Some, true, false, IsSomeAnd, option_copied};
+ghost use Rattle.std.specs.Prelude.{◌≡◌, [], ◌++◌, Some, true, false, IfOk, IsSomeAnd, option_copied};
+ghost use Rattle.std.specs.BTreeSet.{contains};
+ghost use Rattle.step_names.specs.Order.{thread_cmp};
+ghost use Rattle.branch_tree.specs.First.{IsFirst};
 ghost use Rattle.branch_tree.specs.Paths.{Path};
 ghost use Rattle.branch_tree.specs.FlatMap.{IsTree, is_parked, with_frame, grafted, alone};
 ghost use Rattle.branch_tree.specs.Ready.{readiness_at};
@@ -8,8 +11,10 @@ ghost use Rattle.branch_tree.specs.Tree.{frame_at, node_at, IsNode};
 use crate::branch::Branch;
 use crate::readiness::Readiness;
 use asl_forward::Frame;
-use std::alloc::Global;
+use std::alloc::{AllocError, Global};
+use std::collections::BTreeSet;
 use std::marker::Model;
+use step_names::ThreadName;
 
 /// The frames of an execution's threads. Contracts see the paths that have a frame, and `frame_at` as the flat map from
 /// path to frame. A frame that is parked over n branches has those of its own last move, 0 to n - 1, and no other frame
@@ -68,6 +73,22 @@ impl Tree {
             Some(branch) => branch.readiness(),
             None => Readiness::NoThread,
         }
+    }
+
+    /// The least name among those that go on from this one, which is the execution's, whose thread moves (it is `Ready`, or
+    /// can `Join` or `Terminate`) and is not passed by.
+    ///
+    /// Goes through each thread at most once, and under those that a found one comes before only by their phase. Takes two
+    /// blocks for each name that is made: of the threads before the one found that have not ended, and of that one.
+    pub fn first_ready(
+        &self,
+        alloc: Global,
+        execution: &ThreadName,
+        passed: &BTreeSet<ThreadName>,
+    ) -> Result<Option<ThreadName>, AllocError>
+        ensures { IfOk result (λ found. IsFirst (frame_at self.now) execution.now (contains thread_cmp passed.now) found) }
+    {
+        self.root.first_ready(alloc, execution, passed)
     }
 
     /// Puts a frame in the place of the one at a path, which comes back. Takes no memory, in time of the path's length.
