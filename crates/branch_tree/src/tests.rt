@@ -5,7 +5,10 @@ ghost use Rattle.std.specs.List.{All};
 ghost use Rattle.branch_tree.specs.FlatMap.{IsTree, is_parked};
 ghost use Rattle.branch_tree.specs.Tree.{frame_at, IsNode};
 
-use crate::{Branch, Readiness, Tree, fork_taken_back, given_back, names_by_path, paths_go_on};
+use crate::{
+    Branch, Readiness, Tree, below_is_parked, fork_taken_back, given_back, names_by_path,
+    paths_go_on,
+};
 use asl_forward::{Fault, Frame, Origin, Phase, Retries};
 use asl_machine::{Level, LevelPath};
 use json_tree::{Json, Text};
