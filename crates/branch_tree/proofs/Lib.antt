@@ -1,0 +1,10 @@
+mod Flat
+mod Nodes
+mod Descent
+mod Changes
+mod Progress
+mod Grafts
+mod Leaves
+mod FirstOf
+mod Names
+mod Below

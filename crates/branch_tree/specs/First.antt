@@ -1,0 +1,38 @@
+-- The first thread, by the order of names, that has a move and is not passed by.
+use Rattle.std.specs.Prelude.{◌≡◌, Bool, true, false, ◌&&◌, not, ◌++◌, Option, Some, None}
+use Rattle.std.specs.declared.cmp.Ordering.{Ordering}
+use Rattle.std.specs.declared.cmp.Ordering.TheVariants.{Less}
+use Rattle.std.specs.Cmp.Lexicographic.{slice_cmp}
+use Rattle.step_names.specs.Thread.{Thread, IsThread}
+use Rattle.step_names.specs.Order.{branch_cmp}
+use Rattle.branch_tree.specs.declared.readiness.Readiness.{Readiness}
+use Rattle.branch_tree.specs.declared.readiness.Readiness.TheVariants.{Ready, Join, Terminate, Waiting, Done, Failed, NoThread}
+use Rattle.branch_tree.specs.Paths.{Path}
+use Rattle.branch_tree.specs.FlatMap.{FrameMap}
+use Rattle.branch_tree.specs.Ready.{readiness_at}
+
+abbrev pub has_move : Readiness → Bool
+has_move Ready = true
+has_move Join = true
+has_move Terminate = true
+has_move Waiting = false
+has_move Done = false
+has_move Failed = false
+has_move NoThread = false
+
+-- the thread that a path leads to from another
+abbrev pub thread_under : Thread → Path → Thread
+thread_under base p = record { exec = base.exec; path = base.path ++ p }
+
+-- branch by branch, the shorter path first
+abbrev pub path_cmp : Path → Path → Ordering
+path_cmp = slice_cmp branch_cmp
+
+abbrev pub is_free : FrameMap → Thread → (Thread → Bool) → Path → Bool
+is_free frames base passed p = has_move (readiness_at frames p) && not (passed (thread_under base p))
+
+-- Nothing, where no name of a thread at or under the base is free; or the name of one that is, with none before it.
+abbrev pub IsFirst : FrameMap → Thread → (Thread → Bool) → Option Thread → Type 0
+IsFirst frames base passed None = (p : Path) → IsThread (thread_under base p) → is_free frames base passed p ≡ false
+IsFirst frames base passed (Some t) =
+    (p : Path) × (t ≡ thread_under base p) × (is_free frames base passed p ≡ true) × ((q : Path) → IsThread (thread_under base q) → path_cmp q p ≡ Less → is_free frames base passed q ≡ false)

@@ -1,0 +1,141 @@
+// The frames of an execution.
+ghost use Rattle.std.specs.Prelude.{◌≡◌, [], ◌++◌, Some, true, false, IfOk, IsSomeAnd, option_copied};
+ghost use Rattle.std.specs.BTreeSet.{contains};
+ghost use Rattle.step_names.specs.Order.{thread_cmp};
+ghost use Rattle.branch_tree.specs.First.{IsFirst};
+ghost use Rattle.branch_tree.specs.Paths.{Path};
+ghost use Rattle.branch_tree.specs.FlatMap.{IsTree, is_parked, with_frame, grafted, alone};
+ghost use Rattle.branch_tree.specs.Ready.{readiness_at};
+ghost use Rattle.branch_tree.specs.Tree.{frame_at, node_at, IsNode};
+
+use crate::branch::Branch;
+use crate::readiness::Readiness;
+use asl_forward::Frame;
+use std::alloc::{AllocError, Global};
+use std::collections::BTreeSet;
+use std::marker::Model;
+use step_names::ThreadName;
+
+/// The frames of an execution's threads. Contracts see the paths that have a frame, and `frame_at` as the flat map from
+/// path to frame. A frame that is parked over n branches has those of its own last move, 0 to n - 1, and no other frame
+/// has branches (`IsTree`).
+#[derive(Drop)]
+pub struct Tree {
+    root: Branch,
+}
+
+impl Model for Tree {
+    ghost use Rattle.branch_tree.specs.FlatMap.{IsTree};
+    ghost use Rattle.branch_tree.specs.Tree.{Rows, frame_at, rows_code};
+
+    ghost Value = { Rows };
+
+    ghost coded = { rows_code };
+
+    ghost view = { λ a. a.root };
+
+    ghost invariant = { λ a. IsTree (frame_at a.root) };
+}
+
+impl Tree {
+    /// A tree of one frame. Takes no memory.
+    pub fn new(alloc: Global, frame: Frame) -> Tree
+        requires { is_parked frame.phase ≡ false }
+        ensures frames { (q : Path) → frame_at result q ≡ alone frame q }
+        ensures tree { IsTree (frame_at result) }
+    {
+        Tree {
+            root: Branch::new(alloc, frame),
+        }
+    }
+
+    /// The frame of the execution's own thread. Drops what is under it.
+    pub fn into_frame(self) -> Frame
+        ensures { frame_at self [] ≡ Some result }
+    {
+        self.root.into_frame()
+    }
+
+    /// The frame at a path. Time of the path's length.
+    pub fn find(&self, path: &[(u32, u32)]) -> Option<&Frame>
+        ensures value { option_copied result ≡ frame_at self.now path.now }
+        ensures tree { IsTree (frame_at self.now) }
+    {
+        let branch = self.root.at(path)?;
+        Some(branch.frame())
+    }
+
+    /// What the thread at a path can do next. Time of the path's length and of the number of its branches.
+    pub fn ready(&self, path: &[(u32, u32)]) -> Readiness
+        ensures { result ≡ readiness_at (frame_at self.now) path.now }
+    {
+        match self.root.at(path) {
+            Some(branch) => branch.readiness(),
+            None => Readiness::NoThread,
+        }
+    }
+
+    /// The least name among those that go on from this one, which is the execution's, whose thread moves (it is `Ready`, or
+    /// can `Join` or `Terminate`) and is not passed by.
+    ///
+    /// Goes through each thread at most once, and under those that a found one comes before only by their phase. Takes two
+    /// blocks for each name that is made: of the threads before the one found that have not ended, and of that one.
+    pub fn first_ready(
+        &self,
+        alloc: Global,
+        execution: &ThreadName,
+        passed: &BTreeSet<ThreadName>,
+    ) -> Result<Option<ThreadName>, AllocError>
+        ensures { IfOk result (λ found. IsFirst (frame_at self.now) execution.now (contains thread_cmp passed.now) found) }
+    {
+        self.root.first_ready(alloc, execution, passed)
+    }
+
+    /// Puts a frame in the place of the one at a path, which comes back. Takes no memory, in time of the path's length.
+    pub fn replace(&mut self, path: &[(u32, u32)], frame: Frame) -> Frame
+        requires open { IsSomeAnd (frame_at self.old path.now) (λ f. is_parked f.phase ≡ false) }
+        requires next { is_parked frame.phase ≡ false }
+        ensures before { frame_at self.old path.now ≡ Some result }
+        ensures frames { (q : Path) → frame_at self.new q ≡ with_frame (frame_at self.old) path.now frame q }
+        ensures tree { IsTree (frame_at self.new) }
+    {
+        self.root.replace(path, frame)
+    }
+
+    /// Puts a frame that is parked over these branches in the place of the one at a path, which comes back. The branches
+    /// are moved. Takes no memory, in time of the path's length.
+    pub fn fork(&mut self, path: &[(u32, u32)], frame: Frame, branches: Vec<Branch>) -> Frame
+        requires open { IsSomeAnd (frame_at self.old path.now) (λ f. is_parked f.phase ≡ false) }
+        requires node { IsNode frame branches.items }
+        ensures before { frame_at self.old path.now ≡ Some result }
+        ensures frames { (q : Path) → frame_at self.new q ≡ grafted (frame_at self.old) path.now (node_at frame branches.items) q }
+        ensures tree { IsTree (frame_at self.new) }
+    {
+        self.root.give(path, frame, branches)
+    }
+
+    /// Takes out the branches of the frame at a path, with all under them, and puts a frame without branches in its place.
+    /// Both come back, the branches moved as they are. Takes no memory, in time of the path's length.
+    pub fn take_kids(&mut self, path: &[(u32, u32)], frame: Frame) -> (Frame, Vec<Branch>)
+        requires there { IsSomeAnd (frame_at self.old path.now) (λ f. is_parked f.phase ≡ true) }
+        requires next { is_parked frame.phase ≡ false }
+        ensures before { (q : Path) → frame_at self.old (path.now ++ q) ≡ node_at result.0 result.1.items q }
+        ensures node { IsNode result.0 result.1.items }
+        ensures frames { (q : Path) → frame_at self.new q ≡ grafted (frame_at self.old) path.now (alone frame) q }
+        ensures tree { IsTree (frame_at self.new) }
+    {
+        self.root.take(path, frame)
+    }
+
+    /// Gives branches back that were taken out, under the frame that stood over them. The frame in whose place it comes
+    /// comes back. Takes no memory, in time of the path's length.
+    pub fn give_kids(&mut self, path: &[(u32, u32)], frame: Frame, kids: Vec<Branch>) -> Frame
+        requires open { IsSomeAnd (frame_at self.old path.now) (λ f. is_parked f.phase ≡ false) }
+        requires node { IsNode frame kids.items }
+        ensures before { frame_at self.old path.now ≡ Some result }
+        ensures frames { (q : Path) → frame_at self.new q ≡ grafted (frame_at self.old) path.now (node_at frame kids.items) q }
+        ensures tree { IsTree (frame_at self.new) }
+    {
+        self.root.give(path, frame, kids)
+    }
+}
