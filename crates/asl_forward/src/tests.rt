@@ -1,4 +1,4 @@
-use crate::{Frame, Outcome, Phase, first_frame, prepare};
+use crate::{Frame, Outcome, Phase, Prepared, first_frame, next_frame, prepare, standing};
 use asl_machine::{Machine, SharedMachine};
 use json_tree::{Json, Text, read, write_text};
 use serde_json::Value;
@@ -25,19 +25,31 @@ fn start(alloc: Global, machine: &SharedMachine, input: &Json) -> Result<Frame, 
     first_frame(alloc, &name, machine.machine(), input)
 }
 
-/// The frame after some moves of a frame that is ready before each of them.
+/// The frame after one more move.
+fn next_of(alloc: Global, machine: &SharedMachine, frame: &Frame) -> Result<Frame, Fail> {
+    let Some((level, state)) = standing(machine.machine(), frame) else {
+        return Err("a frame stands before no state".into());
+    };
+    if frame.count > 9 {
+        return Err("more moves than a test makes".into());
+    }
+    Ok(next_frame(alloc, level, state, frame)?)
+}
+
+/// The frame after one or two moves.
 fn moved(
     alloc: Global,
     machine: &SharedMachine,
-    frame: Frame,
-    moves: u32,
-) -> Result<Frame, AllocError> {
-    let mut frame = frame;
-    for _ in 0..moves {
-        let Outcome::Next(next) = prepare(alloc, machine, &frame)?.outcome;
-        frame = next;
+    first: &Frame,
+    twice: bool,
+) -> Result<Frame, Fail> {
+    let next = next_of(alloc, machine, first)?;
+    if !twice {
+        return Ok(next);
     }
-    Ok(frame)
+    let last = next_of(alloc, machine, &next);
+    drop(next);
+    Ok(last?)
 }
 
 fn is_written(alloc: Global, json: &Json, want: &str) -> bool {
@@ -69,18 +81,19 @@ fn is_as_wanted(alloc: Global, frame: &Frame, want: Want) -> bool {
     }
 }
 
-/// Whether a machine whose first state is this object comes to that from this input in so many moves.
+/// Whether a machine comes to that from this input in one or two moves.
 fn comes_to(
     alloc: Global,
     definition: &str,
     input: &str,
-    moves: u32,
+    twice: bool,
     want: Want,
 ) -> Result<bool, Fail> {
     let machine = machine_of(alloc, definition)?;
     let input = json_of(alloc, input)?;
     let first = start(alloc, &machine, &input)?;
-    let last = moved(alloc, &machine, first, moves)?;
+    let last = moved(alloc, &machine, &first, twice)?;
+    let moves = if twice { 2 } else { 1 };
     Ok(last.count == moves && is_as_wanted(alloc, &last, want))
 }
 
@@ -174,54 +187,54 @@ fn passes(rt: HostRuntime) -> Result<(), Fail> {
     let alloc = rt.alloc();
     for &(fields, input, want) in PASSES {
         let definition = pass_with(alloc, fields)?;
-        let is_met = comes_to(alloc, definition.as_str(), input, 1, want)?;
+        let is_met = comes_to(alloc, definition.as_str(), input, false, want)?;
         assert!(rt; is_met, "{fields} {input}");
     }
     Ok(())
 }
 
-/// Machines, their inputs, how many moves are made, and what they come to.
-const MACHINES: &[(&str, &str, u32, Want)] = &[
+/// Machines, their inputs, whether two moves are made, and what they come to.
+const MACHINES: &[(&str, &str, bool, Want)] = &[
     (
         r#"{"StartAt":"S","States":{"S":{"Type":"Succeed","InputPath":"$.x","OutputPath":"$.y"}}}"#,
         r#"{"x":{"y":1}}"#,
-        1,
+        false,
         Want::Done("1"),
     ),
     (
         r#"{"StartAt":"S","States":{"S":{"Type":"Succeed","InputPath":"$.x"}}}"#,
         "{}",
-        1,
+        false,
         Want::Failed("States.Runtime", ""),
     ),
     (
         r#"{"StartAt":"W","States":{"W":{"Type":"Wait","Seconds":5,"InputPath":"$.x","Next":"S"},"S":{"Type":"Succeed"}}}"#,
         r#"{"x":[2]}"#,
-        1,
+        false,
         Want::Ready("S", "[2]"),
     ),
     (
         r#"{"StartAt":"F","States":{"F":{"Type":"Fail","Error":"E","Cause":"c"}}}"#,
         "{}",
-        1,
+        false,
         Want::Failed("E", "c"),
     ),
     (
         r#"{"StartAt":"F","States":{"F":{"Type":"Fail"}}}"#,
         "{}",
-        1,
+        false,
         Want::Failed("", ""),
     ),
     (
         r#"{"StartAt":"A","States":{"A":{"Type":"Pass","Result":[1],"ResultPath":"$.r","Next":"B"},"B":{"Type":"Pass","InputPath":"$.r","End":true}}}"#,
         r#"{"k":0}"#,
-        2,
+        true,
         Want::Done("[1]"),
     ),
     (
         r#"{"StartAt":"A","States":{"A":{"Type":"Pass","Result":[1],"ResultPath":"$.r","Next":"B"},"B":{"Type":"Pass","End":true}}}"#,
         r#"{"k":0}"#,
-        1,
+        false,
         Want::Ready("B", r#"{"k":0,"r":[1]}"#),
     ),
 ];
@@ -229,12 +242,40 @@ const MACHINES: &[(&str, &str, u32, Want)] = &[
 #[test]
 fn runs_machines(rt: HostRuntime) -> Result<(), Fail> {
     let alloc = rt.alloc();
-    for &(definition, input, moves, want) in MACHINES {
+    for &(definition, input, twice, want) in MACHINES {
         assert!(rt;
-            comes_to(alloc, definition, input, moves, want)?,
+            comes_to(alloc, definition, input, twice, want)?,
             "{definition} {input}"
         );
     }
+    Ok(())
+}
+
+/// Whether what is prepared of a first frame keeps that frame, and comes to the next one.
+fn is_prepared(alloc: Global, machine: &SharedMachine, first: &Frame) -> Result<bool, Fail> {
+    if first.count > 9 || standing(machine.machine(), first).is_none() {
+        return Ok(false);
+    }
+    let Phase::Ready = &first.phase else {
+        return Ok(false);
+    };
+    let Prepared {
+        frame,
+        machine: kept,
+        outcome: Outcome::Next(next),
+    } = prepare(alloc, machine, first)?;
+    let keeps = frame.count == 0 && is_written(alloc, &frame.raw, "3");
+    drop(kept);
+    Ok(keeps && is_as_wanted(alloc, &next, Want::Done("7")))
+}
+
+#[test]
+fn prepares(rt: HostRuntime) -> Result<(), Fail> {
+    let alloc = rt.alloc();
+    let definition = pass_with(alloc, r#""Result":7,"#)?;
+    let machine = machine_of(alloc, definition.as_str())?;
+    let first = start(alloc, &machine, &Json::Whole(3))?;
+    assert!(rt; is_prepared(alloc, &machine, &first)?);
     Ok(())
 }
 
@@ -264,7 +305,7 @@ fn is_held(alloc: Global, levels: u32, held: bool) -> Result<bool, Fail> {
     let machine = machine_of(alloc, definition.as_str())?;
     let input = json_of(alloc, nested_lists(alloc, levels)?.as_str())?;
     let first = start(alloc, &machine, &input)?;
-    let last = moved(alloc, &machine, first, 1)?;
+    let last = next_of(alloc, &machine, &first)?;
     let failed = is_as_wanted(alloc, &last, Want::Failed("States.Runtime", ""));
     Ok(is_done(&last) == held && failed == !held)
 }
@@ -316,7 +357,7 @@ fn goes_long_paths(rt: HostRuntime) -> Result<(), Fail> {
         let long = with_long_paths(alloc, fields)?;
         let definition = pass_with(alloc, long.as_str())?;
         assert!(rt;
-            comes_to(alloc, definition.as_str(), "{}", 1, want)?,
+            comes_to(alloc, definition.as_str(), "{}", false, want)?,
             "{fields}"
         );
     }

@@ -12,7 +12,9 @@ use crate::choosing::choose;
 use crate::error::{StateError, TurnFault};
 use crate::frame::{Fault, Frame, Origin, Phase, Retries};
 use crate::processing::{effective_input, output_of};
-use asl_machine::{Choice, Fail, Level, LevelPath, Machine, Pass, Processing, Retrier, State, Transition};
+use asl_machine::{
+    Choice, Fail, Level, LevelPath, Machine, Pass, Processing, Retrier, State, Transition,
+};
 use json_tree::{Json, Text};
 use std::alloc::{AllocError, Global};
 

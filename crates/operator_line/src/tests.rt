@@ -239,7 +239,7 @@ const DEFINITION_ROWS: [(&str, &str); 20] = [
         "no 3 5 \"Q\"\n",
     ),
     (
-        r#"define p {"StartAt":"P","States":{"P":{"Type":"Task"}}}"#,
+        r#"define p {"StartAt":"P","States":{"P":{"Type":"Task","Resource":"arn:aws:states:::dynamodb:getItem","End":true}}}"#,
         "no 3 3 \"Type\"\n",
     ),
     (
@@ -328,6 +328,32 @@ const PATH_ROWS: [(&str, &str); 20] = [
 #[test]
 fn paths_and_templates(rt: HostRuntime) -> Result<(), Fail> {
     expect(&rt, rt.alloc(), PATH_ROWS.as_slice())
+}
+
+const CHOICE_ROWS: [(&str, &str); 12] = [
+    ("table items id:S []", "ok\n"),
+    (
+        r#"define h {"StartAt":"H","States":{"H":{"Type":"Choice","Choices":[{"Variable":"$.n","NumericGreaterThan":3,"Next":"Z"}]},"Z":{"Type":"Fail","Error":"E","Cause":"c"}}}"#,
+        "ok\n",
+    ),
+    (r#"start a h {"n":5}"#, "ok a#0\n"),
+    ("step a", "ok a#1 plain\n"),
+    ("step a", "ok a#2 plain\n"),
+    ("show a", "ok failed \"E\" \"c\"\n"),
+    (r#"start b h {"n":3}"#, "ok b#0\n"),
+    ("step b", "ok b#1 plain\n"),
+    (
+        "show b",
+        "ok failed \"States.NoChoiceMatched\" \"\"\n",
+    ),
+    ("start c h {}", "ok c#0\n"),
+    ("step c", "ok c#1 plain\n"),
+    ("show c", "ok failed \"States.Runtime\" \"\"\n"),
+];
+
+#[test]
+fn choices(rt: HostRuntime) -> Result<(), Fail> {
+    expect(&rt, rt.alloc(), CHOICE_ROWS.as_slice())
 }
 
 #[test]
