@@ -1,5 +1,5 @@
 // A turn that is made ready apart from where its frame is kept.
-ghost use Rattle.std.specs.Prelude.{◌≡◌, ◌+◌, ◌^◌, ◌<◌, IfOk, Some};
+ghost use Rattle.std.specs.Prelude.{◌≡◌, ◌+◌, ◌^◌, ◌<◌, IfOk, IsSome, Some};
 ghost use Rattle.asl_forward.specs.Turn.{Standing, standing, after_state};
 
 use crate::frame::{Frame, Phase};
@@ -30,7 +30,7 @@ pub fn prepare(
     frame: &Frame,
 ) -> Result<Prepared, AllocError>
     requires ready { frame.now.phase ≡ Phase.Ready }
-    requires stands { (at : Standing) × (standing machine.now frame.now ≡ Some at) }
+    requires stands { IsSome (standing machine.now frame.now) }
     requires count { frame.now.count + 1 < 2 ^ 32 }
     ensures frame { IfOk result (λ p. p.frame ≡ frame.now) }
     ensures machine { IfOk result (λ p. p.machine ≡ machine.now) }
