@@ -362,7 +362,7 @@ fn left_out(alloc: Global) -> Refusal
     ensures { (result ≡ Refusal.BadMachine (MachineFault.Unsupported (codes "Type"))) ⊎ (result ≡ Refusal.Memory) }
 {
     match Text::new(alloc, "Type") {
-        Ok(name) => Refusal::BadMachine(MachineFault::Unsupported(name)),
+        Ok(field) => Refusal::BadMachine(MachineFault::Unsupported(field)),
         Err(_refused) => Refusal::Memory,
     }
 }
