@@ -342,10 +342,7 @@ const CHOICE_ROWS: [(&str, &str); 12] = [
     ("show a", "ok failed \"E\" \"c\"\n"),
     (r#"start b h {"n":3}"#, "ok b#0\n"),
     ("step b", "ok b#1 plain\n"),
-    (
-        "show b",
-        "ok failed \"States.NoChoiceMatched\" \"\"\n",
-    ),
+    ("show b", "ok failed \"States.NoChoiceMatched\" \"\"\n"),
     ("start c h {}", "ok c#0\n"),
     ("step c", "ok c#1 plain\n"),
     ("show c", "ok failed \"States.Runtime\" \"\"\n"),
