@@ -1,4 +1,7 @@
 pub mod Choosing
 pub mod Errors
+pub mod Forks
+pub mod Handling
+pub mod Outcomes
 pub mod Processing
 pub mod Turn

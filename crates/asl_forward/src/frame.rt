@@ -92,6 +92,34 @@ pub struct Frame {
     pub phase: Phase,
 }
 
+/// The frames of a fork's branches, in order. Contracts see their list.
+#[derive(Debug, Drop)]
+pub struct Frames {
+    pub(crate) inner: Vec<Frame>,
+}
+
+impl Model for Frames {
+    ghost use Rattle.std.specs.Prelude.{List};
+    ghost use Rattle.std.specs.Coded.{codes};
+    ghost use Rattle.asl_forward.specs.declared.frame.Frame.{Frame};
+    ghost use Rattle.asl_forward.specs.contracts.frame.Frame as frame;
+
+    ghost Value = { List Frame };
+
+    ghost coded = { Prim.hlevel (codes, frame.the_row.coded) };
+
+    ghost view = { λ a. a.inner.items };
+}
+
+impl Frames {
+    /// The frames themselves. Takes no memory.
+    pub fn into_vec(self) -> Vec<Frame>
+        ensures { result.items ≡ self }
+    {
+        self.inner
+    }
+}
+
 impl Frame {
     /// An equal frame of one that is ready, which shares its raw input. Takes memory for long names and for the counters.
     pub(crate) fn copy_ready(&self) -> Result<Frame, AllocError>

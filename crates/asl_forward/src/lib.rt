@@ -10,6 +10,6 @@ mod processing;
 mod tests;
 mod turn;
 
-pub use frame::{Fault, Frame, Origin, Phase, Retries};
+pub use frame::{Fault, Frame, Frames, Origin, Phase, Retries};
 pub use prepared::{Outcome, Prepared, prepare};
 pub use turn::{first_frame, next_frame, standing};

@@ -2,9 +2,10 @@
 ghost use Rattle.std.specs.Prelude.{◌≡◌, ◌+◌, ◌^◌, ◌<◌, IfOk, IsSome, Some};
 ghost use Rattle.asl_forward.specs.Turn.{Standing, standing, after_state};
 
-use crate::frame::{Frame, Phase};
+use crate::frame::{Frame, Frames, Phase};
 use crate::turn::{next_frame, standing};
 use asl_machine::SharedMachine;
+use item_store::Call;
 use std::alloc::{AllocError, Global};
 
 /// What a turn comes to.
@@ -12,6 +13,10 @@ use std::alloc::{AllocError, Global};
 pub enum Outcome {
     /// The thread's next frame.
     Next(Frame),
+    /// A call of the table, whose answer decides the next frame (`finish`).
+    Call(Call),
+    /// The thread's next frame, parked over the branches that begin with these frames, in order.
+    Fork(Frame, Frames),
 }
 
 /// A turn that was prepared: the frame and the machine that it was made of, and what it comes to.

@@ -1,0 +1,6 @@
+pub mod Deeds
+pub mod Keeping
+pub mod Records
+pub mod Run
+pub mod Steps
+pub mod World

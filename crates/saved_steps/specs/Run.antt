@@ -1,0 +1,43 @@
+-- Steps taken one after another.
+use Rattle.std.specs.Prelude.{ℕ, List, [], ◌∷◌, if◌then◌else◌, Option, Some, None, slice_get, option_map, option_and_then}
+use Rattle.attr_values.specs.declared.key.Key.{Key}
+use Rattle.item_store.specs.Deciding.{Attributes}
+use Rattle.asl_forward.specs.declared.frame.Frame.{Frame}
+use Rattle.branch_tree.specs.Paths.{Path, rest_after}
+use Rattle.step_names.specs.Thread.{Thread}
+use Rattle.saved_steps.specs.Deeds.{Deed, deed}
+use Rattle.saved_steps.specs.Steps.{Step, makes, closes, writes_key}
+use Rattle.saved_steps.specs.World.{Setting, World, is_same_thread}
+use Rattle.saved_steps.specs.declared.fact.Fact.{Fact}
+
+abbrev pub begun_at : List Frame → Option Path → Option Frame
+begun_at branches (Some ((n, i) ∷ [])) = slice_get branches i
+begun_at branches (Some ((n, i) ∷ (b ∷ q))) = None
+begun_at branches (Some []) = None
+begun_at branches None = None
+
+-- the frame with which a thread under a fork begins: that of its branch; nothing stands under a branch yet
+abbrev pub begun : Deed → Thread → Option Frame
+begun d t = begun_at d.branches (rest_after d.fact.name.thread.path t.path)
+
+-- the frames, with the deed's in place of those of its thread and of the threads under the fork that it makes or closes
+abbrev pub frames_after : (Thread → Option Frame) → Deed → Thread → Option Frame
+frames_after frames d t =
+    if is_same_thread d.fact.name.thread t then Some d.frame else
+    if makes d.fact t then begun d t else
+    if closes d.fact t then None else frames t
+
+abbrev pub items_after : (Key → Option Attributes) → Deed → Key → Option Attributes
+items_after items d key = if writes_key d.fact key then d.item else items key
+
+abbrev pub carried_out : World → Deed → World
+carried_out w d = record { frames = frames_after w.frames d; items = items_after w.items d }
+
+-- the world after a step, and what is known of the step
+abbrev pub take_step : Setting → World → Step → Option (World × Fact)
+take_step s w step = option_map (λ d. (carried_out w d, d.fact)) (deed s w step)
+
+-- the steps taken one after another: the world after them, and the fact of each; none where one of them can't be taken
+abbrev pub run : Setting → World → List Step → Option (World × List Fact)
+run s w [] = Some (w, [])
+run s w (step ∷ steps) = option_and_then (λ p. option_map (λ q. (q.0, p.1 ∷ q.1)) (run s p.0 steps)) (take_step s w step)

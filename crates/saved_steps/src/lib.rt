@@ -1,0 +1,8 @@
+#![tactic(auto)]
+
+//! What a step does to executions and items, and what is kept to undo it.
+mod fact;
+mod record;
+
+pub use fact::{Access, Fact, Kind};
+pub use record::{Saved, StepRecord};
