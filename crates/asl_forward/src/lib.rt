@@ -4,6 +4,7 @@
 mod choosing;
 mod error;
 mod frame;
+mod handling;
 mod prepared;
 mod processing;
 #[cfg(test)]
@@ -11,5 +12,6 @@ mod tests;
 mod turn;
 
 pub use frame::{Fault, Frame, Frames, Origin, Phase, Retries};
+pub use handling::{after_branch, after_error};
 pub use prepared::{Outcome, Prepared, prepare};
 pub use turn::{first_frame, next_frame, standing};
