@@ -7,7 +7,7 @@ use Rattle.json_tree.specs.declared.tree.Json.TheVariants.{Null, Bool, Whole, Te
 use Rattle.asl_machine.specs.Reading.{items_in, members_in, json_of}
 use Rattle.asl_forward.specs.Processing.{and_then, picked}
 
-items_again : (ds : List Data) → ds ≡ items_in (items_of ds)
+pub items_again : (ds : List Data) → ds ≡ items_in (items_of ds)
 items_again [] = refl
 items_again (d ∷ ds) = ap (λ es. d ∷ es) (items_again ds)
 

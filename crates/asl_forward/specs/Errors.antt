@@ -1,5 +1,5 @@
 -- Errors as the code holds them.
-use Rattle.std.specs.Prelude.{◌≡◌, ℕ, List, Result, Ok, Err, codes}
+use Rattle.std.specs.Prelude.{◌≡◌, ℕ, List, Result, Err, codes}
 use Rattle.asl_forward.specs.declared.error.StateError.{StateError}
 use Rattle.asl_forward.specs.declared.error.StateError.TheVariants.{Runtime, ParameterPathFailure, ResultPathMatchFailure, NoChoiceMatched}
 use Rattle.asl_forward.specs.declared.error.TurnFault.{TurnFault}

@@ -135,6 +135,15 @@ impl Model for Frames {
 }
 
 impl Frames {
+    /// No frames. Takes no memory.
+    pub(crate) fn new(alloc: Global) -> Frames
+        ensures { result ≡ [] }
+    {
+        Frames {
+            inner: Vec::new(alloc),
+        }
+    }
+
     /// The frames themselves. Takes no memory.
     pub fn into_vec(self) -> Vec<Frame>
         ensures { result.items ≡ self }

@@ -12,7 +12,7 @@ use ref_paths::{FillFault, PickRefusal, RefPath, Template, pick_placed};
 use std::alloc::Global;
 
 /// The levels that a value in a frame may have.
-const LEVELS: u32 = 127;
+pub const LEVELS: u32 = 127;
 
 /// What a state works on. A value that is picked is shared; a template takes memory for what it makes.
 pub fn effective_input(
