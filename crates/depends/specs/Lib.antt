@@ -1,0 +1,3 @@
+pub mod Dependence
+pub mod Instance
+pub mod Laws
