@@ -1,3 +1,4 @@
 pub mod Dependence
 pub mod Instance
 pub mod Laws
+pub mod Plans

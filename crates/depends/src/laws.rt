@@ -3,12 +3,13 @@
 //! They are of runs: lists of steps that were taken one after another from a world without executions, each with its fact and
 //! with what it kept (`specs/Instance.antt`, over the definitions of the theory of commuting steps).
 
-ghost use Rattle.depends.specs.Laws.{StepsAreLawful, StepsHaveNames, StepsSwap, StepsUndo, ConsequencesAreLeast, UndoOrdersAgree, StepArrangementsAgree, HeldStepsAreLeft};
+ghost use Rattle.depends.specs.Laws.{RunsAreSeen, StepsAreLawful, StepsHaveNames, StepsSwap, StepsUndo, ConsequencesAreLeast, UndoOrdersAgree, StepArrangementsAgree, HeldStepsAreLeft, PlansAreConsequences, FreeStepsHaveNoDependent};
 
 /// Steps commute where they do not depend on each other, in every world that a run reaches; and a run has each name once.
 pub fn steps_are_lawful()
     ensures lawful { StepsAreLawful }
     ensures names { StepsHaveNames }
+    ensures runs { RunsAreSeen }
 {}
 
 /// Neighbours of which the later does not depend directly on the earlier swap: one world, the same facts, and the same is kept.
@@ -42,4 +43,10 @@ pub fn arrangements_agree()
 /// What is left of held consequences goes down by one with each undoing of a member, and by nothing else that may happen.
 pub fn held_consequences_are_left()
     ensures { HeldStepsAreLeft }
+{}
+
+/// The plan of a step of a run is its consequences, from the last to the first; and a step has no dependent just where it is free.
+pub fn plans_are_consequences()
+    ensures plan { PlansAreConsequences }
+    ensures first { FreeStepsHaveNoDependent }
 {}
