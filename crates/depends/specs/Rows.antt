@@ -1,31 +1,26 @@
 -- The definitions at one history: an execution forks two branches. The second forks a branch of its own, which ends; the first
 -- fails, and the execution terminates over all of them.
-use Rattle.std.specs.Prelude.{◌≡◌, ℕ, true, false, Bool, List, [], ◌∷◌, map, reverse, Option, Some, None, option_map, codes, refl}
+use Rattle.std.specs.Prelude.{◌≡◌, ℕ, true, false, List, [], ◌∷◌, map, reverse, Option, Some, None, option_map, codes, refl}
 use Rattle.json_tree.specs.declared.tree.Json.TheVariants.{Null}
 use Rattle.attr_values.specs.declared.key.Key.{Key}
-use Rattle.attr_values.specs.declared.key.KeySchema.{KeySchema}
 use Rattle.attr_values.specs.declared.key.KeyType.TheVariants.{S as TextType}
 use Rattle.attr_values.specs.declared.key_part.KeyPart.TheVariants.{S as text_part}
 use Rattle.item_store.specs.declared.access.AccessMode.{AccessMode}
 use Rattle.item_store.specs.declared.access.AccessMode.TheVariants.{Read, Write}
 use Rattle.asl_errors.specs.declared.errors.ErrorHandling.{ErrorHandling}
 use Rattle.asl_machine.specs.Definition.{Definition, pass, fail, parallel, machine_trees}
-use Rattle.asl_machine.specs.declared.state.Fail.{Fail}
-use Rattle.asl_machine.specs.declared.state.Pass.{Pass}
 use Rattle.asl_machine.specs.declared.state.Processing.{Processing}
 use Rattle.asl_machine.specs.declared.state.Transition.TheVariants.{End}
 use Rattle.asl_forward.specs.declared.frame.Frame.{Frame}
 use Rattle.asl_forward.specs.declared.frame.Phase.{Phase}
 use Rattle.asl_forward.specs.declared.frame.Phase.TheVariants.{Ready, Parked, Done, Failed}
 use Rattle.step_names.specs.Thread.{Thread}
-use Rattle.step_names.specs.declared.step.StepName.{StepName}
 use Rattle.trace_theory.specs.Traces.{run, names_of, after, undo_each}
-use Rattle.saved_steps.specs.Steps.{Step, started, moved, name_of}
+use Rattle.saved_steps.specs.Steps.{Step, started, moved}
 use Rattle.saved_steps.specs.World.{Setting, World}
-use Rattle.saved_steps.specs.declared.fact.Access.{Access}
 use Rattle.saved_steps.specs.declared.fact.Fact.{Fact}
 use Rattle.saved_steps.specs.declared.fact.Kind.{Kind}
-use Rattle.saved_steps.specs.declared.fact.Kind.TheVariants.{Start, Plain, Call, Fork, Join, Terminate}
+use Rattle.saved_steps.specs.declared.fact.Kind.TheVariants.{Start, Plain, Call, Fork, Terminate}
 use Rattle.depends.specs.Dependence.{depends_directly}
 use Rattle.depends.specs.Instance.{steps}
 use Rattle.depends.specs.Plans as plans
