@@ -2,6 +2,7 @@
 
 //! The rules of a Choice state (Amazon States Language, "Choice State"): its tests, and how they are read.
 mod choice;
+mod equality;
 mod holding;
 mod kind;
 mod rule_readers;
