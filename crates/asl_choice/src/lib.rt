@@ -4,6 +4,8 @@
 mod choice;
 mod equality;
 mod holding;
+#[cfg(test)]
+mod holding_tests;
 mod kind;
 mod rule_readers;
 mod test_readers;
