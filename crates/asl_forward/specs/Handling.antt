@@ -1,6 +1,6 @@
 -- Which retrier and which catcher stand for an error (Amazon States Language, "Errors": "Retrying after error" and "Fallback
 -- states").
-use Rattle.std.specs.Prelude.{ℕ, suc, nat_lt, List, [], ◌∷◌, Bool, true, false, ◌&&◌, ◌||◌, not, if◌then◌else◌, Option, Some, None, slice_get, option_map, option_and_then, codes}
+use Rattle.std.specs.Prelude.{ℕ, zero, suc, nat_lt, List, [], ◌∷◌, Bool, true, false, ◌&&◌, ◌||◌, not, if◌then◌else◌, Option, Some, None, slice_get, option_and_then, codes}
 use Rattle.std.specs.List.{list_any, position, find}
 use Rattle.json_tree.specs.Data.{Data, text, fields, no_members, member}
 use Rattle.asl_fields.specs.Fields.{is_text}
@@ -41,7 +41,7 @@ may_try None tries = false
 
 abbrev pub one_more : List ℕ → ℕ → List ℕ
 one_more [] i = []
-one_more (n ∷ counters) 0 = suc n ∷ counters
+one_more (n ∷ counters) zero = suc n ∷ counters
 one_more (n ∷ counters) (suc i) = n ∷ one_more counters i
 
 -- The counters after one more use of the first retrier that stands for an error; nothing where none does, and where that one
