@@ -2,7 +2,7 @@
 // how many definitions were read a second, beside `serde_json`'s reading of the same text, and how many turns of each type were made.
 #![tactic(auto)]
 
-ghost use Rattle.std.specs.Prelude.{◌≡◌};
+ghost use Rattle.std.specs.Prelude.{◌≡◌, true};
 
 use anyhow::Context;
 use asl_forward::{Frame, Outcome, Phase, first_frame, prepare, standing};
