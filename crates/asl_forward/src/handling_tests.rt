@@ -1,5 +1,5 @@
-use crate::tests::{Want, is_as_wanted, json_of, machine_of, start};
-use crate::turn_tests::{Event, last_after};
+use crate::tests::{Want, is_as_wanted};
+use crate::turn_tests::{Event, last_of};
 use std::alloc::Global;
 use std::test::Fail;
 
@@ -36,10 +36,7 @@ struct Handled {
 }
 
 fn is_handled(alloc: Global, machine: &str, row: Handled) -> Result<bool, Fail> {
-    let machine = machine_of(alloc, machine)?;
-    let input = json_of(alloc, row.input)?;
-    let first = start(alloc, &machine, &input)?;
-    let last = last_after(alloc, &machine, first, row.events)?;
+    let last = last_of(alloc, machine, row.input, row.events)?;
     let counters = (last.retries.get(0), last.retries.get(1));
     Ok(counters == row.counters && is_as_wanted(alloc, &last, row.want))
 }

@@ -50,23 +50,29 @@ fn moved(prepared: Prepared) -> Result<Frame, Fail> {
 }
 
 /// The next frame, of a turn whose call has this answer.
-fn answered(alloc: Global, prepared: Prepared, answer: Answer) -> Result<Frame, Fail> {
-    let next = match prepared.outcome() {
-        Outcome::Call(_) => finish(alloc, &prepared, answer),
-        _ => Err(std::alloc::AllocError),
+fn answered(alloc: Global, turn: &Prepared, answer: Answer) -> Result<Frame, Fail> {
+    let Outcome::Call(_) = turn.outcome() else {
+        drop(answer);
+        return Err("a turn asks nothing".into());
     };
-    drop(prepared);
-    Ok(next?)
+    Ok(finish(alloc, turn, answer)?)
+}
+
+fn given(alloc: Global, turn: &Prepared, text: &str) -> Result<Frame, Fail> {
+    let made = json_of(alloc, text)?;
+    answered(alloc, turn, Answer::Given(made))
+}
+
+fn refused(alloc: Global, turn: &Prepared, name: &str) -> Result<Frame, Fail> {
+    let error = Text::new(alloc, name)?;
+    answered(alloc, turn, Answer::Refused(error))
 }
 
 /// The parked frame, of a turn that forks.
-fn parked(prepared: Prepared) -> Result<Frame, Fail> {
-    let (frame, machine, outcome) = prepared.into_parts();
-    drop(frame);
-    drop(machine);
-    match outcome {
+fn parked(turn: &Prepared) -> Result<&Frame, Fail> {
+    match turn.outcome() {
         Outcome::Fork(parked, _) => Ok(parked),
-        Outcome::Call(_) | Outcome::Next(_) => Err("a turn does not fork".into()),
+        _ => Err("a turn does not fork".into()),
     }
 }
 
@@ -136,6 +142,22 @@ fn fail(
     next
 }
 
+/// The frame after a turn, by the event that comes to it.
+fn after_turn(
+    alloc: Global,
+    machine: &Machine,
+    turn: &Prepared,
+    event: Event,
+) -> Result<Frame, Fail> {
+    match event {
+        Event::Moves => Err("a turn is to be a move".into()),
+        Event::Given(text) => given(alloc, turn, text),
+        Event::Refused(name) => refused(alloc, turn, name),
+        Event::Joined(text) => join(alloc, machine, parked(turn)?, text),
+        Event::Failed(error, cause) => fail(alloc, machine, parked(turn)?, error, cause),
+    }
+}
+
 /// The frame after one that is ready, and the event that comes to it.
 fn after(
     alloc: Global,
@@ -144,18 +166,15 @@ fn after(
     event: Event,
 ) -> Result<Frame, Fail> {
     let turn = prepared(alloc, machine, frame)?;
-    match event {
-        Event::Moves => moved(turn),
-        Event::Given(text) => answered(alloc, turn, Answer::Given(json_of(alloc, text)?)),
-        Event::Refused(name) => answered(alloc, turn, Answer::Refused(Text::new(alloc, name)?)),
-        Event::Joined(text) => join(alloc, machine.machine(), &parked(turn)?, text),
-        Event::Failed(error, cause) => {
-            fail(alloc, machine.machine(), &parked(turn)?, error, cause)
-        }
-    }
+    let Event::Moves = event else {
+        let next = after_turn(alloc, machine.machine(), &turn, event);
+        drop(turn);
+        return next;
+    };
+    moved(turn)
 }
 
-pub(crate) fn last_after(
+fn last_after(
     alloc: Global,
     machine: &SharedMachine,
     first: Frame,
@@ -170,6 +189,29 @@ pub(crate) fn last_after(
     Ok(frame)
 }
 
+fn first_of(alloc: Global, machine: &SharedMachine, input: &str) -> Result<Frame, Fail> {
+    let input = json_of(alloc, input)?;
+    let first = start(alloc, machine, &input);
+    drop(input);
+    Ok(first?)
+}
+
+/// The frame after these events, of an execution of this machine.
+pub(crate) fn last_of(
+    alloc: Global,
+    machine: &str,
+    input: &str,
+    events: &[Event],
+) -> Result<Frame, Fail> {
+    let machine = machine_of(alloc, machine)?;
+    let last = match first_of(alloc, &machine, input) {
+        Ok(first) => last_after(alloc, &machine, first, events),
+        Err(fault) => Err(fault),
+    };
+    drop(machine);
+    last
+}
+
 /// A machine, its input, what comes to its frames, and how the last of them is, after so many moves.
 #[derive(Clone, Copy, Debug)]
 struct Run {
@@ -181,10 +223,7 @@ struct Run {
 }
 
 fn goes(alloc: Global, row: Run) -> Result<bool, Fail> {
-    let machine = machine_of(alloc, row.machine)?;
-    let input = json_of(alloc, row.input)?;
-    let first = start(alloc, &machine, &input)?;
-    let last = last_after(alloc, &machine, first, row.events)?;
+    let last = last_of(alloc, row.machine, row.input, row.events)?;
     Ok(last.count == row.moves && is_as_wanted(alloc, &last, row.want))
 }
 
@@ -373,15 +412,23 @@ fn erred(alloc: Global, machine: &Machine, frame: &Frame) -> Result<Frame, Fail>
     Ok(after_error(alloc, machine, frame, fault)?)
 }
 
+/// Whether the first retrier of the first state takes an error up.
+fn is_taken_up(alloc: Global, machine: &SharedMachine) -> Result<bool, Fail> {
+    let first = start(alloc, machine, &Json::Null)?;
+    let next = erred(alloc, machine.machine(), &first);
+    drop(first);
+    let next = next?;
+    let is_first = next.retries.get(0) == Some(1);
+    Ok(is_first && is_as_wanted(alloc, &next, Want::Ready("C", "null")))
+}
+
 #[test]
 fn takes_up_an_error(rt: HostRuntime) -> Result<(), Fail> {
     let alloc = rt.alloc();
     let machine = machine_of(alloc, C)?;
-    let input = json_of(alloc, "{}")?;
-    let first = start(alloc, &machine, &input)?;
-    let next = erred(alloc, machine.machine(), &first)?;
-    assert!(rt; is_as_wanted(alloc, &next, Want::Ready("C", "{}")));
-    assert!(rt; next.retries.get(0) == Some(1));
+    let is_met = is_taken_up(alloc, &machine);
+    drop(machine);
+    assert!(rt; is_met?);
     Ok(())
 }
 
@@ -421,10 +468,27 @@ fn forks_into(alloc: Global, turn: &Prepared, wants: &[(u32, &str, &str)]) -> bo
     counted && parked.count == 1 && are_branches(alloc, frames, wants)
 }
 
-fn first_turn(alloc: Global, machine: &str, input: &Json) -> Result<Prepared, Fail> {
+fn first_turn(alloc: Global, machine: &SharedMachine, input: &Json) -> Result<Prepared, Fail> {
+    let first = start(alloc, machine, input)?;
+    let turn = prepared(alloc, machine, &first);
+    drop(first);
+    turn
+}
+
+/// The first turn of a machine from this input.
+fn turn_from(alloc: Global, machine: &str, input: &Json) -> Result<Prepared, Fail> {
     let machine = machine_of(alloc, machine)?;
-    let first = start(alloc, &machine, input)?;
-    prepared(alloc, &machine, &first)
+    let turn = first_turn(alloc, &machine, input);
+    drop(machine);
+    turn
+}
+
+/// The same, where the input is written.
+fn turn_of(alloc: Global, machine: &str, input: &str) -> Result<Prepared, Fail> {
+    let input = json_of(alloc, input)?;
+    let turn = turn_from(alloc, machine, &input);
+    drop(input);
+    turn
 }
 
 /// A machine, its input, and the branches that its first turn forks into.
@@ -450,13 +514,23 @@ const FORKS: &[(&str, &str, &[(u32, &str, &str)])] = &[
     (M, "[]", &[]),
 ];
 
+fn is_fork(
+    alloc: Global,
+    machine: &str,
+    input: &str,
+    wants: &[(u32, &str, &str)],
+) -> Result<bool, Fail> {
+    let turn = turn_of(alloc, machine, input)?;
+    let is_met = forks_into(alloc, &turn, wants);
+    drop(turn);
+    Ok(is_met)
+}
+
 #[test]
 fn forks(rt: HostRuntime) -> Result<(), Fail> {
     let alloc = rt.alloc();
     for &(machine, input, wants) in FORKS {
-        let input = json_of(alloc, input)?;
-        let turn = first_turn(alloc, machine, &input)?;
-        assert!(rt; forks_into(alloc, &turn, wants), "{machine}");
+        assert!(rt; is_fork(alloc, machine, input, wants)?, "{machine}");
     }
     Ok(())
 }
@@ -469,24 +543,29 @@ fn zeros(alloc: Global, count: usize) -> Result<Json, Fail> {
     Ok(Json::List(list))
 }
 
-fn branches_of(turn: &Prepared) -> Option<usize> {
+/// What a Map over so many elements comes to: the number of its branches, or none where it fails.
+fn branches_over(alloc: Global, count: usize) -> Result<Option<usize>, Fail> {
+    let input = zeros(alloc, count)?;
+    let turn = turn_from(alloc, M, &input);
+    drop(input);
+    branches_of(alloc, &turn?)
+}
+
+fn branches_of(alloc: Global, turn: &Prepared) -> Result<Option<usize>, Fail> {
     match turn.outcome() {
-        Outcome::Fork(_, frames) => Some(frames.inner.len()),
-        _ => None,
+        Outcome::Fork(_, frames) => Ok(Some(frames.inner.len())),
+        Outcome::Next(next) if is_as_wanted(alloc, next, Want::Failed("States.Runtime", "")) => Ok(
+            None,
+        ),
+        _ => Err("a Map neither forks nor fails".into()),
     }
 }
 
 #[test]
 fn maps_over_4096_elements(rt: HostRuntime) -> Result<(), Fail> {
     let alloc = rt.alloc();
-    let input = zeros(alloc, 4096)?;
-    let turn = first_turn(alloc, M, &input)?;
-    assert!(rt; branches_of(&turn) == Some(4096));
-    drop(turn);
-    let more = zeros(alloc, 4097)?;
-    let turn = first_turn(alloc, M, &more)?;
-    let last = moved(turn)?;
-    assert!(rt; is_as_wanted(alloc, &last, Want::Failed("States.Runtime", "")));
+    assert!(rt; branches_over(alloc, 4096)? == Some(4096));
+    assert!(rt; branches_over(alloc, 4097)? == None);
     Ok(())
 }
 
@@ -494,12 +573,13 @@ fn maps_over_4096_elements(rt: HostRuntime) -> Result<(), Fail> {
 const CALLS: &[(&str, &str)] = &[(C, "items"), (K, "other")];
 
 fn asks(alloc: Global, machine: &str, table: &str) -> Result<bool, Fail> {
-    let input = json_of(alloc, "{}")?;
-    let turn = first_turn(alloc, machine, &input)?;
-    match turn.outcome() {
-        Outcome::Call(call) => Ok(call.table.as_str() == table),
-        _ => Ok(false),
-    }
+    let turn = turn_of(alloc, machine, "{}")?;
+    let is_met = match turn.outcome() {
+        Outcome::Call(call) => call.table.as_str() == table,
+        _ => false,
+    };
+    drop(turn);
+    Ok(is_met)
 }
 
 #[test]

@@ -490,10 +490,14 @@ fn compares_machines(rt: HostRuntime) -> Result<(), Fail> {
     let alloc = rt.alloc();
     for &text in UNLIKE {
         for &other in UNLIKE {
-            assert!(rt; are_one(alloc, text, other)? == Some(text == other), "{text} {other}");
+            assert!(rt;
+                are_one(alloc, text, other)? == Some(text == other),
+                "{text} {other}"
+            );
         }
     }
-    let spelled = r#" {"States":{"A":{"End":false,"Next":"A","Comment":1,"Type":"Pass"}},"StartAt":"A"}"#;
+    let spelled =
+        r#" {"States":{"A":{"End":false,"Next":"A","Comment":1,"Type":"Pass"}},"StartAt":"A"}"#;
     let plain = r#"{"StartAt":"A","States":{"A":{"Type":"Pass","Next":"A","InputPath":"$"}}}"#;
     assert!(rt; are_one(alloc, spelled, plain)? == Some(true));
     Ok(())

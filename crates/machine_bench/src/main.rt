@@ -2,7 +2,7 @@
 // how many definitions were read a second, beside `serde_json`'s reading of the same text, and how many turns of each type were made.
 #![tactic(auto)]
 
-ghost use Rattle.std.specs.Prelude.{◌≡◌};
+ghost use Rattle.std.specs.Prelude.{◌≡◌, true};
 
 use anyhow::Context;
 use asl_forward::{Frame, Outcome, Phase, first_frame, prepare, standing};
@@ -180,21 +180,55 @@ fn time_reading(rt: &impl Runtime, alloc: Global, rounds: u32) -> anyhow::Result
     Ok(())
 }
 
+/// How many turns of this frame are made a second.
+fn turns_of(
+    rt: &impl Runtime,
+    alloc: Global,
+    machine: &SharedMachine,
+    frame: &Frame,
+    rounds: u32,
+) -> anyhow::Result<u128> {
+    let mut made = 0usize;
+    let start = Instant::now(rt)?;
+    for _ in 0..rounds {
+        made = made.saturating_add((turn(alloc, machine, frame) > 0) as usize);
+    }
+    Ok(rate(made, start.elapsed(rt)?))
+}
+
+fn time_turn(
+    rt: &impl Runtime,
+    alloc: Global,
+    state: &str,
+    input: &str,
+    rounds: u32,
+) -> anyhow::Result<u128> {
+    let Some((machine, frame)) = before(alloc, state, input)? else {
+        return Ok(0);
+    };
+    let turns = turns_of(rt, alloc, &machine, &frame, rounds);
+    drop(frame);
+    drop(machine);
+    turns
+}
+
 fn time_turns(rt: &impl Runtime, alloc: Global, rounds: u32) -> anyhow::Result<()> {
     for &(name, state, input) in STATES {
-        if let Some((machine, frame)) = before(alloc, state, input)? {
-            let mut made = 0usize;
-            let start = Instant::now(rt)?;
-            for _ in 0..rounds {
-                made = made.saturating_add((turn(alloc, &machine, &frame) > 0) as usize);
-            }
-            let turns = rate(made, start.elapsed(rt)?);
-            drop(frame);
-            drop(machine);
-            println!(rt; "{name}: {turns} turns a second")?;
-        }
+        let turns = time_turn(rt, alloc, state, input, rounds)?;
+        println!(rt; "{name}: {turns} turns a second")?;
     }
     Ok(())
+}
+
+/// What the turn of a state comes to.
+fn comes_to(alloc: Global, state: &str, input: &str) -> anyhow::Result<usize> {
+    let Some((machine, frame)) = before(alloc, state, input)? else {
+        return Ok(0);
+    };
+    let kind = turn(alloc, &machine, &frame);
+    drop(frame);
+    drop(machine);
+    Ok(kind)
 }
 
 fn show(rt: &impl Runtime, alloc: Global) -> anyhow::Result<()> {
@@ -202,12 +236,8 @@ fn show(rt: &impl Runtime, alloc: Global) -> anyhow::Result<()> {
     let is_read = read_definition(alloc, &text) == 1;
     println!(rt; "a definition of 41 states is read: {is_read}")?;
     for &(name, state, input) in STATES {
-        if let Some((machine, frame)) = before(alloc, state, input)? {
-            let comes_to = turn(alloc, &machine, &frame);
-            drop(frame);
-            drop(machine);
-            println!(rt; "{name} {comes_to}")?;
-        }
+        let kind = comes_to(alloc, state, input)?;
+        println!(rt; "{name} {kind}")?;
     }
     Ok(())
 }
