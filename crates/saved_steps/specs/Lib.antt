@@ -1,4 +1,5 @@
 pub mod Deeds
+pub mod Held
 pub mod Keeping
 pub mod Records
 pub mod Run
