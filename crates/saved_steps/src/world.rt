@@ -16,8 +16,9 @@ use step_names::ThreadName;
 /// The frames of all executions, and the items of the table. Contracts see its `frames_of`, and the store.
 #[derive(Drop)]
 pub struct World {
-    executions: Executions,
-    items: ItemStore,
+    pub(crate) alloc: Global,
+    pub(crate) executions: Executions,
+    pub(crate) items: ItemStore,
 }
 
 impl World {
@@ -27,6 +28,7 @@ impl World {
         ensures items { result.items ≡ items }
     {
         World {
+            alloc,
             executions: BTreeMap::new(alloc),
             items,
         }
