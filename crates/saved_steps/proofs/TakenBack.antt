@@ -4,10 +4,14 @@ use Rattle.std.specs.declared.vec.Vec.{Vec}
 use Rattle.std.specs.Option.{option_and_then}
 use Rattle.std.specs.Str.{bytes_eq}
 use Rattle.std.proofs.lemmas.List.{append-nil}
+use Rattle.std.proofs.lemmas.Option.{same_Some}
+use Rattle.std.specs.Prelude.{is_some, IfSome}
 use Rattle.std.proofs.lemmas.Slice.Eq.{bytes_eq-Decides}
 use Rattle.attr_values.specs.declared.key.Key.{Key}
 use Rattle.item_store.specs.Deciding.{Attributes}
 use Rattle.item_store.specs.Store.{Store, items_of}
+use Rattle.item_store.specs.Table.{Table, with_item}
+use Rattle.item_store.specs.declared.access.AccessMode.TheVariants.{Write}
 use Rattle.item_store.specs.declared.slot.SlotNo.{SlotNo}
 use Rattle.asl_forward.specs.declared.frame.Frame.{Frame}
 use Rattle.branch_tree.specs.FlatMap.{FrameMap, IsTree, is_parked, alone}
@@ -40,6 +44,19 @@ alike false x = refl
 
 unwritten : (access : Option Access) → access ≡ None → (key : Key) (new now : Option Attributes) → now ≡ cond (is_write_of access key) new now
 unwritten access e key new now = rw e refl
+
+-- ---- items
+
+pub swapped_back : (old new : Table) (access : Option Access) (a b : Access) (item : Option Attributes) → access ≡ Some a → access ≡ Some b → b.mode ≡ Write → new ≡ with_item old a.key item
+    → (key : Key) → new key ≡ cond (is_write_of access key) item (old key)
+swapped_back old new access a b item e f m h key =
+    let same : a ≡ b = same_Some a b (sym e ∙ f) in
+    let writes : a.mode ≡ Write = ap (λ (x : Access). x.mode) same ∙ m in
+    rw (h, e, writes) refl
+
+pub if_there : {A : Type 0} (o : Option A) (P : Type 0) → is_some o ≡ true → IfSome o (λ x. P) → P
+if_there None P h k = cc
+if_there (Some x) P h k = k
 
 -- ---- a plain step, and a call
 
