@@ -1,2 +1,4 @@
 pub mod Again
+pub mod Begun
+pub mod Counters
 pub mod Turns

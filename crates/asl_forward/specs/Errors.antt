@@ -1,6 +1,5 @@
 -- Errors as the code holds them.
-use Rattle.std.specs.Prelude.{◌≡◌, ℕ, List, Result, Ok, Err, codes}
-use Rattle.json_tree.specs.Data.{Data}
+use Rattle.std.specs.Prelude.{◌≡◌, ℕ, List, Result, Err, codes}
 use Rattle.asl_forward.specs.declared.error.StateError.{StateError}
 use Rattle.asl_forward.specs.declared.error.StateError.TheVariants.{Runtime, ParameterPathFailure, ResultPathMatchFailure, NoChoiceMatched}
 use Rattle.asl_forward.specs.declared.error.TurnFault.{TurnFault}
@@ -13,6 +12,6 @@ error_name ResultPathMatchFailure = codes "States.ResultPathMatchFailure"
 error_name NoChoiceMatched = codes "States.NoChoiceMatched"
 
 -- a fault tells the error that stands; want of memory tells nothing of it
-abbrev pub Tells : TurnFault → Result Data (List ℕ) → Type 0
+abbrev pub Tells : {A : Type 0} → TurnFault → Result A (List ℕ) → Type 0
 Tells (Error error) worked = worked ≡ Err (error_name error)
 Tells Memory worked = Unit {0}

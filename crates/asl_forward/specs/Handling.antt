@@ -1,6 +1,6 @@
 -- Which retrier and which catcher stand for an error (Amazon States Language, "Errors": "Retrying after error" and "Fallback
 -- states").
-use Rattle.std.specs.Prelude.{ℕ, zero, suc, nat_lt, List, [], ◌∷◌, Bool, true, false, ◌&&◌, ◌||◌, not, if◌then◌else◌, Option, Some, None, slice_get, option_map, option_and_then, codes}
+use Rattle.std.specs.Prelude.{ℕ, zero, suc, nat_lt, List, [], ◌∷◌, Bool, true, false, ◌&&◌, ◌||◌, not, if◌then◌else◌, Option, Some, None, slice_get, option_and_then, codes}
 use Rattle.std.specs.List.{list_any, position, find}
 use Rattle.json_tree.specs.Data.{Data, text, fields, no_members, member}
 use Rattle.asl_fields.specs.Fields.{is_text}

@@ -1,6 +1,6 @@
 -- What a turn comes to, for every state: a Task asks the table, a Parallel and a Map fork, and what comes of these goes on
 -- (Amazon States Language: "Task State", "Parallel State", "Map State", "Errors").
-use Rattle.std.specs.Prelude.{ℕ, ◌+◌, List, [], length, Option, None, Some, Result, Ok, Err, codes}
+use Rattle.std.specs.Prelude.{ℕ, ◌+◌, List, [], length, Option, None, Some, option_and_then, Result, Ok, Err}
 use Rattle.json_tree.specs.Data.{Data, list, items_of}
 use Rattle.json_tree.specs.View.{data_of}
 use Rattle.item_store.specs.Calls.{call_of}
@@ -23,7 +23,7 @@ use Rattle.asl_machine.specs.declared.state.Transition.TheVariants.{Next}
 use Rattle.asl_forward.specs.Forks.{parallel_frames, map_frames}
 use Rattle.asl_forward.specs.Handling.{retried, catcher_for, error_object}
 use Rattle.asl_forward.specs.Processing.{and_then, effective, held, passed_on, placed_in}
-use Rattle.asl_forward.specs.Turn.{Standing, next_frame, ends, go_on, has_failed, own_fault}
+use Rattle.asl_forward.specs.Turn.{Standing, standing, next_frame, ends, go_on, has_failed, own_fault}
 use Rattle.asl_forward.specs.declared.frame.Fault.{Fault}
 use Rattle.asl_forward.specs.declared.frame.Frame.{Frame}
 use Rattle.asl_forward.specs.declared.frame.Origin.TheVariants as origin
@@ -82,6 +82,10 @@ work_of (state.Task s) = Some (s.processing, s.errors, s.transition)
 work_of (state.Parallel s) = Some (s.processing, s.errors, s.transition)
 work_of (state.Map s) = Some (s.processing, s.errors, s.transition)
 work_of _ = None
+
+-- the work of the state before which a frame stands
+abbrev pub work_at : Definition → Frame → Option Work
+work_at d f = option_and_then (λ at. work_of at.1) (standing d f)
 
 abbrev pub comes_to : Definition → Work → Frame → Result Data (List ℕ) → Frame
 comes_to level w f (Ok output) = go_on level w.2 f output

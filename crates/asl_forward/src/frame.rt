@@ -1,5 +1,5 @@
 // A thread's frame: where it stands, and what it has.
-ghost use Rattle.std.specs.Prelude.{◌≡◌, [], replicate, IfOk};
+ghost use Rattle.std.specs.Prelude.{◌≡◌, ◌+◌, ◌^◌, ◌<◌, [], replicate, slice_get, IfOk, IfSome};
 
 use asl_machine::Level;
 use json_tree::{Json, Text};
@@ -52,6 +52,8 @@ impl Model for Retries {
 }
 
 impl Retries {
+    ghost use Rattle.asl_forward.specs.Handling.{one_more};
+
     /// The counters of a state without retriers. Takes no memory.
     pub fn none(alloc: Global) -> Retries
         ensures { result ≡ [] }
@@ -77,6 +79,27 @@ impl Retries {
         Ok(Retries {
             inner: Vec::from_slice(*self.inner.allocator(), self.inner.as_slice())?,
         })
+    }
+
+    /// The counter of the retrier at this place, from 0. Takes no memory.
+    pub(crate) fn get(&self, place: usize) -> Option<u32>
+        ensures { result ≡ slice_get self.now place }
+    {
+        self.inner.get(place).copied()
+    }
+
+    /// The counters after one more use of the retrier at this place. Takes memory for each.
+    #[tactic(auto, using(crate::proofs::Counters::one_more_within, crate::proofs::Counters::one_more_past))]
+    pub(crate) fn one_more(&self, place: usize) -> Result<Retries, AllocError>
+        requires { IfSome (slice_get self.now place) (λ n. n + 1 < 2 ^ 32) }
+        ensures { IfOk result (λ r. r ≡ one_more self.now place) }
+    {
+        let mut copy = self.copy()?;
+        if place >= copy.inner.len() {
+            return Ok(copy);
+        }
+        copy.inner[place] += 1;
+        Ok(copy)
     }
 }
 
@@ -112,6 +135,15 @@ impl Model for Frames {
 }
 
 impl Frames {
+    /// No frames. Takes no memory.
+    pub(crate) fn new(alloc: Global) -> Frames
+        ensures { result ≡ [] }
+    {
+        Frames {
+            inner: Vec::new(alloc),
+        }
+    }
+
     /// The frames themselves. Takes no memory.
     pub fn into_vec(self) -> Vec<Frame>
         ensures { result.items ≡ self }

@@ -1,9 +1,16 @@
 // A turn that is made ready apart from where its frame is kept.
-ghost use Rattle.std.specs.Prelude.{◌≡◌, ◌+◌, ◌^◌, ◌<◌, IfOk, IsSome, Some};
-ghost use Rattle.asl_forward.specs.Turn.{Standing, standing, after_state};
+ghost use Rattle.std.specs.Prelude.{◌≡◌, ◌+◌, ◌^◌, ◌<◌, Some, IfOk, IsSome};
+ghost use Rattle.std.specs.Coded.{codes};
+ghost use Rattle.std.proofs.Props.{props};
+ghost use Rattle.asl_forward.specs.Planned.{turn_at};
+ghost use Rattle.asl_forward.specs.Turn.{standing};
+ghost use Rattle.asl_forward.specs.contracts.frame.Phase as phase_contract;
+ghost use Rattle.asl_forward.specs.contracts.prepared.Outcome as outcome_contract;
+ghost use Rattle.asl_forward.specs.declared.frame.Phase.TheVariants.{Ready};
 
 use crate::frame::{Frame, Frames, Phase};
-use crate::turn::{next_frame, standing};
+use crate::outcomes::turn;
+use crate::turn::standing;
 use asl_machine::SharedMachine;
 use item_store::Call;
 use std::alloc::{AllocError, Global};
@@ -22,13 +29,51 @@ pub enum Outcome {
 /// A turn that was prepared: the frame and the machine that it was made of, and what it comes to.
 #[derive(Debug, Drop)]
 pub struct Prepared {
-    pub frame: Frame,
-    pub machine: SharedMachine,
-    pub outcome: Outcome,
+    frame: Frame,
+    machine: SharedMachine,
+    outcome: Outcome,
+    pub ghost ready: { frame.phase ≡ Ready } by { Prim.hlevel (props, codes, phase_contract.the_row.coded) },
+    pub ghost countable: { frame.count + 1 < 2 ^ 32 },
+    pub ghost turns: { turn_at machine frame ≡ Some outcome } by { Prim.hlevel (props, codes, outcome_contract.the_row.coded) },
 }
 
-/// Prepares the turn of a frame that is ready, in its machine. Takes what `next_frame` takes, and memory for the names that
-/// the frame keeps once more.
+impl Prepared {
+    /// The frame that it was made of, which is ready.
+    pub fn frame(&self) -> &Frame
+        ensures { result.now ≡ self.now.frame }
+    {
+        &self.frame
+    }
+
+    /// The machine in which the frame stands.
+    pub fn machine(&self) -> &SharedMachine
+        ensures { result.now ≡ self.now.machine }
+    {
+        &self.machine
+    }
+
+    /// What the turn comes to.
+    pub fn outcome(&self) -> &Outcome
+        ensures { result.now ≡ self.now.outcome }
+    {
+        &self.outcome
+    }
+
+    /// The frame, the machine and what the turn comes to.
+    pub fn into_parts(self) -> (Frame, SharedMachine, Outcome)
+        ensures { result ≡ (self.frame, self.machine, self.outcome) }
+    {
+        let Prepared {
+            frame,
+            machine,
+            outcome,
+        } = self;
+        (frame, machine, outcome)
+    }
+}
+
+/// Prepares the turn of a frame that is ready, in its machine. Takes what `next_frame` takes, and memory for a call's item,
+/// for the branches' frames of a fork, and for the names that the frame keeps once more.
 pub fn prepare(
     alloc: Global,
     machine: &SharedMachine,
@@ -39,19 +84,19 @@ pub fn prepare(
     requires count { frame.now.count + 1 < 2 ^ 32 }
     ensures frame { IfOk result (λ p. p.frame ≡ frame.now) }
     ensures machine { IfOk result (λ p. p.machine ≡ machine.now) }
-    ensures outcome { IfOk result (λ p. (at : Standing) × (standing machine.now frame.now ≡ Some at) × (p.outcome ≡ Outcome.Next (after_state at frame.now))) }
+    ensures outcome { IfOk result (λ p. turn_at machine.now frame.now ≡ Some p.outcome) }
 {
     let Some((level, state)) = standing(machine.machine(), frame) else {
         unreachable!()
     };
-    let next = next_frame(alloc, level, state, frame)?;
+    let outcome = turn(alloc, level, state, frame)?;
     let (Ok(kept), Ok(machine)) = (frame.copy_ready(), machine.share()) else {
-        drop(next);
+        drop(outcome);
         return Err(AllocError);
     };
     Ok(Prepared {
         frame: kept,
         machine,
-        outcome: Outcome::Next(next),
+        outcome,
     })
 }

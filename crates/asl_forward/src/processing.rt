@@ -12,7 +12,7 @@ use ref_paths::{FillFault, PickRefusal, RefPath, Template, pick_placed};
 use std::alloc::Global;
 
 /// The levels that a value in a frame may have.
-const LEVELS: u32 = 127;
+pub const LEVELS: u32 = 127;
 
 /// What a state works on. A value that is picked is shared; a template takes memory for what it makes.
 pub fn effective_input(
@@ -100,11 +100,42 @@ fn pick_held(alloc: Global, path: &Option<RefPath>, json: &Json) -> Result<Json,
     ensures fault { IfErr result (λ e. Tells e (and_then held (picked path.now (data_of json.now)))) }
 {
     let picked = pick(alloc, path, json)?;
-    if depth(&picked) > LEVELS {
-        drop(picked);
+    held(picked)
+}
+
+/// The value, if a frame may hold it. Looks at each value inside.
+pub fn held(json: Json) -> Result<Json, TurnFault>
+    ensures ok { IfOk result (λ j. held (data_of json) ≡ Ok (data_of j)) }
+    ensures fault { IfErr result (λ e. Tells e (held (data_of json))) }
+{
+    if depth(&json) > LEVELS {
+        drop(json);
         return Err(TurnFault::Error(StateError::Runtime));
     }
-    Ok(picked)
+    Ok(json)
+}
+
+/// The raw input with a value placed in it, if a frame may hold it; where `null` stands for the path, without it. One
+/// level of the raw input is copied for each step of the path, and nothing is made that is deeper than a frame may hold.
+#[tactic(auto, using(crate::proofs::Again::picked_root))]
+pub fn place_held(
+    alloc: Global,
+    path: &Option<RefPath>,
+    raw: &Json,
+    value: Json,
+) -> Result<Json, TurnFault>
+    ensures ok { IfOk result (λ j. and_then held (placed_in path.now (data_of raw.now) (data_of value)) ≡ Ok (data_of j)) }
+    ensures fault { IfErr result (λ e. Tells e (and_then held (placed_in path.now (data_of raw.now) (data_of value)))) }
+{
+    let Some(placing) = path else {
+        drop(value);
+        return held(raw.copy()?);
+    };
+    let root = RefPath::root(alloc);
+    let placed = pick_of_placed(alloc, raw, placing, &value, &root);
+    drop(root);
+    drop(value);
+    placed
 }
 
 /// What a path picks, shared; an empty object, where `null` stands for it.

@@ -158,7 +158,7 @@ fn end(
 
 /// The frame that goes on with a state's output.
 #[tactic(auto, using(crate::proofs::Again::json_again))]
-fn go_on(
+pub(crate) fn go_on(
     alloc: Global,
     level: &Machine,
     transition: &Transition,
@@ -176,7 +176,7 @@ fn go_on(
 
 /// The frame before another state of the level.
 #[tactic(auto, using(crate::proofs::Again::json_again))]
-fn enter(
+pub(crate) fn enter(
     alloc: Global,
     level: &Machine,
     name: &Text,
@@ -216,7 +216,11 @@ fn place_of(
 }
 
 /// A counter of 0 for each retrier of the state of this name.
-fn counters_at(alloc: Global, level: &Machine, name: &Text) -> Result<Retries, AllocError>
+pub(crate) fn counters_at(
+    alloc: Global,
+    level: &Machine,
+    name: &Text,
+) -> Result<Retries, AllocError>
     ensures { IfOk result (λ r. r ≡ counters_at level.now name.now) }
 {
     match level.state(name) {
@@ -237,15 +241,15 @@ fn retriers_of(state: &State) -> &[Retrier]
 }
 
 /// The frame at the same place in another phase, a move later. Its raw input is shared.
-fn with_phase(frame: &Frame, phase: Phase) -> Result<Frame, AllocError>
+pub(crate) fn with_phase(frame: &Frame, phase: Phase) -> Result<Frame, AllocError>
     requires { frame.now.count + 1 < 2 ^ 32 }
     ensures { IfOk result (λ g. g ≡ record { level = frame.now.level; state = frame.now.state; raw = frame.now.raw; retries = frame.now.retries; count = frame.now.count + 1; phase = phase }) }
 {
-    let Ok((level, state, retries)) = same_place(frame) else {
+    let Ok((level, state, raw)) = same_place(frame) else {
         drop(phase);
         return Err(AllocError);
     };
-    let Ok(raw) = frame.raw.copy() else {
+    let Ok(retries) = frame.retries.copy() else {
         drop(phase);
         return Err(AllocError);
     };
@@ -260,16 +264,17 @@ fn with_phase(frame: &Frame, phase: Phase) -> Result<Frame, AllocError>
     })
 }
 
-fn same_place(frame: &Frame) -> Result<(Level, Text, Retries), AllocError>
-    ensures { IfOk result (λ p. (p.0 ≡ frame.now.level) × (p.1 ≡ frame.now.state) × (p.2 ≡ frame.now.retries)) }
+/// Where a frame stands, and its raw input, shared.
+pub(crate) fn same_place(frame: &Frame) -> Result<(Level, Text, Json), AllocError>
+    ensures { IfOk result (λ p. (p.0 ≡ frame.now.level) × (p.1 ≡ frame.now.state) × (p.2 ≡ frame.now.raw)) }
 {
-    let retries = frame.retries.copy()?;
+    let raw = frame.raw.copy()?;
     let state = frame.state.copy()?;
     let level = frame.level.copy()?;
-    Ok((level, state, retries))
+    Ok((level, state, raw))
 }
 
-fn failed(frame: &Frame, fault: Fault) -> Result<Frame, AllocError>
+pub(crate) fn failed(frame: &Frame, fault: Fault) -> Result<Frame, AllocError>
     requires { frame.now.count + 1 < 2 ^ 32 }
     ensures { IfOk result (λ g. g ≡ has_failed frame.now fault) }
 {
@@ -277,7 +282,7 @@ fn failed(frame: &Frame, fault: Fault) -> Result<Frame, AllocError>
 }
 
 /// An error of the state itself.
-fn own_fault(alloc: Global, error: StateError) -> Result<Fault, AllocError>
+pub(crate) fn own_fault(alloc: Global, error: StateError) -> Result<Fault, AllocError>
     ensures { IfOk result (λ f. f ≡ own_fault (error_name error)) }
 {
     let cause = Text::new(alloc, "")?;
