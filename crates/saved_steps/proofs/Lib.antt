@@ -5,3 +5,6 @@ mod Under
 mod Undone
 mod Applied
 mod TakenBack
+mod Turned
+mod Answered
+mod Ready

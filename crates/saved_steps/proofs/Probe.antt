@@ -1,1 +1,1 @@
-use Rattle.saved_steps.proofs.TakenBack.{plain}
+use Rattle.saved_steps.proofs.Ready.{call}

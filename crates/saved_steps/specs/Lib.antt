@@ -1,3 +1,4 @@
+pub mod Answering
 pub mod Deeds
 pub mod Held
 pub mod Keeping

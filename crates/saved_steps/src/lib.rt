@@ -1,9 +1,11 @@
 #![tactic(auto)]
 
 //! What a step does to executions and items, and what is kept to undo it.
+mod answering;
 mod applying;
 mod fact;
 mod made;
+mod making;
 mod next;
 mod places;
 mod record;
