@@ -1,4 +1,3 @@
-mod Probe
 mod Threads
 mod Trees
 mod Under
@@ -8,3 +7,4 @@ mod TakenBack
 mod Turned
 mod Answered
 mod Ready
+mod Moves

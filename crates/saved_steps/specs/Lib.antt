@@ -2,6 +2,7 @@ pub mod Answering
 pub mod Deeds
 pub mod Held
 pub mod Keeping
+pub mod Laws
 pub mod Made
 pub mod Records
 pub mod Run

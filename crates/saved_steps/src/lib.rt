@@ -4,6 +4,7 @@
 mod answering;
 mod applying;
 mod fact;
+mod laws;
 mod made;
 mod making;
 mod next;
@@ -13,6 +14,7 @@ mod undoing;
 mod world;
 
 pub use fact::{Access, Fact, Kind};
+pub use laws::{nexts_are_moves, steps_are_taken_back, taken_back};
 pub use made::Made;
 pub use next::Next;
 pub use record::{Saved, StepRecord};
