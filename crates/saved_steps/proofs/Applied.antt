@@ -86,13 +86,13 @@ pub plain : (w v : World) (name : StepName) (f g : Frame) → v.items ≡ w.item
 plain w v name f g items stands was now =
     applied w v (record { name = name; change = change.Plain f }) (record { fact = plain_fact name kind.Plain; saved = Framed g }) refl
     (λ d x. subst (λ (e : Deed). seen v ≡ carried_out (seen w) e) (deed_is d (plain_fact name kind.Plain) f x.fact x.change)
-            (same_world (seen v) (carried_out (seen w) (record { fact = plain_fact name kind.Plain; frame = f; branches = d.branches; item = d.item })) now (λ key. ap (λ (s : Store). items_of s key) items)))
+    (same_world (seen v) (carried_out (seen w) (record { fact = plain_fact name kind.Plain; frame = f; branches = d.branches; item = d.item })) now (λ key. ap (λ (s : Store). items_of s key) items)))
     (ap (λ (o : Option Frame). keeps o None) (sym was))
     (record {
-        record_fits = (refl, refl, subst (λ (o : Option Frame). IsSomeAnd o is_open) was stands.0);
-        slot = tt;
-        thread = subst (λ (o : Option Frame). IsSomeAnd o is_open) (sym (now name.thread ∙ with_here (frames_of w) name.thread f)) stands.1;
-      })
+      record_fits = (refl, refl, subst (λ (o : Option Frame). IsSomeAnd o is_open) was stands.0);
+      slot = tt;
+      thread = subst (λ (o : Option Frame). IsSomeAnd o is_open) (sym (now name.thread ∙ with_here (frames_of w) name.thread f)) stands.1;
+    })
     (same_store w.items v.items items) (deed_of kind.Plain name f) (record { fact = refl; change = refl }) (λ t h. cc)
 
 -- ---- a call
@@ -110,14 +110,14 @@ call w v name f g a slot new old stands was now was_item items store =
     let d0 : Deed = record { fact = s; frame = f; branches = []; item = new } in
     applied w v (record { name = name; change = change.Call f a slot new }) (record { fact = s; saved = Called g slot old }) refl
     (λ d x. subst (λ (e : Deed). seen v ≡ carried_out (seen w) e) (deed_is d s f x.fact x.change.0)
-            (same_world (seen v) (carried_out (seen w) (record { fact = s; frame = f; branches = d.branches; item = d.item })) now
-                (λ key. items key ∙ item_is (is_write a.mode) (is_same_key a.key key) d.item new (items_of w.items key) x.change.1)))
+    (same_world (seen v) (carried_out (seen w) (record { fact = s; frame = f; branches = d.branches; item = d.item })) now
+    (λ key. items key ∙ item_is (is_write a.mode) (is_same_key a.key key) d.item new (items_of w.items key) x.change.1)))
     (ap₂ (λ (o : Option Frame) (i : Option Attributes). keeps o i) (sym was) was_item)
     (record {
-        record_fits = (refl, subst (λ (o : Option Frame). IsSomeAnd o is_open) was stands.0);
-        slot = (a, refl, store.slots slot a.key stands.2);
-        thread = subst (λ (o : Option Frame). IsSomeAnd o is_open) (sym (now name.thread ∙ with_here (frames_of w) name.thread f)) stands.1;
-      })
+      record_fits = (refl, subst (λ (o : Option Frame). IsSomeAnd o is_open) was stands.0);
+      slot = (a, refl, store.slots slot a.key stands.2);
+      thread = subst (λ (o : Option Frame). IsSomeAnd o is_open) (sym (now name.thread ∙ with_here (frames_of w) name.thread f)) stands.1;
+    })
     store d0 (record { fact = refl; change = (refl, λ e. refl) }) (λ t h. cc)
 
 -- ---- a start
@@ -139,19 +139,19 @@ begin w v name f rows items stands trees tree =
     let a = name.thread in
     let none : tree_in w.executions a.exec ≡ None = ap placed stands.0 in
     let now : (t : Thread) → frames_of v t ≡ with_thread (frames_of w) a f t =
-        λ t. ap (λ (o : Option Rows). rows_at o t.path) (trees t.exec)
-            ∙ begun_frames (bytes_eq a.exec t.exec) (Some rows) (tree_in w.executions t.exec) f a.path t.path stands.1 tree
-                (λ e. ap (λ (x : List ℕ). tree_in w.executions x) (sym ((bytes_eq-Decides a.exec t.exec).0 e)) ∙ none)
-            ∙ ap (λ (s : Bool). cond s (Some f) (frames_of w t)) (sym (same_by_parts a t)) in
+    λ t. ap (λ (o : Option Rows). rows_at o t.path) (trees t.exec)
+    ∙ begun_frames (bytes_eq a.exec t.exec) (Some rows) (tree_in w.executions t.exec) f a.path t.path stands.1 tree
+    (λ e. ap (λ (x : List ℕ). tree_in w.executions x) (sym ((bytes_eq-Decides a.exec t.exec).0 e)) ∙ none)
+    ∙ ap (λ (s : Bool). cond s (Some f) (frames_of w t)) (sym (same_by_parts a t)) in
     applied w v (record { name = name; change = change.Begin f }) (record { fact = plain_fact name kind.Start; saved = Started }) refl
     (λ d x. subst (λ (e : Deed). seen v ≡ carried_out (seen w) e) (deed_is d (plain_fact name kind.Start) f x.fact x.change)
-            (same_world (seen v) (carried_out (seen w) (record { fact = plain_fact name kind.Start; frame = f; branches = d.branches; item = d.item })) now (λ key. ap (λ (s : Store). items_of s key) items)))
+    (same_world (seen v) (carried_out (seen w) (record { fact = plain_fact name kind.Start; frame = f; branches = d.branches; item = d.item })) now (λ key. ap (λ (s : Store). items_of s key) items)))
     (ap (λ (o : Option Frame). keeps o None) (sym (ap (λ (o : Option Rows). rows_at o a.path) none)))
     (record {
-        record_fits = (refl, refl, stands.1);
-        slot = tt;
-        thread = subst (λ (o : Option Frame). IsSomeAnd o is_open) (sym (now a ∙ with_here (frames_of w) a f)) stands.2;
-      })
+      record_fits = (refl, refl, stands.1);
+      slot = tt;
+      thread = subst (λ (o : Option Frame). IsSomeAnd o is_open) (sym (now a ∙ with_here (frames_of w) a f)) stands.2;
+    })
     (same_store w.items v.items items) (deed_of kind.Start name f) (record { fact = refl; change = refl }) (λ t h. cc)
 
 -- ---- what is put at a thread and under it
@@ -207,20 +207,20 @@ module _ (w v : World) (m : Made) (r : StepRecord) (name : StepName) (f g : Fram
       let free_g : is_open g = subst (λ (o : Option Frame). IsSomeAnd o is_open) was free in
       let nothing : (b : ℕ × ℕ) (q : Path) → paths_of (frames_of w) a.exec (a.path ++ b ∷ q) ≡ None = nothing_at_open (paths_of (frames_of w) a.exec) tree a.path g was free_g in
       let all : (t : Thread) → frames_of v t ≡ cond (is_same_thread a t) (Some f) (cond (is_under t a name.no) (option_and_then (node_at f kids) (rest_after a.path t.path)) (frames_of w t)) =
-          λ t. now t ∙ told (frames_of w) a (node_at f kids) f name.no refl (no_other_branch f kids name.no count) (λ b q apart. nothing b q) t in
+      λ t. now t ∙ told (frames_of w) a (node_at f kids) f name.no refl (no_other_branch f kids name.no count) (λ b q apart. nothing b q) t in
       applied w v m r (ap (λ (x : StepRecord). x.fact) is_record ∙ sym is_fact)
       (λ d x. let y = is_made d x in
-              subst (λ (e : Deed). seen v ≡ carried_out (seen w) e) (deed_is d s f (sym is_fact ∙ x.fact) y.0)
-              (same_world (seen v) (carried_out (seen w) (record { fact = s; frame = f; branches = d.branches; item = d.item }))
-                  (λ t. all t ∙ ap (cond (is_same_thread a t) (Some f)) (cond_under (is_under t a name.no) (option_and_then (node_at f kids) (rest_after a.path t.path)) (begun_at d.branches (rest_after a.path t.path)) (frames_of w t)
-                      (λ u. begun_is f kids d.branches name.no count y.1 (rest_after a.path t.path) (first_under a t name.no u))))
-                  (λ key. ap (λ (x : Store). items_of x key) items)))
+      subst (λ (e : Deed). seen v ≡ carried_out (seen w) e) (deed_is d s f (sym is_fact ∙ x.fact) y.0)
+      (same_world (seen v) (carried_out (seen w) (record { fact = s; frame = f; branches = d.branches; item = d.item }))
+      (λ t. all t ∙ ap (cond (is_same_thread a t) (Some f)) (cond_under (is_under t a name.no) (option_and_then (node_at f kids) (rest_after a.path t.path)) (begun_at d.branches (rest_after a.path t.path)) (frames_of w t)
+      (λ u. begun_is f kids d.branches name.no count y.1 (rest_after a.path t.path) (first_under a t name.no u))))
+      (λ key. ap (λ (x : Store). items_of x key) items)))
       (rw is_record (ap (λ (o : Option Frame). keeps o None) (sym was)))
       (rw is_record (record {
-          record_fits = (refl, refl, free_g);
-          slot = tt;
-          thread = subst (λ (o : Option Frame). IsSomeAnd o (λ x. (is_parked x.phase ≡ true) × (x.count ≡ name.no))) (sym (now a ∙ put_here (frames_of w) a (node_at f kids))) (parked, count);
-        }))
+        record_fits = (refl, refl, free_g);
+        slot = tt;
+        thread = subst (λ (o : Option Frame). IsSomeAnd o (λ x. (is_parked x.phase ≡ true) × (x.count ≡ name.no))) (sym (now a ∙ put_here (frames_of w) a (node_at f kids))) (parked, count);
+      }))
       (same_store w.items v.items items) (fork_deed name f branches) (record { fact = is_fact; change = makes_it })
       (λ t h. let k = below_at (frames_of w) a t name.no h in k.3 ∙ nothing k.0 k.1)
 
@@ -246,19 +246,19 @@ module _ (w v : World) (m : Made) (r : StepRecord) (name : StepName) (k : Kind) 
       let g_is : (is_parked g.phase ≡ true) × (g.count ≡ n) = subst (λ (o : Option Frame). IsSomeAnd o (λ x. (is_parked x.phase ≡ true) × (x.count ≡ n))) was_g since in
       let nothing : (b : ℕ × ℕ) (q : Path) → (b.0 == n) ≡ false → paths_of (frames_of w) a.exec (a.path ++ b ∷ q) ≡ None = nothing_at_other (paths_of (frames_of w) a.exec) tree a.path g n was_g g_is.1 in
       let all : (t : Thread) → frames_of v t ≡ cond (is_same_thread a t) (Some f) (cond (is_under t a n) (option_and_then (alone f) (rest_after a.path t.path)) (frames_of w t)) =
-          λ t. now t ∙ told (frames_of w) a (alone f) f n refl (λ b q apart. refl) nothing t in
+      λ t. now t ∙ told (frames_of w) a (alone f) f n refl (λ b q apart. refl) nothing t in
       let alone_is : (o : Option Path) → first_is n o ≡ true → option_and_then (alone f) o ≡ None = alone_below f n in
       let below : (t : Thread) → was_below s g kids.items t ≡ cond (closes s t) (frames_of w t) None =
-          λ t. cond_under (closes s t) (option_and_then (node_at g kids.items) (rest_after a.path t.path)) (frames_of w t) None
-              (λ h. let x = below_at (frames_of w) a t n (and_parts (is_close k) (is_under t a n) h).1 in ap (option_and_then (node_at g kids.items)) x.2 ∙ sym (x.3 ∙ was (x.0 ∷ x.1))) in
+      λ t. cond_under (closes s t) (option_and_then (node_at g kids.items) (rest_after a.path t.path)) (frames_of w t) None
+      (λ h. let x = below_at (frames_of w) a t n (and_parts (is_close k) (is_under t a n) h).1 in ap (option_and_then (node_at g kids.items)) x.2 ∙ sym (x.3 ∙ was (x.0 ∷ x.1))) in
       let kept_is : record { frame = Some g; item = None; below = was_below s g kids.items } ≡ kept (seen w) s =
-          ap₂ (λ (o : Option Frame) (b : Thread → Option Frame). let x : Kept = record { frame = o; item = None; below = b } in x) (sym was_g) (fun_ext below) in
+      ap₂ (λ (o : Option Frame) (b : Thread → Option Frame). let x : Kept = record { frame = o; item = None; below = b } in x) (sym was_g) (fun_ext below) in
       let thread : IsOpen (frames_of v) a = subst (λ (o : Option Frame). IsSomeAnd o is_open) (sym (now a ∙ put_here (frames_of w) a (alone f))) free in
       applied w v m r (ap (λ (x : StepRecord). x.fact) is_record ∙ sym is_fact)
       (λ d x. subst (λ (e : Deed). seen v ≡ carried_out (seen w) e) (deed_is d s f (sym is_fact ∙ x.fact) (is_made d x))
-              (same_world (seen v) (carried_out (seen w) (record { fact = s; frame = f; branches = d.branches; item = d.item }))
-                  (λ t. rw (unforked, closing) (all t ∙ ap (cond (is_same_thread a t) (Some f)) (cond_under (is_under t a n) (option_and_then (alone f) (rest_after a.path t.path)) None (frames_of w t) (λ u. alone_is (rest_after a.path t.path) (first_under a t n u)))))
-                  (λ key. ap (λ (x : Store). items_of x key) items)))
+      (same_world (seen v) (carried_out (seen w) (record { fact = s; frame = f; branches = d.branches; item = d.item }))
+      (λ t. rw (unforked, closing) (all t ∙ ap (cond (is_same_thread a t) (Some f)) (cond_under (is_under t a n) (option_and_then (alone f) (rest_after a.path t.path)) None (frames_of w t) (λ u. alone_is (rest_after a.path t.path) (first_under a t n u)))))
+      (λ key. ap (λ (x : Store). items_of x key) items)))
       (subst (λ (x : StepRecord). kept_by x ≡ kept (seen w) x.fact) (sym is_record) kept_is)
       (subst (λ (x : StepRecord). CanUndo v x) (sym is_record) (record { record_fits = (closing, refl, node, g_is.0, g_is.1); slot = tt; thread = thread }))
       (same_store w.items v.items items) (deed_of k name f) (record { fact = is_fact; change = makes_it })

@@ -1,10 +1,11 @@
-mod Threads
-mod Trees
-mod Under
-mod Undone
-mod Applied
-mod TakenBack
-mod Turned
-mod Answered
-mod Ready
-mod Moves
+pub mod Threads
+pub mod Trees
+pub mod Under
+pub mod Undone
+pub mod Applied
+pub mod TakenBack
+pub mod Turned
+pub mod Answered
+pub mod Ready
+pub mod Moves
+pub mod Left

@@ -74,7 +74,7 @@ item_again false new own was now h = refl
 pub taken_again : TakenAgain
 taken_again w x d agree = same_world (carried_out (undo x d.fact (kept w d.fact)) d) x
     (λ t. let s = d.fact in
-        frame_again (is_same_thread s.name.thread t) (makes s t) (closes s t) (Some d.frame) (begun d t) (w.frames s.name.thread) (w.frames t) (x.frames t) (again t))
+    frame_again (is_same_thread s.name.thread t) (makes s t) (closes s t) (Some d.frame) (begun d t) (w.frames s.name.thread) (w.frames t) (x.frames t) (again t))
     (λ key. item_again (is_write_of d.fact.access key) d.item (item_written w.items d.fact.access) (w.items key) (x.items key) (agree.items key))
   where
     again : (t : Thread) → (changes d.fact t) ≡ true → x.frames t ≡ (carried_out w d).frames t

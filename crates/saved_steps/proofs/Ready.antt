@@ -52,14 +52,14 @@ pub join : (w : World) (name copy : StepName) (n : Next) (f : Frame) → copy �
 join w name copy n f e h s =
     let is : Suits w name (next.Join f) = subst (Suits w name) h s in
     let it : IsMadeOf w w name (next.Join f) (record { name = name; change = change.Join f }) =
-        record { named = refl; ready = is; deed = deed_of kind.Join name f; is = refl; made = record { fact = refl; change = refl } } in
+    record { named = refl; ready = is; deed = deed_of kind.Join name f; is = refl; made = record { fact = refl; change = refl } } in
     subst (λ (x : StepName). IsMadeOf w w name n (record { name = x; change = change.Join f })) (sym e) (subst (λ (x : Next). IsMadeOf w w name x (record { name = name; change = change.Join f })) (sym h) it)
 
 pub terminate : (w : World) (name copy : StepName) (n : Next) (f : Frame) → copy ≡ name → n ≡ next.Terminate f → Suits w name n → IsMadeOf w w name n (record { name = copy; change = change.Terminate f })
 terminate w name copy n f e h s =
     let is : Suits w name (next.Terminate f) = subst (Suits w name) h s in
     let it : IsMadeOf w w name (next.Terminate f) (record { name = name; change = change.Terminate f }) =
-        record { named = refl; ready = is; deed = deed_of kind.Terminate name f; is = refl; made = record { fact = refl; change = refl } } in
+    record { named = refl; ready = is; deed = deed_of kind.Terminate name f; is = refl; made = record { fact = refl; change = refl } } in
     subst (λ (x : StepName). IsMadeOf w w name n (record { name = x; change = change.Terminate f })) (sym e) (subst (λ (x : Next). IsMadeOf w w name x (record { name = name; change = change.Terminate f })) (sym h) it)
 
 -- ---- the work of a thread that is ready

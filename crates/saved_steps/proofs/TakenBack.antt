@@ -101,15 +101,15 @@ pub start : (w v : World) (s : Fact) → v.items ≡ w.items → CanUndo w (reco
 start w v s items can tree trees =
     let a = s.name.thread in
     let below : (g : Frame) → frames_of w a ≡ Some g → is_open g → (b : ℕ × ℕ) (r : Path) → paths_of (frames_of w) a.exec (b ∷ r) ≡ None =
-        λ g was free b r. subst (λ (p : Path). paths_of (frames_of w) a.exec (p ++ b ∷ r) ≡ None) can.record_fits.2 (nothing_at_open (paths_of (frames_of w) a.exec) tree a.path g was free b r) in
+    λ g was free b r. subst (λ (p : Path). paths_of (frames_of w) a.exec (p ++ b ∷ r) ≡ None) can.record_fits.2 (nothing_at_open (paths_of (frames_of w) a.exec) tree a.path g was free b r) in
     let nothing : (b : ℕ × ℕ) (r : Path) → paths_of (frames_of w) a.exec (b ∷ r) ≡ None = opened (frames_of w a) (λ g was free. below g was free) can.thread in
     record {
       world = same_world (seen v) (undo (seen w) s (kept_by (record { fact = s; saved = Started })))
           (λ t. ap (λ (o : Option Rows). rows_at o t.path) (trees t.exec)
-              ∙ removed (bytes_eq a.exec t.exec) (tree_in w.executions t.exec) a.path t.path can.record_fits.2
-                  (λ e b r. ap (λ (x : List ℕ). rows_at (tree_in w.executions x) (b ∷ r)) (sym ((bytes_eq-Decides a.exec t.exec).0 e)) ∙ nothing b r)
-              ∙ ap (λ (x : Bool). cond x None (frames_of w t)) (sym (same_by_parts a t))
-              ∙ framed_back s kind.Start None None None (frames_of w t) (is_same_thread a t) (is_under t a s.name.no) (is_under t a (s.name.no - 1)) can.record_fits.0 refl refl)
+          ∙ removed (bytes_eq a.exec t.exec) (tree_in w.executions t.exec) a.path t.path can.record_fits.2
+          (λ e b r. ap (λ (x : List ℕ). rows_at (tree_in w.executions x) (b ∷ r)) (sym ((bytes_eq-Decides a.exec t.exec).0 e)) ∙ nothing b r)
+          ∙ ap (λ (x : Bool). cond x None (frames_of w t)) (sym (same_by_parts a t))
+          ∙ framed_back s kind.Start None None None (frames_of w t) (is_same_thread a t) (is_under t a s.name.no) (is_under t a (s.name.no - 1)) can.record_fits.0 refl refl)
           (λ key. ap (λ (x : Store). items_of x key) items ∙ unwritten s.access can.record_fits.1 key None (items_of w.items key));
       store = same_store w.items v.items items;
     }
@@ -138,8 +138,8 @@ fork w v s f g kids items can was tree now =
     record {
       world = same_world (seen v) (undo (seen w) s (kept_by (record { fact = s; saved = Forked f })))
           (λ t. now t ∙ told (frames_of w) a (alone f) f n refl (λ b q apart. refl) nothing t
-              ∙ ap (cond (is_same_thread a t) (Some f)) (cond_under (is_under t a n) (option_and_then (alone f) (rest_after a.path t.path)) None (frames_of w t) (λ u. alone_below f n (rest_after a.path t.path) (first_under a t n u)))
-              ∙ fork_back s (Some f) None (frames_of w t) (is_same_thread a t) (is_under t a n) (is_under t a (n - 1)) can.record_fits.0)
+          ∙ ap (cond (is_same_thread a t) (Some f)) (cond_under (is_under t a n) (option_and_then (alone f) (rest_after a.path t.path)) None (frames_of w t) (λ u. alone_below f n (rest_after a.path t.path) (first_under a t n u)))
+          ∙ fork_back s (Some f) None (frames_of w t) (is_same_thread a t) (is_under t a n) (is_under t a (n - 1)) can.record_fits.0)
           (λ key. ap (λ (x : Store). items_of x key) items ∙ unwritten s.access can.record_fits.1 key None (items_of w.items key));
       store = same_store w.items v.items items;
     }
@@ -172,7 +172,7 @@ close w v s f g kids items can was tree now =
     record {
       world = same_world (seen v) (undo (seen w) s (kept_by (record { fact = s; saved = Closed f kids })))
           (λ t. now t ∙ told (frames_of w) a (node_at f kids.items) f n refl (no_other_branch f kids.items n can.record_fits.4) (λ b q apart. nothing b q) t
-              ∙ close_back (is_fork s.kind) (is_close s.kind) (Some f) (option_and_then (node_at f kids.items) (rest_after a.path t.path)) (frames_of w t) (is_same_thread a t) (is_under t a s.name.no) (is_under t a n) (no_fork s.kind can.record_fits.0) can.record_fits.0)
+          ∙ close_back (is_fork s.kind) (is_close s.kind) (Some f) (option_and_then (node_at f kids.items) (rest_after a.path t.path)) (frames_of w t) (is_same_thread a t) (is_under t a s.name.no) (is_under t a n) (no_fork s.kind can.record_fits.0) can.record_fits.0)
           (λ key. ap (λ (x : Store). items_of x key) items ∙ unwritten s.access can.record_fits.1 key None (items_of w.items key));
       store = same_store w.items v.items items;
     }

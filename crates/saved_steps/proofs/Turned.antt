@@ -4,7 +4,7 @@ use Rattle.std.specs.Option.{option_map}
 use Rattle.std.specs.List.{All, slice_index_or}
 use Rattle.std.proofs.lemmas.List.Elements.{All-nil}
 use Rattle.std.proofs.lemmas.Option.{same_Some}
-use Rattle.json_tree.specs.Data.{Data}
+use Rattle.json_tree.specs.Data.{Data, list, items_of}
 use Rattle.json_tree.specs.View.{data_of}
 use Rattle.item_store.specs.Calls.{call_of}
 use Rattle.item_store.specs.Deciding.{Reply, given, refused}
@@ -24,7 +24,7 @@ use Rattle.asl_machine.specs.declared.state.Transition.TheVariants.{Next, End}
 use Rattle.asl_forward.specs.Choosing.{chosen}
 use Rattle.asl_forward.specs.Forks.{with_others, begins, frames_from, parallel_frames, element_frames, element_input, counted_frames, elements, map_frames}
 use Rattle.asl_forward.specs.Handling.{retried, catcher_for}
-use Rattle.asl_forward.specs.Outcomes.{Work, call_fault, on_catch, on_retry, handled, comes_to, after_result, after_answer, asks, task_turn, forks, fork_of, turn_of, turn, action_of}
+use Rattle.asl_forward.specs.Outcomes.{Work, call_fault, on_catch, on_retry, handled, comes_to, after_result, after_answer, after_join, after_branch, errors_of, taken_by, asks, task_turn, forks, fork_of, turn_of, turn, action_of}
 use Rattle.asl_forward.specs.Planned.{turn_at}
 use Rattle.asl_forward.specs.Processing.{effective, held, passed_on}
 use Rattle.asl_forward.specs.Turn.{Standing, standing, go_on, ends, has_failed, own_fault, goes_where, choice_frame, next_frame}
@@ -68,6 +68,12 @@ comes_open level w f (Err error) = handled_open level w.1 f (own_fault error)
 pub answer_open : (level : Definition) (w : Work) (f : Frame) (reply : Reply) → is_open (after_answer level w f reply)
 answer_open level w f (given result) = comes_open level w f (passed_on w.0 (data_of f.raw) result)
 answer_open level w f (refused error) = handled_open level w.1 f (call_fault error)
+
+pub join_open : (level : Definition) (w : Work) (f : Frame) (ds : List Data) → is_open (after_join level w f ds)
+join_open level w f ds = comes_open level w f (passed_on w.0 (data_of f.raw) (list (items_of ds)))
+
+pub branch_open : (at : Standing) (f : Frame) (fault : Fault) → is_open (after_branch at f fault)
+branch_open at f fault = handled_open at.0 (errors_of at.1) f (taken_by at.1 fault)
 
 where_open : (level : Definition) (p : Processing) (f : Frame) (input : Data) (name : Result (List ℕ) (List ℕ)) → is_open (goes_where level p f input name)
 where_open level p f input (Ok name) = ends_open level (Next name) f _
@@ -138,7 +144,7 @@ task_yield : (level : Definition) (s : Task) (f : Frame) (worked : Result Data (
 task_yield level s f (Ok input) = asks_yield level s f (call_of (action_of s.resource) input)
 task_yield level s f (Err error) = handled_open level s.errors f (own_fault error)
 
-turn_yields : (level : Definition) (s : State) (f : Frame) → Yields f (turn_of level s f)
+pub turn_yields : (level : Definition) (s : State) (f : Frame) → Yields f (turn_of level s f)
 turn_yields level (state.Pass s) f = next_open level (state.Pass s) f
 turn_yields level (state.Task s) f = task_yield level s f (effective s.processing (data_of f.raw))
 turn_yields level (state.Choice s) f = next_open level (state.Choice s) f

@@ -159,6 +159,7 @@ module _ (frames : Thread → Option Frame) (a : Thread) (part : FrameMap) (f : 
     where
       there : (b.0 == n) ≡ false → frames t ≡ None
       there apart = ap₂ (λ (x : List ℕ) (p : Path). frames (record { exec = x; path = p })) (sym e) (whole_is a.path t.path (b ∷ r) h) ∙ nothing b r apart
+
       by : (s : Bool) → (b.0 == n) ≡ s → part (b ∷ r) ≡ cond s (part (b ∷ r)) (frames t)
       by true x = refl
       by false x = others b r x ∙ sym (there x)

@@ -40,5 +40,5 @@ item_undone items (Some a) new key = item_back (is_write a.mode) (is_same_key a.
 pub undone : (w : World) (d : Deed) → ((t : Thread) → makes d.fact t ≡ true → w.frames t ≡ None) → undo (carried_out w d) d.fact (kept w d.fact) ≡ w
 undone w d nothing = same_world (undo (carried_out w d) d.fact (kept w d.fact)) w
     (λ t. frame_back (is_same_thread d.fact.name.thread t) (makes d.fact t) (closes d.fact t) (w.frames d.fact.name.thread) (Some d.frame) (begun d t) (w.frames t)
-        (λ e. ap w.frames (thread_same d.fact.name.thread t e)) (nothing t))
+    (λ e. ap w.frames (thread_same d.fact.name.thread t e)) (nothing t))
     (λ key. item_undone w.items d.fact.access d.item key)

@@ -15,13 +15,18 @@ use Rattle.step_names.specs.declared.step.StepName.{StepName}
 use Rattle.saved_steps.specs.Deeds.{Deed, deed, stands, kids, first_fault, outputs}
 use Rattle.saved_steps.specs.Held.{frames_of, seen}
 use Rattle.saved_steps.specs.Keeping.{kept, undo}
-use Rattle.saved_steps.specs.Made.{deed_of_next}
+use Rattle.branch_tree.specs.FlatMap.{is_parked}
+use Rattle.saved_steps.specs.Made.{is_open, deed_of_next}
 use Rattle.saved_steps.specs.Run.{carried_out}
-use Rattle.saved_steps.specs.Steps.{started, moved, start_name, makes, closes, writes_key}
+use Rattle.saved_steps.specs.Steps.{Step, started, moved, start_name, makes, closes, writes_key}
+use Rattle.saved_steps.specs.Undoing.{IsRecord, StandsAfter}
 use Rattle.saved_steps.specs.World as model
 use Rattle.saved_steps.specs.World.{Setting, is_same_thread}
 use Rattle.saved_steps.specs.declared.fact.Fact.{Fact}
+use Rattle.saved_steps.specs.declared.fact.Kind.{Kind}
+use Rattle.saved_steps.specs.declared.fact.Kind.TheVariants as kind
 use Rattle.saved_steps.specs.declared.next.Next.TheVariants as next
+use Rattle.saved_steps.specs.declared.record.StepRecord.{StepRecord}
 use Rattle.saved_steps.specs.declared.world.World.{World}
 
 -- ---- taken back, and taken again
@@ -83,3 +88,21 @@ abbrev pub TerminateIsDeed : Type 0
 TerminateIsDeed = (s : Setting) (w : World) (name : StepName) (f : Frame) (n : ℕ) (at : Standing) (fault : Fault)
     → frames_of w name.thread ≡ Some f → f.phase ≡ Parked n → stands s f ≡ Some at → first_fault (kids (seen w) name.thread f n) ≡ Some fault → name.no ≡ f.count + 1
     → deed s (seen w) (moved name) ≡ deed_of_next w.items name (next.Terminate (after_branch at f fault))
+
+-- ---- where a step leaves its thread
+
+-- parked since a fork, and not parked after any other step
+abbrev pub Leaves : Kind → StepName → Frame → Type 0
+Leaves kind.Start name f = is_open f
+Leaves kind.Plain name f = is_open f
+Leaves kind.Call name f = is_open f
+Leaves kind.Fork name f = (is_parked f.phase ≡ true) × (f.count ≡ name.no)
+Leaves kind.Join name f = is_open f
+Leaves kind.Terminate name f = is_open f
+
+abbrev pub DeedsLeave : Type 0
+DeedsLeave = (s : Setting) (w : model.World) (step : Step) (d : Deed) → deed s w step ≡ Some d → Leaves d.fact.kind d.fact.name d.frame
+
+-- In the world after a deed its thread stands where a record of that step needs it to be.
+abbrev pub LeftToUndo : Type 0
+LeftToUndo = (w : World) (x : model.World) (d : Deed) (r : StepRecord) → seen w ≡ carried_out x d → r.fact ≡ d.fact → Leaves d.fact.kind d.fact.name d.frame → IsRecord r → StandsAfter w r.fact r.saved

@@ -8,9 +8,7 @@ ghost use Rattle.saved_steps.specs.Made.{KeepsStore};
 
 use crate::fact::Access;
 use attr_values::{Item, Key};
-use item_store::{
-    Answer, Call, CallFault, Condition, ItemStore, Request, SlotNo, Terms, decide,
-};
+use item_store::{Answer, Call, CallFault, Condition, ItemStore, Request, SlotNo, Terms, decide};
 use json_tree::Text;
 use std::alloc::{AllocError, Global};
 

@@ -33,12 +33,7 @@ fn record(name: StepName, kind: Kind, saved: Saved) -> StepRecord
 }
 
 /// Puts what a write leaves into the slot of its key, and hands out what a write found.
-fn put_item(
-    items: &mut ItemStore,
-    access: &Access,
-    slot: SlotNo,
-    new: Option<Item>,
-) -> Option<Item>
+fn put_item(items: &mut ItemStore, access: &Access, slot: SlotNo, new: Option<Item>) -> Option<Item>
     requires { slot_key items.old slot ≡ Some access.now.key }
     ensures was { result ≡ item_written (items_of items.old) (Some access.now) }
     ensures items { (key : keys.Key) → items_of items.new key ≡ (if is_write_of (Some access.now) key then new else items_of items.old key) }
@@ -141,10 +136,10 @@ impl World {
         requires { CanApply self.old (record { name = name; change = Change.Terminate frame }) }
         ensures { IsApplied self.old (record { name = name; change = Change.Terminate frame }) self.new result }
     {
-        let (before, kids) = take(&mut self.executions, &name.thread, frame);
+        let (before, branches) = take(&mut self.executions, &name.thread, frame);
         let saved = Saved::Closed {
             frame: before,
-            kids,
+            kids: branches,
         };
         record(name, Kind::Terminate, saved)
     }

@@ -2,7 +2,7 @@
 
 ghost use Rattle.std.specs.Prelude.{◌≡◌};
 ghost use Rattle.saved_steps.specs.Held.{seen};
-ghost use Rattle.saved_steps.specs.Laws.{UndoneAtOnce, UndoneLater, TakenAgain, StartIsDeed, WorkIsDeed, JoinIsDeed, TerminateIsDeed};
+ghost use Rattle.saved_steps.specs.Laws.{UndoneAtOnce, UndoneLater, TakenAgain, DeedsLeave, LeftToUndo, StartIsDeed, WorkIsDeed, JoinIsDeed, TerminateIsDeed};
 ghost use Rattle.saved_steps.specs.Made.{CanApply, KeepsStore};
 
 use crate::made::Made;
@@ -23,6 +23,12 @@ pub fn steps_are_taken_back()
     ensures at_once { UndoneAtOnce }
     ensures later { UndoneLater }
     ensures again { TakenAgain }
+{}
+
+/// Where each step leaves its thread, and that this is where its record needs the thread to be.
+pub fn steps_leave_threads()
+    ensures deeds { DeedsLeave }
+    ensures records { LeftToUndo }
 {}
 
 /// What is worked out of a thread's frame is what its move does, and a first frame what its start does.

@@ -10,11 +10,13 @@ mod making;
 mod next;
 mod places;
 mod record;
+#[cfg(test)]
+mod tests;
 mod undoing;
 mod world;
 
 pub use fact::{Access, Fact, Kind};
-pub use laws::{nexts_are_moves, steps_are_taken_back, taken_back};
+pub use laws::{nexts_are_moves, steps_are_taken_back, steps_leave_threads, taken_back};
 pub use made::Made;
 pub use next::Next;
 pub use record::{Saved, StepRecord};

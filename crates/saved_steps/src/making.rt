@@ -43,12 +43,7 @@ impl World {
     /// Makes everything that a step needs: the place of an execution, the slot of a key and the answer of a call, the
     /// branches of a fork, and the names that the step's fact keeps. The world then shows the same frames and items, also
     /// where memory is refused.
-    pub fn make(
-        &mut self,
-        alloc: Global,
-        name: &StepName,
-        next: Next,
-    ) -> Result<Made, AllocError>
+    pub fn make(&mut self, alloc: Global, name: &StepName, next: Next) -> Result<Made, AllocError>
         requires { Suits self.old name.now next }
         ensures made { IfOk result (λ m. IsMadeOf self.old self.new name.now next m) }
         ensures frames { (t : Thread) → frames_of self.new t ≡ frames_of self.old t }

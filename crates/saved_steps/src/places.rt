@@ -106,12 +106,7 @@ fn replace_at(place: &mut Option<Tree>, path: &[(u32, u32)], frame: Frame) -> Fr
     tree.replace(path, frame)
 }
 
-fn give_at(
-    place: &mut Option<Tree>,
-    path: &[(u32, u32)],
-    frame: Frame,
-    kids: Vec<Branch>,
-) -> Frame
+fn give_at(place: &mut Option<Tree>, path: &[(u32, u32)], frame: Frame, kids: Vec<Branch>) -> Frame
     requires open { IsSomeAnd (rows_at place.old path.now) (λ f. is_parked f.phase ≡ false) }
     requires node { IsNode frame kids.items }
     ensures was { rows_at place.old path.now ≡ Some result }

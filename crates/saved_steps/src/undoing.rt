@@ -16,12 +16,7 @@ use branch_tree::Branch;
 use item_store::{AccessMode, ItemStore, SlotNo};
 
 /// Puts the item back that a write found.
-fn give_item_back(
-    items: &mut ItemStore,
-    access: &Option<Access>,
-    slot: SlotNo,
-    old: Option<Item>,
-)
+fn give_item_back(items: &mut ItemStore, access: &Option<Access>, slot: SlotNo, old: Option<Item>)
     requires { IsSlotOf items.old access.now slot }
     ensures items { (key : Key) → items_of items.new key ≡ (if is_write_of access.now key then old else items_of items.old key) }
     ensures store { KeepsStore items.old items.new }
@@ -65,7 +60,8 @@ impl World {
         requires { CanUndo self.old (record { fact = fact.now; saved = Saved.Framed frame }) }
         ensures { IsUndone self.old (record { fact = fact.now; saved = Saved.Framed frame }) self.new }
     {
-        drop(replace(&mut self.executions, &fact.name.thread, frame));
+        let left = replace(&mut self.executions, &fact.name.thread, frame);
+        drop(left);
     }
 
     fn undo_call(&mut self, fact: &Fact, frame: Frame, slot: SlotNo, old: Option<Item>)

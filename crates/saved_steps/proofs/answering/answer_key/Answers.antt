@@ -18,7 +18,7 @@ returns-clause-answer c =
     let found : slot_key c.slot.new.self slot ≡ Some key = c.in-Ok-slot.ensures.found in
     if_ok c.answer_at.result (λ a. IsAnswerAt (decision request (new c.in-Ok.kept)) c.in-Ok.kept slot a) (λ a. IsAnswered c.slot.new.self (at_key old key (decision request (old key))) a) c.answer_at.ensures
     (λ a h. touched c.slot.new.self old (decision request (old key)) key slot a found
-            (subst (λ (t : Table). IsAnswerAt (decision request (t key)) key slot a) c.slot.ensures.items (subst (λ (k : Key). IsAnswerAt (decision request (new k)) k slot a) kept h)))
+    (subst (λ (t : Table). IsAnswerAt (decision request (t key)) key slot a) c.slot.ensures.items (subst (λ (k : Key). IsAnswerAt (decision request (new k)) k slot a) kept h)))
 
 pub returns-clause-store : goal.returns-clause-store
 returns-clause-store c = slotted c.args.items.now c.slot.new.self c.args.key c.in-Ok-slot.ensures.slots c.in-Ok-slot.ensures.kept
