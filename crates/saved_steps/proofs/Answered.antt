@@ -1,10 +1,10 @@
 -- What is made ready of a call.
-use Rattle.std.proofs.Common.{◌≡◌, Bool, true, false, cond, refl, sym, ap, ◌∙◌, subst, Option, Some, None, Result, Ok, Err}
+use Rattle.std.proofs.Common.{◌≡◌, Bool, true, false, cond, refl, sym, ap, ◌∙◌, subst, Option, Some, Result, Ok, Err}
 use Rattle.std.specs.Prelude.{IfOk}
 use Rattle.attr_values.specs.declared.key.Key.{Key}
 use Rattle.item_store.specs.Deciding.{Attributes, Decision}
 use Rattle.item_store.specs.Store.{Store, slot_key, has_slot_of, with_slot}
-use Rattle.item_store.specs.Table.{Table, Outcome, is_same_key, items_after, at_key}
+use Rattle.item_store.specs.Table.{Table, items_after, at_key}
 use Rattle.item_store.specs.declared.access.AccessMode.{AccessMode}
 use Rattle.item_store.specs.declared.access.AccessMode.TheVariants.{Read, Write}
 use Rattle.item_store.specs.declared.slot.SlotNo.{SlotNo}
@@ -13,7 +13,6 @@ use Rattle.saved_steps.specs.Answering.{IsAnswerAt, IsTouch, IsAnswered}
 use Rattle.saved_steps.specs.Made.{KeepsStore}
 use Rattle.saved_steps.specs.Steps.{is_write}
 use Rattle.saved_steps.specs.declared.answering.Answered.{Answered}
-use Rattle.saved_steps.specs.declared.answering.Touch.{Touch}
 
 pub if_ok : {A E : Type 0} (r : Result A E) (P Q : A → Type 0) → IfOk r P → ((x : A) → P x → Q x) → IfOk r Q
 if_ok (Ok x) P Q h k = k x h

@@ -4,7 +4,6 @@ use Rattle.std.specs.declared.vec.Vec.{Vec}
 use Rattle.std.specs.List.{slice_get}
 use Rattle.std.specs.Option.{option_and_then, option_map}
 use Rattle.std.specs.Str.{bytes_eq}
-use Rattle.std.proofs.lemmas.Option.{same_Some}
 use Rattle.std.proofs.lemmas.Bool.{and_parts, eqb-true, eq-eqb}
 use Rattle.std.proofs.lemmas.List.{append-nil}
 use Rattle.std.proofs.lemmas.Slice.Eq.{bytes_eq-Decides}
@@ -17,20 +16,20 @@ use Rattle.item_store.specs.declared.slot.SlotNo.{SlotNo}
 use Rattle.asl_forward.specs.declared.frame.Frame.{Frame}
 use Rattle.branch_tree.specs.FlatMap.{FrameMap, IsTree, is_parked, alone}
 use Rattle.branch_tree.specs.Paths.{Path, same_path, rest_after}
-use Rattle.branch_tree.specs.Tree.{Rows, leaf, frame_at, branch_at, node_at, IsNode}
+use Rattle.branch_tree.specs.Tree.{Rows, leaf, frame_at, node_at, IsNode}
 use Rattle.step_names.specs.Thread.{Thread}
 use Rattle.step_names.specs.Under.{is_under}
 use Rattle.step_names.specs.declared.step.StepName.{StepName}
-use Rattle.step_names.proofs.OrderLaws.{thread_itself, thread_same}
+use Rattle.step_names.proofs.OrderLaws.{thread_itself}
 use Rattle.step_names.proofs.UnderLaws.{under_Decides}
 use Rattle.saved_steps.specs.Deeds.{Deed, deed_of, fork_deed}
 use Rattle.saved_steps.specs.Held.{placed, tree_in, rows_at, frames_of, paths_of, put_at, with_thread, seen}
 use Rattle.saved_steps.specs.Keeping.{Kept, kept, item_written, undo}
 use Rattle.saved_steps.specs.Made.{is_open, IsOpen, IsParkedSince, plain_fact, fact_made, Makes, IsMadeFor, Stands, KeepsStore}
 use Rattle.saved_steps.specs.Records.{keeps, kept_by, was_below}
-use Rattle.saved_steps.specs.Run.{carried_out, begun, begun_at}
+use Rattle.saved_steps.specs.Run.{carried_out, begun_at}
 use Rattle.saved_steps.specs.Steps.{makes, closes, is_fork, is_close, is_write, is_write_of}
-use Rattle.saved_steps.specs.Undoing.{Fits, HasSlot, StandsAfter, CanUndo, IsApplied}
+use Rattle.saved_steps.specs.Undoing.{CanUndo, IsApplied}
 use Rattle.saved_steps.specs.World.{is_same_thread}
 use Rattle.saved_steps.specs.declared.fact.Access.{Access}
 use Rattle.saved_steps.specs.declared.fact.Fact.{Fact}
@@ -38,12 +37,11 @@ use Rattle.saved_steps.specs.declared.fact.Kind.{Kind}
 use Rattle.saved_steps.specs.declared.fact.Kind.TheVariants as kind
 use Rattle.saved_steps.specs.declared.made.Made.{Made}
 use Rattle.saved_steps.specs.declared.made.Change.TheVariants as change
-use Rattle.saved_steps.specs.declared.record.Saved.{Saved}
 use Rattle.saved_steps.specs.declared.record.Saved.TheVariants.{Started, Framed, Called, Forked, Closed}
 use Rattle.saved_steps.specs.declared.record.StepRecord.{StepRecord}
 use Rattle.saved_steps.specs.declared.world.World.{World}
 use Rattle.saved_steps.proofs.Threads.{same_by_parts}
-use Rattle.saved_steps.proofs.Under.{rest_is, rest_itself, whole_is, first_is, under_is, same_is, nothing_at_open, nothing_at_other, no_other_branch, told}
+use Rattle.saved_steps.proofs.Under.{rest_is, rest_itself, first_is, under_is, nothing_at_open, nothing_at_other, no_other_branch, told}
 use Rattle.saved_steps.proofs.Undone.{same_world, undone}
 
 deed_is : (d : Deed) (s : Fact) (f : Frame) → s ≡ d.fact → f ≡ d.frame → record { fact = s; frame = f; branches = d.branches; item = d.item } ≡ d

@@ -1,17 +1,15 @@
 -- Where each step leaves its thread, and that this is where its record needs it to be.
-use Rattle.std.proofs.Common.{◌≡◌, ℕ, ◌+◌, ◌==◌, Bool, true, false, cond, List, [], ◌∷◌, refl, sym, ap, ◌∙◌, subst, Option, Some, None, IsSomeAnd}
+use Rattle.std.proofs.Common.{◌≡◌, ◌==◌, Bool, true, false, cond, List, refl, sym, ap, ◌∙◌, subst, Option, Some, None, IsSomeAnd}
 use Rattle.std.specs.Option.{option_map, option_and_then, is_some}
-use Rattle.std.proofs.lemmas.Bool.{eqb-true}
 use Rattle.std.proofs.lemmas.Option.{same_Some}
 use Rattle.json_tree.specs.Data.{Data}
-use Rattle.json_tree.specs.declared.tree.Json.{Json}
 use Rattle.attr_values.specs.declared.key.Key.{Key}
 use Rattle.item_store.specs.Table as table
 use Rattle.item_store.specs.Table.{Table}
 use Rattle.item_store.specs.declared.access.AccessMode.{AccessMode}
 use Rattle.asl_machine.specs.Definition.{Definition}
-use Rattle.asl_forward.specs.Outcomes.{Work, work_of, turn, after_answer, after_join, after_branch}
-use Rattle.asl_forward.specs.Turn.{Standing, first_frame}
+use Rattle.asl_forward.specs.Outcomes.{work_of, turn, after_answer}
+use Rattle.asl_forward.specs.Turn.{Standing}
 use Rattle.asl_forward.specs.declared.frame.Fault.{Fault}
 use Rattle.asl_forward.specs.declared.frame.Frame.{Frame}
 use Rattle.asl_forward.specs.declared.frame.Phase.{Phase}
@@ -22,14 +20,14 @@ use Rattle.branch_tree.specs.FlatMap.{is_parked}
 use Rattle.step_names.specs.Thread.{Thread, execution}
 use Rattle.step_names.specs.declared.step.StepName.{StepName}
 use Rattle.step_names.proofs.OrderLaws.{thread_itself}
-use Rattle.saved_steps.specs.Deeds.{Deed, deed, deed_of_turn, deed_in, deed_over, close_deed, join_deed, if_numbered, called, stands, frame_deed, move_deed, start_deed, next_step, kids, first_fault, outputs}
+use Rattle.saved_steps.specs.Deeds.{Deed, deed_of_turn, deed_in, close_deed, join_deed, if_numbered, called, stands, frame_deed, move_deed, next_step, kids, first_fault, outputs}
 use Rattle.saved_steps.specs.Held.{frames_of, seen}
 use Rattle.saved_steps.specs.Laws.{Leaves, DeedsLeave, LeftToUndo}
 use Rattle.saved_steps.specs.Made.{is_open}
 use Rattle.saved_steps.specs.Run.{carried_out}
-use Rattle.saved_steps.specs.Steps.{Step, started, moved, is_close}
+use Rattle.saved_steps.specs.Steps.{started, moved, is_close}
 use Rattle.saved_steps.specs.Undoing.{Fits, StandsAfter}
-use Rattle.saved_steps.specs.World.{World, Setting, is_same_thread}
+use Rattle.saved_steps.specs.World.{World, Setting}
 use Rattle.saved_steps.specs.declared.fact.Fact.{Fact}
 use Rattle.saved_steps.specs.declared.fact.Kind.{Kind}
 use Rattle.saved_steps.specs.declared.fact.Kind.TheVariants as kind

@@ -1,17 +1,16 @@
 -- The laws of steps taken back, and of what a step's next does.
-use Rattle.std.proofs.Common.{◌≡◌, ℕ, ◌+◌, ◌==◌, Bool, true, false, ◌&&◌, ◌||◌, cond, refl, sym, ap, ap₂, ◌∙◌, subst, Option, Some, None}
+use Rattle.std.proofs.Common.{◌≡◌, ℕ, ◌+◌, Bool, true, false, ◌&&◌, ◌||◌, cond, refl, sym, ap, ◌∙◌, Option, Some, None}
 use Rattle.std.specs.Option.{option_map, option_and_then}
 use Rattle.std.proofs.lemmas.Bool.{eq-eqb}
 use Rattle.std.proofs.lemmas.Option.{same_Some}
 use Rattle.attr_values.specs.declared.key.Key.{Key}
 use Rattle.item_store.specs.Deciding.{Attributes}
-use Rattle.item_store.specs.Store.{Store, items_of}
+use Rattle.item_store.specs.Store.{items_of}
 use Rattle.item_store.specs.Table as table
 use Rattle.item_store.specs.Table.{Table, is_same_key}
 use Rattle.item_store.specs.declared.access.AccessMode.{AccessMode}
 use Rattle.item_store.proofs.Slots.{same_key}
 use Rattle.asl_forward.specs.Outcomes.{Work, work_of, turn, after_answer}
-use Rattle.asl_forward.specs.Planned.{turn_at}
 use Rattle.asl_forward.specs.Turn.{Standing, standing}
 use Rattle.asl_forward.specs.declared.frame.Frame.{Frame}
 use Rattle.asl_forward.specs.declared.frame.Phase.TheVariants.{Ready}
@@ -21,16 +20,15 @@ use Rattle.asl_forward.specs.declared.prepared.Prepared.{Prepared}
 use Rattle.step_names.specs.Thread.{Thread}
 use Rattle.step_names.specs.declared.step.StepName.{StepName}
 use Rattle.step_names.proofs.OrderLaws.{thread_same}
-use Rattle.saved_steps.specs.Deeds.{Deed, deed, deed_of_turn, deed_in, if_numbered, called, stands, frame_deed, move_deed, next_step}
+use Rattle.saved_steps.specs.Deeds.{Deed, deed, deed_of_turn, if_numbered, called, stands, next_step}
 use Rattle.saved_steps.specs.Held.{frames_of, seen}
 use Rattle.saved_steps.specs.Keeping.{kept, undo, item_written}
-use Rattle.saved_steps.specs.Laws.{changes, AgreeAt, with_places, NothingMade, UndoneAtOnce, UndoneLater, TakenAgain, IsOver, StartIsDeed, WorkIsDeed, JoinIsDeed, TerminateIsDeed}
+use Rattle.saved_steps.specs.Laws.{changes, with_places, UndoneAtOnce, UndoneLater, TakenAgain, IsOver, StartIsDeed, WorkIsDeed, JoinIsDeed, TerminateIsDeed}
 use Rattle.saved_steps.specs.Made.{deed_of_work}
 use Rattle.saved_steps.specs.Run.{carried_out, begun}
 use Rattle.saved_steps.specs.Steps.{makes, closes, moved, is_write, is_write_of}
-use Rattle.saved_steps.specs.World.{World, Setting, is_same_thread}
+use Rattle.saved_steps.specs.World.{Setting, is_same_thread}
 use Rattle.saved_steps.specs.declared.fact.Access.{Access}
-use Rattle.saved_steps.specs.declared.fact.Fact.{Fact}
 use Rattle.saved_steps.specs.declared.world.World as held
 use Rattle.saved_steps.proofs.Undone.{same_world, undone}
 

@@ -1,5 +1,5 @@
 -- Everything is made for the deed of a step's next.
-use Rattle.std.proofs.Common.{Global, ◌≡◌, ℕ, ◌+◌, List, [], map, length, true, false, refl, sym, ap, ◌∙◌, subst, Option, Some, None, Result, Ok, Err}
+use Rattle.std.proofs.Common.{Global, ◌≡◌, List, map, length, false, refl, sym, ap, ◌∙◌, subst, Option, Some, None, Result, Ok, Err}
 use Rattle.std.specs.Prelude.{is_some, is_err, OnOk}
 use Rattle.std.specs.declared.vec.Vec.{Vec}
 use Rattle.std.specs.BTreeMap.{get_by_text}
@@ -7,7 +7,7 @@ use Rattle.std.specs.List.{All}
 use Rattle.std.proofs.lemmas.List.{length-map}
 use Rattle.attr_values.specs.declared.key.Key.{Key}
 use Rattle.item_store.specs.Deciding.{reply_of}
-use Rattle.item_store.specs.Store.{Store, items_of}
+use Rattle.item_store.specs.Store.{items_of}
 use Rattle.item_store.specs.Table as table
 use Rattle.item_store.specs.declared.access.AccessMode.{AccessMode}
 use Rattle.item_store.specs.declared.call.Call as calls
@@ -21,15 +21,13 @@ use Rattle.branch_tree.specs.FlatMap.{IsTree, is_parked, branch_count}
 use Rattle.branch_tree.specs.Tree.{Rows, leaf, frame_at, IsNode}
 use Rattle.step_names.specs.declared.step.StepName.{StepName}
 use Rattle.saved_steps.specs.Answering.{IsTouch, IsAnswered, change_from}
-use Rattle.saved_steps.specs.Deeds.{Deed, deed_of, fork_deed, called, call_deed}
+use Rattle.saved_steps.specs.Deeds.{deed_of, fork_deed, called, call_deed}
 use Rattle.saved_steps.specs.Held.{frames_of}
-use Rattle.saved_steps.specs.Made.{is_open, IsOpen, Suits, Stands, CanApply, IsMadeFor, IsMadeOf, deed_of_work}
+use Rattle.saved_steps.specs.Made.{is_open, IsOpen, Suits, CanApply, IsMadeFor, IsMadeOf, deed_of_work}
 use Rattle.saved_steps.specs.declared.answering.Answered.{Answered}
 use Rattle.saved_steps.specs.declared.answering.Touch.{Touch}
 use Rattle.saved_steps.specs.declared.fact.Kind.TheVariants as kind
-use Rattle.saved_steps.specs.declared.made.Change.{Change}
 use Rattle.saved_steps.specs.declared.made.Change.TheVariants as change
-use Rattle.saved_steps.specs.declared.made.Made.{Made}
 use Rattle.saved_steps.specs.declared.next.Next.{Next}
 use Rattle.saved_steps.specs.declared.next.Next.TheVariants as next
 use Rattle.saved_steps.specs.declared.world.World.{World}

@@ -14,16 +14,16 @@ use Rattle.item_store.specs.Table.{Table, with_item}
 use Rattle.item_store.specs.declared.access.AccessMode.TheVariants.{Write}
 use Rattle.item_store.specs.declared.slot.SlotNo.{SlotNo}
 use Rattle.asl_forward.specs.declared.frame.Frame.{Frame}
-use Rattle.branch_tree.specs.FlatMap.{FrameMap, IsTree, is_parked, alone}
+use Rattle.branch_tree.specs.FlatMap.{IsTree, is_parked, alone}
 use Rattle.branch_tree.specs.Paths.{Path, same_path, rest_after}
-use Rattle.branch_tree.specs.Tree.{Rows, node_at, IsNode}
+use Rattle.branch_tree.specs.Tree.{Rows, node_at}
 use Rattle.step_names.specs.Thread.{Thread}
 use Rattle.step_names.specs.Under.{is_under}
 use Rattle.saved_steps.specs.Held.{tree_in, rows_at, frames_of, paths_of, put_at, with_thread, seen}
-use Rattle.saved_steps.specs.Keeping.{Kept, undo}
-use Rattle.saved_steps.specs.Made.{is_open, IsOpen, IsParkedSince, KeepsStore}
-use Rattle.saved_steps.specs.Records.{kept_by, was_below}
-use Rattle.saved_steps.specs.Steps.{is_fork, is_close, closes, is_write_of}
+use Rattle.saved_steps.specs.Keeping.{undo}
+use Rattle.saved_steps.specs.Made.{is_open, KeepsStore}
+use Rattle.saved_steps.specs.Records.{kept_by}
+use Rattle.saved_steps.specs.Steps.{is_fork, is_close, is_write_of}
 use Rattle.saved_steps.specs.Undoing.{CanUndo, IsUndone}
 use Rattle.saved_steps.specs.World.{is_same_thread}
 use Rattle.saved_steps.specs.declared.fact.Access.{Access}
@@ -31,7 +31,6 @@ use Rattle.saved_steps.specs.declared.fact.Fact.{Fact}
 use Rattle.saved_steps.specs.declared.fact.Kind.{Kind}
 use Rattle.saved_steps.specs.declared.fact.Kind.TheVariants as kind
 use Rattle.saved_steps.specs.declared.record.Saved.TheVariants.{Started, Framed, Called, Forked, Closed}
-use Rattle.saved_steps.specs.declared.record.StepRecord.{StepRecord}
 use Rattle.saved_steps.specs.declared.world.World.{World}
 use Rattle.saved_steps.proofs.Applied.{cond_under, same_store, first_under, alone_below}
 use Rattle.saved_steps.proofs.Threads.{same_by_parts}

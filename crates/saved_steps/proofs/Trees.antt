@@ -14,7 +14,6 @@ use Rattle.branch_tree.specs.Paths.{Path, same_path, rest_after}
 use Rattle.branch_tree.specs.Tree.{Rows}
 use Rattle.step_names.specs.Thread.{Thread}
 use Rattle.saved_steps.specs.Held.{placed, tree_in, rows_at, frames_in, paths_of, put_at, with_thread}
-use Rattle.saved_steps.specs.World.{is_same_thread}
 use Rattle.saved_steps.proofs.Threads.{same_by_parts}
 
 placed_put : (b : Bool) (w : Option Rows) (o : Option (Option Rows)) → placed (cond b (Some w) o) ≡ cond b w (placed o)

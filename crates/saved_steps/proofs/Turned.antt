@@ -1,7 +1,7 @@
 -- What a turn leaves: a frame that isn't parked, or one that is parked over branches of which none is.
-use Rattle.std.proofs.Common.{arith, zero, suc, ◌≡◌, ℕ, ◌+◌, ◌<◌, List, [], ◌∷◌, length, refl, sym, ap, ◌∙◌, subst, Option, Some, None, Result, Ok, Err, cond, Bool, true, false, nat_le}
+use Rattle.std.proofs.Common.{arith, zero, suc, ◌≡◌, ℕ, ◌+◌, List, [], ◌∷◌, length, refl, subst, Option, Some, None, Result, Ok, Err, cond, Bool, true, false, nat_le}
 use Rattle.std.specs.Option.{option_map}
-use Rattle.std.specs.List.{All, slice_index_or}
+use Rattle.std.specs.List.{All}
 use Rattle.std.proofs.lemmas.List.Elements.{All-nil}
 use Rattle.std.proofs.lemmas.Option.{same_Some}
 use Rattle.json_tree.specs.Data.{Data, list, items_of}
@@ -24,10 +24,10 @@ use Rattle.asl_machine.specs.declared.state.Transition.TheVariants.{Next, End}
 use Rattle.asl_forward.specs.Choosing.{chosen}
 use Rattle.asl_forward.specs.Forks.{with_others, begins, frames_from, parallel_frames, element_frames, element_input, counted_frames, elements, map_frames}
 use Rattle.asl_forward.specs.Handling.{retried, catcher_for}
-use Rattle.asl_forward.specs.Outcomes.{Work, call_fault, on_catch, on_retry, handled, comes_to, after_result, after_answer, after_join, after_branch, errors_of, taken_by, asks, task_turn, forks, fork_of, turn_of, turn, action_of}
+use Rattle.asl_forward.specs.Outcomes.{Work, call_fault, on_catch, on_retry, handled, comes_to, after_answer, after_join, after_branch, errors_of, taken_by, asks, task_turn, forks, fork_of, turn_of, turn, action_of}
 use Rattle.asl_forward.specs.Planned.{turn_at}
 use Rattle.asl_forward.specs.Processing.{effective, held, passed_on}
-use Rattle.asl_forward.specs.Turn.{Standing, standing, go_on, ends, has_failed, own_fault, goes_where, choice_frame, next_frame}
+use Rattle.asl_forward.specs.Turn.{Standing, standing, go_on, ends, own_fault, goes_where, choice_frame, next_frame}
 use Rattle.asl_forward.specs.declared.frame.Fault.{Fault}
 use Rattle.asl_forward.specs.declared.frame.Frame.{Frame}
 use Rattle.asl_forward.specs.declared.frame.Phase.TheVariants.{Parked}

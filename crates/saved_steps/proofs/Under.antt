@@ -1,25 +1,24 @@
 -- What stands at a thread and under it, by the branches by which a path goes on from the thread's.
-use Rattle.std.proofs.Common.{arith, ◌≡◌, ◌≢◌, ◌<◌, ℕ, Bool, true, false, ◌&&◌, ◌==◌, nat_lt, cond, List, [], ◌∷◌, ◌++◌, refl, sym, ap, ap₂, ◌∙◌, subst, Option, Some, None, is_some, append_assoc, IsSomeAnd}
-use Rattle.std.specs.Bool.{Decides}
+use Rattle.std.proofs.Common.{arith, ◌≡◌, ℕ, Bool, true, false, ◌&&◌, ◌==◌, nat_lt, cond, List, [], ◌∷◌, ◌++◌, refl, sym, ap, ap₂, ◌∙◌, subst, Option, Some, None, is_some, append_assoc}
 use Rattle.std.specs.Option.{option_and_then}
 use Rattle.std.specs.List.{slice_get}
 use Rattle.std.specs.Str.{bytes_eq}
 use Rattle.std.specs.Cmp.Lexicographic.{pointwise, bytes_decides}
-use Rattle.std.proofs.lemmas.Bool.{and_parts, eqb-true, eq-eqb, ltb-true}
+use Rattle.std.proofs.lemmas.Bool.{eqb-true, eq-eqb, ltb-true}
 use Rattle.std.proofs.lemmas.Bool.Decides.{same_from_decides}
 use Rattle.std.proofs.lemmas.List.{append-nil}
 use Rattle.std.proofs.lemmas.Slice.Eq.{bytes_eq-Decides}
 use Rattle.asl_forward.specs.declared.frame.Frame.{Frame}
 use Rattle.asl_forward.specs.declared.frame.Phase.{Phase}
 use Rattle.asl_forward.specs.declared.frame.Phase.TheVariants.{Ready, Parked, Done, Failed}
-use Rattle.branch_tree.specs.FlatMap.{FrameMap, IsTree, is_parked, branch_count, grafted_at, alone}
+use Rattle.branch_tree.specs.FlatMap.{FrameMap, IsTree, is_parked, branch_count, grafted_at}
 use Rattle.branch_tree.specs.Paths.{Path, same_branch, same_path, rest_after}
-use Rattle.branch_tree.specs.Tree.{Rows, frame_at, node_at, branch_at}
+use Rattle.branch_tree.specs.Tree.{Rows, frame_at, node_at}
 use Rattle.step_names.specs.Thread.{Thread}
 use Rattle.step_names.specs.Under.{is_under, goes_on_by}
 use Rattle.saved_steps.specs.Held.{paths_of, put_at}
 use Rattle.saved_steps.specs.World.{is_same_thread}
-use Rattle.saved_steps.proofs.Threads.{branch_one, branch_itself, path_one, same_by_parts}
+use Rattle.saved_steps.proofs.Threads.{branch_one, branch_itself, same_by_parts}
 
 -- ---- what a path goes on by
 

@@ -1,5 +1,5 @@
 -- A step that is undone from what it kept, over the model's worlds.
-use Rattle.std.proofs.Common.{◌≡◌, Bool, true, false, ◌&&◌, cond, refl, sym, ap, ap₂, ◌∙◌, subst, Option, Some, None}
+use Rattle.std.proofs.Common.{◌≡◌, Bool, true, false, ◌&&◌, cond, refl, sym, ap, ap₂, Option, Some, None}
 use Rattle.std.proofs.Math.Path.{fun_ext}
 use Rattle.attr_values.specs.declared.key.Key.{Key}
 use Rattle.item_store.specs.Deciding.{Attributes}
@@ -9,12 +9,11 @@ use Rattle.asl_forward.specs.declared.frame.Frame.{Frame}
 use Rattle.step_names.specs.Thread.{Thread}
 use Rattle.step_names.proofs.OrderLaws.{thread_same}
 use Rattle.saved_steps.specs.Deeds.{Deed}
-use Rattle.saved_steps.specs.Keeping.{Kept, kept, item_written, undo}
-use Rattle.saved_steps.specs.Run.{begun, carried_out, frames_after}
+use Rattle.saved_steps.specs.Keeping.{kept, item_written, undo}
+use Rattle.saved_steps.specs.Run.{begun, carried_out}
 use Rattle.saved_steps.specs.Steps.{makes, closes, is_write, is_write_of}
 use Rattle.saved_steps.specs.World.{World, is_same_thread}
 use Rattle.saved_steps.specs.declared.fact.Access.{Access}
-use Rattle.saved_steps.specs.declared.fact.Fact.{Fact}
 
 pub same_world : (x y : World) → ((t : Thread) → x.frames t ≡ y.frames t) → ((key : Key) → x.items key ≡ y.items key) → x ≡ y
 same_world x y f i = ap₂ (λ (a : Thread → Option Frame) (b : Table). let w : World = record { frames = a; items = b } in w) (fun_ext f) (fun_ext i)

@@ -1,10 +1,9 @@
 -- What is made ready of a call: its answer, and what is to be put into the slot of its key.
 use Rattle.std.specs.Prelude.{◌≡◌, true, Option, Some, None}
 use Rattle.attr_values.specs.declared.key.Key.{Key}
-use Rattle.item_store.specs.Deciding.{Decision, decision, reply_of}
+use Rattle.item_store.specs.Deciding.{Decision, reply_of}
 use Rattle.item_store.specs.Store.{Store, slot_key}
-use Rattle.item_store.specs.Table.{Table, Outcome}
-use Rattle.item_store.specs.declared.call.Call.{Call}
+use Rattle.item_store.specs.Table.{Outcome}
 use Rattle.item_store.specs.declared.slot.SlotNo.{SlotNo}
 use Rattle.asl_forward.specs.declared.frame.Frame.{Frame}
 use Rattle.saved_steps.specs.Steps.{is_write}

@@ -1,5 +1,5 @@
 -- Laws of what steps do and of what takes them back.
-use Rattle.std.specs.Prelude.{◌≡◌, ℕ, ◌+◌, List, Bool, true, ◌||◌, if◌then◌else◌, Option, Some, None}
+use Rattle.std.specs.Prelude.{◌≡◌, ℕ, ◌+◌, List, Bool, true, ◌||◌, if◌then◌else◌, Some, None}
 use Rattle.attr_values.specs.declared.key.Key.{Key}
 use Rattle.json_tree.specs.Data.{Data}
 use Rattle.json_tree.specs.declared.tree.Json.{Json}

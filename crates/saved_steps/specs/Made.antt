@@ -1,5 +1,5 @@
 -- What a step is to do as it was worked out before, and as it is made ready to be applied.
-use Rattle.std.specs.Prelude.{◌≡◌, ℕ, ◌+◌, ◌-◌, Bool, true, false, List, [], map, Option, Some, None, IsSomeAnd, option_map, option_and_then}
+use Rattle.std.specs.Prelude.{◌≡◌, ℕ, ◌+◌, ◌-◌, true, false, List, [], map, Option, Some, None, IsSomeAnd, option_map, option_and_then}
 use Rattle.std.specs.BTreeMap.{get_by_text}
 use Rattle.attr_values.specs.declared.key.Key.{Key}
 use Rattle.item_store.specs.Store.{Store, items_of, slot_key}

@@ -1,5 +1,5 @@
 -- A step that is applied to the world as it is held, and its record undone.
-use Rattle.std.specs.Prelude.{◌≡◌, ℕ, ◌-◌, true, [], Option, Some, None}
+use Rattle.std.specs.Prelude.{◌≡◌, ◌-◌, true, [], Option, Some, None}
 use Rattle.item_store.specs.Store.{Store, slot_key}
 use Rattle.item_store.specs.declared.slot.SlotNo.{SlotNo}
 use Rattle.branch_tree.specs.FlatMap.{is_parked}

@@ -1,4 +1,4 @@
-use Rattle.std.proofs.Common.{◌≡◌, ℕ, List, sym, ap, ◌∙◌, Option, Some}
+use Rattle.std.proofs.Common.{◌≡◌, ℕ, List, ap, ◌∙◌, Option, Some}
 use Rattle.branch_tree.specs.Paths.{Path}
 use Rattle.branch_tree.specs.Ready.{readiness_at}
 use Rattle.branch_tree.specs.Tree.{Rows, frame_at}

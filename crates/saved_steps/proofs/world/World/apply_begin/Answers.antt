@@ -1,6 +1,5 @@
-use Rattle.std.proofs.Common.{◌≡◌, ℕ, List, refl, sym, subst, Option, Some, cond}
+use Rattle.std.proofs.Common.{◌≡◌, ℕ, List, refl, sym, subst, Some, cond}
 use Rattle.std.specs.Str.{bytes_eq}
-use Rattle.branch_tree.specs.Tree.{Rows}
 use Rattle.saved_steps.specs.Held.{tree_in}
 use Rattle.saved_steps.specs.Undoing.{IsApplied}
 use Rattle.saved_steps.specs.declared.made.Change.TheVariants as change

@@ -1,8 +1,6 @@
-use Rattle.std.proofs.Common.{refl, ap, ◌∙◌}
-use Rattle.saved_steps.specs.Records.{kept_by}
+use Rattle.std.proofs.Common.{refl}
 use Rattle.saved_steps.specs.declared.fact.Kind.TheVariants as kind
 use Rattle.saved_steps.specs.declared.made.Change.TheVariants as change
-use Rattle.saved_steps.specs.declared.record.StepRecord.{StepRecord}
 use Rattle.saved_steps.specs.declared.world.World.{World}
 use Rattle.saved_steps.proofs.Applied.{close}
 use Rattle.saved_steps.proofs.world.World.apply_join.Goals as goal
