@@ -1,5 +1,5 @@
 -- What a step does, in the world in which it is taken (Amazon States Language: "States", "Parallel State", "Map State", "Errors").
-use Rattle.std.specs.Prelude.{ℕ, ◌+◌, ◌==◌, List, [], ◌∷◌, map, length, Bool, if◌then◌else◌, Option, Some, None, is_some, slice_get, option_map, option_and_then}
+use Rattle.std.specs.Prelude.{ℕ, ◌+◌, ◌==◌, List, [], ◌∷◌, map, if◌then◌else◌, Option, Some, None, is_some, option_map, option_and_then}
 use Rattle.std.specs.List.{range_with_len}
 use Rattle.json_tree.specs.Data.{Data}
 use Rattle.json_tree.specs.View.{data_of}
@@ -8,7 +8,6 @@ use Rattle.attr_values.specs.declared.key.Key.{Key}
 use Rattle.item_store.specs.Deciding.{Attributes}
 use Rattle.item_store.specs.Table as table
 use Rattle.item_store.specs.declared.access.AccessMode.{AccessMode}
-use Rattle.item_store.specs.declared.call.Call as call
 use Rattle.asl_machine.specs.Definition.{Definition}
 use Rattle.asl_forward.specs.Outcomes.{Work, work_of, turn, after_answer, after_branch, after_join}
 use Rattle.asl_forward.specs.Turn.{Standing, standing, first_frame}
@@ -22,7 +21,6 @@ use Rattle.step_names.specs.Thread.{Thread, execution, child_of}
 use Rattle.step_names.specs.declared.step.StepName.{StepName}
 use Rattle.saved_steps.specs.Steps.{Step, started, moved, start_name}
 use Rattle.saved_steps.specs.World.{Setting, World}
-use Rattle.saved_steps.specs.declared.fact.Access.{Access}
 use Rattle.saved_steps.specs.declared.fact.Fact.{Fact}
 use Rattle.saved_steps.specs.declared.fact.Kind.{Kind}
 use Rattle.saved_steps.specs.declared.fact.Kind.TheVariants.{Start, Plain, Call, Fork, Join, Terminate}
@@ -100,8 +98,8 @@ join_deed name at f ds = option_map (λ work. deed_of Join name (after_join at.0
 
 -- it terminates where a branch has failed, whatever the others do, and joins where all are done
 abbrev pub close_deed : StepName → Standing → Frame → Option Fault → Option (List Data) → Option Deed
-close_deed name at f (Some fault) done = Some (deed_of Terminate name (after_branch at f fault))
-close_deed name at f None done = option_and_then (join_deed name at f) done
+close_deed name at f (Some fault) ds = Some (deed_of Terminate name (after_branch at f fault))
+close_deed name at f None ds = option_and_then (join_deed name at f) ds
 
 abbrev pub deed_over : StepName → Standing → Frame → List (Option Frame) → Option Deed
 deed_over name at f fs = close_deed name at f (first_fault fs) (outputs fs)

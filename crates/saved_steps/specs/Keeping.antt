@@ -1,6 +1,5 @@
 -- What a step's undoing gives back.
 use Rattle.std.specs.Prelude.{if◌then◌else◌, Option, Some, None}
-use Rattle.attr_values.specs.declared.key.Key.{Key}
 use Rattle.item_store.specs.Deciding.{Attributes}
 use Rattle.item_store.specs.Table.{Table}
 use Rattle.asl_forward.specs.declared.frame.Frame.{Frame}

@@ -1,6 +1,11 @@
+pub mod Answering
 pub mod Deeds
+pub mod Held
 pub mod Keeping
+pub mod Laws
+pub mod Made
 pub mod Records
 pub mod Run
 pub mod Steps
+pub mod Undoing
 pub mod World

@@ -1,5 +1,5 @@
 -- Steps taken one after another.
-use Rattle.std.specs.Prelude.{ℕ, List, [], ◌∷◌, if◌then◌else◌, Option, Some, None, slice_get, option_map, option_and_then}
+use Rattle.std.specs.Prelude.{List, [], ◌∷◌, if◌then◌else◌, Option, Some, None, slice_get, option_map, option_and_then}
 use Rattle.attr_values.specs.declared.key.Key.{Key}
 use Rattle.item_store.specs.Deciding.{Attributes}
 use Rattle.asl_forward.specs.declared.frame.Frame.{Frame}

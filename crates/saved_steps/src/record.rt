@@ -21,7 +21,10 @@ pub enum Saved {
     /// Of a fork: the frame. Its branches go.
     Forked(Frame),
     /// Of a join or a terminate: the frame, and the branches that it was parked over, in order.
-    Closed { frame: Frame, kids: Vec<Branch> },
+    Closed {
+        frame: Frame,
+        kids: Vec<Branch>,
+    },
 }
 
 /// A step that was taken: what is known of it, and what its undoing gives back.

@@ -1,0 +1,11 @@
+pub mod Threads
+pub mod Trees
+pub mod Under
+pub mod Undone
+pub mod Applied
+pub mod TakenBack
+pub mod Turned
+pub mod Answered
+pub mod Ready
+pub mod Moves
+pub mod Left

@@ -1,0 +1,35 @@
+// A step for which everything is made.
+use crate::fact::Access;
+use asl_forward::Frame;
+use attr_values::Item;
+use branch_tree::Branch;
+use item_store::SlotNo;
+use step_names::StepName;
+
+/// What is put where, once a step is applied.
+#[derive(Drop)]
+pub enum Change {
+    /// The frame with which an execution begins.
+    Begin(Frame),
+    /// The thread's frame.
+    Plain(Frame),
+    /// The thread's frame, and of a write the item that then stands in the slot of its key, if any.
+    Call {
+        frame: Frame,
+        access: Access,
+        slot: SlotNo,
+        new: Option<Item>,
+    },
+    /// The thread's frame, and what it is parked over.
+    Fork(Frame, Vec<Branch>),
+    /// The thread's frame, once its branches are out.
+    Join(Frame),
+    Terminate(Frame),
+}
+
+/// A step for which everything is made: to apply it takes no memory.
+#[derive(Drop)]
+pub struct Made {
+    pub(crate) name: StepName,
+    pub(crate) change: Change,
+}
