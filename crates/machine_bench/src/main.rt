@@ -1,12 +1,13 @@
-// Reads a definition of 41 states, and makes a turn of each type of state. With a number of rounds as its argument it also prints
-// how many definitions were read a second, beside `serde_json`'s reading of the same text, and how many turns of each type were made.
+// Reads definitions from its input, a name and a definition on each line, and tells of each that it is one, or why it is refused; reads
+// one of 41 states, and makes a turn of each type of state. With a number of rounds as its argument it also prints how many
+// definitions were read a second, beside `serde_json`'s reading of the same text, and how many turns of each type were made.
 #![tactic(auto)]
 
 ghost use Rattle.std.specs.Prelude.{◌≡◌, true};
 
 use anyhow::Context;
 use asl_forward::{Frame, Outcome, Phase, first_frame, prepare, standing};
-use asl_machine::{Machine, SharedMachine};
+use asl_machine::{Machine, MachineFault, SharedMachine};
 use json_tree::{Json, Text, read};
 use serde_json::Value;
 use std::alloc::{AllocError, Global};
@@ -231,6 +232,46 @@ fn comes_to(alloc: Global, state: &str, input: &str) -> anyhow::Result<usize> {
     Ok(kind)
 }
 
+/// A refusal as replies tell it: its number, and the field or the name that it is about.
+fn told(fault: &MachineFault) -> (u32, &str) {
+    match fault {
+        MachineFault::Missing(name) => (1, name.as_str()),
+        MachineFault::UnknownField(name) => (2, name.as_str()),
+        MachineFault::Unsupported(name) => (3, name.as_str()),
+        MachineFault::BadField(name) => (4, name.as_str()),
+        MachineFault::NoTarget(name) => (5, name.as_str()),
+        MachineFault::NextAndEnd(name) => (6, name.as_str()),
+        MachineFault::StatesAllPlace => (7, ""),
+        MachineFault::TooDeep => (8, ""),
+        MachineFault::Memory => (9, ""),
+    }
+}
+
+/// What a definition is told: `ok`, or why it is refused.
+fn answer(alloc: Global, definition: &str) -> anyhow::Result<String> {
+    let value = Value::from_str(alloc, definition)?;
+    let answered = match Machine::read(alloc, &value) {
+        Ok(_) => String::from_str(alloc, "ok"),
+        Err(fault) => {
+            let (number, name) = told(&fault);
+            format!(in alloc; "no {number} {name}")
+        }
+    };
+    Ok(answered?)
+}
+
+/// Tells of each definition of the input what it is.
+fn answer_all(rt: &HostRuntime, alloc: Global) -> anyhow::Result<()> {
+    for line in rt.lines(alloc) {
+        let line = line?;
+        if let Some((name, definition)) = line.as_str().split_once(' ') {
+            let answered = answer(alloc, definition)?;
+            println!(rt; "{name} {answered}")?;
+        }
+    }
+    Ok(())
+}
+
 fn show(rt: &impl Runtime, alloc: Global) -> anyhow::Result<()> {
     let text = definition(alloc, BLOCKS)?;
     let is_read = read_definition(alloc, &text) == 1;
@@ -244,6 +285,7 @@ fn show(rt: &impl Runtime, alloc: Global) -> anyhow::Result<()> {
 
 fn main(rt: HostRuntime) -> anyhow::Result<()> {
     let alloc = rt.alloc();
+    answer_all(&rt, alloc)?;
     show(&rt, alloc)?;
     if let Some(rounds) = env::args(&rt)?.nth(1) {
         let rounds: u32 = rounds.parse().context("the number of rounds")?;
