@@ -55,6 +55,7 @@ attr_values answers_want_of_memory
 item_store answers_want_of_memory
 ref_paths answers_want_of_memory
 ref_paths answers_want_of_memory_for_templates
+depends answers_want_of_memory
 rollback_book refused_growths_change_nothing
 plain_replay refused_growths_are_told
 operator_line first_path_with_a_refused_growth

@@ -5,3 +5,4 @@ pub mod TestFalls
 pub mod TestFields
 pub mod TestFaults
 pub mod Holding
+pub mod Same

@@ -1,2 +1,3 @@
 pub mod ErrorFields
 pub mod ErrorFaults
+pub mod Same

@@ -1,6 +1,7 @@
 #![tactic(auto)]
 
 //! What a state does with errors (Amazon States Language, "Errors"): its retriers and catchers, and how they are read.
+mod equality;
 mod error_readers;
 mod errors;
 #[cfg(test)]

@@ -29,11 +29,11 @@ end_of : (P : Frame → Type 0) (level : Definition) (t : Transition) (f : Frame
 end_of P level t f (Ok output) ok err = ok output
 end_of P level t f (Err error) ok err = err error
 
-on_count : (level : Definition) (t : Transition) (f : Frame) (output : Data) → (ends level t f (Ok output)).count ≡ f.count + 1
+pub on_count : (level : Definition) (t : Transition) (f : Frame) (output : Data) → (ends level t f (Ok output)).count ≡ f.count + 1
 on_count level (Next name) f output = refl
 on_count level End f output = refl
 
-end_count : (level : Definition) (t : Transition) (f : Frame) (worked : Result Data (List ℕ)) → (ends level t f worked).count ≡ f.count + 1
+pub end_count : (level : Definition) (t : Transition) (f : Frame) (worked : Result Data (List ℕ)) → (ends level t f worked).count ≡ f.count + 1
 end_count level t f worked = end_of (λ g. g.count ≡ f.count + 1) level t f worked (on_count level t f) (λ error. refl)
 
 -- P of each frame that a Choice state may give
@@ -59,11 +59,11 @@ next_frame-count level (ChoiceState s) f = choice_of (λ g. g.count ≡ f.count 
 next_frame-count level (Parallel s) f = refl
 next_frame-count level (Map s) f = refl
 
-on_level : (level : Definition) (t : Transition) (f : Frame) (output : Data) → (ends level t f (Ok output)).level ≡ f.level
+pub on_level : (level : Definition) (t : Transition) (f : Frame) (output : Data) → (ends level t f (Ok output)).level ≡ f.level
 on_level level (Next name) f output = refl
 on_level level End f output = refl
 
-end_level : (level : Definition) (t : Transition) (f : Frame) (worked : Result Data (List ℕ)) → (ends level t f worked).level ≡ f.level
+pub end_level : (level : Definition) (t : Transition) (f : Frame) (worked : Result Data (List ℕ)) → (ends level t f worked).level ≡ f.level
 end_level level t f worked = end_of (λ g. g.level ≡ f.level) level t f worked (on_level level t f) (λ error. refl)
 
 pub next_frame-level : (level : Definition) (s : State) (f : Frame) → (next_frame level s f).level ≡ f.level
@@ -76,11 +76,11 @@ next_frame-level level (ChoiceState s) f = choice_of (λ g. g.level ≡ f.level)
 next_frame-level level (Parallel s) f = refl
 next_frame-level level (Map s) f = refl
 
-on_state : (level : Definition) (t : Transition) (f : Frame) → LeadsInto level.states t → IsState level.states f.state → (output : Data) → IsState level.states (ends level t f (Ok output)).state
+pub on_state : (level : Definition) (t : Transition) (f : Frame) → LeadsInto level.states t → IsState level.states f.state → (output : Data) → IsState level.states (ends level t f (Ok output)).state
 on_state level (Next name) f leads here output = leads
 on_state level End f leads here output = here
 
-end_state : (level : Definition) (t : Transition) (f : Frame) (worked : Result Data (List ℕ)) → LeadsInto level.states t → IsState level.states f.state → IsState level.states (ends level t f worked).state
+pub end_state : (level : Definition) (t : Transition) (f : Frame) (worked : Result Data (List ℕ)) → LeadsInto level.states t → IsState level.states f.state → IsState level.states (ends level t f worked).state
 end_state level t f worked leads here = end_of (λ g. IsState level.states g.state) level t f worked (on_state level t f leads here) (λ error. here)
 
 -- a rule goes to a state that is there, and so does the default

@@ -97,7 +97,8 @@ choice_frame level s f (Err error) = has_failed f (own_fault error)
 abbrev pub declared_fault : Fail → Fault
 declared_fault s = record { error = s.error; cause = s.cause; origin = Other }
 
--- The next frame that a state of this level gives. A Task, a Parallel and a Map are not run yet; they would fail.
+-- The next frame that a state of this level gives by itself. A Task, a Parallel and a Map give none so: they ask or fork
+-- first, and fail here.
 abbrev pub next_frame : Definition → State → Frame → Frame
 next_frame level (state.Pass s) f = ends level s.transition f (pass_output s (data_of f.raw))
 next_frame level (state.Choice s) f = choice_frame level s f (effective s.processing (data_of f.raw))

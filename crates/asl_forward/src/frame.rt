@@ -139,9 +139,8 @@ impl Frames {
     pub(crate) fn new(alloc: Global) -> Frames
         ensures { result ≡ [] }
     {
-        Frames {
-            inner: Vec::new(alloc),
-        }
+        let inner = Vec::new(alloc);
+        Frames { inner }
     }
 
     /// The frames themselves. Takes no memory.

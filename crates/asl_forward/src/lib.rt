@@ -6,12 +6,16 @@ mod error;
 mod forking;
 mod frame;
 mod handling;
+#[cfg(test)]
+mod handling_tests;
 mod outcomes;
 mod prepared;
 mod processing;
 #[cfg(test)]
 mod tests;
 mod turn;
+#[cfg(test)]
+mod turn_tests;
 mod work;
 
 pub use frame::{Fault, Frame, Frames, Origin, Phase, Retries};

@@ -1,11 +1,11 @@
-use crate::{Frame, Outcome, Phase, Prepared, first_frame, next_frame, prepare, standing};
+use crate::{Frame, Outcome, Phase, first_frame, next_frame, prepare, standing};
 use asl_machine::{Machine, SharedMachine};
 use json_tree::{Json, Text, read, write_text};
 use serde_json::Value;
 use std::alloc::{AllocError, Global};
 use std::test::Fail;
 
-fn machine_of(alloc: Global, text: &str) -> Result<SharedMachine, Fail> {
+pub(crate) fn machine_of(alloc: Global, text: &str) -> Result<SharedMachine, Fail> {
     let definition = Value::from_str(alloc, text)?;
     match Machine::read(alloc, &definition) {
         Ok(machine) => Ok(SharedMachine::new(alloc, machine)?),
@@ -13,14 +13,18 @@ fn machine_of(alloc: Global, text: &str) -> Result<SharedMachine, Fail> {
     }
 }
 
-fn json_of(alloc: Global, text: &str) -> Result<Json, Fail> {
+pub(crate) fn json_of(alloc: Global, text: &str) -> Result<Json, Fail> {
     match read(alloc, text.as_bytes()) {
         Ok(json) => Ok(json),
         Err(_fault) => Err("the input is refused".into()),
     }
 }
 
-fn start(alloc: Global, machine: &SharedMachine, input: &Json) -> Result<Frame, AllocError> {
+pub(crate) fn start(
+    alloc: Global,
+    machine: &SharedMachine,
+    input: &Json,
+) -> Result<Frame, AllocError> {
     let name = Text::new(alloc, "m")?;
     first_frame(alloc, &name, machine.machine(), input)
 }
@@ -52,7 +56,7 @@ fn moved(
     Ok(last?)
 }
 
-fn is_written(alloc: Global, json: &Json, want: &str) -> bool {
+pub(crate) fn is_written(alloc: Global, json: &Json, want: &str) -> bool {
     match write_text(alloc, json) {
         Ok(text) => text.as_str() == want,
         Err(_refused) => false,
@@ -61,14 +65,14 @@ fn is_written(alloc: Global, json: &Json, want: &str) -> bool {
 
 /// How a frame is to be shown: its phase, then what it holds or where it stands.
 #[derive(Clone, Copy, Debug)]
-enum Want {
+pub(crate) enum Want {
     Done(&'static str),
     Failed(&'static str, &'static str),
     /// The state, and its raw input.
     Ready(&'static str, &'static str),
 }
 
-fn is_as_wanted(alloc: Global, frame: &Frame, want: Want) -> bool {
+pub(crate) fn is_as_wanted(alloc: Global, frame: &Frame, want: Want) -> bool {
     match (&frame.phase, want) {
         (Phase::Done(output), Want::Done(text)) => is_written(alloc, output, text),
         (Phase::Failed(fault), Want::Failed(error, cause)) => {
@@ -259,14 +263,13 @@ fn is_prepared(alloc: Global, machine: &SharedMachine, first: &Frame) -> Result<
     let Phase::Ready = &first.phase else {
         return Ok(false);
     };
-    let Prepared {
-        frame,
-        machine: kept,
-        outcome: Outcome::Next(next),
-    } = prepare(alloc, machine, first)?;
-    let keeps = frame.count == 0 && is_written(alloc, &frame.raw, "3");
-    drop(kept);
-    Ok(keeps && is_as_wanted(alloc, &next, Want::Done("7")))
+    let prepared = prepare(alloc, machine, first)?;
+    let keeps = prepared.frame().count == 0 && is_written(alloc, &prepared.frame().raw, "3");
+    let comes = match prepared.outcome() {
+        Outcome::Next(next) => is_as_wanted(alloc, next, Want::Done("7")),
+        _ => false,
+    };
+    Ok(keeps && comes)
 }
 
 #[test]

@@ -5,17 +5,11 @@ use Rattle.std.specs.Cmp.Lexicographic.{slice_cmp}
 use Rattle.std.specs.Map.{lookup}
 use Rattle.std.specs.Ordering.{nat_cmp, match_ordering}
 use Rattle.asl_machine.specs.Complete.{state_of}
-use Rattle.asl_machine.specs.Definition.{StateTree, Definition, states_in, named_states, definition_in, machine_tree, definitions_in, machine_trees}
+use Rattle.asl_machine.specs.Definition.{StateTree, Definition, definitions_in, machine_trees}
+use Rattle.asl_machine.specs.Same.{definition_in-machine_tree}
 use Rattle.asl_machine.specs.TreeView.{tree_of, state_in, states_of}
 use Rattle.asl_machine.specs.declared.state.State.{State}
 use Rattle.asl_machine.specs.declared.state.State.TheVariants.{Pass, Task, Choice, Wait, Succeed, Fail, Parallel, Map}
-
-states_in-named_states : (ss : List (List ℕ × StateTree)) → states_in (named_states ss) ≡ ss
-states_in-named_states [] = refl
-states_in-named_states (s ∷ ss) = ap (λ us. s ∷ us) (states_in-named_states ss)
-
-definition_in-machine_tree : (d : Definition) → definition_in (machine_tree d) ≡ d
-definition_in-machine_tree d = ap (λ (ss : List (List ℕ × StateTree)). let r : Definition = record { start = d.start; states = ss } in r) (states_in-named_states d.states)
 
 definitions_in-machine_trees : (ds : List Definition) → definitions_in (machine_trees ds) ≡ ds
 definitions_in-machine_trees [] = refl

@@ -10,3 +10,4 @@ pub mod Reading
 pub mod Profile
 pub mod Faults
 pub mod Laws
+pub mod Same

@@ -1,6 +1,7 @@
 #![tactic(auto)]
 
 //! Definitions of state machines (Amazon States Language), read from JSON and checked once.
+mod equality;
 mod kind;
 mod laws;
 mod level;
@@ -18,7 +19,10 @@ mod tests;
 pub use asl_choice::{Comparison, InnerTest, Relation, Rule, Rules, Test, Tests};
 pub use asl_errors::{Catcher, Catchers, ErrorHandling, ErrorNames, Retrier, Retriers};
 pub use asl_fields::MachineFault;
-pub use laws::{definitions_are_one_machine, faulty_definitions_are_none, machines_are_whole};
+pub use laws::{
+    definitions_are_one_machine, equality_is_of_machines, faulty_definitions_are_none,
+    machines_are_whole,
+};
 pub use level::{Level, LevelPath, LevelStep};
 pub use shared::SharedMachine;
 pub use state::{

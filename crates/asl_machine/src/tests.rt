@@ -461,3 +461,44 @@ fn reads_errors(rt: HostRuntime) -> Result<(), Fail> {
     assert_eq!(rt; state.cause.as_str(), "");
     Ok(())
 }
+
+/// Machines of which no two are one: each differs from the first in one place.
+const UNLIKE: &[&str] = &[
+    r#"{"StartAt":"A","States":{"A":{"Type":"Pass","Next":"B"},"B":{"Type":"Map","ItemProcessor":{"StartAt":"C","States":{"C":{"Type":"Succeed"}}},"End":true}}}"#,
+    r#"{"StartAt":"B","States":{"A":{"Type":"Pass","Next":"B"},"B":{"Type":"Map","ItemProcessor":{"StartAt":"C","States":{"C":{"Type":"Succeed"}}},"End":true}}}"#,
+    r#"{"StartAt":"A","States":{"A":{"Type":"Pass","Next":"A"},"B":{"Type":"Map","ItemProcessor":{"StartAt":"C","States":{"C":{"Type":"Succeed"}}},"End":true}}}"#,
+    r#"{"StartAt":"A","States":{"A":{"Type":"Pass","Next":"B","Result":7},"B":{"Type":"Map","ItemProcessor":{"StartAt":"C","States":{"C":{"Type":"Succeed"}}},"End":true}}}"#,
+    r#"{"StartAt":"A","States":{"A":{"Type":"Pass","Next":"B"},"B":{"Type":"Map","ItemProcessor":{"StartAt":"C","States":{"C":{"Type":"Fail"}}},"End":true}}}"#,
+    r#"{"StartAt":"A","States":{"A":{"Type":"Pass","Next":"B"},"B":{"Type":"Map","ItemProcessor":{"StartAt":"C","States":{"C":{"Type":"Succeed"}}},"ItemSelector":{"i.$":"$$.Map.Item.Index"},"End":true}}}"#,
+    r#"{"StartAt":"A","States":{"A":{"Type":"Pass","Next":"B"},"B":{"Type":"Map","ItemProcessor":{"StartAt":"C","States":{"C":{"Type":"Succeed"}}},"Retry":[{"ErrorEquals":["E"]}],"End":true}}}"#,
+    r#"{"StartAt":"A","States":{"A":{"Type":"Pass","Next":"B"},"B":{"Type":"Parallel","Branches":[{"StartAt":"C","States":{"C":{"Type":"Succeed"}}}],"End":true}}}"#,
+    r#"{"StartAt":"A","States":{"A":{"Type":"Pass","Next":"B"},"B":{"Type":"Succeed"},"C":{"Type":"Succeed"}}}"#,
+    r#"{"StartAt":"A","States":{"A":{"Type":"Pass","Next":"B"},"B":{"Type":"Choice","Choices":[{"Not":{"Variable":"$.a","NumericEquals":1},"Next":"A"}]}}}"#,
+    r#"{"StartAt":"A","States":{"A":{"Type":"Pass","Next":"B"},"B":{"Type":"Choice","Choices":[{"Not":{"Variable":"$.a","NumericEquals":2},"Next":"A"}]}}}"#,
+];
+
+/// Whether two texts define one machine; none, where one of them defines none.
+fn are_one(alloc: Global, text: &str, other: &str) -> Result<Option<bool>, Fail> {
+    let (Ok(machine), Ok(another)) = (machine_of(alloc, text)?, machine_of(alloc, other)?) else {
+        return Ok(None);
+    };
+    Ok(Some(machine == another))
+}
+
+#[test]
+fn compares_machines(rt: HostRuntime) -> Result<(), Fail> {
+    let alloc = rt.alloc();
+    for &text in UNLIKE {
+        for &other in UNLIKE {
+            assert!(rt;
+                are_one(alloc, text, other)? == Some(text == other),
+                "{text} {other}"
+            );
+        }
+    }
+    let spelled =
+        r#" {"States":{"A":{"End":false,"Next":"A","Comment":1,"Type":"Pass"}},"StartAt":"A"}"#;
+    let plain = r#"{"StartAt":"A","States":{"A":{"Type":"Pass","Next":"A","InputPath":"$"}}}"#;
+    assert!(rt; are_one(alloc, spelled, plain)? == Some(true));
+    Ok(())
+}

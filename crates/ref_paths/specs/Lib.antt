@@ -13,3 +13,4 @@ pub mod PayloadCode
 pub mod PayloadView
 pub mod PayloadFalls
 pub mod TemplateLaws
+pub mod Same

@@ -3,6 +3,7 @@
 #![tactic(auto)]
 
 mod composing;
+mod equality;
 mod filling;
 mod laws;
 mod nesting;

@@ -32,6 +32,48 @@ impl Model for RefPath {
     ghost view = { λ a. a.steps.items };
 }
 
+impl PartialEq for PathStep {
+    ghost use Rattle.std.specs.Cmp.{partial_equiv_from_equiv};
+    ghost use Rattle.ref_paths.specs.Same.{same_step, exact_equiv, step_exact};
+
+    ghost eq = { same_step };
+
+    ghost laws = { partial_equiv_from_equiv (exact_equiv same_step step_exact) };
+
+    fn eq(&self, other: &PathStep) -> bool {
+        match (self, other) {
+            (PathStep::Name(name), PathStep::Name(other)) => name == other,
+            (PathStep::Index(index), PathStep::Index(other)) => index == other,
+            _ => false,
+        }
+    }
+}
+
+impl Eq for PathStep {
+    ghost use Rattle.ref_paths.specs.Same.{same_step, exact_equiv, step_exact};
+
+    ghost laws = { exact_equiv same_step step_exact };
+}
+
+impl PartialEq for RefPath {
+    ghost use Rattle.std.specs.Cmp.{partial_equiv_from_equiv};
+    ghost use Rattle.ref_paths.specs.Same.{same_path, exact_equiv, path_exact};
+
+    ghost eq = { same_path };
+
+    ghost laws = { partial_equiv_from_equiv (exact_equiv same_path path_exact) };
+
+    fn eq(&self, other: &RefPath) -> bool {
+        self.steps == other.steps
+    }
+}
+
+impl Eq for RefPath {
+    ghost use Rattle.ref_paths.specs.Same.{same_path, exact_equiv, path_exact};
+
+    ghost laws = { exact_equiv same_path path_exact };
+}
+
 impl PathStep {
     /// An equal step. Takes memory for a name.
     pub fn copy(&self) -> Result<PathStep, AllocError>

@@ -114,11 +114,12 @@ fn fork(
     Ok(true)
 }
 
-/// A tree with a fork at each level above the depth.
+/// A tree with a fork at each level above the depth, of 4,096 branches just above it.
 fn tree_of(alloc: Global, depth: usize) -> Result<Tree, AllocError> {
     let mut tree = ready_tree(alloc)?;
     for level in 0..depth.min(LEVELS) {
-        fork(alloc, &mut tree, &DEEP[..level], 2)?;
+        let branches = if level + 1 < depth { 2 } else { MANY };
+        fork(alloc, &mut tree, &DEEP[..level], branches)?;
     }
     Ok(tree)
 }
@@ -162,16 +163,26 @@ fn rate(things: u32, took: Duration) -> u128 {
     (things as u128).saturating_mul(1_000_000) / took.as_micros().max(1)
 }
 
-fn time_depth(rt: &impl Runtime, alloc: Global, depth: usize, rounds: u32) -> anyhow::Result<()> {
-    let mut tree = tree_of(alloc, depth)?;
-    let path = &DEEP[..depth.min(LEVELS)];
+/// Looks the deepest branches up, one after another, so that no two searches in a row are the same. How many were found.
+fn look_up(tree: &Tree, path: &mut Vec<(u32, u32)>, rounds: u32) -> u32 {
     let mut found = 0u32;
-    let start = Instant::now(rt)?;
-    for _ in 0..rounds {
+    for round in 0..rounds {
+        if let Some(last) = path.last_mut() {
+            last.1 = round % MANY;
+        }
         if tree.find(path).is_some() {
             found = found.saturating_add(1);
         }
     }
+    found
+}
+
+fn time_depth(rt: &impl Runtime, alloc: Global, depth: usize, rounds: u32) -> anyhow::Result<()> {
+    let mut tree = tree_of(alloc, depth)?;
+    let path = &DEEP[..depth.min(LEVELS)];
+    let mut names = Vec::from_slice(alloc, path)?;
+    let start = Instant::now(rt)?;
+    let found = look_up(&tree, &mut names, rounds);
     let looked = rate(found, start.elapsed(rt)?);
     let mut frame = frame_in(alloc, Phase::Ready)?;
     let start = Instant::now(rt)?;

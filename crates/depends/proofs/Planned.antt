@@ -1,0 +1,75 @@
+-- What a step that can be taken does, whether it starts an execution or moves a thread.
+use Rattle.std.proofs.Common.{◌≡◌, ℕ, ◌+◌, ◌==◌, Bool, true, false, cond, List, [], refl, ap, ap₂, sym, subst, ◌∙◌, inl, inr, Option, None, Some}
+use Rattle.std.specs.Prelude.{◌⊎◌, is_some, option_map}
+use Rattle.std.proofs.lemmas.Bool.{eqb-true}
+use Rattle.std.proofs.lemmas.Option.{same_Some}
+use Rattle.json_tree.specs.declared.tree.Json.{Json}
+use Rattle.asl_machine.specs.Definition.{Definition}
+use Rattle.asl_forward.specs.Turn.{first_frame}
+use Rattle.asl_forward.specs.declared.frame.Frame.{Frame}
+use Rattle.step_names.specs.Thread.{Thread, execution}
+use Rattle.step_names.specs.declared.step.StepName.{StepName}
+use Rattle.saved_steps.specs.Deeds.{Deed, next_step, deed_of, move_deed, frame_deed, start_deed, if_numbered, deed}
+use Rattle.saved_steps.specs.Steps.{Step, started, moved, start_name, name_of, is_fork, is_close}
+use Rattle.saved_steps.specs.World.{Setting, World}
+use Rattle.saved_steps.specs.declared.fact.Kind.TheVariants.{Start}
+use Rattle.trace_theory.proofs.Runs.{and_then_some, map_some}
+use Rattle.depends.proofs.Turned.{is_parked, IsMove, frame_move}
+
+pub if_some : {A : Type 0} (b : Bool) (x y : A) → cond b (Some x) None ≡ Some y → (b ≡ true) × (x ≡ y)
+if_some true x y h = (refl, same_Some x y h)
+if_some false x y h = cc
+
+unless_some : {A : Type 0} (b : Bool) (o : Option A) (y : A) → cond b None o ≡ Some y → (b ≡ false) × (o ≡ Some y)
+unless_some true o y h = cc
+unless_some false o y h = (refl, h)
+
+none_there : {A : Type 0} (o : Option A) → is_some o ≡ false → o ≡ None
+none_there None h = refl
+none_there (Some x) h = cc
+
+pub record IsPlanned (w : World) (d : Deed) : Type 0 where
+  pub count : d.frame.count ≡ d.fact.name.no
+  pub parks : is_fork d.fact.kind ≡ true → is_parked d.frame.phase ≡ true
+  -- it follows on the frame that its thread has
+  pub follows : (f : Frame) → w.frames d.fact.name.thread ≡ Some f → (d.fact.name.no ≡ f.count + 1) × (is_parked f.phase ≡ true → is_close d.fact.kind ≡ true)
+  -- only an execution's own thread may have none
+  pub stands : ((f : Frame) × (w.frames d.fact.name.thread ≡ Some f)) ⊎ ((d.fact.name.thread.path ≡ []) × (w.frames d.fact.name.thread ≡ None))
+
+start_planned : (s : Setting) (w : World) (exec machine : List ℕ) (input : Json) (d : Deed) → start_deed s w exec machine input ≡ Some d → (d.fact.name ≡ start_name exec) × IsPlanned w d
+start_planned s w exec machine input d h =
+    let k = unless_some (is_some (w.frames (execution exec))) (option_map (λ (m : Definition). deed_of Start (start_name exec) (first_frame machine m input)) (s.machines machine)) d h in
+    let none = none_there (w.frames (execution exec)) k.0 in
+    let m = map_some (λ (m : Definition). deed_of Start (start_name exec) (first_frame machine m input)) (s.machines machine) d k.1 in
+    subst (λ (e : Deed). (e.fact.name ≡ start_name exec) × IsPlanned w e) m.2
+    (refl, record { count = refl; parks = λ j. cc; follows = λ f j. absurd (nothing f (sym none ∙ j)); stands = inr (refl, none) })
+  where
+    nothing : (f : Frame) → None ≡ Some f → ⊥
+    nothing f e = cc
+
+pub numbered : (d e : Deed) (number : ℕ) → if_numbered number d ≡ Some e → (d.fact.name.no ≡ number) × (d ≡ e)
+numbered d e number h = let k = if_some (d.fact.name.no == number) d e h in (eqb-true d.fact.name.no number k.0, k.1)
+
+move_planned : (w : World) (t : Thread) (f : Frame) (d : Deed) → w.frames t ≡ Some f → IsMove (next_step t f) f d → IsPlanned w d
+move_planned w t f d here m = record {
+  count = m.count ∙ sym no;
+  parks = m.parks;
+  follows = λ g h. let e : f ≡ g = same_Some f g (sym there ∙ h) in (no ∙ ap (λ (x : Frame). x.count + 1) e, λ k. m.closes (subst (λ (x : Frame). is_parked x.phase ≡ true) (sym e) k));
+  stands = inl (f, there);
+}
+  where
+    no : d.fact.name.no ≡ f.count + 1
+    no = ap (λ (n : StepName). n.no) m.named
+
+    there : w.frames d.fact.name.thread ≡ Some f
+    there = ap (λ (n : StepName). w.frames n.thread) m.named ∙ here
+
+pub planned : (s : Setting) (w : World) (step : Step) (d : Deed) → deed s w step ≡ Some d → (d.fact.name ≡ name_of step) × IsPlanned w d
+planned s w (started exec machine input) d h = start_planned s w exec machine input d h
+planned s w (moved name) d h =
+    let k = and_then_some (if_numbered name.no) (move_deed s w name.thread) d h in
+    let n = numbered k.0 d name.no k.2 in
+    let f = and_then_some (frame_deed s w name.thread) (w.frames name.thread) k.0 k.1 in
+    let m = frame_move s w name.thread f.0 k.0 f.2 in
+    subst (λ (e : Deed). (e.fact.name ≡ name) × IsPlanned w e) n.1
+    (ap₂ (λ (t : Thread) (no : ℕ). let x : StepName = record { thread = t; no = no } in x) (ap (λ (x : StepName). x.thread) m.named) n.0, move_planned w name.thread f.0 k.0 f.1 m)

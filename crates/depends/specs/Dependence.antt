@@ -1,0 +1,38 @@
+-- On which earlier steps a step depends directly (Danos and Krivine, "Reversible Communicating Systems", 2004: causality; the
+-- items that steps share are added).
+use Rattle.std.specs.Prelude.{Bool, true, false, ◌&&◌, ◌||◌, Option, None, Some}
+use Rattle.item_store.specs.Condition.{is_text}
+use Rattle.item_store.specs.Table.{is_same_key}
+use Rattle.step_names.specs.Thread.{Thread}
+use Rattle.saved_steps.specs.Steps.{makes, closes, is_write}
+use Rattle.saved_steps.specs.World.{is_same_thread}
+use Rattle.saved_steps.specs.declared.fact.Access.{Access}
+use Rattle.saved_steps.specs.declared.fact.Fact.{Fact}
+use Rattle.saved_steps.specs.declared.fact.Kind.{Kind}
+use Rattle.saved_steps.specs.declared.fact.Kind.TheVariants.{Start, Plain, Call, Fork, Join, Terminate}
+
+abbrev pub is_start : Kind → Bool
+is_start Start = true
+is_start Plain = false
+is_start Call = false
+is_start Fork = false
+is_start Join = false
+is_start Terminate = false
+
+-- the step is the start of the thread's execution
+abbrev pub begins : Fact → Thread → Bool
+begins s t = is_start s.kind && is_text s.name.thread.exec t.exec
+
+-- two accesses of one key, not both reads
+abbrev pub conflicts : Option Access → Option Access → Bool
+conflicts None b = false
+conflicts (Some a) None = false
+conflicts (Some a) (Some b) = is_same_key a.key b.key && (is_write a.mode || is_write b.mode)
+
+-- A later step b depends directly on an earlier step a: they are of one thread; or a is the start of b's execution, or a fork
+-- that b's thread lies under at any depth; or b is a join or a terminate, and a's thread lies under the fork that it closes; or
+-- both access one key, and not both read.
+abbrev pub depends_directly : Fact → Fact → Bool
+depends_directly a b =
+    is_same_thread a.name.thread b.name.thread
+    || (begins a b.name.thread || (makes a b.name.thread || (closes b a.name.thread || conflicts a.access b.access)))

@@ -1,0 +1,59 @@
+-- Steps of executions as steps that may commute: what they depend on, what they keep, and what they touch.
+use Rattle.std.specs.Prelude.{Bool, ◌||◌, Option, None, Some, if◌then◌else◌}
+use Rattle.attr_values.specs.declared.key.Key.{Key}
+use Rattle.item_store.specs.Deciding.{Attributes}
+use Rattle.asl_forward.specs.declared.frame.Frame.{Frame}
+use Rattle.step_names.specs.Thread.{Thread}
+use Rattle.trace_theory.specs.Footprints.{Plans}
+use Rattle.trace_theory.specs.Traces.{Machine}
+use Rattle.saved_steps.specs.Deeds.{Deed, deed}
+use Rattle.saved_steps.specs.Keeping.{Kept, kept, undo}
+use Rattle.saved_steps.specs.Run.{begun, carried_out, take_step}
+use Rattle.saved_steps.specs.Steps.{Step, name_of, makes, closes, touches_key, writes_key}
+use Rattle.saved_steps.specs.World.{Setting, World, is_same_thread, is_same_step}
+use Rattle.saved_steps.specs.declared.fact.Fact.{Fact}
+use Rattle.depends.specs.Dependence.{depends_directly}
+
+-- two steps of one name
+abbrev pub is_one_step : Step → Step → Bool
+is_one_step a b = is_same_step (name_of a) (name_of b)
+
+abbrev pub steps : Setting → Machine World Step Fact Kept
+steps s = record { take = take_step s; is_same = is_one_step; depends = depends_directly; saved = kept; undo = undo }
+
+-- ---- footprints
+
+-- the frame of a thread, or the item of a key
+pub data Cell : Type 0 where
+  frame_at : Thread → Cell
+  item_at : Key → Cell
+
+pub data Content : Type 0 where
+  a_frame : Option Frame → Content
+  an_item : Option Attributes → Content
+
+abbrev pub at : World → Cell → Content
+at w (frame_at t) = a_frame (w.frames t)
+at w (item_at key) = an_item (w.items key)
+
+-- the thread lies under the fork that a step makes or closes
+abbrev pub reaches : Fact → Thread → Bool
+reaches s t = makes s t || closes s t
+
+-- a step touches its own thread, what lies under the fork that it makes or closes, and the item of its key
+abbrev pub touches : Deed → Cell → Bool
+touches d (frame_at t) = is_same_thread d.fact.name.thread t || reaches d.fact t
+touches d (item_at key) = touches_key d.fact key
+
+-- of these it writes all but an item that it reads
+abbrev pub writes : Deed → Cell → Bool
+writes d (frame_at t) = is_same_thread d.fact.name.thread t || reaches d.fact t
+writes d (item_at key) = writes_key d.fact key
+
+-- what stands afterwards where it writes
+abbrev pub leaves : Deed → Cell → Content
+leaves d (frame_at t) = a_frame (if is_same_thread d.fact.name.thread t then Some d.frame else if makes d.fact t then begun d t else None)
+leaves d (item_at key) = an_item d.item
+
+abbrev pub plans : Setting → Plans World Step Fact Cell Content Deed
+plans s = record { at = at; plan = deed s; carried_out = carried_out; fact = λ d. d.fact; touches = touches; writes = writes; holds = leaves }

@@ -1,0 +1,65 @@
+-- What is true of the steps of executions, in every setting, from every world without executions.
+use Rattle.std.specs.Prelude.{◌≡◌, ◌↔◌, ℕ, List, map, reverse, None, Some, slice_get, option_map}
+use Rattle.step_names.specs.Thread.{Thread}
+use Rattle.trace_theory.specs.Traces as theory
+use Rattle.trace_theory.specs.Traces.{Taken, IsRun, after, IsFree, IsLawful, HasNames, NeighboursSwap, FreeStepsUndo, AfterIsLeast, OrdersUndo, ArrangementsAgree, HeldIsLeft}
+use Rattle.saved_steps.specs.Keeping.{Kept}
+use Rattle.saved_steps.specs.Run.{run}
+use Rattle.saved_steps.specs.Steps.{Step}
+use Rattle.saved_steps.specs.World.{Setting, World}
+use Rattle.saved_steps.specs.declared.fact.Fact.{Fact}
+use Rattle.depends.specs.Instance.{steps}
+use Rattle.depends.specs.Plans.{first_dependent, plan}
+
+-- no thread has a frame; the items are as they may be
+abbrev pub HasNoFrames : World → Type 0
+HasNoFrames base = (t : Thread) → base.frames t ≡ None
+
+abbrev pub facts_of : List (Taken Step Fact Kept) → List Fact
+facts_of ts = map (λ t. t.fact) ts
+
+-- the theory's runs are runs, seen with what each step kept
+abbrev pub RunsAreSeen : Type 0
+RunsAreSeen = (s : Setting) (w : World) (names : List Step) → run s w names ≡ option_map (λ p. (p.0, facts_of p.1)) (theory.run (steps s) w names)
+
+-- independent neighbours swap, and what a step kept undoes it
+abbrev pub StepsAreLawful : Type 0
+StepsAreLawful = (s : Setting) (base : World) → HasNoFrames base → IsLawful (steps s) base
+
+-- no two steps of a run have one name
+abbrev pub StepsHaveNames : Type 0
+StepsHaveNames = (s : Setting) (base : World) → HasNoFrames base → HasNames (steps s) base
+
+abbrev pub StepsSwap : Type 0
+StepsSwap = (s : Setting) (base : World) → HasNoFrames base → NeighboursSwap (steps s) base
+
+abbrev pub StepsUndo : Type 0
+StepsUndo = (s : Setting) (base : World) → HasNoFrames base → FreeStepsUndo (steps s) base
+
+abbrev pub ConsequencesAreLeast : Type 0
+ConsequencesAreLeast = (s : Setting) (base : World) → HasNoFrames base → AfterIsLeast (steps s) base
+
+abbrev pub UndoOrdersAgree : Type 0
+UndoOrdersAgree = (s : Setting) (base : World) → HasNoFrames base → OrdersUndo (steps s) base
+
+abbrev pub StepArrangementsAgree : Type 0
+StepArrangementsAgree = (s : Setting) (base : World) → HasNoFrames base → ArrangementsAgree (steps s) base
+
+abbrev pub HeldStepsAreLeft : Type 0
+HeldStepsAreLeft = (s : Setting) (base : World) → HasNoFrames base → HeldIsLeft (steps s) base
+
+-- ---- plans
+
+-- The plan of a step is its consequences, from the last to the first.
+abbrev pub PlansAreConsequences : Type 0
+PlansAreConsequences =
+    (s : Setting) (base v : World) (ts : List (Taken Step Fact Kept)) (place : ℕ) (t : Taken Step Fact Kept)
+    → HasNoFrames base → IsRun (steps s) base ts v → slice_get ts place ≡ Some t
+    → map (slice_get ts) (plan (facts_of ts) place) ≡ map Some (reverse (after (steps s) ts t.step))
+
+-- A step has no dependent just where it is free.
+abbrev pub FreeStepsHaveNoDependent : Type 0
+FreeStepsHaveNoDependent =
+    (s : Setting) (base v : World) (ts : List (Taken Step Fact Kept)) (place : ℕ) (t : Taken Step Fact Kept)
+    → HasNoFrames base → IsRun (steps s) base ts v → slice_get ts place ≡ Some t
+    → (first_dependent (facts_of ts) place ≡ None) ↔ IsFree (steps s) ts t

@@ -1,0 +1,92 @@
+//! Dependence between steps (Danos and Krivine, "Reversible Communicating Systems", 2004: causality; items that steps share
+//! are added).
+
+ghost use Rattle.std.specs.Prelude.{◌≡◌, ◌<◌, length, map};
+ghost use Rattle.depends.specs.Dependence.{depends_directly, begins, conflicts};
+ghost use Rattle.depends.specs.Plans as plans;
+ghost use Rattle.saved_steps.specs.Steps.{makes, closes, is_write};
+
+use item_store::AccessMode;
+use saved_steps::{Access, Fact, Kind, StepRecord};
+use step_names::ThreadName;
+
+/// Whether the later of two steps depends directly on the earlier one. Takes no memory, and time in the lengths of the names
+/// and keys.
+pub fn depends(earlier: &Fact, later: &Fact) -> bool
+    ensures { result ≡ depends_directly earlier.now later.now }
+{
+    earlier.name.thread == later.name.thread
+        || begins(earlier, &later.name.thread)
+        || makes(earlier, &later.name.thread)
+        || closes(later, &earlier.name.thread)
+        || conflict(&earlier.access, &later.access)
+}
+
+/// Whether a step is the start of a thread's execution.
+fn begins(fact: &Fact, thread: &ThreadName) -> bool
+    ensures { result ≡ begins fact.now thread.now }
+{
+    match fact.kind {
+        Kind::Start => fact.name.thread.exec() == thread.exec(),
+        _ => false,
+    }
+}
+
+/// Whether a step is a fork that a thread lies under.
+fn makes(fact: &Fact, thread: &ThreadName) -> bool
+    ensures { result ≡ makes fact.now thread.now }
+{
+    match fact.kind {
+        Kind::Fork => thread.is_under(&fact.name.thread, fact.name.no),
+        _ => false,
+    }
+}
+
+/// Whether a step closes a fork that a thread lies under.
+fn closes(fact: &Fact, thread: &ThreadName) -> bool
+    ensures { result ≡ closes fact.now thread.now }
+{
+    match fact.kind {
+        // the fork is the step before
+        Kind::Join | Kind::Terminate => {
+            thread.is_under(&fact.name.thread, fact.name.no.saturating_sub(1))
+        }
+        _ => false,
+    }
+}
+
+/// Whether two accesses are of one key, and not both reads.
+fn conflict(earlier: &Option<Access>, later: &Option<Access>) -> bool
+    ensures { result ≡ conflicts earlier.now later.now }
+{
+    match (earlier, later) {
+        (Some(earlier), Some(later)) => {
+            earlier.key == later.key && (is_write(earlier.mode) || is_write(later.mode))
+        }
+        _ => false,
+    }
+}
+
+fn is_write(mode: AccessMode) -> bool
+    ensures { result ≡ is_write mode }
+{
+    match mode {
+        AccessMode::Write => true,
+        AccessMode::Read => false,
+    }
+}
+
+/// The place of the earliest step after the one at a place that depends directly on it. Takes no memory, and one comparison
+/// for each later step up to that one.
+pub fn first_dependent(records: &[StepRecord], at: usize) -> Option<usize>
+    requires { at < length records.now }
+    ensures { result ≡ plans.first_dependent (map (λ r. r.fact) records.now) at }
+{
+    let fact = &records[at].fact;
+    for place in at + 1..records.len() {
+        if depends(fact, &records[place].fact) {
+            return Some(place);
+        }
+    }
+    None
+}
