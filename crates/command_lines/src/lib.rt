@@ -8,6 +8,5 @@ mod execution;
 mod laws;
 mod words;
 
-pub use command::{Command, CommandFault};
-pub use execution::Execution;
+pub use command::{Command, CommandFault, Execution};
 pub use laws::lines_are_spelled;
