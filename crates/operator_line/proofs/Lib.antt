@@ -1,9 +1,3 @@
-pub mod Cuts
-pub mod Keywords
-pub mod ReadBack
-pub mod Spelling
-pub mod Steps
-pub mod Utf8
 pub mod Served
 pub mod Replied
 pub mod Json

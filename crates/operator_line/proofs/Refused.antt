@@ -14,8 +14,8 @@ use Rattle.rollback_book.specs.declared.log.Entry.{Entry}
 use Rattle.attr_values.specs.declared.key.KeySchema.{KeySchema}
 use Rattle.rollback_book.specs.declared.refusal.Refusal.{Refusal}
 use Rattle.rollback_book.specs.declared.step.Moved.{Moved}
-use Rattle.operator_line.specs.Grammar as spoken
-use Rattle.operator_line.specs.Grammar.{Spoken, command_of}
+use Rattle.command_lines.specs.Grammar as spoken
+use Rattle.command_lines.specs.Grammar.{Spoken, command_of}
 use Rattle.operator_line.specs.Answers.{Tells, OfWhole, OfSource, AnswersItems, AnswersDefine, AnswersStarted, AnswersStep, AnswersUndo, AnswersShow, AnswersOpen, AnswersClosed, AnswersSpoken, AnswersText, AnswersLine}
 use Rattle.operator_line.specs.LineLaws.{is_refusal}
 

@@ -21,8 +21,8 @@ use Rattle.rollback_book.specs.declared.log.Entry.TheVariants.{Define, Start, St
 use Rattle.attr_values.specs.declared.key.KeySchema.{KeySchema}
 use Rattle.rollback_book.specs.declared.refusal.Refusal.{Refusal}
 use Rattle.rollback_book.specs.declared.step.Moved.{Moved}
-use Rattle.operator_line.specs.Grammar as spoken
-use Rattle.operator_line.specs.Grammar.{Spoken, command_of}
+use Rattle.command_lines.specs.Grammar as spoken
+use Rattle.command_lines.specs.Grammar.{Spoken, command_of}
 use Rattle.operator_line.specs.Replies.{done_reply, step_reply, moved_reply, list_reply, frame_reply, refused, refused_by, refusal_reply, memory_reply}
 
 -- this is told, and this is the book then: such is the reply, and the book afterwards

@@ -1,8 +1,4 @@
 pub mod Lines
-pub mod Grammar
-pub mod Spelled
-pub mod GrammarLaws
-mod GrammarRows
 pub mod Texts
 pub mod Replies
 pub mod Replying

@@ -1,10 +1,6 @@
 #![tactic(auto)]
 
 //! The operators' language: lines in, replies out.
-mod command;
-#[cfg(test)]
-mod command_tests;
-mod execution;
 mod laws;
 mod line;
 mod reply;
@@ -14,10 +10,9 @@ mod session;
 mod stream_tests;
 #[cfg(test)]
 mod tests;
-mod words;
 
-pub use command::{Command, CommandFault, Execution};
-pub use laws::{lines_are_spelled, refused_lines_change_nothing};
+pub use command_lines::{Command, CommandFault, Execution, lines_are_spelled};
+pub use laws::refused_lines_change_nothing;
 pub use line::{Line, LineBuffer};
 pub use serving::{ServeFault, serve};
 pub use session::Session;

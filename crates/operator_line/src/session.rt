@@ -1,16 +1,16 @@
 // A session: a book, and the commands that are given to it.
 ghost use Rattle.std.specs.Prelude.{◌≡◌, ◌≤◌, [], Some, None, option_map, string_bytes, OnOk, OnErr};
 ghost use Rattle.operator_line.specs.Answers.{AnswersCommand, AnswersLine};
-ghost use Rattle.operator_line.specs.Grammar as grammar;
-ghost use Rattle.operator_line.specs.Grammar.{spoken};
+ghost use Rattle.command_lines.specs.Grammar as grammar;
+ghost use Rattle.command_lines.specs.Grammar.{spoken};
 ghost use Rattle.operator_line.specs.Lines.{bytes_of};
 ghost use Rattle.operator_line.specs.Replies.{json_reply};
 ghost use Rattle.operator_line.specs.Replying.{Writes};
 
-use crate::command::{Command, CommandFault, Execution};
 use crate::line::Line;
 use crate::reply::Reply;
 use attr_values::KeySchema;
+use command_lines::{Command, CommandFault, Execution};
 use json_tree::{Json, JsonFault, Text, read};
 use rollback_book::{Begin, Book};
 use serde_json::Value;

@@ -19,9 +19,9 @@ use Rattle.attr_values.specs.declared.key.KeyAttribute.{KeyAttribute}
 use Rattle.attr_values.specs.declared.key.KeySchema.{KeySchema}
 use Rattle.attr_values.specs.declared.key.KeyType.{KeyType}
 use Rattle.attr_values.specs.declared.key.KeyType.TheVariants.{S, N}
-use Rattle.operator_line.specs.declared.words.KeyWord.{KeyWord}
-use Rattle.operator_line.specs.declared.command.Command.{Command}
-use Rattle.operator_line.specs.declared.command.Command.TheVariants.{Table, Define, Start, Step, Undo, Show, Items, History}
+use Rattle.command_lines.specs.declared.words.KeyWord.{KeyWord}
+use Rattle.command_lines.specs.declared.command.Command.{Command}
+use Rattle.command_lines.specs.declared.command.Command.TheVariants.{Table, Define, Start, Step, Undo, Show, Items, History}
 
 -- A command: of a table its name, its key and its items' JSON; of a definition the machine's name and the definition's
 -- JSON; of a start the execution's thread, the machine's name and the input's JSON. Texts are their bytes.

@@ -12,11 +12,11 @@ use Rattle.attr_values.specs.declared.key.KeyAttribute.{KeyAttribute}
 use Rattle.attr_values.specs.declared.key.KeyType.{KeyType}
 use Rattle.attr_values.specs.declared.key.KeyType.TheVariants.{S, N}
 use Rattle.asl_fields.specs.Fields.{is_text}
-use Rattle.operator_line.specs.Grammar.{Spoken, table, define, start, step, undo, show, items, history, is_table_name, is_table_name_byte, thread_in, step_in, type_in, key_name_in, key_in, first_word, table_by, table_of, define_of, start_of, text_command}
-use Rattle.operator_line.specs.Spelled.{type_text, key_text, items_text, is_key_name, IsExecution, IsSort, IsProper, line_of}
-use Rattle.operator_line.specs.GrammarLaws.{LineIsRead}
-use Rattle.operator_line.proofs.Cuts.{cut_some}
-use Rattle.operator_line.proofs.Steps.{name_bytes}
+use Rattle.command_lines.specs.Grammar.{Spoken, table, define, start, step, undo, show, items, history, is_table_name, is_table_name_byte, thread_in, step_in, type_in, key_name_in, key_in, first_word, table_by, table_of, define_of, start_of, text_command}
+use Rattle.command_lines.specs.Spelled.{type_text, key_text, items_text, is_key_name, IsExecution, IsSort, IsProper, line_of}
+use Rattle.command_lines.specs.GrammarLaws.{LineIsRead}
+use Rattle.command_lines.proofs.Cuts.{cut_some}
+use Rattle.command_lines.proofs.Steps.{name_bytes}
 
 name_lacks : (c : ℕ) (name : List ℕ) → is_name_byte c ≡ false → is_name name ≡ true → lacks c name ≡ true
 name_lacks c name apart h = passing_lacks is_name_byte c name apart (name_bytes name h)

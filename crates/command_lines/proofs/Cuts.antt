@@ -5,7 +5,7 @@ use Rattle.std.specs.List.{slice_split, onto_first}
 use Rattle.std.proofs.lemmas.Bool.{and_parts, not-true}
 use Rattle.std.proofs.lemmas.Str.Pattern.{IsSplitOnceResult, split_parts}
 use Rattle.step_names.proofs.Parts.{lacks, lacks_by_index}
-use Rattle.operator_line.specs.Grammar.{cut_at}
+use Rattle.command_lines.specs.Grammar.{cut_at}
 
 pub cut_none : (c : ℕ) (bs : List ℕ) → lacks c bs ≡ true → cut_at c bs ≡ None
 cut_none c [] h = refl

@@ -1,7 +1,7 @@
 // The words of a line.
 ghost use Rattle.std.specs.Prelude.{◌≡◌, ◌<◌, None, Some, MatchOption, option_map};
 ghost use Rattle.std.specs.List.{list_all};
-ghost use Rattle.operator_line.specs.Grammar.{is_table_name, is_table_name_byte, cut_at, first_word, key_in, attribute_of};
+ghost use Rattle.command_lines.specs.Grammar.{is_table_name, is_table_name_byte, cut_at, first_word, key_in, attribute_of};
 
 use attr_values::KeyType;
 use step_names::is_name_byte;

@@ -7,7 +7,7 @@ use Rattle.attr_values.specs.declared.key.KeyAttribute.{KeyAttribute}
 use Rattle.attr_values.specs.declared.key.KeyType.{KeyType}
 use Rattle.attr_values.specs.declared.key.KeyType.TheVariants.{S, N}
 use Rattle.asl_fields.specs.Fields.{is_text}
-use Rattle.operator_line.specs.Grammar.{Spoken, table, define, start, step, undo, show, items, history, is_table_name, first_word, key_in}
+use Rattle.command_lines.specs.Grammar.{Spoken, table, define, start, step, undo, show, items, history, is_table_name, first_word, key_in}
 
 abbrev pub type_text : KeyType → List ℕ
 type_text S = codes "S"

@@ -2,7 +2,7 @@
 use Rattle.std.specs.Prelude.{◌≡◌, [], codes, Some, None, refl}
 use Rattle.step_names.specs.Thread.{execution}
 use Rattle.attr_values.specs.declared.key.KeyType.TheVariants.{S, N}
-use Rattle.operator_line.specs.Grammar.{table, define, start, step, undo, show, items, history, text_command}
+use Rattle.command_lines.specs.Grammar.{table, define, start, step, undo, show, items, history, text_command}
 
 row_one_key : text_command (codes "table items id:S []")
     ≡ Some (table (codes "items") (record { partition = record { name = codes "id"; kind = S }; sort = None }) (codes "[]"))

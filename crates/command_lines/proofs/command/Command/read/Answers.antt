@@ -1,9 +1,9 @@
 use Rattle.std.proofs.Common.{◌≡◌, ◌∙◌, sym, ap, subst, true, false, Some, IfOk, refl}
 use Rattle.std.specs.Str.{is_utf8}
 use Rattle.std.proofs.lemmas.Str.{is_utf8-from_IsUtf8}
-use Rattle.operator_line.specs.Grammar.{command_of, text_command, spoken}
-use Rattle.operator_line.proofs.Utf8.{not_utf8}
-use Rattle.operator_line.proofs.command.Command.read.Goals as goal
+use Rattle.command_lines.specs.Grammar.{command_of, text_command, spoken}
+use Rattle.command_lines.proofs.Utf8.{not_utf8}
+use Rattle.command_lines.proofs.command.Command.read.Goals as goal
 
 pub returns-in-Ok-clause-ok : goal.returns-in-Ok-clause-ok
 returns-in-Ok-clause-ok c =

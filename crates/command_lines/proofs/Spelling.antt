@@ -15,9 +15,9 @@ use Rattle.attr_values.specs.declared.key.KeyAttribute.{KeyAttribute}
 use Rattle.attr_values.specs.declared.key.KeyType.{KeyType}
 use Rattle.attr_values.specs.declared.key.KeyType.TheVariants.{S, N}
 use Rattle.asl_fields.specs.Fields.{is_text}
-use Rattle.operator_line.specs.Grammar.{Spoken, table, step, undo, show, items, history, cut_at, is_table_name, thread_in, step_in, type_in, key_name_in, key_in, first_word, table_by, table_of, define_of, start_of, command_by, text_command}
-use Rattle.operator_line.specs.Spelled.{type_text, key_text, items_text, is_key_name, IsExecution, IsSort, IsProper, line_of}
-use Rattle.operator_line.specs.GrammarLaws.{LineSaysOne, LineIsSpelled}
+use Rattle.command_lines.specs.Grammar.{Spoken, table, step, undo, show, items, history, cut_at, is_table_name, thread_in, step_in, type_in, key_name_in, key_in, first_word, table_by, table_of, define_of, start_of, command_by, text_command}
+use Rattle.command_lines.specs.Spelled.{type_text, key_text, items_text, is_key_name, IsExecution, IsSort, IsProper, line_of}
+use Rattle.command_lines.specs.GrammarLaws.{LineSaysOne, LineIsSpelled}
 
 same_some : {A : Type 0} (a b : A) → Some a ≡ Some b → a ≡ b
 same_some a b h = cc

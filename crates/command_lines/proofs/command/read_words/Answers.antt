@@ -1,6 +1,6 @@
 use Rattle.std.proofs.Common.{refl}
-use Rattle.operator_line.proofs.Keywords.{no_keyword}
-use Rattle.operator_line.proofs.command.read_words.Goals as goal
+use Rattle.command_lines.proofs.Keywords.{no_keyword}
+use Rattle.command_lines.proofs.command.read_words.Goals as goal
 
 pub returns-in_default-clause-bad : goal.returns-in_default-clause-bad
 returns-in_default-clause-bad c =

@@ -1,8 +1,8 @@
 -- Laws over the grammar of lines, each the contract of a function of the crate.
 use Rattle.std.specs.Prelude.{◌≡◌, ℕ, List, IsTrue}
 use Rattle.std.specs.Str.{is_utf8}
-use Rattle.operator_line.specs.Grammar.{Spoken, Says}
-use Rattle.operator_line.specs.Spelled.{line_of, IsProper}
+use Rattle.command_lines.specs.Grammar.{Spoken, Says}
+use Rattle.command_lines.specs.Spelled.{line_of, IsProper}
 
 -- a line is one command at most
 abbrev pub LineSaysOne : Type 0

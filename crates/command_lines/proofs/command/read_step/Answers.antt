@@ -1,9 +1,9 @@
 use Rattle.std.proofs.Common.{rules, ◌≡◌, ◌∙◌, sym, true, Some, Err, ap, refl}
 use Rattle.step_names.specs.declared.NameFault.TheVariants.{BadName}
 use Rattle.step_names.specs.Thread.{is_name}
-use Rattle.operator_line.specs.Grammar.{step_in}
-use Rattle.operator_line.proofs.Steps.{step_read}
-use Rattle.operator_line.proofs.command.read_step.Goals as goal
+use Rattle.command_lines.specs.Grammar.{step_in}
+use Rattle.command_lines.proofs.Steps.{step_read}
+use Rattle.command_lines.proofs.command.read_step.Goals as goal
 
 pub returns-in-Ok-clause-ok : goal.returns-in-Ok-clause-ok
 returns-in-Ok-clause-ok c =

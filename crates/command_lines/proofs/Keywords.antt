@@ -2,7 +2,7 @@
 use Rattle.std.proofs.Common.{◌≡◌, ℕ, Bool, true, false, List, Some, None, codes, refl}
 use Rattle.std.specs.Cmp.Lexicographic.{bytes_decides}
 use Rattle.asl_fields.specs.Fields.{is_text}
-use Rattle.operator_line.specs.Grammar.{cut_at, text_command, command_by}
+use Rattle.command_lines.specs.Grammar.{cut_at, text_command, command_by}
 
 pub other_text : (a b : List ℕ) → (a ≡ b → ⊥) → is_text a b ≡ false
 other_text a b apart = by_test (is_text a b) refl

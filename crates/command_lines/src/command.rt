@@ -1,6 +1,6 @@
 // The commands, read from lines.
 ghost use Rattle.std.specs.Prelude.{◌≡◌, ◌↔◌, None, Some, IfOk, IsErrOf, MatchResult, option_map};
-ghost use Rattle.operator_line.specs.Grammar.{cut_at, command_of, text_command, command_by, table_of, define_of, start_of, thread_in, step_in, spoken, attribute_of};
+ghost use Rattle.command_lines.specs.Grammar.{cut_at, command_of, text_command, command_by, table_of, define_of, start_of, thread_in, step_in, spoken, attribute_of};
 
 pub use crate::execution::Execution;
 use crate::words::{KeyWord, cut, first_word, is_table_name, read_key};
@@ -19,7 +19,7 @@ pub enum CommandFault {
 }
 
 impl From<AllocError> for CommandFault {
-    ghost use Rattle.operator_line.specs.declared.command.CommandFault.TheVariants.{Memory};
+    ghost use Rattle.command_lines.specs.declared.command.CommandFault.TheVariants.{Memory};
     ghost use Rattle.std.specs.Prelude.{◌≡◌};
 
     ghost from_gives = { λ _ e. e ≡ Memory };
@@ -30,7 +30,7 @@ impl From<AllocError> for CommandFault {
 }
 
 impl<T: Drop> From<AllocFailed<T>> for CommandFault {
-    ghost use Rattle.operator_line.specs.declared.command.CommandFault.TheVariants.{Memory};
+    ghost use Rattle.command_lines.specs.declared.command.CommandFault.TheVariants.{Memory};
     ghost use Rattle.std.specs.Prelude.{◌≡◌};
 
     ghost from_gives = { λ _ e. e ≡ Memory };

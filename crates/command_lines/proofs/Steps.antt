@@ -6,8 +6,8 @@ use Rattle.step_names.specs.Thread.{execution, is_name, is_name_byte}
 use Rattle.step_names.specs.Grammar.{read_thread, read_step}
 use Rattle.step_names.proofs.Parts.{passing_lacks, lacks_split}
 use Rattle.step_names.proofs.Steps.{step_cut}
-use Rattle.operator_line.specs.Grammar.{cut_at, step_in}
-use Rattle.operator_line.proofs.Cuts.{cut_split}
+use Rattle.command_lines.specs.Grammar.{cut_at, step_in}
+use Rattle.command_lines.proofs.Cuts.{cut_split}
 
 -- the bytes of a NAME
 pub name_bytes : (word : List ℕ) → is_name word ≡ true → list_all is_name_byte word ≡ true

@@ -1,0 +1,4 @@
+pub mod Grammar
+pub mod Spelled
+pub mod GrammarLaws
+mod GrammarRows

@@ -1,0 +1,12 @@
+#![tactic(auto)]
+
+//! The grammar of the operators' command lines: which command a line is, and the one line of each command.
+mod command;
+#[cfg(test)]
+mod command_tests;
+mod execution;
+mod laws;
+mod words;
+
+pub use command::{Command, CommandFault, Execution};
+pub use laws::lines_are_spelled;
