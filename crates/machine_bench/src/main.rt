@@ -1,14 +1,10 @@
-// Reads definitions from its input, a name and a definition on each line, and tells of each that it is one, or why it is refused; reads
-// one of 41 states, and makes a turn of each type of state. With a number of rounds as its argument it also prints how many
-// definitions were read a second, beside `serde_json`'s reading of the same text, and how many turns of each type were made.
+// Reads definitions from its input, a name and a definition on each line, and tells of each that it is one, or why it is refused; and
+// reads one of 41 states. With a number of rounds as its argument it also prints how many definitions were read a second, beside
+// `serde_json`'s reading of the same text.
 #![tactic(auto)]
 
-ghost use Rattle.std.specs.Prelude.{◌≡◌, true};
-
 use anyhow::Context;
-use asl_forward::{Frame, Outcome, Phase, first_frame, prepare, standing};
-use asl_machine::{Machine, MachineFault, SharedMachine};
-use json_tree::{Json, Text, read};
+use asl_machine::{Machine, MachineFault};
 use serde_json::Value;
 use std::alloc::{AllocError, Global};
 use std::env;
@@ -16,50 +12,6 @@ use std::rt::Runtime;
 use std::time::{Duration, Instant};
 
 const BLOCKS: u32 = 10;
-
-/// A state of each type, with what a real one has, and an input for it. The machine's one state is `S`.
-const STATES: &[(&str, &str, &str)] = &[
-    (
-        "Pass",
-        r#"{"Type":"Pass","Parameters":{"id.$":"$.order.id","total.$":"$.order.total"},"ResultPath":"$.sum","End":true}"#,
-        r#"{"order":{"id":"o-17","total":41}}"#,
-    ),
-    (
-        "Task",
-        r#"{"Type":"Task","Resource":"arn:aws:states:::dynamodb:putItem","Parameters":{"TableName":"orders","Item":{"id":{"S.$":"$.order.id"},"state":{"S":"paid"}}},"End":true}"#,
-        r#"{"order":{"id":"o-17","total":41}}"#,
-    ),
-    (
-        "Choice",
-        r#"{"Type":"Choice","Choices":[{"And":[{"Variable":"$.order.total","NumericGreaterThan":100},{"Variable":"$.order.id","IsString":true}],"Next":"S"}],"Default":"S"}"#,
-        r#"{"order":{"id":"o-17","total":41}}"#,
-    ),
-    (
-        "Wait",
-        r#"{"Type":"Wait","Seconds":10,"End":true}"#,
-        r#"{"order":{"id":"o-17","total":41}}"#,
-    ),
-    (
-        "Succeed",
-        r#"{"Type":"Succeed","OutputPath":"$.order"}"#,
-        r#"{"order":{"id":"o-17","total":41}}"#,
-    ),
-    (
-        "Fail",
-        r#"{"Type":"Fail","Error":"Declined","Cause":"no funds"}"#,
-        r#"{"order":{"id":"o-17","total":41}}"#,
-    ),
-    (
-        "Parallel",
-        r#"{"Type":"Parallel","Branches":[{"StartAt":"A","States":{"A":{"Type":"Pass","End":true}}},{"StartAt":"B","States":{"B":{"Type":"Pass","End":true}}}],"End":true}"#,
-        r#"{"order":{"id":"o-17","total":41}}"#,
-    ),
-    (
-        "Map",
-        r#"{"Type":"Map","ItemsPath":"$.items","ItemSelector":{"n.$":"$$.Map.Item.Index","it.$":"$$.Map.Item.Value"},"ItemProcessor":{"StartAt":"A","States":{"A":{"Type":"Pass","End":true}}},"End":true}"#,
-        r#"{"items":[{"sku":"a"},{"sku":"b"},{"sku":"c"}]}"#,
-    ),
-];
 
 /// Four states of an order's way, which lead to the next four.
 fn block(alloc: Global, number: u32) -> Result<String, AllocError> {
@@ -104,57 +56,6 @@ fn read_definition(alloc: Global, text: &str) -> usize {
     }
 }
 
-/// The machine whose one state is this, and the frame before it.
-fn before(
-    alloc: Global,
-    state: &str,
-    input: &str,
-) -> anyhow::Result<Option<(SharedMachine, Frame)>> {
-    let text = format!(in alloc; r#"{{"StartAt":"S","States":{{"S":{state}}}}}"#)?;
-    let value = Value::from_str(alloc, &text)?;
-    let Ok(machine) = Machine::read(alloc, &value) else {
-        return Ok(None);
-    };
-    let Ok(input) = read(alloc, input.as_bytes()) else {
-        return Ok(None);
-    };
-    Ok(begun(alloc, machine, input))
-}
-
-fn begun(alloc: Global, machine: Machine, input: Json) -> Option<(SharedMachine, Frame)> {
-    let (Ok(name), Ok(shared)) = (Text::new(alloc, "m"), SharedMachine::new(alloc, machine)) else {
-        return None;
-    };
-    match first_frame(alloc, &name, shared.machine(), &input) {
-        Ok(frame) => Some((shared, frame)),
-        Err(_) => None,
-    }
-}
-
-fn is_ready(frame: &Frame) -> bool
-    ensures { result ≡ true → frame.now.phase ≡ Phase.Ready }
-{
-    matches!(frame.phase, Phase::Ready)
-}
-
-/// 1 where the turn of a frame comes to a next frame, 2 to a call, 3 to a fork.
-fn turn(alloc: Global, machine: &SharedMachine, frame: &Frame) -> usize {
-    if !is_ready(frame) || frame.count > 1_000 {
-        return 0;
-    }
-    if standing(machine.machine(), frame).is_none() {
-        return 0;
-    }
-    match prepare(alloc, machine, frame) {
-        Ok(prepared) => match prepared.outcome() {
-            Outcome::Next(_) => 1,
-            Outcome::Call(_) => 2,
-            Outcome::Fork(_, _) => 3,
-        },
-        Err(_) => 0,
-    }
-}
-
 // How many of some things a second.
 fn rate(things: usize, took: Duration) -> u128 {
     (things as u128).saturating_mul(1_000_000) / took.as_micros().max(1)
@@ -179,57 +80,6 @@ fn time_reading(rt: &impl Runtime, alloc: Global, rounds: u32) -> anyhow::Result
         "{bytes} bytes: {of_values} values of serde_json, {of_machines} definitions a second"
     )?;
     Ok(())
-}
-
-/// How many turns of this frame are made a second.
-fn turns_of(
-    rt: &impl Runtime,
-    alloc: Global,
-    machine: &SharedMachine,
-    frame: &Frame,
-    rounds: u32,
-) -> anyhow::Result<u128> {
-    let mut made = 0usize;
-    let start = Instant::now(rt)?;
-    for _ in 0..rounds {
-        made = made.saturating_add((turn(alloc, machine, frame) > 0) as usize);
-    }
-    Ok(rate(made, start.elapsed(rt)?))
-}
-
-fn time_turn(
-    rt: &impl Runtime,
-    alloc: Global,
-    state: &str,
-    input: &str,
-    rounds: u32,
-) -> anyhow::Result<u128> {
-    let Some((machine, frame)) = before(alloc, state, input)? else {
-        return Ok(0);
-    };
-    let turns = turns_of(rt, alloc, &machine, &frame, rounds);
-    drop(frame);
-    drop(machine);
-    turns
-}
-
-fn time_turns(rt: &impl Runtime, alloc: Global, rounds: u32) -> anyhow::Result<()> {
-    for &(name, state, input) in STATES {
-        let turns = time_turn(rt, alloc, state, input, rounds)?;
-        println!(rt; "{name}: {turns} turns a second")?;
-    }
-    Ok(())
-}
-
-/// What the turn of a state comes to.
-fn comes_to(alloc: Global, state: &str, input: &str) -> anyhow::Result<usize> {
-    let Some((machine, frame)) = before(alloc, state, input)? else {
-        return Ok(0);
-    };
-    let kind = turn(alloc, &machine, &frame);
-    drop(frame);
-    drop(machine);
-    Ok(kind)
 }
 
 /// A refusal as replies tell it: its number, and the field or the name that it is about.
@@ -276,10 +126,6 @@ fn show(rt: &impl Runtime, alloc: Global) -> anyhow::Result<()> {
     let text = definition(alloc, BLOCKS)?;
     let is_read = read_definition(alloc, &text) == 1;
     println!(rt; "a definition of 41 states is read: {is_read}")?;
-    for &(name, state, input) in STATES {
-        let kind = comes_to(alloc, state, input)?;
-        println!(rt; "{name} {kind}")?;
-    }
     Ok(())
 }
 
@@ -290,7 +136,6 @@ fn main(rt: HostRuntime) -> anyhow::Result<()> {
     if let Some(rounds) = env::args(&rt)?.nth(1) {
         let rounds: u32 = rounds.parse().context("the number of rounds")?;
         time_reading(&rt, alloc, rounds)?;
-        time_turns(&rt, alloc, rounds)?;
     }
     Ok(())
 }
