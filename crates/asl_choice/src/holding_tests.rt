@@ -31,7 +31,12 @@ const COMPARISONS: &[(&str, &str, &str, &str)] = &[
     (r#""StringLessThan":"b""#, r#""aé""#, r#""b""#, "0"),
     (r#""StringGreaterThan":"b""#, r#""ba""#, r#""b""#, "[]"),
     (r#""StringLessThanEquals":"b""#, r#""b""#, r#""ba""#, "null"),
-    (r#""StringGreaterThanEquals":"b""#, r#""b""#, r#""a""#, "true"),
+    (
+        r#""StringGreaterThanEquals":"b""#,
+        r#""b""#,
+        r#""a""#,
+        "true",
+    ),
     (r#""NumericEquals":3"#, "3", "-3", r#""3""#),
     (r#""NumericLessThan":3"#, "-4", "3", r#""2""#),
     (r#""NumericGreaterThan":3"#, "4", "3", r#""4""#),
