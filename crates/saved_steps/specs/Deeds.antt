@@ -100,8 +100,8 @@ join_deed name at f ds = option_map (λ work. deed_of Join name (after_join at.0
 
 -- it terminates where a branch has failed, whatever the others do, and joins where all are done
 abbrev pub close_deed : StepName → Standing → Frame → Option Fault → Option (List Data) → Option Deed
-close_deed name at f (Some fault) done = Some (deed_of Terminate name (after_branch at f fault))
-close_deed name at f None done = option_and_then (join_deed name at f) done
+close_deed name at f (Some fault) ds = Some (deed_of Terminate name (after_branch at f fault))
+close_deed name at f None ds = option_and_then (join_deed name at f) ds
 
 abbrev pub deed_over : StepName → Standing → Frame → List (Option Frame) → Option Deed
 deed_over name at f fs = close_deed name at f (first_fault fs) (outputs fs)

@@ -1,6 +1,9 @@
 pub mod Deeds
+pub mod Held
 pub mod Keeping
+pub mod Made
 pub mod Records
 pub mod Run
 pub mod Steps
+pub mod Undoing
 pub mod World

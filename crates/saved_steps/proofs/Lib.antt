@@ -1,0 +1,7 @@
+mod Probe
+mod Threads
+mod Trees
+mod Under
+mod Undone
+mod Applied
+mod TakenBack

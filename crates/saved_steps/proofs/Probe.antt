@@ -1,0 +1,1 @@
+use Rattle.saved_steps.proofs.TakenBack.{plain}

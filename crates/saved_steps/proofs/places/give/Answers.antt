@@ -1,0 +1,33 @@
+use Rattle.std.proofs.Common.{rules, ◌≡◌, sym, ap, ◌∙◌, false, IsSomeAnd, Some}
+use Rattle.std.specs.BTreeMap.{get_by_text}
+use Rattle.std.specs.Option.{option_copied_mut}
+use Rattle.branch_tree.specs.FlatMap.{is_parked}
+use Rattle.branch_tree.specs.Tree.{node_at}
+use Rattle.saved_steps.proofs.Trees.{found, grafted_in, in_place, tree_there}
+use Rattle.saved_steps.proofs.places.give.Goals as goal
+
+pub give_at-requires-clause-open : goal.give_at-requires-clause-open
+give_at-requires-clause-open c =
+    let m = c.args.executions.now in
+    let a = c.args.thread.now in
+    let v = c.unwrap-place.result.now in
+    let there : get_by_text m c.exec.result.now ≡ Some v = sym c.get_mut.ensures.value ∙ ap option_copied_mut c.unwrap-place.ensures in
+    in_place m m a c.path.result.now v (λ o. IsSomeAnd o (λ f. is_parked f.phase ≡ false)) c.path.ensures.path (found m m c.exec.result.now a.exec v c.exec.ensures.exec there) c.requires.open
+
+pub returns-clause-frames : goal.returns-clause-frames
+returns-clause-frames c =
+    let m = c.args.executions.now in
+    let a = c.args.thread.now in
+    let v = c.unwrap-place.result.now in
+    let w = c.give_at.new.place in
+    let there : get_by_text m c.exec.result.now ≡ Some v = sym c.get_mut.ensures.value ∙ ap option_copied_mut c.unwrap-place.ensures in
+    grafted_in m (c.get_mut.follows.lender w) a c.exec.result.now c.path.result.now v w c.exec.ensures.exec c.path.ensures.path (found m m c.exec.result.now a.exec v c.exec.ensures.exec there)
+    ((c.get_mut.follows.holds w).3 (search rules)) (node_at c.args.frame c.args.kids.items) c.give_at.ensures.frames
+
+pub returns-clause-tree : goal.returns-clause-tree
+returns-clause-tree c =
+    let m = c.args.executions.now in
+    let a = c.args.thread.now in
+    let v = c.unwrap-place.result.now in
+    let there : get_by_text m c.exec.result.now ≡ Some v = sym c.get_mut.ensures.value ∙ ap option_copied_mut c.unwrap-place.ensures in
+    tree_there m m a.exec v (found m m c.exec.result.now a.exec v c.exec.ensures.exec there) c.give_at.ensures.tree

@@ -1,0 +1,121 @@
+-- What a step is to do as it was worked out before, and as it is made ready to be applied.
+use Rattle.std.specs.Prelude.{◌≡◌, ℕ, ◌-◌, Bool, true, false, List, [], map, length, Option, Some, None, IsSomeAnd}
+use Rattle.std.specs.List.{All}
+use Rattle.std.specs.BTreeMap.{get_by_text}
+use Rattle.attr_values.specs.declared.key.Key.{Key}
+use Rattle.item_store.specs.Store.{Store, slot_key}
+use Rattle.item_store.specs.declared.slot.SlotNo.{SlotNo}
+use Rattle.asl_forward.specs.declared.frame.Frame.{Frame}
+use Rattle.asl_forward.specs.declared.frame.Phase.TheVariants.{Parked}
+use Rattle.asl_forward.specs.declared.prepared.Outcome.{Outcome}
+use Rattle.asl_forward.specs.declared.prepared.Outcome.TheVariants as outcome
+use Rattle.branch_tree.specs.FlatMap.{is_parked}
+use Rattle.branch_tree.specs.Tree.{leaf, IsNode}
+use Rattle.step_names.specs.Thread.{Thread}
+use Rattle.step_names.specs.declared.step.StepName.{StepName}
+use Rattle.saved_steps.specs.Deeds.{Deed, deed_of, fork_deed}
+use Rattle.saved_steps.specs.Held.{frames_of, seen}
+use Rattle.saved_steps.specs.declared.fact.Fact.{Fact}
+use Rattle.saved_steps.specs.declared.fact.Kind.{Kind}
+use Rattle.saved_steps.specs.declared.fact.Kind.TheVariants as kind
+use Rattle.saved_steps.specs.declared.made.Change.{Change}
+use Rattle.saved_steps.specs.declared.made.Change.TheVariants as change
+use Rattle.saved_steps.specs.declared.made.Made.{Made}
+use Rattle.saved_steps.specs.declared.next.Next.{Next}
+use Rattle.saved_steps.specs.declared.next.Next.TheVariants.{Begin, Work, Join, Terminate}
+use Rattle.saved_steps.specs.declared.world.World.{World}
+
+-- ---- a step's next
+
+abbrev pub deed_of_work : StepName → Outcome → Option Deed
+deed_of_work name (outcome.Next g) = Some (deed_of kind.Plain name g)
+deed_of_work name (outcome.Fork g branches) = Some (fork_deed name g branches)
+deed_of_work name (outcome.Call c) = None
+
+-- what the step of this name does, with this next
+abbrev pub deed_of_next : StepName → Next → Option Deed
+deed_of_next name (Begin f) = Some (deed_of kind.Start name f)
+deed_of_next name (Work p) = deed_of_work name p.outcome
+deed_of_next name (Join f) = Some (deed_of kind.Join name f)
+deed_of_next name (Terminate f) = Some (deed_of kind.Terminate name f)
+
+-- ---- where a thread is
+
+abbrev pub is_open : Frame → Type 0
+is_open f = is_parked f.phase ≡ false
+
+-- the thread has a frame that isn't parked
+abbrev pub IsOpen : (Thread → Option Frame) → Thread → Type 0
+IsOpen frames t = IsSomeAnd (frames t) is_open
+
+-- the thread is parked, since its step of this number
+abbrev pub IsParkedSince : (Thread → Option Frame) → Thread → ℕ → Type 0
+IsParkedSince frames t step = IsSomeAnd (frames t) (λ f. (is_parked f.phase ≡ true) × (f.count ≡ step))
+
+-- ---- when a step can be made
+
+abbrev pub Yields : StepName → Outcome → Type 0
+Yields name (outcome.Next g) = is_open g
+Yields name (outcome.Fork g branches) = (g.phase ≡ Parked (length branches)) × (g.count ≡ name.no) × All is_open branches
+Yields name (outcome.Call c) = ⊥
+
+-- The execution isn't there, or the thread stands as the step finds it: open before its work, or parked since its step before
+-- this one.
+abbrev pub Suits : World → StepName → Next → Type 0
+Suits w name (Begin f) = (frames_of w name.thread ≡ None) × (name.thread.path ≡ []) × is_open f
+Suits w name (Work p) = IsOpen (frames_of w) name.thread × Yields name p.outcome
+Suits w name (Join f) = IsParkedSince (frames_of w) name.thread (name.no - 1) × is_open f
+Suits w name (Terminate f) = IsParkedSince (frames_of w) name.thread (name.no - 1) × is_open f
+
+-- ---- a step that is made
+
+abbrev pub plain_fact : StepName → Kind → Fact
+plain_fact name k = record { name = name; kind = k; access = None }
+
+abbrev pub fact_of_change : StepName → Change → Fact
+fact_of_change name (change.Begin f) = plain_fact name kind.Start
+fact_of_change name (change.Plain f) = plain_fact name kind.Plain
+fact_of_change name (change.Fork f kids) = plain_fact name kind.Fork
+fact_of_change name (change.Join f) = plain_fact name kind.Join
+fact_of_change name (change.Terminate f) = plain_fact name kind.Terminate
+
+abbrev pub fact_made : Made → Fact
+fact_made m = fact_of_change m.name m.change
+
+abbrev pub Makes : Change → Deed → Type 0
+Makes (change.Begin f) d = f ≡ d.frame
+Makes (change.Plain f) d = f ≡ d.frame
+Makes (change.Fork f kids) d = (f ≡ d.frame) × (kids.items ≡ map leaf d.branches)
+Makes (change.Join f) d = f ≡ d.frame
+Makes (change.Terminate f) d = f ≡ d.frame
+
+-- everything is made for this deed
+pub record IsMadeFor (m : Made) (d : Deed) : Type 0 where
+  pub fact : fact_made m ≡ d.fact
+  pub change : Makes m.change d
+
+abbrev pub Stands : World → StepName → Change → Type 0
+Stands w name (change.Begin f) = (get_by_text w.executions name.thread.exec ≡ Some None) × (name.thread.path ≡ []) × is_open f
+Stands w name (change.Plain f) = IsOpen (frames_of w) name.thread × is_open f
+Stands w name (change.Fork f kids) =
+    IsOpen (frames_of w) name.thread × IsNode f kids.items × (is_parked f.phase ≡ true) × (f.count ≡ name.no) × ((branches : List Frame) × (kids.items ≡ map leaf branches))
+Stands w name (change.Join f) = IsParkedSince (frames_of w) name.thread (name.no - 1) × is_open f
+Stands w name (change.Terminate f) = IsParkedSince (frames_of w) name.thread (name.no - 1) × is_open f
+
+-- the world has the places of a step that is made, as it was when they were made
+abbrev pub CanApply : World → Made → Type 0
+CanApply w m = Stands w m.name m.change
+
+-- a slot of the first store is the same key's in the second, of the same table
+pub record KeepsStore (a b : Store) : Type 0 where
+  pub slots : (n : SlotNo) (key : Key) → slot_key a n ≡ Some key → slot_key b n ≡ Some key
+  pub table : b.table ≡ a.table
+  pub schema : b.schema ≡ a.schema
+
+-- the first world is made the second, in which everything is made for a step
+pub record IsMadeOf (w v : World) (name : StepName) (next : Next) (m : Made) : Type 0 where
+  pub named : m.name ≡ name
+  pub ready : CanApply v m
+  pub deed : Deed
+  pub is : deed_of_next name next ≡ Some deed
+  pub made : IsMadeFor m deed

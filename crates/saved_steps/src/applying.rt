@@ -1,0 +1,94 @@
+// What a step does to the world.
+ghost use Rattle.std.specs.Prelude.{◌≡◌, None};
+ghost use Rattle.saved_steps.specs.Made.{CanApply, plain_fact};
+ghost use Rattle.saved_steps.specs.Undoing.{IsApplied};
+
+use crate::fact::{Fact, Kind};
+use crate::made::{Change, Made};
+use crate::places::{give, put_tree, replace, take};
+use crate::record::{Saved, StepRecord};
+use crate::world::World;
+use asl_forward::Frame;
+use branch_tree::{Branch, Tree};
+use step_names::StepName;
+
+/// The record of a step that touches no item.
+fn record(name: StepName, kind: Kind, saved: Saved) -> StepRecord
+    ensures { result ≡ record { fact = plain_fact name kind; saved = saved } }
+{
+    StepRecord {
+        fact: Fact {
+            name,
+            kind,
+            access: None,
+        },
+        saved,
+    }
+}
+
+impl World {
+    /// Applies a step that `make` made, where the world is as that left it. What it takes away is moved into the record.
+    /// Takes no memory.
+    pub fn apply(&mut self, made: Made) -> StepRecord
+        requires { CanApply self.old made }
+        ensures { IsApplied self.old made self.new result }
+    {
+        let Made { name, change } = made;
+        match change {
+            Change::Begin(frame) => self.apply_begin(name, frame),
+            Change::Plain(frame) => self.apply_plain(name, frame),
+            Change::Fork(frame, kids) => self.apply_fork(name, frame, kids),
+            Change::Join(frame) => self.apply_join(name, frame),
+            Change::Terminate(frame) => self.apply_terminate(name, frame),
+        }
+    }
+
+    fn apply_begin(&mut self, name: StepName, frame: Frame) -> StepRecord
+        requires { CanApply self.old (record { name = name; change = Change.Begin frame }) }
+        ensures { IsApplied self.old (record { name = name; change = Change.Begin frame }) self.new result }
+    {
+        let tree = Tree::new(self.alloc, frame);
+        put_tree(&mut self.executions, name.thread.exec(), tree);
+        record(name, Kind::Start, Saved::Started)
+    }
+
+    fn apply_plain(&mut self, name: StepName, frame: Frame) -> StepRecord
+        requires { CanApply self.old (record { name = name; change = Change.Plain frame }) }
+        ensures { IsApplied self.old (record { name = name; change = Change.Plain frame }) self.new result }
+    {
+        let before = replace(&mut self.executions, &name.thread, frame);
+        record(name, Kind::Plain, Saved::Framed(before))
+    }
+
+    fn apply_fork(&mut self, name: StepName, frame: Frame, kids: Vec<Branch>) -> StepRecord
+        requires { CanApply self.old (record { name = name; change = Change.Fork frame kids }) }
+        ensures { IsApplied self.old (record { name = name; change = Change.Fork frame kids }) self.new result }
+    {
+        let before = give(&mut self.executions, &name.thread, frame, kids);
+        record(name, Kind::Fork, Saved::Forked(before))
+    }
+
+    fn apply_join(&mut self, name: StepName, frame: Frame) -> StepRecord
+        requires { CanApply self.old (record { name = name; change = Change.Join frame }) }
+        ensures { IsApplied self.old (record { name = name; change = Change.Join frame }) self.new result }
+    {
+        let (before, kids) = take(&mut self.executions, &name.thread, frame);
+        let saved = Saved::Closed {
+            frame: before,
+            kids,
+        };
+        record(name, Kind::Join, saved)
+    }
+
+    fn apply_terminate(&mut self, name: StepName, frame: Frame) -> StepRecord
+        requires { CanApply self.old (record { name = name; change = Change.Terminate frame }) }
+        ensures { IsApplied self.old (record { name = name; change = Change.Terminate frame }) self.new result }
+    {
+        let (before, kids) = take(&mut self.executions, &name.thread, frame);
+        let saved = Saved::Closed {
+            frame: before,
+            kids,
+        };
+        record(name, Kind::Terminate, saved)
+    }
+}

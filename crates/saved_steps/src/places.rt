@@ -1,0 +1,173 @@
+// The trees of executions, each at its execution's name.
+ghost use Rattle.std.specs.Prelude.{◌≡◌, ℕ, List, ◌++◌, None, Some, true, false, option_copied, IfSome, IsSomeAnd, OnOk, if◌then◌else◌};
+ghost use Rattle.std.specs.BTreeMap.{get_by_text};
+ghost use Rattle.std.specs.Str.{bytes_eq};
+ghost use Rattle.branch_tree.specs.FlatMap.{IsTree, is_parked, with_frame, grafted, alone};
+ghost use Rattle.branch_tree.specs.Paths.{Path};
+ghost use Rattle.branch_tree.specs.Ready.{readiness_at};
+ghost use Rattle.branch_tree.specs.Tree.{node_at, IsNode};
+ghost use Rattle.step_names.specs.Thread.{Thread};
+ghost use Rattle.saved_steps.specs.Held.{tree_in, rows_at, frames_in, paths_of, put_at, with_thread};
+
+use asl_forward::Frame;
+use branch_tree::{Branch, Readiness, Tree};
+use std::alloc::{AllocError, Global};
+use std::collections::BTreeMap;
+use step_names::ThreadName;
+
+/// A place for each execution that has one, with its tree, or empty.
+pub(crate) type Executions = BTreeMap<String, Option<Tree>>;
+
+/// The tree of an execution.
+pub(crate) fn tree_in<'a>(executions: &'a Executions, exec: &str) -> Option<&'a Tree>
+    ensures { option_copied result ≡ tree_in executions.now exec.now }
+{
+    match executions.get(exec) {
+        Some(place) => place.as_ref(),
+        None => None,
+    }
+}
+
+/// The frame of a thread.
+pub(crate) fn frame_in<'a>(executions: &'a Executions, thread: &ThreadName) -> Option<&'a Frame>
+    ensures value { option_copied result ≡ frames_in executions.now thread.now }
+    ensures tree { IfSome result (λ f. IsTree (paths_of (frames_in executions.now) thread.now.exec)) }
+{
+    let tree = tree_in(executions, thread.exec())?;
+    tree.find(thread.path())
+}
+
+/// What a thread can do next.
+pub(crate) fn readiness_in(executions: &Executions, thread: &ThreadName) -> Readiness
+    ensures { result ≡ readiness_at (paths_of (frames_in executions.now) thread.now.exec) thread.now.path }
+{
+    match tree_in(executions, thread.exec()) {
+        Some(tree) => tree.ready(thread.path()),
+        None => Readiness::NoThread,
+    }
+}
+
+// ---- places
+
+/// Makes an empty place for an execution that has no tree. Takes memory for a copy of the name, where there is no place.
+pub(crate) fn make_place(
+    executions: &mut Executions,
+    alloc: Global,
+    exec: &str,
+) -> Result<(), AllocError>
+    requires { tree_in executions.old exec.now ≡ None }
+    ensures trees { (e : List ℕ) → tree_in executions.new e ≡ tree_in executions.old e }
+    ensures place { OnOk result (get_by_text executions.new exec.now ≡ Some None) }
+{
+    if executions.contains_key(exec) {
+        return Ok(());
+    }
+    let name = String::from_str(alloc, exec)?;
+    drop(executions.insert(name, None)?);
+    Ok(())
+}
+
+/// Puts a tree into its execution's place. Takes no memory.
+pub(crate) fn put_tree(executions: &mut Executions, exec: &str, tree: Tree)
+    requires { get_by_text executions.old exec.now ≡ Some None }
+    ensures { (e : List ℕ) → tree_in executions.new e ≡ (if bytes_eq exec.now e then Some tree else tree_in executions.old e) }
+{
+    let place = executions.get_mut(exec).unwrap();
+    *place = Some(tree);
+}
+
+/// Takes an execution's tree away, and its place. Takes no memory.
+pub(crate) fn remove_tree(executions: &mut Executions, exec: &str)
+    ensures { (e : List ℕ) → tree_in executions.new e ≡ (if bytes_eq exec.now e then None else tree_in executions.old e) }
+{
+    drop(executions.remove(exec));
+}
+
+// ---- frames in a place
+
+fn replace_at(place: &mut Option<Tree>, path: &[(u32, u32)], frame: Frame) -> Frame
+    requires open { IsSomeAnd (rows_at place.old path.now) (λ f. is_parked f.phase ≡ false) }
+    requires next { is_parked frame.phase ≡ false }
+    ensures was { rows_at place.old path.now ≡ Some result }
+    ensures frames { (q : Path) → rows_at place.new q ≡ with_frame (rows_at place.old) path.now frame q }
+{
+    let Some(tree) = place else { unreachable!() };
+    tree.replace(path, frame)
+}
+
+fn give_at(
+    place: &mut Option<Tree>,
+    path: &[(u32, u32)],
+    frame: Frame,
+    kids: Vec<Branch>,
+) -> Frame
+    requires open { IsSomeAnd (rows_at place.old path.now) (λ f. is_parked f.phase ≡ false) }
+    requires node { IsNode frame kids.items }
+    ensures was { rows_at place.old path.now ≡ Some result }
+    ensures frames { (q : Path) → rows_at place.new q ≡ grafted (rows_at place.old) path.now (node_at frame kids.items) q }
+    ensures tree { IsTree (rows_at place.old) }
+{
+    let Some(tree) = place else { unreachable!() };
+    let _ = tree.find(path);
+    tree.give_kids(path, frame, kids)
+}
+
+fn take_at(place: &mut Option<Tree>, path: &[(u32, u32)], frame: Frame) -> (Frame, Vec<Branch>)
+    requires there { IsSomeAnd (rows_at place.old path.now) (λ f. is_parked f.phase ≡ true) }
+    requires next { is_parked frame.phase ≡ false }
+    ensures was { (q : Path) → rows_at place.old (path.now ++ q) ≡ node_at result.0 result.1.items q }
+    ensures node { IsNode result.0 result.1.items }
+    ensures frames { (q : Path) → rows_at place.new q ≡ grafted (rows_at place.old) path.now (alone frame) q }
+    ensures tree { IsTree (rows_at place.old) }
+{
+    let Some(tree) = place else { unreachable!() };
+    let _ = tree.find(path);
+    tree.take_kids(path, frame)
+}
+
+// ---- frames of threads
+
+/// Puts a frame in the place of a thread's, which comes back. Takes no memory.
+pub(crate) fn replace(executions: &mut Executions, thread: &ThreadName, frame: Frame) -> Frame
+    requires open { IsSomeAnd (frames_in executions.old thread.now) (λ f. is_parked f.phase ≡ false) }
+    requires next { is_parked frame.phase ≡ false }
+    ensures was { frames_in executions.old thread.now ≡ Some result }
+    ensures frames { (t : Thread) → frames_in executions.new t ≡ with_thread (frames_in executions.old) thread.now frame t }
+{
+    let place = executions.get_mut(thread.exec()).unwrap();
+    replace_at(place, thread.path(), frame)
+}
+
+/// Puts a frame and branches under it in the place of a thread's frame, which comes back. Takes no memory.
+pub(crate) fn give(
+    executions: &mut Executions,
+    thread: &ThreadName,
+    frame: Frame,
+    kids: Vec<Branch>,
+) -> Frame
+    requires open { IsSomeAnd (frames_in executions.old thread.now) (λ f. is_parked f.phase ≡ false) }
+    requires node { IsNode frame kids.items }
+    ensures was { frames_in executions.old thread.now ≡ Some result }
+    ensures frames { (t : Thread) → frames_in executions.new t ≡ put_at (frames_in executions.old) thread.now (node_at frame kids.items) t }
+    ensures tree { IsTree (paths_of (frames_in executions.old) thread.now.exec) }
+{
+    let place = executions.get_mut(thread.exec()).unwrap();
+    give_at(place, thread.path(), frame, kids)
+}
+
+/// Takes a thread's branches out, and puts a frame in the place of its own. Both come back. Takes no memory.
+pub(crate) fn take(
+    executions: &mut Executions,
+    thread: &ThreadName,
+    frame: Frame,
+) -> (Frame, Vec<Branch>)
+    requires there { IsSomeAnd (frames_in executions.old thread.now) (λ f. is_parked f.phase ≡ true) }
+    requires next { is_parked frame.phase ≡ false }
+    ensures was { (q : Path) → paths_of (frames_in executions.old) thread.now.exec (thread.now.path ++ q) ≡ node_at result.0 result.1.items q }
+    ensures node { IsNode result.0 result.1.items }
+    ensures frames { (t : Thread) → frames_in executions.new t ≡ put_at (frames_in executions.old) thread.now (alone frame) t }
+    ensures tree { IsTree (paths_of (frames_in executions.old) thread.now.exec) }
+{
+    let place = executions.get_mut(thread.exec()).unwrap();
+    take_at(place, thread.path(), frame)
+}

@@ -1,0 +1,58 @@
+// The executions and the items that steps change.
+ghost use Rattle.std.specs.Prelude.{◌≡◌, None, option_copied, IfSome};
+ghost use Rattle.branch_tree.specs.FlatMap.{IsTree};
+ghost use Rattle.branch_tree.specs.Ready.{readiness_at};
+ghost use Rattle.step_names.specs.Thread.{Thread};
+ghost use Rattle.saved_steps.specs.Held.{frames_of, paths_of};
+
+use crate::places::{Executions, frame_in, readiness_in};
+use asl_forward::Frame;
+use branch_tree::Readiness;
+use item_store::ItemStore;
+use std::alloc::Global;
+use std::collections::BTreeMap;
+use step_names::ThreadName;
+
+/// The frames of all executions, and the items of the table. Contracts see its `frames_of`, and the store.
+#[derive(Drop)]
+pub struct World {
+    pub(crate) alloc: Global,
+    pub(crate) executions: Executions,
+    pub(crate) items: ItemStore,
+}
+
+impl World {
+    /// A world without executions, over these items. Takes no memory.
+    pub fn new(alloc: Global, items: ItemStore) -> World
+        ensures frames { (t : Thread) → frames_of result t ≡ None }
+        ensures items { result.items ≡ items }
+    {
+        World {
+            alloc,
+            executions: BTreeMap::new(alloc),
+            items,
+        }
+    }
+
+    /// The frame of a thread. Takes no memory, in time logarithmic in the number of executions, and of the path's length.
+    pub fn frame(&self, thread: &ThreadName) -> Option<&Frame>
+        ensures value { option_copied result ≡ frames_of self.now thread.now }
+        ensures tree { IfSome result (λ f. IsTree (paths_of (frames_of self.now) thread.now.exec)) }
+    {
+        frame_in(&self.executions, thread)
+    }
+
+    /// What a thread can do next. Takes no memory, in the time of `frame` and of the number of the thread's branches.
+    pub fn ready(&self, thread: &ThreadName) -> Readiness
+        ensures { result ≡ readiness_at (paths_of (frames_of self.now) thread.now.exec) thread.now.path }
+    {
+        readiness_in(&self.executions, thread)
+    }
+
+    /// The items of the table.
+    pub fn items(&self) -> &ItemStore
+        ensures { result.now ≡ self.now.items }
+    {
+        &self.items
+    }
+}
