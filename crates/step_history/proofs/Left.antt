@@ -1,24 +1,21 @@
 -- Where a step stands as it left its thread, its record can be undone; and what is left then.
-use Rattle.std.proofs.Common.{◌≡◌, ◌<◌, arith, ℕ, ◌-◌, Bool, true, false, List, [], ◌∷◌, ◌++◌, length, zero, suc, refl, ap, ap₂, sym, subst, ◌∙◌, Option, None, Some}
-use Rattle.std.specs.Prelude.{IsSomeAnd, slice_get, ◌↔◌}
+use Rattle.std.proofs.Common.{◌≡◌, ◌<◌, arith, ℕ, true, false, List, [], ◌∷◌, ◌++◌, length, zero, suc, refl, ap, ap₂, sym, subst, ◌∙◌, Option, None, Some}
+use Rattle.std.specs.Prelude.{IsSomeAnd, slice_get}
 use Rattle.std.specs.List.{remove}
 use Rattle.std.proofs.lemmas.Option.{same_Some}
 use Rattle.asl_forward.specs.declared.frame.Frame.{Frame}
 use Rattle.asl_forward.specs.declared.frame.Phase.{Phase}
 use Rattle.asl_forward.specs.declared.frame.Phase.TheVariants.{Ready, Parked, Done, Failed}
 use Rattle.branch_tree.specs.FlatMap.{is_parked}
-use Rattle.item_store.specs.Store.{Store, slot_key}
-use Rattle.item_store.specs.declared.slot.SlotNo.{SlotNo}
+use Rattle.item_store.specs.Store.{Store}
 use Rattle.step_names.specs.Thread.{Thread}
 use Rattle.step_names.proofs.OrderLaws.{thread_itself}
-use Rattle.saved_steps.specs.Deeds.{Deed}
 use Rattle.saved_steps.specs.Held.{frames_of, seen}
 use Rattle.saved_steps.specs.Keeping.{Kept, undo}
 use Rattle.saved_steps.specs.Made.{is_open, KeepsStore}
-use Rattle.saved_steps.specs.Records.{kept_by}
-use Rattle.saved_steps.specs.Run.{carried_out, take_step}
-use Rattle.saved_steps.specs.Steps.{Step, is_fork, is_close}
-use Rattle.saved_steps.specs.Undoing.{Fits, HasSlot, IsSlotOf, StandsAfter, CanUndo, IsUndone}
+use Rattle.saved_steps.specs.Run.{carried_out}
+use Rattle.saved_steps.specs.Steps.{is_fork, is_close}
+use Rattle.saved_steps.specs.Undoing.{Fits, HasSlot, StandsAfter, CanUndo, IsUndone}
 use Rattle.saved_steps.specs.World as model
 use Rattle.saved_steps.specs.World.{Setting}
 use Rattle.saved_steps.specs.declared.fact.Fact.{Fact}
@@ -28,7 +25,7 @@ use Rattle.saved_steps.specs.declared.record.Saved.{Saved}
 use Rattle.saved_steps.specs.declared.record.Saved.TheVariants.{Started, Framed, Called, Forked, Closed}
 use Rattle.saved_steps.specs.declared.record.StepRecord.{StepRecord}
 use Rattle.saved_steps.specs.declared.world.World.{World}
-use Rattle.trace_theory.specs.Traces.{IsRun, IsFree, Takes, needs, undone, without}
+use Rattle.trace_theory.specs.Traces.{IsRun, IsFree, Takes, undone, without}
 use Rattle.trace_theory.proofs.Commuting.{free_steps_undo}
 use Rattle.trace_theory.proofs.Least.{without_one}
 use Rattle.trace_theory.proofs.Orders.{unneeded_behind}
@@ -209,6 +206,9 @@ step_there (t ∷ ts) (suc n) h = step_there ts n (omega (arith, h))
 module _ (s : Setting) (base : model.World) (ts : List Past) (n : ℕ) (t : Past) (h : History) (is : IsHistory s base ts h) (here : slice_get ts n ≡ Some t) where
   pub free_by : first_dependent (facts h.records.items) n ≡ None → IsFree (steps s) ts t
   free_by k = (free_steps_have_no_dependent s base (seen h.world) ts n t is.none is.runs here).0 (subst (λ (l : List Fact). first_dependent l n ≡ None) (facts_alike h.world.items h.records.items ts is.records) k)
+
+  pub no_dependent : IsFree (steps s) ts t → first_dependent (facts h.records.items) n ≡ None
+  no_dependent free = subst (λ (l : List Fact). first_dependent l n ≡ None) (sym (facts_alike h.world.items h.records.items ts is.records)) ((free_steps_have_no_dependent s base (seen h.world) ts n t is.none is.runs here).1 free)
 
   -- the record at the step's place can be undone where the step is free
   pub can_undo_at : (r : StepRecord) → slice_get h.records.items n ≡ Some r → IsFree (steps s) ts t → CanUndo h.world r

@@ -1,2 +1,4 @@
 pub mod Open
 pub mod Left
+pub mod Planned
+pub mod Rolled

@@ -1,10 +1,9 @@
 -- A step that isn't a fork leaves its thread with a frame that isn't parked.
-use Rattle.std.proofs.Common.{◌≡◌, ℕ, true, false, List, refl, ap, subst, Option, None, Some, Result, Ok, Err}
+use Rattle.std.proofs.Common.{◌≡◌, ℕ, false, List, refl, subst, Option, None, Some, Result, Ok, Err}
 use Rattle.std.specs.Prelude.{option_map, is_some, if◌then◌else◌}
 use Rattle.std.proofs.lemmas.Option.{same_Some}
 use Rattle.json_tree.specs.Data.{Data, list, items_of}
 use Rattle.json_tree.specs.View.{data_of}
-use Rattle.json_tree.specs.declared.tree.Json.{Json}
 use Rattle.attr_values.specs.declared.key.Key.{Key}
 use Rattle.item_store.specs.Calls.{call_of}
 use Rattle.item_store.specs.Deciding.{Reply, given, refused}
@@ -36,12 +35,11 @@ use Rattle.asl_forward.specs.declared.prepared.Outcome.{Outcome}
 use Rattle.asl_forward.specs.declared.prepared.Outcome.TheVariants as outcome
 use Rattle.step_names.specs.Thread.{Thread, execution}
 use Rattle.step_names.specs.declared.step.StepName.{StepName}
-use Rattle.saved_steps.specs.Deeds.{Deed, next_step, deed_of, called, call_deed, deed_of_turn, kids, first_fault, outputs, join_deed, close_deed, deed_in, stands, frame_deed, move_deed, start_deed, if_numbered, deed}
+use Rattle.saved_steps.specs.Deeds.{Deed, next_step, deed_of, called, call_deed, deed_of_turn, kids, first_fault, outputs, join_deed, close_deed, deed_in, stands, frame_deed, move_deed, if_numbered, deed}
 use Rattle.saved_steps.specs.Made.{is_open}
 use Rattle.saved_steps.specs.Steps.{Step, started, moved, start_name, is_fork}
 use Rattle.saved_steps.specs.World.{Setting, World}
-use Rattle.saved_steps.specs.declared.fact.Kind.{Kind}
-use Rattle.saved_steps.specs.declared.fact.Kind.TheVariants.{Start, Plain, Call, Fork, Join, Terminate}
+use Rattle.saved_steps.specs.declared.fact.Kind.TheVariants.{Start, Join}
 use Rattle.trace_theory.proofs.Runs.{and_then_some, map_some}
 use Rattle.depends.proofs.Planned.{numbered}
 

@@ -1,8 +1,9 @@
 -- The steps that remain, with what is kept of each, and the world that they give.
-use Rattle.std.specs.Prelude.{◌≡◌, List, [], ◌∷◌, None}
+use Rattle.std.specs.Prelude.{◌≡◌, ◌<◌, ℕ, List, [], ◌∷◌, None, length, map}
 use Rattle.item_store.specs.Store.{Store, items_of}
 use Rattle.depends.specs.Instance.{steps}
 use Rattle.depends.specs.Laws.{HasNoFrames}
+use Rattle.depends.specs.Plans.{plan}
 use Rattle.trace_theory.specs.Traces.{Taken, IsRun}
 use Rattle.saved_steps.specs.Held.{seen}
 use Rattle.saved_steps.specs.Keeping.{Kept}
@@ -48,3 +49,7 @@ pub record IsHistory (s : Setting) (base : World) (ts : List Past) (h : History)
 -- it is the history of some steps in some setting
 abbrev pub IsSomeHistory : History → Type 0
 IsSomeHistory h = (s : Setting) × (base : World) × (ts : List Past) × IsHistory s base ts h
+
+-- the plan of the step at some place
+abbrev pub IsPlanOf : History → List ℕ → Type 0
+IsPlanOf h places = (at : ℕ) × (at < length h.records.items) × (places ≡ plan (map (λ r. r.fact) h.records.items) at)

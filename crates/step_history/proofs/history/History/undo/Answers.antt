@@ -1,8 +1,5 @@
-use Rattle.std.proofs.Common.{◌≡◌, List, length, slice_get, refl, sym, ◌∙◌, subst, arith, Some}
+use Rattle.std.proofs.Common.{length, refl, arith}
 use Rattle.std.proofs.lemmas.Option.{slice_get_read}
-use Rattle.saved_steps.specs.World.{Setting, World}
-use Rattle.saved_steps.specs.declared.record.StepRecord.{StepRecord}
-use Rattle.step_history.specs.History.{Past, IsHistory}
 use Rattle.step_history.specs.declared.history.History.{History}
 use Rattle.step_history.proofs.Left.{step_there, as_many, free_by, can_undo_at, undone_history}
 use Rattle.step_history.proofs.history.History.undo.Goals as goal
