@@ -11,6 +11,8 @@ use Rattle.std.proofs.lemmas.Slice.Eq.{bytes_eq-Decides}
 use Rattle.std.proofs.Math.Path.{fun_ext}
 use Rattle.attr_values.specs.declared.key.Key.{Key}
 use Rattle.item_store.specs.Store.{Store, items_of, slot_key}
+use Rattle.item_store.specs.Deciding.{Attributes}
+use Rattle.item_store.specs.Table.{is_same_key}
 use Rattle.item_store.specs.declared.slot.SlotNo.{SlotNo}
 use Rattle.asl_forward.specs.declared.frame.Frame.{Frame}
 use Rattle.branch_tree.specs.FlatMap.{FrameMap, IsTree, is_parked, alone}
@@ -23,13 +25,14 @@ use Rattle.step_names.proofs.OrderLaws.{thread_itself, thread_same}
 use Rattle.step_names.proofs.UnderLaws.{under_Decides}
 use Rattle.saved_steps.specs.Deeds.{Deed, deed_of, fork_deed}
 use Rattle.saved_steps.specs.Held.{placed, tree_in, rows_at, frames_of, paths_of, put_at, with_thread, seen}
-use Rattle.saved_steps.specs.Keeping.{Kept, kept, undo}
+use Rattle.saved_steps.specs.Keeping.{Kept, kept, item_written, undo}
 use Rattle.saved_steps.specs.Made.{is_open, IsOpen, IsParkedSince, plain_fact, fact_made, Makes, IsMadeFor, Stands, KeepsStore}
 use Rattle.saved_steps.specs.Records.{keeps, kept_by, was_below}
 use Rattle.saved_steps.specs.Run.{carried_out, begun, begun_at}
-use Rattle.saved_steps.specs.Steps.{makes, closes, is_fork, is_close}
+use Rattle.saved_steps.specs.Steps.{makes, closes, is_fork, is_close, is_write, is_write_of}
 use Rattle.saved_steps.specs.Undoing.{Fits, HasSlot, StandsAfter, CanUndo, IsApplied}
 use Rattle.saved_steps.specs.World.{is_same_thread}
+use Rattle.saved_steps.specs.declared.fact.Access.{Access}
 use Rattle.saved_steps.specs.declared.fact.Fact.{Fact}
 use Rattle.saved_steps.specs.declared.fact.Kind.{Kind}
 use Rattle.saved_steps.specs.declared.fact.Kind.TheVariants as kind
@@ -91,6 +94,31 @@ plain w v name f g items stands was now =
         thread = subst (λ (o : Option Frame). IsSomeAnd o is_open) (sym (now name.thread ∙ with_here (frames_of w) name.thread f)) stands.1;
       })
     (same_store w.items v.items items) (deed_of kind.Plain name f) (record { fact = refl; change = refl }) (λ t h. cc)
+
+-- ---- a call
+
+item_is : (w k : Bool) (item x now : Option Attributes) → (w ≡ true → x ≡ item) → cond (w && k) x now ≡ cond (w && k) item now
+item_is true k item x now h = rw (h refl) refl
+item_is false k item x now h = refl
+
+pub call : (w v : World) (name : StepName) (f g : Frame) (a : Access) (slot : SlotNo) (new old : Option Attributes) → Stands w name (change.Call f a slot new) → frames_of w name.thread ≡ Some g
+    → ((t : Thread) → frames_of v t ≡ with_thread (frames_of w) name.thread f t)
+    → old ≡ item_written (items_of w.items) (Some a) → ((key : Key) → items_of v.items key ≡ cond (is_write_of (Some a) key) new (items_of w.items key)) → KeepsStore w.items v.items
+    → IsApplied w (record { name = name; change = change.Call f a slot new }) v (record { fact = record { name = name; kind = kind.Call; access = Some a }; saved = Called g slot old })
+call w v name f g a slot new old stands was now was_item items store =
+    let s : Fact = record { name = name; kind = kind.Call; access = Some a } in
+    let d0 : Deed = record { fact = s; frame = f; branches = []; item = new } in
+    applied w v (record { name = name; change = change.Call f a slot new }) (record { fact = s; saved = Called g slot old }) refl
+    (λ d x. subst (λ (e : Deed). seen v ≡ carried_out (seen w) e) (deed_is d s f x.fact x.change.0)
+            (same_world (seen v) (carried_out (seen w) (record { fact = s; frame = f; branches = d.branches; item = d.item })) now
+                (λ key. items key ∙ item_is (is_write a.mode) (is_same_key a.key key) d.item new (items_of w.items key) x.change.1)))
+    (ap₂ (λ (o : Option Frame) (i : Option Attributes). keeps o i) (sym was) was_item)
+    (record {
+        record_fits = (refl, subst (λ (o : Option Frame). IsSomeAnd o is_open) was stands.0);
+        slot = (a, refl, store.slots slot a.key stands.2);
+        thread = subst (λ (o : Option Frame). IsSomeAnd o is_open) (sym (now name.thread ∙ with_here (frames_of w) name.thread f)) stands.1;
+      })
+    store d0 (record { fact = refl; change = (refl, λ e. refl) }) (λ t h. cc)
 
 -- ---- a start
 

@@ -1,7 +1,10 @@
-mod Probe
 mod Threads
 mod Trees
 mod Under
 mod Undone
 mod Applied
 mod TakenBack
+mod Turned
+mod Answered
+mod Ready
+mod Moves

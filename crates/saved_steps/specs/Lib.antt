@@ -1,6 +1,8 @@
+pub mod Answering
 pub mod Deeds
 pub mod Held
 pub mod Keeping
+pub mod Laws
 pub mod Made
 pub mod Records
 pub mod Run

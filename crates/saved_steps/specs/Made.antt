@@ -1,20 +1,23 @@
 -- What a step is to do as it was worked out before, and as it is made ready to be applied.
-use Rattle.std.specs.Prelude.{◌≡◌, ℕ, ◌-◌, Bool, true, false, List, [], map, length, Option, Some, None, IsSomeAnd}
-use Rattle.std.specs.List.{All}
+use Rattle.std.specs.Prelude.{◌≡◌, ℕ, ◌+◌, ◌-◌, Bool, true, false, List, [], map, Option, Some, None, IsSomeAnd, option_map, option_and_then}
 use Rattle.std.specs.BTreeMap.{get_by_text}
 use Rattle.attr_values.specs.declared.key.Key.{Key}
-use Rattle.item_store.specs.Store.{Store, slot_key}
+use Rattle.item_store.specs.Store.{Store, items_of, slot_key}
+use Rattle.item_store.specs.Table.{in_form}
 use Rattle.item_store.specs.declared.slot.SlotNo.{SlotNo}
 use Rattle.asl_forward.specs.declared.frame.Frame.{Frame}
-use Rattle.asl_forward.specs.declared.frame.Phase.TheVariants.{Parked}
+use Rattle.asl_forward.specs.Outcomes.{work_of}
+use Rattle.asl_forward.specs.Turn.{standing}
 use Rattle.asl_forward.specs.declared.prepared.Outcome.{Outcome}
 use Rattle.asl_forward.specs.declared.prepared.Outcome.TheVariants as outcome
+use Rattle.asl_forward.specs.declared.prepared.Prepared.{Prepared}
 use Rattle.branch_tree.specs.FlatMap.{is_parked}
 use Rattle.branch_tree.specs.Tree.{leaf, IsNode}
 use Rattle.step_names.specs.Thread.{Thread}
 use Rattle.step_names.specs.declared.step.StepName.{StepName}
-use Rattle.saved_steps.specs.Deeds.{Deed, deed_of, fork_deed}
-use Rattle.saved_steps.specs.Held.{frames_of, seen}
+use Rattle.saved_steps.specs.Deeds.{Deed, deed_of, fork_deed, call_deed}
+use Rattle.saved_steps.specs.Held.{frames_of}
+use Rattle.saved_steps.specs.Steps.{is_write}
 use Rattle.saved_steps.specs.declared.fact.Fact.{Fact}
 use Rattle.saved_steps.specs.declared.fact.Kind.{Kind}
 use Rattle.saved_steps.specs.declared.fact.Kind.TheVariants as kind
@@ -27,17 +30,19 @@ use Rattle.saved_steps.specs.declared.world.World.{World}
 
 -- ---- a step's next
 
-abbrev pub deed_of_work : StepName → Outcome → Option Deed
-deed_of_work name (outcome.Next g) = Some (deed_of kind.Plain name g)
-deed_of_work name (outcome.Fork g branches) = Some (fork_deed name g branches)
-deed_of_work name (outcome.Call c) = None
+-- a call's access, answer and item are decided by the items that are there
+abbrev pub deed_of_work : Store → StepName → Prepared → Outcome → Option Deed
+deed_of_work items name p (outcome.Next g) = Some (deed_of kind.Plain name g)
+deed_of_work items name p (outcome.Fork g branches) = Some (fork_deed name g branches)
+deed_of_work items name p (outcome.Call c) =
+    option_and_then (λ at. option_map (λ work. call_deed name at.0 work p.frame (in_form items.table items.schema (items_of items) c)) (work_of at.1)) (standing p.machine p.frame)
 
 -- what the step of this name does, with this next
-abbrev pub deed_of_next : StepName → Next → Option Deed
-deed_of_next name (Begin f) = Some (deed_of kind.Start name f)
-deed_of_next name (Work p) = deed_of_work name p.outcome
-deed_of_next name (Join f) = Some (deed_of kind.Join name f)
-deed_of_next name (Terminate f) = Some (deed_of kind.Terminate name f)
+abbrev pub deed_of_next : Store → StepName → Next → Option Deed
+deed_of_next items name (Begin f) = Some (deed_of kind.Start name f)
+deed_of_next items name (Work p) = deed_of_work items name p p.outcome
+deed_of_next items name (Join f) = Some (deed_of kind.Join name f)
+deed_of_next items name (Terminate f) = Some (deed_of kind.Terminate name f)
 
 -- ---- where a thread is
 
@@ -54,16 +59,11 @@ IsParkedSince frames t step = IsSomeAnd (frames t) (λ f. (is_parked f.phase ≡
 
 -- ---- when a step can be made
 
-abbrev pub Yields : StepName → Outcome → Type 0
-Yields name (outcome.Next g) = is_open g
-Yields name (outcome.Fork g branches) = (g.phase ≡ Parked (length branches)) × (g.count ≡ name.no) × All is_open branches
-Yields name (outcome.Call c) = ⊥
-
 -- The execution isn't there, or the thread stands as the step finds it: open before its work, or parked since its step before
--- this one.
+-- this one. A step's number is one more than its thread's count.
 abbrev pub Suits : World → StepName → Next → Type 0
 Suits w name (Begin f) = (frames_of w name.thread ≡ None) × (name.thread.path ≡ []) × is_open f
-Suits w name (Work p) = IsOpen (frames_of w) name.thread × Yields name p.outcome
+Suits w name (Work p) = IsOpen (frames_of w) name.thread × (name.no ≡ p.frame.count + 1)
 Suits w name (Join f) = IsParkedSince (frames_of w) name.thread (name.no - 1) × is_open f
 Suits w name (Terminate f) = IsParkedSince (frames_of w) name.thread (name.no - 1) × is_open f
 
@@ -75,6 +75,7 @@ plain_fact name k = record { name = name; kind = k; access = None }
 abbrev pub fact_of_change : StepName → Change → Fact
 fact_of_change name (change.Begin f) = plain_fact name kind.Start
 fact_of_change name (change.Plain f) = plain_fact name kind.Plain
+fact_of_change name (change.Call f access slot new) = record { name = name; kind = kind.Call; access = Some access }
 fact_of_change name (change.Fork f kids) = plain_fact name kind.Fork
 fact_of_change name (change.Join f) = plain_fact name kind.Join
 fact_of_change name (change.Terminate f) = plain_fact name kind.Terminate
@@ -85,6 +86,7 @@ fact_made m = fact_of_change m.name m.change
 abbrev pub Makes : Change → Deed → Type 0
 Makes (change.Begin f) d = f ≡ d.frame
 Makes (change.Plain f) d = f ≡ d.frame
+Makes (change.Call f access slot new) d = (f ≡ d.frame) × (is_write access.mode ≡ true → new ≡ d.item)
 Makes (change.Fork f kids) d = (f ≡ d.frame) × (kids.items ≡ map leaf d.branches)
 Makes (change.Join f) d = f ≡ d.frame
 Makes (change.Terminate f) d = f ≡ d.frame
@@ -97,6 +99,7 @@ pub record IsMadeFor (m : Made) (d : Deed) : Type 0 where
 abbrev pub Stands : World → StepName → Change → Type 0
 Stands w name (change.Begin f) = (get_by_text w.executions name.thread.exec ≡ Some None) × (name.thread.path ≡ []) × is_open f
 Stands w name (change.Plain f) = IsOpen (frames_of w) name.thread × is_open f
+Stands w name (change.Call f access slot new) = IsOpen (frames_of w) name.thread × is_open f × (slot_key w.items slot ≡ Some access.key)
 Stands w name (change.Fork f kids) =
     IsOpen (frames_of w) name.thread × IsNode f kids.items × (is_parked f.phase ≡ true) × (f.count ≡ name.no) × ((branches : List Frame) × (kids.items ≡ map leaf branches))
 Stands w name (change.Join f) = IsParkedSince (frames_of w) name.thread (name.no - 1) × is_open f
@@ -112,10 +115,10 @@ pub record KeepsStore (a b : Store) : Type 0 where
   pub table : b.table ≡ a.table
   pub schema : b.schema ≡ a.schema
 
--- the first world is made the second, in which everything is made for a step
+-- in the second world everything is made for a step that is to be taken in the first
 pub record IsMadeOf (w v : World) (name : StepName) (next : Next) (m : Made) : Type 0 where
   pub named : m.name ≡ name
   pub ready : CanApply v m
   pub deed : Deed
-  pub is : deed_of_next name next ≡ Some deed
+  pub is : deed_of_next w.items name next ≡ Some deed
   pub made : IsMadeFor m deed

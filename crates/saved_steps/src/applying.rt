@@ -1,15 +1,21 @@
 // What a step does to the world.
-ghost use Rattle.std.specs.Prelude.{◌≡◌, None};
-ghost use Rattle.saved_steps.specs.Made.{CanApply, plain_fact};
+ghost use Rattle.std.specs.Prelude.{◌≡◌, None, Some, if◌then◌else◌};
+ghost use Rattle.attr_values.specs.declared.key.Key as keys;
+ghost use Rattle.item_store.specs.Store.{items_of, slot_key};
+ghost use Rattle.saved_steps.specs.Keeping.{item_written};
+ghost use Rattle.saved_steps.specs.Made.{CanApply, KeepsStore, plain_fact};
+ghost use Rattle.saved_steps.specs.Steps.{is_write_of};
 ghost use Rattle.saved_steps.specs.Undoing.{IsApplied};
 
-use crate::fact::{Fact, Kind};
+use crate::fact::{Access, Fact, Kind};
 use crate::made::{Change, Made};
 use crate::places::{give, put_tree, replace, take};
 use crate::record::{Saved, StepRecord};
 use crate::world::World;
 use asl_forward::Frame;
+use attr_values::Item;
 use branch_tree::{Branch, Tree};
+use item_store::{AccessMode, ItemStore, SlotNo};
 use step_names::StepName;
 
 /// The record of a step that touches no item.
@@ -26,6 +32,24 @@ fn record(name: StepName, kind: Kind, saved: Saved) -> StepRecord
     }
 }
 
+/// Puts what a write leaves into the slot of its key, and hands out what a write found.
+fn put_item(
+    items: &mut ItemStore,
+    access: &Access,
+    slot: SlotNo,
+    new: Option<Item>,
+) -> Option<Item>
+    requires { slot_key items.old slot ≡ Some access.now.key }
+    ensures was { result ≡ item_written (items_of items.old) (Some access.now) }
+    ensures items { (key : keys.Key) → items_of items.new key ≡ (if is_write_of (Some access.now) key then new else items_of items.old key) }
+    ensures store { KeepsStore items.old items.new }
+{
+    match access.mode {
+        AccessMode::Write => items.swap(slot, new),
+        AccessMode::Read => None,
+    }
+}
+
 impl World {
     /// Applies a step that `make` made, where the world is as that left it. What it takes away is moved into the record.
     /// Takes no memory.
@@ -37,6 +61,12 @@ impl World {
         match change {
             Change::Begin(frame) => self.apply_begin(name, frame),
             Change::Plain(frame) => self.apply_plain(name, frame),
+            Change::Call {
+                frame,
+                access,
+                slot,
+                new,
+            } => self.apply_call(name, frame, access, slot, new),
             Change::Fork(frame, kids) => self.apply_fork(name, frame, kids),
             Change::Join(frame) => self.apply_join(name, frame),
             Change::Terminate(frame) => self.apply_terminate(name, frame),
@@ -58,6 +88,33 @@ impl World {
     {
         let before = replace(&mut self.executions, &name.thread, frame);
         record(name, Kind::Plain, Saved::Framed(before))
+    }
+
+    fn apply_call(
+        &mut self,
+        name: StepName,
+        frame: Frame,
+        access: Access,
+        slot: SlotNo,
+        new: Option<Item>,
+    ) -> StepRecord
+        requires { CanApply self.old (record { name = name; change = Change.Call frame access slot new }) }
+        ensures { IsApplied self.old (record { name = name; change = Change.Call frame access slot new }) self.new result }
+    {
+        let before = replace(&mut self.executions, &name.thread, frame);
+        let old = put_item(&mut self.items, &access, slot, new);
+        StepRecord {
+            fact: Fact {
+                name,
+                kind: Kind::Call,
+                access: Some(access),
+            },
+            saved: Saved::Called {
+                frame: before,
+                slot,
+                old,
+            },
+        }
     }
 
     fn apply_fork(&mut self, name: StepName, frame: Frame, kids: Vec<Branch>) -> StepRecord

@@ -1,9 +1,12 @@
 #![tactic(auto)]
 
 //! What a step does to executions and items, and what is kept to undo it.
+mod answering;
 mod applying;
 mod fact;
+mod laws;
 mod made;
+mod making;
 mod next;
 mod places;
 mod record;
@@ -11,6 +14,7 @@ mod undoing;
 mod world;
 
 pub use fact::{Access, Fact, Kind};
+pub use laws::{nexts_are_moves, steps_are_taken_back, taken_back};
 pub use made::Made;
 pub use next::Next;
 pub use record::{Saved, StepRecord};

@@ -1,6 +1,9 @@
 // A step for which everything is made.
+use crate::fact::Access;
 use asl_forward::Frame;
+use attr_values::Item;
 use branch_tree::Branch;
+use item_store::SlotNo;
 use step_names::StepName;
 
 /// What is put where, once a step is applied.
@@ -10,6 +13,13 @@ pub enum Change {
     Begin(Frame),
     /// The thread's frame.
     Plain(Frame),
+    /// The thread's frame, and of a write the item that then stands in the slot of its key, if any.
+    Call {
+        frame: Frame,
+        access: Access,
+        slot: SlotNo,
+        new: Option<Item>,
+    },
     /// The thread's frame, and what it is parked over.
     Fork(Frame, Vec<Branch>),
     /// The thread's frame, once its branches are out.

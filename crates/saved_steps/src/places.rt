@@ -1,5 +1,5 @@
 // The trees of executions, each at its execution's name.
-ghost use Rattle.std.specs.Prelude.{◌≡◌, ℕ, List, ◌++◌, None, Some, true, false, option_copied, IfSome, IsSomeAnd, OnOk, if◌then◌else◌};
+ghost use Rattle.std.specs.Prelude.{◌≡◌, ℕ, List, [], ◌++◌, is_some, None, Some, true, false, option_copied, IfSome, IsSomeAnd, OnOk, if◌then◌else◌};
 ghost use Rattle.std.specs.BTreeMap.{get_by_text};
 ghost use Rattle.std.specs.Str.{bytes_eq};
 ghost use Rattle.branch_tree.specs.FlatMap.{IsTree, is_parked, with_frame, grafted, alone};
@@ -48,6 +48,17 @@ pub(crate) fn readiness_in(executions: &Executions, thread: &ThreadName) -> Read
 }
 
 // ---- places
+
+/// Whether an execution has a tree, and so its own thread a frame.
+pub(crate) fn has_tree(executions: &Executions, exec: &str) -> bool
+    ensures tree { result ≡ is_some (tree_in executions.now exec.now) }
+    ensures root { result ≡ is_some (rows_at (tree_in executions.now exec.now) []) }
+{
+    match tree_in(executions, exec) {
+        Some(tree) => tree.find(&[]).is_some(),
+        None => false,
+    }
+}
 
 /// Makes an empty place for an execution that has no tree. Takes memory for a copy of the name, where there is no place.
 pub(crate) fn make_place(

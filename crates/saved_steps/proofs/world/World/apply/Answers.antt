@@ -14,3 +14,6 @@ returns-in-Join c = subst (λ (x : Change). IsApplied c.args.self.now (record { 
 
 pub returns-in-Terminate : goal.returns-in-Terminate
 returns-in-Terminate c = subst (λ (x : Change). IsApplied c.args.self.now (record { name = c.args.made.name; change = x }) c.apply_terminate.new.self c.apply_terminate.result) (sym c.in-Terminate.is) c.apply_terminate.ensures
+
+pub returns-in-Call : goal.returns-in-Call
+returns-in-Call c = subst (λ (x : Change). IsApplied c.args.self.now (record { name = c.args.made.name; change = x }) c.apply_call.new.self c.apply_call.result) (sym c.in-Call.is) c.apply_call.ensures

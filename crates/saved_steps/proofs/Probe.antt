@@ -1,1 +1,0 @@
-use Rattle.saved_steps.proofs.TakenBack.{plain}

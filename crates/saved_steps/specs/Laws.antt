@@ -1,0 +1,85 @@
+-- Laws of what steps do and of what takes them back.
+use Rattle.std.specs.Prelude.{◌≡◌, ℕ, ◌+◌, List, Bool, true, ◌||◌, if◌then◌else◌, Option, Some, None}
+use Rattle.attr_values.specs.declared.key.Key.{Key}
+use Rattle.json_tree.specs.Data.{Data}
+use Rattle.json_tree.specs.declared.tree.Json.{Json}
+use Rattle.asl_machine.specs.Definition.{Definition}
+use Rattle.asl_forward.specs.Outcomes.{Work, work_of, after_branch, after_join}
+use Rattle.asl_forward.specs.Turn.{Standing, first_frame}
+use Rattle.asl_forward.specs.declared.frame.Fault.{Fault}
+use Rattle.asl_forward.specs.declared.frame.Frame.{Frame}
+use Rattle.asl_forward.specs.declared.frame.Phase.TheVariants.{Parked}
+use Rattle.asl_forward.specs.declared.prepared.Prepared.{Prepared}
+use Rattle.step_names.specs.Thread.{Thread, execution}
+use Rattle.step_names.specs.declared.step.StepName.{StepName}
+use Rattle.saved_steps.specs.Deeds.{Deed, deed, stands, kids, first_fault, outputs}
+use Rattle.saved_steps.specs.Held.{frames_of, seen}
+use Rattle.saved_steps.specs.Keeping.{kept, undo}
+use Rattle.saved_steps.specs.Made.{deed_of_next}
+use Rattle.saved_steps.specs.Run.{carried_out}
+use Rattle.saved_steps.specs.Steps.{started, moved, start_name, makes, closes, writes_key}
+use Rattle.saved_steps.specs.World as model
+use Rattle.saved_steps.specs.World.{Setting, is_same_thread}
+use Rattle.saved_steps.specs.declared.fact.Fact.{Fact}
+use Rattle.saved_steps.specs.declared.next.Next.TheVariants as next
+use Rattle.saved_steps.specs.declared.world.World.{World}
+
+-- ---- taken back, and taken again
+
+-- the threads that a step changes: its own, and those under the fork that it makes or closes
+abbrev pub changes : Fact → Thread → Bool
+changes s t = is_same_thread s.name.thread t || (makes s t || closes s t)
+
+-- the two worlds show the same at the threads and the key that a step changes
+pub record AgreeAt (s : Fact) (w x : model.World) : Type 0 where
+  pub frames : (t : Thread) → changes s t ≡ true → x.frames t ≡ w.frames t
+  pub items : (key : Key) → writes_key s key ≡ true → x.items key ≡ w.items key
+
+-- the first world, but for what the second shows where the step changes something
+abbrev pub with_places : Fact → model.World → model.World → model.World
+with_places s x w = record { frames = λ t. if changes s t then w.frames t else x.frames t; items = λ key. if writes_key s key then w.items key else x.items key }
+
+-- nothing stands under the fork that a step makes
+abbrev pub NothingMade : model.World → Fact → Type 0
+NothingMade w s = (t : Thread) → makes s t ≡ true → w.frames t ≡ None
+
+-- a step that is undone right after it was taken leaves no change
+abbrev pub UndoneAtOnce : Type 0
+UndoneAtOnce = (w : model.World) (d : Deed) → NothingMade w d.fact → undo (carried_out w d) d.fact (kept w d.fact) ≡ w
+
+-- Undone later, it gives its places what they had, and leaves what other steps did elsewhere.
+abbrev pub UndoneLater : Type 0
+UndoneLater = (w x : model.World) (s : Fact) → NothingMade w s → undo x s (kept w s) ≡ with_places s x w
+
+-- and where its places are as it left them, its deed done again gives the world that there was
+abbrev pub TakenAgain : Type 0
+TakenAgain = (w x : model.World) (d : Deed) → AgreeAt d.fact (carried_out w d) x → carried_out (undo x d.fact (kept w d.fact)) d ≡ x
+
+-- ---- a step's next is what its thread's move does
+
+-- a world over the setting's table
+pub record IsOver (s : Setting) (w : World) : Type 0 where
+  pub table : w.items.table ≡ s.table
+  pub schema : w.items.schema ≡ s.schema
+
+abbrev pub StartIsDeed : Type 0
+StartIsDeed = (s : Setting) (w : World) (exec machine : List ℕ) (input : Json) (d : Definition) → frames_of w (execution exec) ≡ None → s.machines machine ≡ Some d
+    → deed s (seen w) (started exec machine input) ≡ deed_of_next w.items (start_name exec) (next.Begin (first_frame machine d input))
+
+-- a turn that was prepared from the thread's frame in its machine
+abbrev pub WorkIsDeed : Type 0
+WorkIsDeed = (s : Setting) (w : World) (name : StepName) (p : Prepared) → IsOver s w → frames_of w name.thread ≡ Some p.frame → s.machines p.frame.level.machine ≡ Some p.machine
+    → name.no ≡ p.frame.count + 1 → deed s (seen w) (moved name) ≡ deed_of_next w.items name (next.Work p)
+
+-- a frame after its branches' outputs, where none has failed
+abbrev pub JoinIsDeed : Type 0
+JoinIsDeed = (s : Setting) (w : World) (name : StepName) (f : Frame) (n : ℕ) (at : Standing) (work : Work) (ds : List Data)
+    → frames_of w name.thread ≡ Some f → f.phase ≡ Parked n → stands s f ≡ Some at → work_of at.1 ≡ Some work
+    → first_fault (kids (seen w) name.thread f n) ≡ None → outputs (kids (seen w) name.thread f n) ≡ Some ds → name.no ≡ f.count + 1
+    → deed s (seen w) (moved name) ≡ deed_of_next w.items name (next.Join (after_join at.0 work f ds))
+
+-- a frame after the error of the first branch that has failed
+abbrev pub TerminateIsDeed : Type 0
+TerminateIsDeed = (s : Setting) (w : World) (name : StepName) (f : Frame) (n : ℕ) (at : Standing) (fault : Fault)
+    → frames_of w name.thread ≡ Some f → f.phase ≡ Parked n → stands s f ≡ Some at → first_fault (kids (seen w) name.thread f n) ≡ Some fault → name.no ≡ f.count + 1
+    → deed s (seen w) (moved name) ≡ deed_of_next w.items name (next.Terminate (after_branch at f fault))

@@ -1,0 +1,169 @@
+// Everything that a step needs, made before it is taken.
+ghost use Rattle.std.specs.Prelude.{◌≡◌, IfOk, IsTrue, is_some, []};
+ghost use Rattle.item_store.specs.Store.{items_of};
+ghost use Rattle.step_names.specs.Thread.{Thread};
+ghost use Rattle.asl_forward.specs.Planned.{asks_table};
+ghost use Rattle.saved_steps.specs.Answering.{change_from};
+ghost use Rattle.saved_steps.specs.Held.{frames_of};
+ghost use Rattle.saved_steps.specs.Made.{Suits, IsMadeOf, KeepsStore};
+
+use crate::answering::{Answered, Touch, answer};
+use crate::made::{Change, Made};
+use crate::next::Next;
+use crate::places::{has_tree, make_place};
+use crate::world::World;
+use asl_forward::{Frame, Outcome, Prepared, finish};
+use branch_tree::Branch;
+use std::alloc::{AllocError, Global};
+use step_names::StepName;
+
+/// The change of a thread's frame, and of the item that its call touches.
+fn change_of(frame: Frame, touch: Option<Touch>) -> Change
+    ensures { result ≡ change_from frame touch }
+{
+    match touch {
+        Some(Touch { access, slot, new }) => Change::Call {
+            frame,
+            access,
+            slot,
+            new,
+        },
+        None => Change::Plain(frame),
+    }
+}
+
+/// Whether a turn comes to a call.
+fn asks(outcome: &Outcome) -> bool
+    ensures { result ≡ asks_table outcome.now }
+{
+    matches!(outcome, Outcome::Call(_))
+}
+
+impl World {
+    /// Makes everything that a step needs: the place of an execution, the slot of a key and the answer of a call, the
+    /// branches of a fork, and the names that the step's fact keeps. The world then shows the same frames and items, also
+    /// where memory is refused.
+    pub fn make(
+        &mut self,
+        alloc: Global,
+        name: &StepName,
+        next: Next,
+    ) -> Result<Made, AllocError>
+        requires { Suits self.old name.now next }
+        ensures made { IfOk result (λ m. IsMadeOf self.old self.new name.now next m) }
+        ensures frames { (t : Thread) → frames_of self.new t ≡ frames_of self.old t }
+        ensures items { items_of self.new.items ≡ items_of self.old.items }
+        ensures store { KeepsStore self.old.items self.new.items }
+    {
+        let Ok(name) = name.copy() else {
+            drop(next);
+            return Err(AllocError);
+        };
+        match next {
+            Next::Begin(frame) => self.make_begin(alloc, name, frame),
+            Next::Work(prepared) => self.make_work(alloc, name, prepared),
+            Next::Join(frame) => Ok(Made {
+                name,
+                change: Change::Join(frame),
+            }),
+            Next::Terminate(frame) => Ok(Made {
+                name,
+                change: Change::Terminate(frame),
+            }),
+        }
+    }
+
+    fn make_begin(
+        &mut self,
+        alloc: Global,
+        name: StepName,
+        frame: Frame,
+    ) -> Result<Made, AllocError>
+        requires { Suits self.old name (Next.Begin frame) }
+        ensures made { IfOk result (λ m. IsMadeOf self.old self.new name (Next.Begin frame) m) }
+        ensures frames { (t : Thread) → frames_of self.new t ≡ frames_of self.old t }
+        ensures items { self.new.items ≡ self.old.items }
+    {
+        let is_absent = !has_tree(&self.executions, name.thread.exec());
+        prove!(is_absent);
+        if make_place(&mut self.executions, alloc, name.thread.exec()).is_err() {
+            drop(frame);
+            drop(name);
+            return Err(AllocError);
+        }
+        Ok(Made {
+            name,
+            change: Change::Begin(frame),
+        })
+    }
+
+    fn make_work(
+        &mut self,
+        alloc: Global,
+        name: StepName,
+        prepared: Prepared,
+    ) -> Result<Made, AllocError>
+        requires { Suits self.old name (Next.Work prepared) }
+        ensures made { IfOk result (λ m. IsMadeOf self.old self.new name (Next.Work prepared) m) }
+        ensures frames { (t : Thread) → frames_of self.new t ≡ frames_of self.old t }
+        ensures items { items_of self.new.items ≡ items_of self.old.items }
+        ensures store { KeepsStore self.old.items self.new.items }
+    {
+        if asks(prepared.outcome()) {
+            return self.make_call(alloc, name, prepared);
+        }
+        let (_, _, outcome) = prepared.into_parts();
+        match outcome {
+            Outcome::Next(frame) => Ok(Made {
+                name,
+                change: Change::Plain(frame),
+            }),
+            Outcome::Fork(frame, frames) => {
+                let Ok(kids) = Branch::leaves(alloc, frames.into_vec()) else {
+                    drop(frame);
+                    drop(name);
+                    return Err(AllocError);
+                };
+                Ok(Made {
+                    name,
+                    change: Change::Fork(frame, kids),
+                })
+            }
+            Outcome::Call(_) => unreachable!(),
+        }
+    }
+
+    fn make_call(
+        &mut self,
+        alloc: Global,
+        name: StepName,
+        prepared: Prepared,
+    ) -> Result<Made, AllocError>
+        requires suits { Suits self.old name (Next.Work prepared) }
+        requires asks { IsTrue (asks_table prepared.outcome) }
+        ensures made { IfOk result (λ m. IsMadeOf self.old self.new name (Next.Work prepared) m) }
+        ensures frames { (t : Thread) → frames_of self.new t ≡ frames_of self.old t }
+        ensures items { items_of self.new.items ≡ items_of self.old.items }
+        ensures store { KeepsStore self.old.items self.new.items }
+    {
+        let Outcome::Call(call) = prepared.outcome() else {
+            unreachable!()
+        };
+        let Ok(Answered { answer, touch }) = answer(&mut self.items, alloc, call) else {
+            drop(prepared);
+            drop(name);
+            return Err(AllocError);
+        };
+        let Ok(frame) = finish(alloc, &prepared, answer) else {
+            drop(touch);
+            drop(prepared);
+            drop(name);
+            return Err(AllocError);
+        };
+        drop(prepared);
+        Ok(Made {
+            name,
+            change: change_of(frame, touch),
+        })
+    }
+}
