@@ -1,12 +1,13 @@
 -- The steps that remain, with what is kept of each, and the world that they give.
 use Rattle.std.specs.Prelude.{◌≡◌, ◌<◌, ℕ, List, [], ◌∷◌, None, length, map}
+use Rattle.std.specs.Vec.{vec_len, vec_capacity}
 use Rattle.item_store.specs.Store.{Store, items_of}
 use Rattle.depends.specs.Instance.{steps}
 use Rattle.depends.specs.Laws.{HasNoFrames}
 use Rattle.depends.specs.Plans.{plan}
 use Rattle.trace_theory.specs.Traces.{Taken, IsRun}
 use Rattle.saved_steps.specs.Held.{seen}
-use Rattle.saved_steps.specs.Keeping.{Kept}
+use Rattle.saved_steps.specs.Keeping.{Kept, kept}
 use Rattle.saved_steps.specs.Records.{kept_by}
 use Rattle.saved_steps.specs.Steps.{Step}
 use Rattle.saved_steps.specs.Undoing.{IsRecord, HasSlot}
@@ -45,6 +46,14 @@ pub record IsHistory (s : Setting) (base : World) (ts : List Past) (h : History)
   pub none : HasNoFrames base
   pub runs : IsRun (steps s) base ts (seen h.world)
   pub records : AreRecordsOf h.world.items h.records.items ts
+
+-- a step that is taken in a world, with its fact and what it keeps of that world
+abbrev pub taken_in : World → Step → Fact → Past
+taken_in w step fact = record { step = step; fact = fact; saved = kept w fact }
+
+-- there is room for one more record
+abbrev pub HasRoom : History → Type 0
+HasRoom h = vec_len h.records < vec_capacity h.records
 
 -- it is the history of some steps in some setting
 abbrev pub IsSomeHistory : History → Type 0
