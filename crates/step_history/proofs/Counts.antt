@@ -16,7 +16,7 @@ use Rattle.asl_machine.specs.declared.state.State.{State}
 use Rattle.asl_machine.specs.declared.state.State.TheVariants as state
 use Rattle.asl_machine.specs.declared.state.Task.{Task}
 use Rattle.asl_forward.specs.Forks.{branch_frame, with_others, begins, frames_from, parallel_frames, element_frames, element_input, counted_frames, elements, map_frames}
-use Rattle.asl_forward.specs.Outcomes.{Work, work_of, after_join, after_branch, after_answer, asks, task_turn, forks, fork_of, turn_of, turn, action_of}
+use Rattle.asl_forward.specs.Outcomes.{Work, work_of, after_join, after_answer, asks, task_turn, forks, fork_of, turn_of, turn, action_of}
 use Rattle.asl_forward.specs.Processing.{effective, held}
 use Rattle.asl_forward.specs.Turn.{Standing, first_frame}
 use Rattle.asl_forward.specs.declared.frame.Fault.{Fault}
@@ -29,19 +29,16 @@ use Rattle.branch_tree.specs.FlatMap.{is_parked}
 use Rattle.branch_tree.specs.Paths.{Path, rest_after}
 use Rattle.step_names.specs.Thread.{Thread, execution}
 use Rattle.step_names.specs.declared.step.StepName.{StepName}
-use Rattle.step_names.proofs.OrderLaws.{thread_same}
-use Rattle.saved_steps.specs.Deeds.{Deed, next_step, deed_of, called, call_deed, deed_of_turn, kids, first_fault, outputs, join_deed, close_deed, deed_in, stands, frame_deed, move_deed, start_deed, if_numbered, deed}
+use Rattle.saved_steps.specs.Deeds.{Deed, next_step, deed_of, called, call_deed, deed_of_turn, kids, first_fault, outputs, join_deed, close_deed, deed_in, stands, frame_deed, move_deed, if_numbered, deed}
 use Rattle.saved_steps.specs.Held.{seen}
-use Rattle.saved_steps.specs.Run.{begun_at, begun, carried_out, take_step}
-use Rattle.saved_steps.specs.Steps.{Step, started, moved, start_name, name_of, makes, closes}
+use Rattle.saved_steps.specs.Run.{begun_at, carried_out, take_step}
+use Rattle.saved_steps.specs.Steps.{Step, started, moved, start_name, makes, closes}
 use Rattle.saved_steps.specs.World.{Setting, World, is_same_thread}
 use Rattle.saved_steps.specs.declared.fact.Fact.{Fact}
-use Rattle.saved_steps.specs.declared.fact.Kind.{Kind}
-use Rattle.saved_steps.specs.declared.fact.Kind.TheVariants.{Start, Plain, Call, Fork, Join, Terminate}
+use Rattle.saved_steps.specs.declared.fact.Kind.TheVariants.{Start, Join}
 use Rattle.trace_theory.proofs.Lists.{by_bool}
 use Rattle.trace_theory.proofs.Runs.{and_then_some, map_some, Runs, from_run}
 use Rattle.depends.specs.Instance.{steps}
-use Rattle.depends.specs.Laws.{HasNoFrames}
 use Rattle.depends.proofs.Planned.{planned, numbered}
 use Rattle.depends.proofs.Worlds.{deed_taken}
 use Rattle.step_history.specs.History.{Past, IsHistory}

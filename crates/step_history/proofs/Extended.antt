@@ -1,21 +1,19 @@
 -- A history where more machines are known; and what the laws of taking steps back say of one.
-use Rattle.std.proofs.Common.{◌≡◌, ℕ, List, [], ◌∷◌, ◌++◌, append_assoc, refl, ap, ap₂, sym, subst, ◌∙◌, Option, None, Some}
+use Rattle.std.proofs.Common.{◌≡◌, ℕ, List, [], ◌∷◌, ◌++◌, refl, ap, ap₂, sym, subst, ◌∙◌, Option, None, Some}
 use Rattle.std.specs.Prelude.{option_map, option_and_then, is_some, if◌then◌else◌}
-use Rattle.json_tree.specs.declared.tree.Json.{Json}
 use Rattle.attr_values.specs.declared.key.KeySchema.{KeySchema}
 use Rattle.asl_machine.specs.Definition.{Definition}
 use Rattle.asl_forward.specs.Turn.{Standing, standing, first_frame}
 use Rattle.asl_forward.specs.declared.frame.Frame.{Frame}
-use Rattle.asl_forward.specs.declared.frame.Phase.{Phase}
-use Rattle.step_names.specs.Thread.{Thread, execution}
-use Rattle.saved_steps.specs.Deeds.{Deed, deed, deed_of, deed_in, frame_deed, move_deed, if_numbered}
+use Rattle.step_names.specs.Thread.{execution}
+use Rattle.saved_steps.specs.Deeds.{Deed, deed, deed_of, deed_in, frame_deed, if_numbered}
 use Rattle.saved_steps.specs.Held.{seen}
 use Rattle.saved_steps.specs.Run.{carried_out, take_step}
 use Rattle.saved_steps.specs.Steps.{Step, started, moved, start_name}
 use Rattle.saved_steps.specs.World.{Setting, World}
 use Rattle.saved_steps.specs.declared.fact.Fact.{Fact}
 use Rattle.saved_steps.specs.declared.fact.Kind.TheVariants.{Start}
-use Rattle.trace_theory.specs.Traces.{IsRun, IsFree, IsAllowed, In, Takes, undone, without, after}
+use Rattle.trace_theory.specs.Traces.{IsRun, IsFree, without}
 use Rattle.trace_theory.proofs.Commuting.{free_steps_undo}
 use Rattle.trace_theory.proofs.Least.{without_one}
 use Rattle.trace_theory.proofs.Lists.{place}
@@ -24,7 +22,7 @@ use Rattle.trace_theory.proofs.Runs.{map_some, Runs, from_run, to_run}
 use Rattle.depends.specs.Instance.{steps}
 use Rattle.depends.proofs.Lawful.{steps_are_lawful}
 use Rattle.depends.proofs.Named.{steps_have_names}
-use Rattle.step_history.specs.History.{Past, IsHistory}
+use Rattle.step_history.specs.History.{Past}
 use Rattle.step_history.specs.Laws.{Extends, MoreMachinesKeepHistories, AllowedOrdersUndo, FreeStepsReturn}
 
 -- where a frame stands, it stands with more machines too
@@ -81,8 +79,7 @@ more_machines s more base ts h e is = record {
 
 pub orders_undo : AllowedOrdersUndo
 orders_undo s base ts xs h is allowed =
-    let names = steps_have_names s base is.none in
-    (
+    let names = steps_have_names s base is.none in (
       undo_allowed (steps s) base names (steps_are_lawful s base is.none) (seen h.world) ts xs is.runs allowed,
       λ x y i j. orders_hold_after (steps s) base names (seen h.world) ts xs x y is.runs allowed i j,
     )
@@ -95,5 +92,5 @@ free_return s base ts t h is free =
     let behind = unneeded_behind (steps s) base names p.front p.back t (subst (λ (l : List Past). IsFree (steps s) l t) p.whole free) in
     let u = free_steps_undo (steps s) base (steps_are_lawful s base is.none) (seen h.world) p.front p.back t run behind in
     let rest : p.front ++ p.back ≡ without (steps s) (t ∷ []) ts =
-        sym (without_one (steps s) base names p.front p.back t (λ x y i. names.once (p.front ++ t ∷ p.back) (seen h.world) x y run i)) ∙ ap (without (steps s) (t ∷ [])) (sym p.whole) in
+    sym (without_one (steps s) base names p.front p.back t (λ x y i. names.once (p.front ++ t ∷ p.back) (seen h.world) x y run i)) ∙ ap (without (steps s) (t ∷ [])) (sym p.whole) in
     (u.1, subst (λ (l : List Past). IsRun (steps s) base (l ++ t ∷ []) (seen h.world)) rest u.2)

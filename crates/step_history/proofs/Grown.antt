@@ -16,10 +16,9 @@ use Rattle.saved_steps.specs.Steps.{Step}
 use Rattle.saved_steps.specs.Undoing.{IsApplied}
 use Rattle.saved_steps.specs.World as model
 use Rattle.saved_steps.specs.World.{Setting}
-use Rattle.saved_steps.specs.declared.fact.Fact.{Fact}
 use Rattle.saved_steps.specs.declared.made.Made.{Made}
 use Rattle.saved_steps.specs.declared.record.StepRecord.{StepRecord}
-use Rattle.trace_theory.specs.Traces.{IsRun, Takes}
+use Rattle.trace_theory.specs.Traces.{IsRun}
 use Rattle.trace_theory.proofs.Runs.{run_more}
 use Rattle.depends.specs.Instance.{steps}
 use Rattle.step_history.specs.History.{Past, IsRecordOf, AreRecordsOf, IsHistory, taken_in}

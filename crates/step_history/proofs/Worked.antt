@@ -3,7 +3,7 @@ use Rattle.std.proofs.Common.{◌≡◌, ◌+◌, ◌-◌, arith, ℕ, true, Lis
 use Rattle.std.specs.Prelude.{IfSome, IsSomeAnd, option_map, option_and_then}
 use Rattle.json_tree.specs.Data.{Data}
 use Rattle.asl_machine.specs.Definition.{Definition}
-use Rattle.asl_forward.specs.Outcomes.{Work, work_of, work_at, after_join, after_branch}
+use Rattle.asl_forward.specs.Outcomes.{Work, work_of, after_join}
 use Rattle.asl_forward.specs.Turn.{Standing, standing}
 use Rattle.asl_forward.specs.declared.frame.Fault.{Fault}
 use Rattle.asl_forward.specs.declared.frame.Frame.{Frame}
@@ -12,7 +12,7 @@ use Rattle.asl_forward.specs.declared.prepared.Prepared.{Prepared}
 use Rattle.branch_tree.specs.FlatMap.{is_parked}
 use Rattle.step_names.specs.Thread.{Thread}
 use Rattle.step_names.specs.declared.step.StepName.{StepName}
-use Rattle.saved_steps.specs.Deeds.{Deed, deed_of, join_deed, first_fault, outputs, kids, stands, next_step, deed_in, close_deed}
+use Rattle.saved_steps.specs.Deeds.{deed_of, first_fault, outputs, stands, next_step, deed_in, close_deed}
 use Rattle.saved_steps.specs.Held.{frames_of, seen}
 use Rattle.saved_steps.specs.Laws.{IsOver, WorkIsDeed, JoinIsDeed, TerminateIsDeed}
 use Rattle.saved_steps.specs.Made.{is_open, IsParkedSince}
@@ -25,7 +25,6 @@ use Rattle.saved_steps.specs.declared.world.World.{World}
 use Rattle.step_history.specs.History.{Past, IsHistory}
 use Rattle.step_history.specs.Moves.{IsMachineOf, IsMoveOf, IsCloseOf, branches_of}
 use Rattle.step_history.specs.declared.history.History.{History}
-use Rattle.step_history.proofs.Counts.{counted, CountIn}
 use Rattle.step_history.proofs.Open.{join_open, branch_open}
 
 pub ok_map : {A E : Type 0} (P Q : A → Type 0) (r : Result A E) → ((x : A) → P x → Q x) → IfOk r P → IfOk r Q
@@ -45,8 +44,7 @@ module _ (s : Setting) (w : World) (t : Thread) (f : Frame) (m : Definition) (ov
   pub work_move : (p : Prepared) → WorkIsDeed → f.phase ≡ Ready → p.frame ≡ f → p.machine ≡ m → IsMoveOf s w t (Some (next.Work p))
   work_move p law ready frame from =
       let number : f.count + 1 ≡ p.frame.count + 1 = ap (λ (x : Frame). x.count + 1) (sym frame) in
-      let machine_there : s.machines p.frame.level.machine ≡ Some p.machine = ap (λ (x : Frame). s.machines x.level.machine) frame ∙ known ∙ ap Some (sym from) in
-      (
+      let machine_there : s.machines p.frame.level.machine ≡ Some p.machine = ap (λ (x : Frame). s.machines x.level.machine) frame ∙ known ∙ ap Some (sym from) in (
         f,
         there,
         (subst (λ (o : Option Frame). IsSomeAnd o is_open) (sym there) (ap is_parked ready), number),

@@ -1,5 +1,5 @@
 -- What is true of histories.
-use Rattle.std.specs.Prelude.{◌≡◌, ◌≤◌, ℕ, true, List, [], ◌∷◌, ◌++◌, length, Some, slice_get}
+use Rattle.std.specs.Prelude.{◌≡◌, ◌≤◌, ℕ, true, List, [], ◌∷◌, ◌++◌, length, Some}
 use Rattle.asl_machine.specs.Definition.{Definition}
 use Rattle.asl_forward.specs.declared.frame.Frame.{Frame}
 use Rattle.branch_tree.specs.FlatMap.{is_parked}
@@ -32,7 +32,7 @@ abbrev pub AllowedOrdersUndo : Type 0
 AllowedOrdersUndo =
     (s : Setting) (base : World) (ts xs : List Past) (h : History) → IsHistory s base ts h → IsAllowed (steps s) ts xs
     → IsRun (steps s) base (without (steps s) xs ts) (undo_each (steps s) (seen h.world) xs)
-        × ((x y : Past) → In x xs → In y (after (steps s) ts x.step) → In y xs)
+    × ((x y : Past) → In x xs → In y (after (steps s) ts x.step) → In y xs)
 
 -- a free step that is undone can be taken again, and then stands last, with all as before
 abbrev pub FreeStepsReturn : Type 0

@@ -1,10 +1,10 @@
 // The steps that remain, and the world that they give.
-ghost use Rattle.std.specs.Prelude.{◌≡◌, [], None, length, map, option_copied};
+ghost use Rattle.std.specs.Prelude.{◌≡◌, [], None, length, position, option_copied};
 ghost use Rattle.branch_tree.specs.Ready.{readiness_at};
 ghost use Rattle.depends.specs.Plans as plans;
 ghost use Rattle.item_store.specs.Store.{items_of};
 ghost use Rattle.saved_steps.specs.Held.{frames_of, paths_of};
-ghost use Rattle.saved_steps.specs.World.{Setting};
+ghost use Rattle.saved_steps.specs.World.{Setting, is_same_step};
 ghost use Rattle.step_history.specs.History.{IsHistory, nothing_over};
 
 use asl_forward::Frame;
@@ -12,7 +12,7 @@ use branch_tree::Readiness;
 use item_store::ItemStore;
 use saved_steps::{StepRecord, World};
 use std::alloc::Global;
-use step_names::ThreadName;
+use step_names::{StepName, ThreadName};
 
 /// The steps that were taken and remain, in their order, with the executions and items that they give.
 #[derive(Drop)]
@@ -66,4 +66,20 @@ impl History {
     {
         self.records.len()
     }
+
+    /// The place of the step of a name. Takes no memory, and looks at each step up to it.
+    pub fn find(&self, name: &StepName) -> Option<usize>
+        ensures { result ≡ position (λ r. is_same_step r.fact.name name.now) self.now.records.items }
+    {
+        self.records
+            .iter()
+            .position(|record| is_of_name(record, name))
+    }
+}
+
+/// Whether a record is that of the step of a name.
+fn is_of_name(record: &StepRecord, name: &StepName) -> bool
+    ensures { result ≡ is_same_step record.now.fact.name name.now }
+{
+    record.fact.name.thread == name.thread && record.fact.name.no == name.no
 }

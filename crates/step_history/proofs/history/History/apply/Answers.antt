@@ -1,5 +1,3 @@
-use Rattle.std.proofs.Common.{◌∙◌, ap, ◌≡◌, [], ◌∷◌, ◌++◌, List, is_ok, cond}
-use Rattle.saved_steps.specs.declared.record.StepRecord.{StepRecord}
 use Rattle.step_history.specs.declared.history.History.{History}
 use Rattle.step_history.proofs.Grown.{grown}
 use Rattle.step_history.proofs.history.History.apply.Goals as goal

@@ -1,5 +1,3 @@
-use Rattle.std.proofs.Common.{◌≡◌}
-use Rattle.std.proofs.Math.Path.{fun_ext}
 use Rattle.step_history.specs.declared.history.History.{History}
 use Rattle.step_history.proofs.Grown.{same_history, same_seen}
 use Rattle.step_history.proofs.history.History.make.Goals as goal

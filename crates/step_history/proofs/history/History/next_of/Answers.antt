@@ -41,6 +41,6 @@ returns-in-Parked c =
     let f = c.in-Some.frame.now in
     let m = c.machine-in-Parked.result.now in
     ok_map _ _ c.close_of.result (λ o closes. λ s base ts is machine.
-        close_move s h.world c.args.thread.now f m (is_over s base ts h is) (sym c.in-Some.ensures.value)
-        (subst (λ (d : Definition). IsMachineOf s (frames_of h.world c.args.thread.now) d) (sym c.machine-in-Parked.ensures) machine) c.in-Parked.branches c.in-Parked.is o c.nexts_are_moves.ensures.join c.nexts_are_moves.ensures.terminate closes)
+    close_move s h.world c.args.thread.now f m (is_over s base ts h is) (sym c.in-Some.ensures.value)
+    (subst (λ (d : Definition). IsMachineOf s (frames_of h.world c.args.thread.now) d) (sym c.machine-in-Parked.ensures) machine) c.in-Parked.branches c.in-Parked.is o c.nexts_are_moves.ensures.join c.nexts_are_moves.ensures.terminate closes)
     c.close_of.ensures

@@ -1,4 +1,4 @@
-use Rattle.std.proofs.Common.{sym, ap, ◌∙◌, List, [], ◌∷◌, ◌++◌}
+use Rattle.std.proofs.Common.{sym, ap, ◌∙◌, [], ◌∷◌, ◌++◌}
 use Rattle.json_tree.specs.declared.tree.Json.{Json}
 use Rattle.step_history.proofs.Closing.{an_output}
 use Rattle.step_history.proofs.history.History.outputs.Goals as goal
