@@ -1,0 +1,9 @@
+pub mod Open
+pub mod Left
+pub mod Planned
+pub mod Rolled
+pub mod Grown
+pub mod Counts
+pub mod Closing
+pub mod Worked
+pub mod Extended

@@ -1,0 +1,64 @@
+-- The steps that remain, with what is kept of each, and the world that they give.
+use Rattle.std.specs.Prelude.{◌≡◌, ◌<◌, ℕ, List, [], ◌∷◌, None, length, map}
+use Rattle.std.specs.Vec.{vec_len, vec_capacity}
+use Rattle.item_store.specs.Store.{Store, items_of}
+use Rattle.depends.specs.Instance.{steps}
+use Rattle.depends.specs.Laws.{HasNoFrames}
+use Rattle.depends.specs.Plans.{plan}
+use Rattle.trace_theory.specs.Traces.{Taken, IsRun}
+use Rattle.saved_steps.specs.Held.{seen}
+use Rattle.saved_steps.specs.Keeping.{Kept, kept}
+use Rattle.saved_steps.specs.Records.{kept_by}
+use Rattle.saved_steps.specs.Steps.{Step}
+use Rattle.saved_steps.specs.Undoing.{IsRecord, HasSlot}
+use Rattle.saved_steps.specs.World.{Setting, World}
+use Rattle.saved_steps.specs.declared.fact.Fact.{Fact}
+use Rattle.saved_steps.specs.declared.record.StepRecord.{StepRecord}
+use Rattle.step_history.specs.declared.history.History.{History}
+
+-- a step that was taken, with its fact and what it kept
+abbrev pub Past : Type 0
+Past = Taken Step Fact Kept
+
+-- no executions, over the items of a store
+abbrev pub nothing_over : Store → World
+nothing_over items = record { frames = λ t. None; items = items_of items }
+
+-- the record of a step that was taken: its fact, what it kept, and the slot of its key
+pub record IsRecordOf (items : Store) (r : StepRecord) (t : Past) : Type 0 where
+  pub fact : r.fact ≡ t.fact
+  pub kept : kept_by r ≡ t.saved
+  pub fits : IsRecord r
+  pub slot : HasSlot items r.fact r.saved
+
+-- each record is that of the step at its place
+abbrev pub AreRecordsOf : Store → List StepRecord → List Past → Type 0
+AreRecordsOf items [] [] = Unit {0}
+AreRecordsOf items [] (t ∷ ts) = ⊥
+AreRecordsOf items (r ∷ rs) [] = ⊥
+AreRecordsOf items (r ∷ rs) (t ∷ ts) = IsRecordOf items r t × AreRecordsOf items rs ts
+
+-- In this setting the steps were taken one after another from a base without executions; they gave the world, and the records
+-- are theirs.
+pub record IsHistory (s : Setting) (base : World) (ts : List Past) (h : History) : Type 0 where
+  pub table : s.table ≡ h.world.items.table
+  pub schema : s.schema ≡ h.world.items.schema
+  pub none : HasNoFrames base
+  pub runs : IsRun (steps s) base ts (seen h.world)
+  pub records : AreRecordsOf h.world.items h.records.items ts
+
+-- a step that is taken in a world, with its fact and what it keeps of that world
+abbrev pub taken_in : World → Step → Fact → Past
+taken_in w step fact = record { step = step; fact = fact; saved = kept w fact }
+
+-- there is room for one more record
+abbrev pub HasRoom : History → Type 0
+HasRoom h = vec_len h.records < vec_capacity h.records
+
+-- it is the history of some steps in some setting
+abbrev pub IsSomeHistory : History → Type 0
+IsSomeHistory h = (s : Setting) × (base : World) × (ts : List Past) × IsHistory s base ts h
+
+-- the plan of the step at some place
+abbrev pub IsPlanOf : History → List ℕ → Type 0
+IsPlanOf h places = (at : ℕ) × (at < length h.records.items) × (places ≡ plan (map (λ r. r.fact) h.records.items) at)

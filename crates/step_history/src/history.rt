@@ -1,0 +1,85 @@
+// The steps that remain, and the world that they give.
+ghost use Rattle.std.specs.Prelude.{◌≡◌, [], None, length, position, option_copied};
+ghost use Rattle.branch_tree.specs.Ready.{readiness_at};
+ghost use Rattle.depends.specs.Plans as plans;
+ghost use Rattle.item_store.specs.Store.{items_of};
+ghost use Rattle.saved_steps.specs.Held.{frames_of, paths_of};
+ghost use Rattle.saved_steps.specs.World.{Setting, is_same_step};
+ghost use Rattle.step_history.specs.History.{IsHistory, nothing_over};
+
+use asl_forward::Frame;
+use branch_tree::Readiness;
+use item_store::ItemStore;
+use saved_steps::{StepRecord, World};
+use std::alloc::Global;
+use step_names::{StepName, ThreadName};
+
+/// The steps that were taken and remain, in their order, with the executions and items that they give.
+#[derive(Drop)]
+pub struct History {
+    pub(crate) world: World,
+    pub(crate) records: Vec<StepRecord>,
+}
+
+impl History {
+    /// No steps, over these items. Takes no memory.
+    pub fn new(alloc: Global, items: ItemStore) -> History
+        ensures { (s : Setting) → s.table ≡ items.table → s.schema ≡ items.schema → IsHistory s (nothing_over items) [] result }
+    {
+        History {
+            world: World::new(alloc, items),
+            records: Vec::new(alloc),
+        }
+    }
+
+    /// The frame of a thread. Takes no memory.
+    pub fn frame(&self, thread: &ThreadName) -> Option<&Frame>
+        ensures { option_copied result ≡ frames_of self.now.world thread.now }
+    {
+        self.world.frame(thread)
+    }
+
+    /// What a thread can do next. Takes no memory.
+    pub fn ready(&self, thread: &ThreadName) -> Readiness
+        ensures { result ≡ readiness_at (paths_of (frames_of self.now.world) thread.now.exec) thread.now.path }
+    {
+        self.world.ready(thread)
+    }
+
+    /// The items of the table.
+    pub fn items(&self) -> &ItemStore
+        ensures { result.now ≡ self.now.world.items }
+    {
+        self.world.items()
+    }
+
+    /// What is kept of each step, in order.
+    pub fn records(&self) -> &[StepRecord]
+        ensures { result.now ≡ self.now.records.items }
+    {
+        self.records.as_slice()
+    }
+
+    /// How many steps remain.
+    pub fn len(&self) -> usize
+        ensures { result ≡ length self.now.records.items }
+    {
+        self.records.len()
+    }
+
+    /// The place of the step of a name. Takes no memory, and looks at each step up to it.
+    pub fn find(&self, name: &StepName) -> Option<usize>
+        ensures { result ≡ position (λ r. is_same_step r.fact.name name.now) self.now.records.items }
+    {
+        self.records
+            .iter()
+            .position(|record| is_of_name(record, name))
+    }
+}
+
+/// Whether a record is that of the step of a name.
+fn is_of_name(record: &StepRecord, name: &StepName) -> bool
+    ensures { result ≡ is_same_step record.now.fact.name name.now }
+{
+    record.fact.name.thread == name.thread && record.fact.name.no == name.no
+}

@@ -1,0 +1,24 @@
+//! Laws of histories: each function's contract is the law, and it does nothing.
+
+ghost use Rattle.step_history.specs.Laws.{FramesAreCounted, MoreMachinesKeepHistories, AllowedOrdersUndo, FreeStepsReturn};
+
+/// A frame counts no further than there are steps, and a parked one has made one.
+pub fn frames_are_counted()
+    ensures { FramesAreCounted }
+{}
+
+/// A history in one setting is one in each setting that has the same machines and perhaps more.
+pub fn more_machines_keep_histories()
+    ensures { MoreMachinesKeepHistories }
+{}
+
+/// Every order in which each step is free at its turn leaves the run of the rest, and takes with each step all its
+/// consequences.
+pub fn allowed_orders_undo()
+    ensures { AllowedOrdersUndo }
+{}
+
+/// A free step that is undone can be taken again, and then stands last, with all as before.
+pub fn free_steps_return()
+    ensures { FreeStepsReturn }
+{}

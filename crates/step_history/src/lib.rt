@@ -1,0 +1,13 @@
+#![tactic(auto)]
+
+//! The steps that remain of executions, in their order, with the world that they give.
+mod history;
+mod laws;
+mod making;
+mod moving;
+mod undoing;
+
+pub use history::History;
+pub use laws::{
+    allowed_orders_undo, frames_are_counted, free_steps_return, more_machines_keep_histories,
+};

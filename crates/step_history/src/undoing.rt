@@ -1,0 +1,56 @@
+// Steps that are taken back, and the histories that are left.
+ghost use Rattle.std.specs.Prelude.{◌≡◌, ◌<◌, ℕ, [], ◌∷◌, List, None, Some, IfOk, length, map, slice_get};
+ghost use Rattle.depends.specs.Instance.{steps};
+ghost use Rattle.depends.specs.Laws.{facts_of};
+ghost use Rattle.depends.specs.Plans as plans;
+ghost use Rattle.saved_steps.specs.World.{Setting, World};
+ghost use Rattle.step_history.specs.History.{Past, IsHistory, IsSomeHistory, IsPlanOf};
+ghost use Rattle.trace_theory.specs.Traces.{without, after};
+
+use crate::history::History;
+use depends::Plan;
+use std::alloc::{AllocError, Global};
+
+impl History {
+    /// The place of the earliest step that depends directly on the one at a place. Takes no memory, and one comparison for
+    /// each later step up to that one.
+    pub fn first_dependent(&self, at: usize) -> Option<usize>
+        requires { at < length self.now.records.items }
+        ensures { result ≡ plans.first_dependent (map (λ r. r.fact) self.now.records.items) at }
+    {
+        depends::first_dependent(self.records.as_slice(), at)
+    }
+
+    /// Undoes the step at a place, on which no other depends: the steps that are left stay in their order. Takes no memory,
+    /// and time in the number of the later steps.
+    pub fn undo(&mut self, at: usize)
+        requires there { at < length self.old.records.items }
+        requires history { IsSomeHistory self.old }
+        requires free { plans.first_dependent (map (λ r. r.fact) self.old.records.items) at ≡ None }
+        ensures { (s : Setting) (base : World) (ts : List Past) (t : Past) → IsHistory s base ts self.old → slice_get ts at ≡ Some t → IsHistory s base (without (steps s) (t ∷ []) ts) self.new }
+    {
+        let record = self.records.remove(at);
+        self.world.undo(record);
+    }
+
+    /// The step at a place and all its consequences, the latest first. Takes memory for each of them, and compares each later
+    /// step with those that were found before it.
+    pub fn plan(&self, alloc: Global, at: usize) -> Result<Plan, AllocError>
+        requires { at < length self.now.records.items }
+        ensures { IfOk result (λ p. p ≡ plans.plan (map (λ r. r.fact) self.now.records.items) at) }
+    {
+        depends::plan(alloc, self.records.as_slice(), at)
+    }
+
+    /// Undoes the steps of a plan of this history, the latest first: the steps that are left stay in their order. Takes no
+    /// memory, and for each step of the plan time in the number of the later steps.
+    pub fn rollback(&mut self, plan: &Plan)
+        requires history { IsSomeHistory self.old }
+        requires plan { IsPlanOf self.old plan.now }
+        ensures { (s : Setting) (base : World) (ts : List Past) (at : ℕ) (t : Past) → IsHistory s base ts self.old → slice_get ts at ≡ Some t → plan.now ≡ plans.plan (facts_of ts) at → IsHistory s base (without (steps s) (after (steps s) ts t.step) ts) self.new }
+    {
+        for place in plan.places() {
+            self.undo(*place);
+        }
+    }
+}
