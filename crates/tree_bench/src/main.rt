@@ -177,41 +177,75 @@ fn look_up(tree: &Tree, path: &mut Vec<(u32, u32)>, rounds: u32) -> u32 {
     found
 }
 
+/// How many look-ups are made a second.
+fn time_look_ups(
+    rt: &impl Runtime,
+    alloc: Global,
+    tree: &Tree,
+    path: &[(u32, u32)],
+    rounds: u32,
+) -> anyhow::Result<u128> {
+    let start = Instant::now(rt)?;
+    let mut names = Vec::from_slice(alloc, path)?;
+    let found = look_up(tree, &mut names, rounds);
+    drop(names);
+    Ok(rate(found, start.elapsed(rt)?))
+}
+
+/// How many replacements are made a second.
+fn time_swaps(
+    rt: &impl Runtime,
+    alloc: Global,
+    tree: &mut Tree,
+    path: &[(u32, u32)],
+    rounds: u32,
+) -> anyhow::Result<u128> {
+    let start = Instant::now(rt)?;
+    let mut frame = frame_in(alloc, Phase::Ready)?;
+    for _ in 0..rounds {
+        frame = swap(tree, path, frame);
+    }
+    drop(frame);
+    Ok(rate(rounds, start.elapsed(rt)?))
+}
+
 fn time_depth(rt: &impl Runtime, alloc: Global, depth: usize, rounds: u32) -> anyhow::Result<()> {
     let mut tree = tree_of(alloc, depth)?;
     let path = &DEEP[..depth.min(LEVELS)];
-    let mut names = Vec::from_slice(alloc, path)?;
-    let start = Instant::now(rt)?;
-    let found = look_up(&tree, &mut names, rounds);
-    let looked = rate(found, start.elapsed(rt)?);
-    let mut frame = frame_in(alloc, Phase::Ready)?;
-    let start = Instant::now(rt)?;
-    for _ in 0..rounds {
-        frame = swap(&mut tree, path, frame);
-    }
-    let swapped = rate(rounds, start.elapsed(rt)?);
-    drop(frame);
+    let looked = time_look_ups(rt, alloc, &tree, path, rounds);
+    let swapped = time_swaps(rt, alloc, &mut tree, path, rounds);
     drop(tree);
+    let (looked, swapped) = (looked?, swapped?);
     println!(rt;
         "depth {depth}: {looked} look-ups, {swapped} replacements with two look-ups each a second"
     )?;
     Ok(())
 }
 
-fn time_round(rt: &impl Runtime, alloc: Global, under: u32, rounds: u32) -> anyhow::Result<()> {
-    let mut tree = wide_tree(alloc, under)?;
+/// How many branches were taken out and given back, and how many rounds of that are made a second.
+fn time_rounds(
+    rt: &impl Runtime,
+    alloc: Global,
+    tree: &mut Tree,
+    rounds: u32,
+) -> anyhow::Result<(usize, u128)> {
+    let start = Instant::now(rt)?;
     let mut frame = frame_in(alloc, Phase::Ready)?;
     let mut branches = 0;
-    let start = Instant::now(rt)?;
     for _ in 0..rounds {
-        (frame, branches) = round(&mut tree, frame);
+        (frame, branches) = round(tree, frame);
     }
-    let took = start.elapsed(rt)?;
     drop(frame);
+    Ok((branches, rate(rounds, start.elapsed(rt)?)))
+}
+
+fn time_round(rt: &impl Runtime, alloc: Global, under: u32, rounds: u32) -> anyhow::Result<()> {
+    let mut tree = wide_tree(alloc, under)?;
+    let timed = time_rounds(rt, alloc, &mut tree, rounds);
     drop(tree);
+    let (branches, rate) = timed?;
     println!(rt;
-        "{branches} branches over {under} each taken out and given back: {} a second",
-        rate(rounds, took)
+        "{branches} branches over {under} each taken out and given back: {rate} a second"
     )?;
     Ok(())
 }
