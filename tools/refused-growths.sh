@@ -55,6 +55,9 @@ attr_values answers_want_of_memory
 item_store answers_want_of_memory
 ref_paths answers_want_of_memory
 ref_paths answers_want_of_memory_for_templates
+saved_steps undoes_forks_and_a_terminate
+saved_steps undoes_a_join
+saved_steps undoes_calls
 depends answers_want_of_memory
 rollback_book refused_growths_change_nothing
 plain_replay refused_growths_are_told

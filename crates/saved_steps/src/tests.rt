@@ -8,7 +8,7 @@ use crate::{
     Kind, Next, World, nexts_are_moves, steps_are_taken_back, steps_leave_threads, taken_back,
 };
 use asl_forward::{Fault, Frame, Origin, Phase, first_frame, prepare, standing};
-use asl_machine::{Machine, SharedMachine};
+use asl_machine::{Machine, MachineFault, SharedMachine};
 use attr_values::{Item, KeyAttribute, KeySchema, KeyType, key_of, read_item, write_item};
 use item_store::ItemStore;
 use json_tree::{Json, Text, read, write_text};
@@ -49,6 +49,7 @@ fn machine_of(alloc: Global, text: &str) -> Result<SharedMachine, Fail> {
     let definition = Value::from_str(alloc, text)?;
     match Machine::read(alloc, &definition) {
         Ok(machine) => Ok(SharedMachine::new(alloc, machine)?),
+        Err(MachineFault::Memory) => Err(AllocError.into()),
         Err(_fault) => Err("the definition is refused".into()),
     }
 }
