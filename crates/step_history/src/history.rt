@@ -78,8 +78,8 @@ impl History {
 }
 
 /// Whether a record is that of the step of a name.
-fn is_of_name(record: &StepRecord, name: &StepName) -> bool
-    ensures { result ≡ is_same_step record.now.fact.name name.now }
+fn is_of_name(taken: &StepRecord, name: &StepName) -> bool
+    ensures { result ≡ is_same_step taken.now.fact.name name.now }
 {
-    record.fact.name.thread == name.thread && record.fact.name.no == name.no
+    taken.fact.name.thread == name.thread && taken.fact.name.no == name.no
 }
