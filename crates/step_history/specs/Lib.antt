@@ -1,3 +1,5 @@
 pub mod History
 pub mod Laws
 pub mod Moves
+pub mod Levels
+pub mod OneMachine

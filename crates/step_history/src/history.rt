@@ -1,17 +1,21 @@
 // The steps that remain, and the world that they give.
-ghost use Rattle.std.specs.Prelude.{◌≡◌, [], None, length, position, option_copied};
+ghost use Rattle.std.specs.Prelude.{◌≡◌, [], None, IfOk, length, position, option_copied};
+ghost use Rattle.std.specs.BTreeSet.{contains};
 ghost use Rattle.branch_tree.specs.Ready.{readiness_at};
 ghost use Rattle.depends.specs.Plans as plans;
 ghost use Rattle.item_store.specs.Store.{items_of};
+ghost use Rattle.saved_steps.specs.First.{IsFirstReady};
 ghost use Rattle.saved_steps.specs.Held.{frames_of, paths_of};
 ghost use Rattle.saved_steps.specs.World.{Setting, is_same_step};
-ghost use Rattle.step_history.specs.History.{IsHistory, nothing_over};
+ghost use Rattle.step_names.specs.Order.{thread_cmp};
+ghost use Rattle.step_history.specs.History.{IsHistory, IsSomeHistory, nothing_over};
 
 use asl_forward::Frame;
 use branch_tree::Readiness;
 use item_store::ItemStore;
 use saved_steps::{StepRecord, World};
-use std::alloc::Global;
+use std::alloc::{AllocError, Global};
+use std::collections::BTreeSet;
 use step_names::{StepName, ThreadName};
 
 /// The steps that were taken and remain, in their order, with the executions and items that they give.
@@ -46,6 +50,18 @@ impl History {
         self.world.ready(thread)
     }
 
+    /// The least name of a thread that has a move and is not passed by. Takes the memory and the time of `World::first_ready`:
+    /// executions that are done or have failed cost a step each and no memory.
+    pub fn first_ready(
+        &self,
+        alloc: Global,
+        passed: &BTreeSet<ThreadName>,
+    ) -> Result<Option<ThreadName>, AllocError>
+        ensures { IfOk result (λ found. IsFirstReady (frames_of self.now.world) (contains thread_cmp passed.now) found) }
+    {
+        self.world.first_ready(alloc, passed)
+    }
+
     /// The items of the table.
     pub fn items(&self) -> &ItemStore
         ensures { result.now ≡ self.now.world.items }
@@ -67,13 +83,20 @@ impl History {
         self.records.len()
     }
 
-    /// The place of the step of a name. Takes no memory, and looks at each step up to it.
+    /// The place of the step of a name. Takes no memory, and looks at the later steps first.
     pub fn find(&self, name: &StepName) -> Option<usize>
+        requires { IsSomeHistory self.now }
         ensures { result ≡ position (λ r. is_same_step r.fact.name name.now) self.now.records.items }
     {
-        self.records
-            .iter()
-            .position(|record| is_of_name(record, name))
+        let mut later = self.records.len();
+        while 0 < later {
+            let at = later - 1;
+            if is_of_name(&self.records[at], name) {
+                return Some(at);
+            }
+            later = at;
+        }
+        None
     }
 }
 

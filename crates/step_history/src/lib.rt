@@ -5,9 +5,12 @@ mod history;
 mod laws;
 mod making;
 mod moving;
+#[cfg(test)]
+mod tests;
 mod undoing;
 
 pub use history::History;
 pub use laws::{
-    allowed_orders_undo, frames_are_counted, free_steps_return, more_machines_keep_histories,
+    allowed_orders_undo, frames_are_counted, frames_stand, free_steps_return,
+    more_machines_keep_histories, threads_move_where_ready,
 };

@@ -1,0 +1,136 @@
+-- Laws of logs, each the contract of a function of the crate.
+use Rattle.std.specs.Prelude.{◌≡◌, ◌↔◌, ◌≤◌, ℕ, ◌+◌, List, [], ◌∷◌, ◌++◌, length, map, true, false, Some, Ok, Err}
+use Rattle.json_tree.specs.declared.tree.Json.{Json}
+use Rattle.step_names.specs.Thread.{Thread}
+use Rattle.step_names.specs.declared.step.StepName.{StepName}
+use Rattle.trace_theory.specs.Traces.{In, Before, needs, run, IsFree, IsLeast, IsAllowed, IsArrangement, without}
+use Rattle.saved_steps.specs.Steps.{Step, name_of, start_name}
+use Rattle.saved_steps.specs.World.{Setting, World}
+use Rattle.saved_steps.specs.declared.fact.Kind.{Kind}
+use Rattle.depends.specs.Instance.{steps}
+use Rattle.step_history.specs.History.{Past}
+use Rattle.book_log.specs.Answers.{undo_answer, order_answer, plan_answer, rerun_answer, is_full_for_step, names_of_facts, entry_of}
+use Rattle.book_log.specs.Legal.{IsAccepted, IsLegal}
+use Rattle.book_log.specs.Story.{Story, accepted, base_of, remaining, machine_of, setting_of, run_of, world_of, past_of, consequences_of}
+use Rattle.book_log.specs.declared.entry.Entry.{Entry}
+use Rattle.book_log.specs.declared.entry.Entry.TheVariants.{Start, Step as Stepped, Undo, Rollback}
+use Rattle.book_log.specs.declared.refusal.Refusal.{Refusal}
+use Rattle.book_log.specs.declared.refusal.Refusal.TheVariants.{NoStep, HasDependents}
+
+-- ---- legal logs
+
+-- what remains of a legal log can be run from the start
+abbrev pub LegalLogsRun : Type 0
+LegalLogsRun = (story : Story) → IsLegal story → run_of story ≡ Some (world_of story, past_of story)
+
+-- a legal log with an entry that is accepted is one
+abbrev pub AcceptedIsLegal : Type 0
+AcceptedIsLegal = (story : Story) (entry : Entry) → IsLegal story → IsAccepted story entry → IsLegal (accepted story entry)
+
+-- a legal log keeps to its limits: there is room for an entry that undoes each of the remaining steps
+abbrev pub LegalLogsHaveRoom : Type 0
+LegalLogsHaveRoom = (story : Story) → IsLegal story → (length (remaining story) ≤ 65536) × (length story.log + length (remaining story) ≤ 1000000)
+
+-- ---- what is undone
+
+-- the same steps remain of two logs, and they give the same world, the same facts, and keep the same
+pub record LeavesTheSame (a : Story) (b : Story) : Type 0 where
+  pub steps : remaining a ≡ remaining b
+  pub world : world_of a ≡ world_of b
+  pub past : past_of a ≡ past_of b
+
+-- a step that is taken can be undone, and then all is as before it
+abbrev pub UndoTakesBack : Type 0
+UndoTakesBack = (story : Story) (name : StepName) (kind : Kind) → IsLegal story → IsAccepted story (Stepped name kind)
+    → (undo_answer (accepted story (Stepped name kind)) name ≡ Ok name) × LeavesTheSame (accepted (accepted story (Stepped name kind)) (Undo name)) story
+
+-- the same of a start
+abbrev pub UndoTakesBackStart : Type 0
+UndoTakesBackStart = (story : Story) (exec : Thread) (machine : List ℕ) (input : Json) → IsLegal story → IsAccepted story (Start exec machine input)
+    → (undo_answer (accepted story (Start exec machine input)) (start_name exec.exec) ≡ Ok (start_name exec.exec))
+    × LeavesTheSame (accepted (accepted story (Start exec machine input)) (Undo (start_name exec.exec))) story
+
+-- A step that is undone can be taken again where there is room: it stands last then, and all is as before the undoing.
+pub record IsGivenBack (story : Story) (name : StepName) : Type 0 where
+  pub taken : Past
+  pub named : taken.fact.name ≡ name
+  pub again : is_full_for_step (accepted story (Undo name)) ≡ false → IsAccepted (accepted story (Undo name)) (entry_of taken)
+  pub world : world_of (accepted (accepted story (Undo name)) (entry_of taken)) ≡ world_of story
+  pub past : past_of (accepted (accepted story (Undo name)) (entry_of taken)) ≡ without (steps (setting_of story)) (taken ∷ []) (past_of story) ++ taken ∷ []
+
+abbrev pub AgainGivesBack : Type 0
+AgainGivesBack = (story : Story) (name : StepName) → IsLegal story → undo_answer story name ≡ Ok name → IsGivenBack story name
+
+-- the first later step that depends directly on a step
+pub record IsFirstDependent (s : Setting) (ts : List Past) (t : Past) (y : Past) : Type 0 where
+  pub later : Before t y ts
+  pub depends : needs (steps s) t y ≡ true
+  pub first : (z : Past) → Before t z ts → Before z y ts → needs (steps s) t z ≡ false
+
+-- A step is undone exactly where it remains and no later one depends directly on it. Its undoing is refused where it doesn't
+-- remain, and for the first that depends directly on it, and only there.
+pub record AreUndoAnswers (story : Story) (name : StepName) : Type 0 where
+  pub undone : (undo_answer story name ≡ Ok name) ↔ ((t : Past) × (t.fact.name ≡ name) × IsFree (steps (setting_of story)) (past_of story) t)
+  pub none : (undo_answer story name ≡ Err NoStep) ↔ ((step : Step) → In step (remaining story) → name_of step ≡ name → ⊥)
+  pub dependent : (d : StepName) → (undo_answer story name ≡ Err (HasDependents d)) ↔ ((t : Past) × (y : Past) × (t.fact.name ≡ name) × (y.fact.name ≡ d) × IsFirstDependent (setting_of story) (past_of story) t y)
+
+abbrev pub UndoAnswersAreExact : Type 0
+UndoAnswersAreExact = (story : Story) (name : StepName) → IsLegal story → AreUndoAnswers story name
+
+-- ---- orders
+
+-- Every order in which each step is free at its turn is accepted to its end, and leaves the run of the rest.
+abbrev pub AllowedOrdersAreAccepted : Type 0
+AllowedOrdersAreAccepted = (story : Story) (xs : List Past) → IsLegal story → IsAllowed (steps (setting_of story)) (past_of story) xs
+    → (after : Story) × (order_answer story (names_of_facts xs) ≡ Ok after) × IsLegal after × (past_of after ≡ without (steps (setting_of story)) xs (past_of story))
+
+-- An order that is accepted holds with each step all its consequences.
+abbrev pub AcceptedOrdersAreWhole : Type 0
+AcceptedOrdersAreWhole = (story after : Story) (names : List StepName) (name : StepName) (y : Past) → IsLegal story → order_answer story names ≡ Ok after
+    → In name names → In y (consequences_of story name) → In y.fact.name names
+
+-- Orders of the same steps leave one world.
+abbrev pub OrdersAgree : Type 0
+OrdersAgree = (story a b : Story) (names others : List StepName) → IsLegal story → order_answer story names ≡ Ok a → order_answer story others ≡ Ok b
+    → ((name : StepName) → In name names ↔ In name others) → LeavesTheSame a b
+
+-- ---- rollback
+
+-- A step and its consequences are the least set that holds it and each later step that depends directly on a member; the rest
+-- remains, in its order, and its run is the world; and undoing them one by one, the latest first, leaves the same.
+pub record IsRolledBack (story : Story) (name : StepName) (undone : List StepName) : Type 0 where
+  pub taken : Past
+  pub named : taken.fact.name ≡ name
+  pub stood : In taken (past_of story)
+  pub least : IsLeast (steps (setting_of story)) (past_of story) taken (consequences_of story name)
+  pub rest : past_of (accepted story (Rollback name undone)) ≡ without (steps (setting_of story)) (consequences_of story name) (past_of story)
+  pub after : Story
+  pub one_by_one : order_answer story undone ≡ Ok after
+  pub same : LeavesTheSame after (accepted story (Rollback name undone))
+
+abbrev pub RollbackIsExact : Type 0
+RollbackIsExact = (story : Story) (name : StepName) (undone : List StepName) → IsLegal story → plan_answer story name ≡ Ok undone → IsRolledBack story name undone
+
+-- ---- arrangements
+
+-- What a rerun answers is legal, its steps are those of the names in their order, and it has the world of their run.
+abbrev pub RerunsAreLegal : Type 0
+RerunsAreLegal = (story again : Story) (names : List StepName) → IsLegal story → rerun_answer story names ≡ Ok again → IsLegal again × (map name_of (remaining again) ≡ names)
+
+-- A rerun has steps of the story and its machines; each list of remaining steps that can be run is answered, by its run; and else no
+-- refusal is given but that there is no such step.
+pub record IsRerun (story : Story) (names : List StepName) : Type 0 where
+  pub of_story : (again : Story) → rerun_answer story names ≡ Ok again → ((step : Step) → In step (remaining again) → In step (remaining story)) × (machine_of again ≡ machine_of story)
+  pub runnable : (chosen : List Step) (v : World) (ts : List Past) → ((step : Step) → In step chosen → In step (remaining story)) → map name_of chosen ≡ names
+      → run (steps (setting_of story)) (base_of story.begin) chosen ≡ Some (v, ts)
+      → (again : Story) × (rerun_answer story names ≡ Ok again) × (remaining again ≡ chosen) × (world_of again ≡ v) × (past_of again ≡ ts)
+  pub refused : (e : Refusal) → rerun_answer story names ≡ Err e → e ≡ NoStep
+
+abbrev pub RerunsAreExact : Type 0
+RerunsAreExact = (story : Story) (names : List StepName) → IsLegal story → IsRerun story names
+
+-- Every arrangement of the remaining steps that keeps directly dependent ones in their order can be rerun: the same world, and step by
+-- step the same facts and what was kept.
+abbrev pub ArrangementsAgree : Type 0
+ArrangementsAgree = (story : Story) (arranged : List Step) → IsLegal story → IsArrangement (steps (setting_of story)) (past_of story) arranged
+    → (again : Story) × (rerun_answer story (map name_of arranged) ≡ Ok again) × (world_of again ≡ world_of story) × ((t : Past) → In t (past_of again) ↔ In t (past_of story))

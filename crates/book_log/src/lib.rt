@@ -1,0 +1,20 @@
+#![tactic(auto)]
+
+//! What books accept: the commands of a log, what remains of them, what these give when they are run from the start, and
+//! what each further command is answered.
+mod begin;
+mod entry;
+mod laws;
+mod moved;
+mod refusal;
+mod step_names_list;
+
+pub use begin::Begin;
+pub use entry::Entry;
+pub use laws::{
+    legal_logs_run, orders_undo, reruns_agree, rollback_is_exact, undo_answers_are_exact,
+    undoing_is_exact,
+};
+pub use moved::Moved;
+pub use refusal::Refusal;
+pub use step_names_list::StepNames;

@@ -1,0 +1,12 @@
+pub mod Searching
+pub mod Tied
+pub mod Free
+pub mod TakenBack
+pub mod Opened
+pub mod Planning
+pub mod Empty
+pub mod Refusing
+pub mod Added
+pub mod Places
+pub mod Whole
+pub mod Moving

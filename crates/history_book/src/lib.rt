@@ -1,0 +1,19 @@
+#![tactic(auto)]
+
+//! The book: executions of state machines over one table, the commands that were accepted, and the taking back of their steps.
+mod book;
+mod checks;
+mod entering;
+mod lists;
+mod machines;
+mod making;
+mod opening;
+mod room;
+mod stepping;
+
+pub use book::Book;
+pub use book_log::{Begin, Entry, Moved, Refusal, StepNames};
+pub use branch_tree::Readiness;
+pub use making::{Change, Entered, Made};
+pub use room::{PlanRoom, Room};
+pub use saved_steps::{Access, Fact, Kind, Saved, StepRecord};

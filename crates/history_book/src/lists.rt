@@ -1,0 +1,42 @@
+// What the book does to the lists that it keeps.
+ghost use Rattle.std.specs.Prelude.{◌≡◌, ◌+◌, ◌<◌, ◌≤◌, ◌∷◌, ◌++◌, [], Some, IfOk, OnOk, map, length, option_map, slice_get, vec_len, vec_capacity};
+ghost use Rattle.std.specs.List.{All};
+
+use book_log::{Entry, StepNames};
+use saved_steps::StepRecord;
+use std::alloc::{AllocError, Global};
+
+/// Makes room for one more entry, and for those of the undoing of it and of so many steps.
+pub fn reserve_entries(log: &mut Vec<Entry>, steps: usize) -> Result<(), AllocError>
+    requires { steps ≤ 65536 }
+    ensures items { log.new.items ≡ log.old.items }
+    ensures kept { vec_capacity log.old ≤ vec_capacity log.new }
+    ensures room { OnOk result (length log.new.items + steps + 2 ≤ vec_capacity log.new) }
+{
+    log.reserve(steps + 2)
+}
+
+/// Adds an element where there is room for it. Takes no memory.
+pub fn push_with_room<T: Drop>(list: &mut Vec<T>, item: T)
+    requires { vec_len list.old < vec_capacity list.old }
+    ensures items { list.new.items ≡ list.old.items ++ item ∷ [] }
+    ensures kept { vec_capacity list.old ≤ vec_capacity list.new }
+{
+    let _ = list.push(item);
+}
+
+/// The names of the steps at some places.
+pub fn names_at(
+    alloc: Global,
+    records: &[StepRecord],
+    places: &[usize],
+) -> Result<StepNames, AllocError>
+    requires { All (λ place. place < length records.now) places.now }
+    ensures { IfOk result (λ names. map Some names ≡ map (λ place. option_map (λ r. r.fact.name) (slice_get records.now place)) places.now) }
+{
+    let mut names = Vec::new(alloc);
+    for place in places {
+        names.push(records[*place].fact.name.copy()?)?;
+    }
+    Ok(StepNames::new(names))
+}

@@ -1,0 +1,95 @@
+// Commands for which everything is made, so that to enter them takes no memory.
+ghost use Rattle.std.specs.Prelude.{◌≡◌, IfOk};
+
+use asl_machine::{Machine, SharedMachine};
+use book_log::{Entry, Moved};
+use json_tree::{Json, Text};
+use serde_json::Value;
+use std::alloc::{AllocError, Global};
+use step_names::{StepName, ThreadName};
+
+/// A command that adds to a book.
+#[derive(Drop)]
+pub enum Change<'a> {
+    Define {
+        name: &'a Text,
+        definition: &'a Value,
+    },
+    Start {
+        exec: &'a ThreadName,
+        machine: &'a Text,
+        input: Json,
+    },
+    Step {
+        thread: &'a ThreadName,
+    },
+}
+
+/// What the caller of a command is told.
+#[derive(Debug, Drop)]
+pub enum Entered {
+    Defined,
+    Started(StepName),
+    Stepped(Moved),
+}
+
+/// What a command puts into a book beside its entry.
+#[derive(Drop)]
+pub enum MadeChange {
+    Define { name: Text, machine: SharedMachine },
+    Step(saved_steps::Made),
+}
+
+/// A command for which everything is made.
+#[derive(Drop)]
+pub struct Made {
+    pub(crate) entry: Entry,
+    pub(crate) answer: Entered,
+    pub(crate) change: MadeChange,
+}
+
+impl Made {
+    /// What the caller will be told.
+    pub fn answer(&self) -> &Entered
+        ensures { result.now ≡ self.now.answer }
+    {
+        &self.answer
+    }
+}
+
+/// Makes all that a definition needs.
+pub fn make_define(alloc: Global, name: &Text, machine: Machine) -> Result<Made, AllocError>
+    ensures { IfOk result (λ m. m ≡ record { entry = Entry.Define name.now machine; answer = Entered.Defined; change = MadeChange.Define name.now machine }) }
+{
+    let machine = SharedMachine::new(alloc, machine)?;
+    let entry = Entry::Define {
+        name: name.copy()?,
+        machine: machine.share()?,
+    };
+    let name = name.copy()?;
+    Ok(Made {
+        entry,
+        answer: Entered::Defined,
+        change: MadeChange::Define { name, machine },
+    })
+}
+
+/// The entry of a start, and its name.
+pub fn start_entry(
+    exec: &ThreadName,
+    machine: &Text,
+    input: Json,
+) -> Result<(Entry, StepName), AllocError>
+    ensures { IfOk result (λ p. (p.0 ≡ Entry.Start exec.now machine.now input) × (p.1 ≡ record { thread = exec.now; no = 0 })) }
+{
+    let name = StepName {
+        thread: exec.copy()?,
+        no: 0,
+    };
+    let entry = Entry::Start {
+        exec: exec.copy()?,
+        machine: machine.copy()?,
+        input,
+    };
+    Ok((entry, name))
+}
