@@ -1,0 +1,176 @@
+-- What a command is answered, memory apart: each refusal exactly where it stands, in the order in which they are tested.
+use Rattle.std.specs.Prelude.{◌≡◌, ℕ, ◌+◌, ◌||◌, List, [], ◌∷◌, ◌++◌, length, map, reverse, Bool, Option, None, Some, Result, Ok, Err, is_some, IsSome, IsTrue, ◌⊎◌, nat_le, nat_lt, if◌then◌else◌, option_map, option_and_then, slice_get, position}
+use Rattle.std.specs.List.{find}
+use Rattle.serde_json.specs.Data.{Data}
+use Rattle.asl_fields.specs.Refusal.{Names}
+use Rattle.asl_machine.specs.Definition.{Definition}
+use Rattle.asl_machine.specs.Faults.{DefinitionFault}
+use Rattle.asl_machine.specs.Profile.{Defines, DefinesNone}
+use Rattle.branch_tree.specs.Ready.{readiness_at}
+use Rattle.branch_tree.specs.declared.readiness.Readiness.{Readiness}
+use Rattle.step_names.specs.Thread.{Thread}
+use Rattle.step_names.specs.declared.step.StepName.{StepName}
+use Rattle.trace_theory.specs.Traces.{run}
+use Rattle.asl_forward.specs.declared.frame.Frame.{Frame}
+use Rattle.saved_steps.specs.Deeds.{Deed, move_deed}
+use Rattle.saved_steps.specs.Held.{paths_of}
+use Rattle.saved_steps.specs.Steps.{Step, started, moved, name_of, start_name}
+use Rattle.saved_steps.specs.World.{World, is_same_step}
+use Rattle.saved_steps.specs.declared.fact.Fact.{Fact}
+use Rattle.depends.specs.Dependence.{depends_directly}
+use Rattle.depends.specs.Instance.{steps}
+use Rattle.step_history.specs.History.{Past}
+use Rattle.book_log.specs.Story.{Story, accepted, base_of, remaining, machine_of, setting_of, world_of, past_of, facts_of, consequences_of}
+use Rattle.book_log.specs.declared.entry.Entry.{Entry}
+use Rattle.book_log.specs.declared.entry.Entry.TheVariants.{Define, Start, Step as Stepped, Undo, Rollback}
+use Rattle.book_log.specs.declared.moved.Moved.{Moved}
+use Rattle.book_log.specs.declared.refusal.Refusal.{Refusal}
+use Rattle.book_log.specs.declared.refusal.Refusal.TheVariants.{NoMachine, MachineTaken, BadMachine, ExecTaken, NoThread, NotReady, NoStep, HasDependents, Full, Memory}
+
+-- an answer that is given, but for want of memory where it isn't refused
+abbrev pub Gives : {T : Type 0} → Result T Refusal → Result T Refusal → Type 0
+Gives result (Ok x) = (result ≡ Ok x) ⊎ (result ≡ Err Memory)
+Gives result (Err e) = result ≡ Err e
+
+-- an answer of which only the refusal is given, but for want of memory
+abbrev pub Refuses : {T A : Type 0} → Result T Refusal → Result A Refusal → Type 0
+Refuses (Ok x) (Ok y) = Unit {0}
+Refuses (Ok x) (Err e) = ⊥
+Refuses (Err e) (Ok y) = e ≡ Memory
+Refuses (Err e) (Err f) = e ≡ f
+
+-- ---- room
+
+-- no start or step is taken where 65,536 steps remain, or where entries and remaining steps leave no room for two more below a
+-- million
+unfoldable pub is_full_for_step : Story → Bool
+is_full_for_step story = nat_le 65536 (length (remaining story)) || nat_lt 999998 (length story.log + length (remaining story))
+
+unfoldable pub is_full_for_define : Story → Bool
+is_full_for_define story = nat_le 1000000 (length story.log + length (remaining story))
+
+-- ---- define
+
+-- a definition that isn't read is no machine's, for the fault that is told; or memory was refused
+abbrev pub IsReadRefusal : Data → Refusal → Type 0
+IsReadRefusal d (BadMachine fault) = DefinesNone d × Names fault (DefinitionFault d fault)
+IsReadRefusal d Memory = Unit {0}
+IsReadRefusal d _ = ⊥
+
+-- a definition is refused where its name is taken, where it is no machine's, where there is no room, or for memory
+abbrev pub IsDefineRefusal : Story → List ℕ → Data → Refusal → Type 0
+IsDefineRefusal story name d MachineTaken = IsSome (machine_of story name)
+IsDefineRefusal story name d (BadMachine fault) = (machine_of story name ≡ None) × IsReadRefusal d (BadMachine fault)
+IsDefineRefusal story name d Full = (machine_of story name ≡ None) × ((machine : Definition) × Defines d machine) × IsTrue (is_full_for_define story)
+IsDefineRefusal story name d Memory = machine_of story name ≡ None
+IsDefineRefusal story name d _ = ⊥
+
+-- ---- start
+
+unfoldable pub start_answer : Story → Thread → List ℕ → Result StepName Refusal
+start_answer story exec machine =
+    if is_some (machine_of story machine)
+    then (if is_some ((world_of story).frames exec) then Err ExecTaken else (if is_full_for_step story then Err Full else Ok (start_name exec.exec)))
+    else Err NoMachine
+
+-- ---- step
+
+abbrev pub moved_answer : Story → Readiness → Option Deed → Result Moved Refusal
+moved_answer story readiness None = Err (NotReady readiness)
+moved_answer story readiness (Some d) = if is_full_for_step story then Err Full else Ok (record { name = d.fact.name; kind = d.fact.kind })
+
+abbrev pub thread_answer : Story → Thread → Option Frame → Result Moved Refusal
+thread_answer story t None = Err NoThread
+thread_answer story t (Some f) =
+    moved_answer story (readiness_at (paths_of (world_of story).frames t.exec) t.path) (move_deed (setting_of story) (world_of story) t)
+
+unfoldable pub step_answer : Story → Thread → Result Moved Refusal
+step_answer story t = thread_answer story t ((world_of story).frames t)
+
+-- ---- undo
+
+-- the fact of the step of this name, and the facts after it
+abbrev pub from_step : StepName → List Fact → Option (Fact × List Fact)
+from_step name [] = None
+from_step name (f ∷ facts) = if is_same_step name f.name then Some (f, facts) else from_step name facts
+
+abbrev pub free_answer : StepName → Option Fact → Result StepName Refusal
+free_answer name (Some dependent) = Err (HasDependents dependent.name)
+free_answer name None = Ok name
+
+-- it is undone where no later step depends directly on it, and else refused for the first that does
+abbrev pub found_answer : StepName → Option (Fact × List Fact) → Result StepName Refusal
+found_answer name None = Err NoStep
+found_answer name (Some p) = free_answer name (find (depends_directly p.0) p.1)
+
+unfoldable pub undo_answer : Story → StepName → Result StepName Refusal
+undo_answer story name = found_answer name (from_step name (facts_of story))
+
+-- the steps undone one by one in this order, or the refusal of the first that can't be undone at its turn
+abbrev mutual
+  pub order_answer : Story → List StepName → Result Story Refusal
+  order_answer story [] = Ok story
+  order_answer story (name ∷ names) = order_after story name names (undo_answer story name)
+
+  pub order_after : Story → StepName → List StepName → Result StepName Refusal → Result Story Refusal
+  order_after story name names (Ok _) = order_answer (accepted story (Undo name)) names
+  order_after story name names (Err e) = Err e
+
+-- ---- rollback
+
+abbrev pub names_of_facts : List Past → List StepName
+names_of_facts ts = map (λ t. t.fact.name) ts
+
+-- whether some step has this name
+abbrev pub remains : Story → StepName → Bool
+remains story name = is_some (from_step name (facts_of story))
+
+-- a remaining step and its consequences, the latest first
+unfoldable pub plan_answer : Story → StepName → Result (List StepName) Refusal
+plan_answer story name = if remains story name then Ok (names_of_facts (reverse (consequences_of story name))) else Err NoStep
+
+-- ---- rerun
+
+-- the remaining step of a name, with what it carries
+abbrev pub step_named : StepName → List Step → Option Step
+step_named name ss = find (λ s. is_same_step name (name_of s)) ss
+
+abbrev pub steps_named : List Step → List StepName → Option (List Step)
+steps_named ss [] = Some []
+steps_named ss (name ∷ names) = option_and_then (λ s. option_map (λ more. s ∷ more) (steps_named ss names)) (step_named name ss)
+
+-- the definitions of a log
+abbrev pub defines : List Entry → List Entry
+defines [] = []
+defines (Define name machine ∷ log) = Define name machine ∷ defines log
+defines (Start exec machine input ∷ log) = defines log
+defines (Stepped name kind ∷ log) = defines log
+defines (Undo name ∷ log) = defines log
+defines (Rollback name undone ∷ log) = defines log
+
+-- the entry that takes a step
+abbrev pub entry_for : Past → Step → Entry
+entry_for t (started exec machine input) = Start (record { exec = exec; path = [] }) machine input
+entry_for t (moved name) = Stepped name t.fact.kind
+
+abbrev pub entry_of : Past → Entry
+entry_of t = entry_for t t.step
+
+-- the definitions, and then these steps
+abbrev pub retold : Story → List Past → Story
+retold story ts = record { begin = story.begin; log = defines story.log ++ map entry_of ts }
+
+abbrev pub or_no_step : Option Story → Result Story Refusal
+or_no_step (Some story) = Ok story
+or_no_step None = Err NoStep
+
+-- the remaining steps of these names, taken in this order from the start: none, where one doesn't remain or can't be taken then
+unfoldable pub rerun_answer : Story → List StepName → Result Story Refusal
+rerun_answer story names =
+    or_no_step (option_map (λ p. retold story p.1) (option_and_then (run (steps (setting_of story)) (base_of story.begin)) (steps_named (remaining story) names)))
+
+-- ---- what can move
+
+-- the thread has a move
+abbrev pub has_move : Story → Thread → Bool
+has_move story t = is_some (move_deed (setting_of story) (world_of story) t)

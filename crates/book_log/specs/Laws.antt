@@ -1,0 +1,103 @@
+-- Laws of logs, each the contract of a function of the crate.
+use Rattle.std.specs.Prelude.{◌≡◌, ◌↔◌, ℕ, List, [], ◌∷◌, ◌++◌, map, false, Some, None, Ok, Err, IsSome}
+use Rattle.json_tree.specs.declared.tree.Json.{Json}
+use Rattle.branch_tree.specs.declared.readiness.Readiness.{Readiness}
+use Rattle.branch_tree.specs.declared.readiness.Readiness.TheVariants.{Waiting, Done, Failed}
+use Rattle.step_names.specs.Thread.{Thread}
+use Rattle.step_names.specs.declared.step.StepName.{StepName}
+use Rattle.trace_theory.specs.Traces.{In, IsLeast, IsAllowed, IsArrangement, without}
+use Rattle.saved_steps.specs.Steps.{Step, started, moved, name_of, start_name}
+use Rattle.saved_steps.specs.declared.fact.Kind.{Kind}
+use Rattle.depends.specs.Instance.{steps}
+use Rattle.step_history.specs.History.{Past}
+use Rattle.book_log.specs.Answers.{start_answer, step_answer, undo_answer, order_answer, plan_answer, rerun_answer, is_full_for_step, names_of_facts, entry_of}
+use Rattle.book_log.specs.Legal.{IsAccepted, IsLegal}
+use Rattle.book_log.specs.Story.{Story, accepted, remaining, setting_of, run_of, world_of, past_of, consequences_of}
+use Rattle.book_log.specs.declared.entry.Entry.{Entry}
+use Rattle.book_log.specs.declared.entry.Entry.TheVariants.{Start, Step as Stepped, Undo, Rollback}
+
+-- ---- legal logs
+
+-- what remains of a legal log can be run from the start
+abbrev pub LegalLogsRun : Type 0
+LegalLogsRun = (story : Story) → IsLegal story → run_of story ≡ Some (world_of story, past_of story)
+
+-- a legal log with an entry that is accepted is one
+abbrev pub AcceptedIsLegal : Type 0
+AcceptedIsLegal = (story : Story) (entry : Entry) → IsLegal story → IsAccepted story entry → IsLegal (accepted story entry)
+
+-- ---- what is undone
+
+-- the same steps remain of two logs, and they give the same world, the same facts, and keep the same
+pub record LeavesTheSame (a : Story) (b : Story) : Type 0 where
+  pub steps : remaining a ≡ remaining b
+  pub world : world_of a ≡ world_of b
+  pub past : past_of a ≡ past_of b
+
+-- a step that is taken can be undone, and then all is as before it
+abbrev pub UndoTakesBack : Type 0
+UndoTakesBack = (story : Story) (name : StepName) (kind : Kind) → IsLegal story → IsAccepted story (Stepped name kind)
+    → (undo_answer (accepted story (Stepped name kind)) name ≡ Ok name) × LeavesTheSame (accepted (accepted story (Stepped name kind)) (Undo name)) story
+
+-- the same of a start
+abbrev pub UndoTakesBackStart : Type 0
+UndoTakesBackStart = (story : Story) (exec : Thread) (machine : List ℕ) (input : Json) → IsLegal story → IsAccepted story (Start exec machine input)
+    → (undo_answer (accepted story (Start exec machine input)) (start_name exec.exec) ≡ Ok (start_name exec.exec))
+    × LeavesTheSame (accepted (accepted story (Start exec machine input)) (Undo (start_name exec.exec))) story
+
+-- A step that is undone can be taken again where there is room: it stands last then, and all is as before the undoing.
+pub record IsGivenBack (story : Story) (name : StepName) : Type 0 where
+  pub taken : Past
+  pub named : taken.fact.name ≡ name
+  pub again : is_full_for_step (accepted story (Undo name)) ≡ false → IsAccepted (accepted story (Undo name)) (entry_of taken)
+  pub world : world_of (accepted (accepted story (Undo name)) (entry_of taken)) ≡ world_of story
+  pub past : past_of (accepted (accepted story (Undo name)) (entry_of taken)) ≡ without (steps (setting_of story)) (taken ∷ []) (past_of story) ++ taken ∷ []
+
+abbrev pub AgainGivesBack : Type 0
+AgainGivesBack = (story : Story) (name : StepName) → IsLegal story → undo_answer story name ≡ Ok name → IsGivenBack story name
+
+-- ---- orders
+
+-- Every order in which each step is free at its turn is accepted to its end, and leaves the run of the rest.
+abbrev pub AllowedOrdersAreAccepted : Type 0
+AllowedOrdersAreAccepted = (story : Story) (xs : List Past) → IsLegal story → IsAllowed (steps (setting_of story)) (past_of story) xs
+    → (after : Story) × (order_answer story (names_of_facts xs) ≡ Ok after) × IsLegal after × (past_of after ≡ without (steps (setting_of story)) xs (past_of story))
+
+-- An order that is accepted holds with each step all its consequences.
+abbrev pub AcceptedOrdersAreWhole : Type 0
+AcceptedOrdersAreWhole = (story after : Story) (names : List StepName) (name : StepName) (y : Past) → IsLegal story → order_answer story names ≡ Ok after
+    → In name names → In y (consequences_of story name) → In y.fact.name names
+
+-- Orders of the same steps leave one world.
+abbrev pub OrdersAgree : Type 0
+OrdersAgree = (story a b : Story) (names others : List StepName) → IsLegal story → order_answer story names ≡ Ok a → order_answer story others ≡ Ok b
+    → ((name : StepName) → In name names ↔ In name others) → LeavesTheSame a b
+
+-- ---- rollback
+
+-- A step and its consequences are the least set that holds it and each later step that depends directly on a member; the rest
+-- remains, in its order, and its run is the world; and undoing them one by one, the latest first, leaves the same.
+pub record IsRolledBack (story : Story) (name : StepName) (undone : List StepName) : Type 0 where
+  pub taken : Past
+  pub named : taken.fact.name ≡ name
+  pub stood : In taken (past_of story)
+  pub least : IsLeast (steps (setting_of story)) (past_of story) taken (consequences_of story name)
+  pub rest : past_of (accepted story (Rollback name undone)) ≡ without (steps (setting_of story)) (consequences_of story name) (past_of story)
+  pub after : Story
+  pub one_by_one : order_answer story undone ≡ Ok after
+  pub same : LeavesTheSame after (accepted story (Rollback name undone))
+
+abbrev pub RollbackIsExact : Type 0
+RollbackIsExact = (story : Story) (name : StepName) (undone : List StepName) → IsLegal story → plan_answer story name ≡ Ok undone → IsRolledBack story name undone
+
+-- ---- arrangements
+
+-- What a rerun answers is legal, its steps are those of the names in their order, and it has the world of their run.
+abbrev pub RerunsAreLegal : Type 0
+RerunsAreLegal = (story again : Story) (names : List StepName) → IsLegal story → rerun_answer story names ≡ Ok again → IsLegal again × (map name_of (remaining again) ≡ names)
+
+-- Every arrangement of the remaining steps that keeps directly dependent ones in their order can be rerun: the same world, and step by
+-- step the same facts and what was kept.
+abbrev pub ArrangementsAgree : Type 0
+ArrangementsAgree = (story : Story) (arranged : List Step) → IsLegal story → IsArrangement (steps (setting_of story)) (past_of story) arranged
+    → (again : Story) × (rerun_answer story (map name_of arranged) ≡ Ok again) × (world_of again ≡ world_of story) × ((t : Past) → In t (past_of again) ↔ In t (past_of story))

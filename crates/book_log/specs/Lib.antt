@@ -1,0 +1,5 @@
+pub mod Answers
+pub mod Beginning
+pub mod Laws
+pub mod Legal
+pub mod Story

@@ -1,0 +1,109 @@
+-- A book as contracts see it: what it began with, and the commands that it accepted. What remains of them, and the world that
+-- this gives, are functions of these two: a list is filtered and run from the start, and nothing is undone.
+use Rattle.std.specs.Prelude.{ℕ, List, [], ◌∷◌, ◌++◌, Bool, not, fold, filter, map, Option, None, Some, unwrap_or, if◌then◌else◌}
+use Rattle.asl_fields.specs.Fields.{is_text}
+use Rattle.asl_machine.specs.Definition.{Definition}
+use Rattle.step_names.specs.declared.step.StepName.{StepName}
+use Rattle.trace_theory.specs.Traces.{run, after, without, names_of}
+use Rattle.saved_steps.specs.Steps.{Step, started, moved, name_of}
+use Rattle.saved_steps.specs.World.{Setting, World, is_same_step}
+use Rattle.saved_steps.specs.declared.fact.Fact.{Fact}
+use Rattle.depends.specs.Instance.{steps}
+use Rattle.step_history.specs.History.{Past}
+use Rattle.book_log.specs.Beginning.{first_items}
+use Rattle.book_log.specs.declared.begin.Begin.{Begin}
+use Rattle.book_log.specs.declared.entry.Entry.{Entry}
+use Rattle.book_log.specs.declared.entry.Entry.TheVariants.{Define, Start, Step as Stepped, Undo, Rollback}
+
+pub record Story : Type 0 where
+  pub begin : Begin
+  pub log : List Entry
+
+-- the story with one more entry
+abbrev pub accepted : Story → Entry → Story
+accepted story entry = record { begin = story.begin; log = story.log ++ entry ∷ [] }
+
+-- ---- what a log leaves
+
+-- the machines that it defines, by their names, and the steps that were not taken back since, in the order in which they were
+-- taken
+pub record Remainder : Type 0 where
+  pub machines : List ℕ → Option Definition
+  pub steps : List Step
+
+abbrev pub setting_in : Begin → Remainder → Setting
+setting_in begin r = record { machines = r.machines; table = begin.table; schema = begin.schema }
+
+-- the start: the items of the beginning, and no execution
+abbrev pub base_of : Begin → World
+base_of begin = record { frames = λ t. None; items = first_items begin }
+
+-- the remaining steps alone, run forward from the start: the world that they give, and each with its fact and what it kept
+unfoldable pub run_in : Begin → Remainder → Option (World × List Past)
+run_in begin r = run (steps (setting_in begin r)) (base_of begin) r.steps
+
+unfoldable pub world_in : Begin → Remainder → World
+world_in begin r = (unwrap_or (run_in begin r) (base_of begin, [])).0
+
+unfoldable pub past_in : Begin → Remainder → List Past
+past_in begin r = (unwrap_or (run_in begin r) (base_of begin, [])).1
+
+-- a step and its consequences, in their order (Danos and Krivine, "Reversible Communicating Systems", 2004)
+unfoldable pub consequences_in : Begin → Remainder → StepName → List Past
+consequences_in begin r name = after (steps (setting_in begin r)) (past_in begin r) (moved name)
+
+-- the steps but the one of this name
+abbrev pub but : StepName → List Step → List Step
+but name = filter (λ s. not (is_same_step name (name_of s)))
+
+-- the steps but a step and its consequences
+unfoldable pub rolled_back : Begin → Remainder → StepName → List Step
+rolled_back begin r name = names_of (steps (setting_in begin r)) (without (steps (setting_in begin r)) (consequences_in begin r name) (past_in begin r))
+
+-- the machines, with this one under a name
+abbrev pub with_machine : (List ℕ → Option Definition) → List ℕ → Definition → List ℕ → Option Definition
+with_machine machines name machine n = if is_text name n then Some machine else machines n
+
+-- what is left after one more entry
+abbrev pub after_entry : Begin → Remainder → Entry → Remainder
+after_entry begin r (Define name machine) = record { machines = with_machine r.machines name machine; steps = r.steps }
+after_entry begin r (Start exec machine input) = record { machines = r.machines; steps = r.steps ++ started exec.exec machine input ∷ [] }
+after_entry begin r (Stepped name kind) = record { machines = r.machines; steps = r.steps ++ moved name ∷ [] }
+after_entry begin r (Undo name) = record { machines = r.machines; steps = but name r.steps }
+after_entry begin r (Rollback name undone) = record { machines = r.machines; steps = rolled_back begin r name }
+
+abbrev pub nothing : Remainder
+nothing = record { machines = λ name. None; steps = [] }
+
+unfoldable pub remainder : Story → Remainder
+remainder story = fold (after_entry story.begin) nothing story.log
+
+-- ---- of a story
+
+-- the steps of a log that were not taken back since, in the order in which they were taken
+abbrev pub remaining : Story → List Step
+remaining story = (remainder story).steps
+
+-- the machine that a log defines under a name
+abbrev pub machine_of : Story → List ℕ → Option Definition
+machine_of story = (remainder story).machines
+
+abbrev pub setting_of : Story → Setting
+setting_of story = setting_in story.begin (remainder story)
+
+abbrev pub run_of : Story → Option (World × List Past)
+run_of story = run_in story.begin (remainder story)
+
+-- the world that the remaining steps alone, run forward from the start, give
+abbrev pub world_of : Story → World
+world_of story = world_in story.begin (remainder story)
+
+-- the remaining steps with their facts and what they kept, in the same run
+abbrev pub past_of : Story → List Past
+past_of story = past_in story.begin (remainder story)
+
+abbrev pub facts_of : Story → List Fact
+facts_of story = map (λ t. t.fact) (past_of story)
+
+abbrev pub consequences_of : Story → StepName → List Past
+consequences_of story = consequences_in story.begin (remainder story)

@@ -1,0 +1,32 @@
+// The commands that were accepted.
+use crate::step_names_list::StepNames;
+use asl_machine::SharedMachine;
+use json_tree::{Json, Text};
+use saved_steps::Kind;
+use step_names::{StepName, ThreadName};
+
+/// A command that was accepted, with its reply: a start's is the name `E#0`, a step's its name and kind, a rollback's the
+/// names of the steps that it took back, the latest first. The others have none.
+#[derive(Debug, Drop)]
+pub enum Entry {
+    Define {
+        name: Text,
+        machine: SharedMachine,
+    },
+    Start {
+        exec: ThreadName,
+        machine: Text,
+        input: Json,
+    },
+    Step {
+        name: StepName,
+        kind: Kind,
+    },
+    Undo {
+        step: StepName,
+    },
+    Rollback {
+        step: StepName,
+        undone: StepNames,
+    },
+}

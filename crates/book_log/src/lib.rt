@@ -1,0 +1,15 @@
+#![tactic(auto)]
+
+//! What books accept: the commands of a log, what remains of them, what these give when they are run from the start, and
+//! what each further command is answered.
+mod begin;
+mod entry;
+mod moved;
+mod refusal;
+mod step_names_list;
+
+pub use begin::Begin;
+pub use entry::Entry;
+pub use moved::Moved;
+pub use refusal::Refusal;
+pub use step_names_list::StepNames;
