@@ -10,4 +10,5 @@ pub mod Reading
 pub mod Profile
 pub mod Faults
 pub mod Laws
+pub mod Levels
 pub mod Same

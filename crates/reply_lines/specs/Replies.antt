@@ -1,5 +1,5 @@
 -- Replies, as they are written: `ok` or `no`, and what is told beside. Texts are JSON texts (RFC 8259, section 7).
-use Rattle.std.specs.Prelude.{ℕ, List, [], ◌∷◌, ◌++◌, length, flat_map, codes}
+use Rattle.std.specs.Prelude.{ℕ, List, [], ◌∷◌, ◌++◌, length, map, flat_map, codes}
 use Rattle.std.specs.Fmt.{decimal}
 use Rattle.json_tree.specs.declared.fault.JsonFault.{JsonFault}
 use Rattle.json_tree.specs.declared.fault.JsonFault.TheVariants as json_faults
@@ -7,19 +7,21 @@ use Rattle.json_tree.specs.View.{data_of}
 use Rattle.json_tree.specs.Written.{quoted, text_of}
 use Rattle.asl_fields.specs.declared.fault.MachineFault.{MachineFault}
 use Rattle.asl_fields.specs.declared.fault.MachineFault.TheVariants as faults
+use Rattle.attr_values.specs.declared.fault.ItemFault.{ItemFault}
+use Rattle.attr_values.specs.declared.fault.ItemFault.TheVariants as item_faults
 use Rattle.step_names.specs.Written.{step_text}
 use Rattle.step_names.specs.declared.step.StepName.{StepName}
 use Rattle.asl_forward.specs.declared.frame.Fault.{Fault}
 use Rattle.asl_forward.specs.declared.frame.Frame.{Frame}
 use Rattle.asl_forward.specs.declared.frame.Phase.{Phase}
 use Rattle.asl_forward.specs.declared.frame.Phase.TheVariants as phases
-use Rattle.rollback_book.specs.declared.refusal.Refusal.{Refusal}
-use Rattle.rollback_book.specs.declared.refusal.Refusal.TheVariants as refusals
-use Rattle.rollback_book.specs.declared.step.Kind.{Kind}
-use Rattle.rollback_book.specs.declared.step.Kind.TheVariants.{Start, Plain, Call, Fork, Join, Terminate}
-use Rattle.rollback_book.specs.declared.step.Moved.{Moved}
-use Rattle.rollback_book.specs.declared.step.Readiness.{Readiness}
-use Rattle.rollback_book.specs.declared.step.Readiness.TheVariants as phase
+use Rattle.branch_tree.specs.declared.readiness.Readiness.{Readiness}
+use Rattle.branch_tree.specs.declared.readiness.Readiness.TheVariants as phase
+use Rattle.saved_steps.specs.declared.fact.Kind.{Kind}
+use Rattle.saved_steps.specs.declared.fact.Kind.TheVariants.{Start, Plain, Call, Fork, Join, Terminate}
+use Rattle.book_log.specs.declared.moved.Moved.{Moved}
+use Rattle.book_log.specs.declared.refusal.Refusal.{Refusal}
+use Rattle.book_log.specs.declared.refusal.Refusal.TheVariants as refusals
 
 -- a line feed after a text
 abbrev pub with_feed : List ℕ → List ℕ
@@ -47,6 +49,9 @@ moved_reply m = codes "ok " ++ (step_text m.name ++ with_feed (kind_text m.kind)
 -- how many there are, and each in a line of its own
 abbrev pub list_reply : List (List ℕ) → List ℕ
 list_reply texts = codes "ok " ++ (with_feed (decimal (length texts)) ++ flat_map with_feed texts)
+
+abbrev pub names_reply : List StepName → List ℕ
+names_reply names = list_reply (map step_text names)
 
 -- the state that a thread stands at, and how many moves it made
 abbrev pub place_text : Frame → List ℕ
@@ -112,9 +117,9 @@ refusal_reply refusals.NoThread = refused 5
 refusal_reply (refusals.NotReady readiness) = codes "no 6 " ++ with_feed (readiness_text readiness)
 refusal_reply refusals.NoStep = refused 7
 refusal_reply (refusals.HasDependents step) = refused_for_step 8 step
+refusal_reply (refusals.Stale entries) = refused 9
 refusal_reply refusals.Full = refused 10
 refusal_reply refusals.Memory = memory_reply
-refusal_reply (refusals.NotLast step) = refused_for_step 14 step
 
 -- ---- JSON that is none
 
@@ -122,3 +127,13 @@ abbrev pub json_reply : JsonFault → List ℕ
 json_reply json_faults.NotJson = refused_by 25 1
 json_reply json_faults.NotWhole = refused_by 25 2
 json_reply json_faults.Memory = memory_reply
+
+-- ---- items that are none
+
+abbrev pub item_fault_reply : ItemFault → List ℕ
+item_fault_reply item_faults.BadValue = refused_by 23 1
+item_fault_reply item_faults.BadNumber = refused_by 23 2
+item_fault_reply item_faults.NoKey = refused_by 23 3
+item_fault_reply item_faults.KeyType = refused_by 23 4
+item_fault_reply item_faults.EmptyKey = refused_by 23 5
+item_fault_reply item_faults.Memory = memory_reply

@@ -1,29 +1,37 @@
 // Replies, as they are written.
-ghost use Rattle.std.specs.Prelude.{◌≡◌, ◌+◌, ◌<◌, ◌≤◌, ◌∷◌, ◌++◌, [], codes, length, map, flat_map, string_bytes, string_len, OnOk, OnErr};
+ghost use Rattle.std.specs.Prelude.{◌≡◌, ℕ, List, ◌+◌, ◌<◌, ◌≤◌, ◌^◌, ◌∷◌, ◌++◌, [], codes, length, map, flat_map, string_bytes, string_len, OnOk, OnErr};
 ghost use Rattle.std.specs.Fmt.{decimal};
 ghost use Rattle.std.specs.String.{string_capacity};
-ghost use Rattle.json_tree.specs.View.{data_of, list_of};
+ghost use Rattle.attr_values.specs.Writing.{item_json};
+ghost use Rattle.item_store.specs.Listing.{items_left};
+ghost use Rattle.json_tree.specs.View.{data_of};
 ghost use Rattle.json_tree.specs.Written.{quoted, text_of};
 ghost use Rattle.step_names.specs.Written.{step_text};
-ghost use Rattle.operator_line.specs.Replies.{done_reply, step_reply, moved_reply, kind_text, with_feed, list_reply, place_text, fault_text, frame_reply, refused, refused_by, refused_for_step, refused_for_field, machine_reply, readiness_text, refusal_reply};
-ghost use Rattle.operator_line.specs.Replying.{Writes, has_room_for_step};
+ghost use Rattle.reply_lines.specs.Replies.{done_reply, step_reply, moved_reply, kind_text, with_feed, list_reply, names_reply, place_text, fault_text, frame_reply, refused, refused_by, refused_for_step, refused_for_field, machine_reply, readiness_text, refusal_reply};
+ghost use Rattle.reply_lines.specs.Replying.{Writes, AreLines, has_room_for_step, has_room_for_lines};
 
 use asl_forward::{Fault, Frame, Phase};
 use asl_machine::MachineFault;
+use attr_values::{Item, write_item};
+use book_log::{Moved, Refusal};
+use branch_tree::Readiness;
+use item_store::Items;
 use json_tree::{Json, Text, write_text};
-use rollback_book::{Kind, Moved, Readiness, Refusal, StepRecord};
+use saved_steps::{Kind, StepRecord};
 use std::alloc::{AllocError, Global};
-use step_names::{LONGEST_STEP, StepName};
+use step_names::{LONGEST_STEP, StepName, push_decimal};
+
+use crate::lines::Lines;
 
 /// A reply that is being written. It keeps the room of the longest one so far.
 #[derive(Drop)]
-pub(crate) struct Reply {
-    text: String,
+pub struct Reply {
+    pub(crate) text: String,
 }
 
 impl Reply {
     /// No text. Takes no memory.
-    pub(crate) fn new(alloc: Global) -> Reply
+    pub fn new(alloc: Global) -> Reply
         ensures { string_bytes result.text ≡ [] }
     {
         Reply {
@@ -31,20 +39,20 @@ impl Reply {
         }
     }
 
-    pub(crate) fn clear(&mut self)
+    pub fn clear(&mut self)
         ensures { string_bytes self.new.text ≡ [] }
     {
         self.text.clear();
     }
 
-    pub(crate) fn as_bytes(&self) -> &[u8]
+    pub fn as_bytes(&self) -> &[u8]
         ensures { result.now ≡ string_bytes self.now.text }
     {
         self.text.as_bytes()
     }
 
     /// Makes room for any reply that names one step, beforehand.
-    pub(crate) fn reserve_step(&mut self) -> Result<(), AllocError>
+    pub fn reserve_step(&mut self) -> Result<(), AllocError>
         ensures same { string_bytes self.new.text ≡ string_bytes self.old.text }
         ensures room { OnOk result (has_room_for_step self.new.text) }
     {
@@ -52,7 +60,7 @@ impl Reply {
     }
 
     /// `ok`.
-    pub(crate) fn accept(&mut self) -> Result<(), AllocError>
+    pub fn accept(&mut self) -> Result<(), AllocError>
         ensures ok { Writes result self.old self.new done_reply }
         ensures room { has_room_for_step self.old.text → OnErr result ⊥ }
     {
@@ -60,7 +68,7 @@ impl Reply {
     }
 
     /// `ok` and a step.
-    pub(crate) fn accept_step(&mut self, step: &StepName) -> Result<(), AllocError>
+    pub fn accept_step(&mut self, step: &StepName) -> Result<(), AllocError>
         ensures ok { Writes result self.old self.new (step_reply step.now) }
         ensures room { has_room_for_step self.old.text → OnErr result ⊥ }
     {
@@ -71,7 +79,7 @@ impl Reply {
     }
 
     /// `ok`, a step and its kind.
-    pub(crate) fn accept_moved(&mut self, moved: &Moved) -> Result<(), AllocError>
+    pub fn accept_moved(&mut self, moved: &Moved) -> Result<(), AllocError>
         ensures ok { Writes result self.old self.new (moved_reply moved.now) }
         ensures room { has_room_for_step self.old.text → OnErr result ⊥ }
     {
@@ -83,7 +91,7 @@ impl Reply {
     }
 
     /// `ok`, the number of steps, and a line for each.
-    pub(crate) fn accept_steps(&mut self, records: &[StepRecord]) -> Result<(), AllocError>
+    pub fn accept_steps(&mut self, records: &[StepRecord]) -> Result<(), AllocError>
         ensures ok { Writes result self.old self.new (list_reply (map (λ r. step_text r.fact.name) records.now)) }
     {
         self.count(records.len() as u64)?;
@@ -93,19 +101,60 @@ impl Reply {
         Ok(())
     }
 
-    /// `ok`, the number of items, and a line for each.
-    pub(crate) fn accept_items(&mut self, alloc: Global, items: &[Json]) -> Result<(), AllocError>
-        ensures ok { Writes result self.old self.new (list_reply (map text_of (list_of items.now))) }
+    /// `ok`, the number of names, and a line for each.
+    pub fn accept_names(&mut self, names: &[StepName]) -> Result<(), AllocError>
+        ensures ok { Writes result self.old self.new (names_reply names.now) }
     {
-        self.count(items.len() as u64)?;
-        for item in items {
-            self.json_line(alloc, item)?;
+        self.count(names.len() as u64)?;
+        for name in names {
+            self.step_line(name)?;
         }
         Ok(())
     }
 
+    /// `ok`, the number of items, and a line for each. The lines are made first, since they have to be counted.
+    pub fn accept_items(&mut self, alloc: Global, items: Items<'_>) -> Result<(), AllocError>
+        requires { length (items_left items.entry) < 2 ^ 63 }
+        ensures ok { Writes result self.old self.new (list_reply (map (λ i. text_of (item_json i)) (items_left items.entry))) }
+    {
+        let mut lines = Reply::new(alloc);
+        let mut count: u64 = 0;
+        for item in items {
+            lines.item_line(alloc, item)?;
+            count += 1;
+        }
+        self.count(count)?;
+        self.word(lines.text.as_str())
+    }
+
+    /// Makes room for lines with their count, and for the line of one step more.
+    pub fn reserve_lines(&mut self, lines: &Lines) -> Result<(), AllocError>
+        ensures same { string_bytes self.new.text ≡ string_bytes self.old.text }
+        ensures room { OnOk result (has_room_for_lines self.new.text (string_len lines.now.text + 758)) }
+        ensures kept { string_capacity self.old.text ≤ string_capacity self.new.text }
+    {
+        self.text.reserve(lines.text.len() + LONGEST_STEP + 32)
+    }
+
+    /// `ok`, how many lines there are, and these lines, in room that is there. Takes no memory.
+    pub fn accept_lines(&mut self, lines: &Lines)
+        requires { has_room_for_lines self.old.text (string_len lines.now.text) }
+        ensures { (texts : List (List ℕ)) → AreLines lines.now texts → string_bytes self.new.text ≡ string_bytes self.old.text ++ list_reply texts }
+    {
+        let Ok(()) = self.text.push_str("ok ") else {
+            unreachable!()
+        };
+        push_decimal(&mut self.text, lines.count);
+        let Ok(()) = self.text.push_str("\n") else {
+            unreachable!()
+        };
+        let Ok(()) = self.text.push_str(lines.text.as_str()) else {
+            unreachable!()
+        };
+    }
+
     /// `ok` and a thread's frame.
-    pub(crate) fn accept_frame(&mut self, alloc: Global, frame: &Frame) -> Result<(), AllocError>
+    pub fn accept_frame(&mut self, alloc: Global, frame: &Frame) -> Result<(), AllocError>
         ensures ok { Writes result self.old self.new (frame_reply frame.now) }
     {
         match &frame.phase {
@@ -134,7 +183,7 @@ impl Reply {
     }
 
     /// `no` and a code.
-    pub(crate) fn refuse(&mut self, code: u32) -> Result<(), AllocError>
+    pub fn refuse(&mut self, code: u32) -> Result<(), AllocError>
         ensures ok { Writes result self.old self.new (refused code) }
     {
         self.word("no ")?;
@@ -143,7 +192,7 @@ impl Reply {
     }
 
     /// `no`, a code and a number.
-    pub(crate) fn refuse_by(&mut self, code: u32, number: u32) -> Result<(), AllocError>
+    pub fn refuse_by(&mut self, code: u32, number: u32) -> Result<(), AllocError>
         ensures ok { Writes result self.old self.new (refused_by code number) }
     {
         self.word("no ")?;
@@ -154,7 +203,7 @@ impl Reply {
     }
 
     /// `no` and the refusal of a book.
-    pub(crate) fn refuse_command(
+    pub fn refuse_command(
         &mut self,
         alloc: Global,
         refusal: Refusal,
@@ -171,9 +220,9 @@ impl Reply {
             Refusal::NotReady(readiness) => self.refuse_readiness(readiness),
             Refusal::NoStep => self.refuse(7),
             Refusal::HasDependents(step) => self.refuse_for_step(8, &step),
+            Refusal::Stale(_) => self.refuse(9),
             Refusal::Full => self.refuse(10),
             Refusal::Memory => Err(AllocError),
-            Refusal::NotLast(step) => self.refuse_for_step(14, &step),
         }
     }
 
@@ -241,6 +290,13 @@ impl Reply {
     {
         let text = Json::Text(text.copy()?);
         self.json(alloc, &text)
+    }
+
+    fn item_line(&mut self, alloc: Global, item: &Item) -> Result<(), AllocError>
+        ensures ok { Writes result self.old self.new (with_feed (text_of (item_json item.now))) }
+    {
+        let json = write_item(alloc, item)?;
+        self.json_line(alloc, &json)
     }
 
     fn json_line(&mut self, alloc: Global, json: &Json) -> Result<(), AllocError>
