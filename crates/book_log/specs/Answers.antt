@@ -1,5 +1,5 @@
 -- What a command is answered, memory apart: each refusal exactly where it stands, in the order in which they are tested.
-use Rattle.std.specs.Prelude.{◌≡◌, ℕ, ◌+◌, ◌||◌, List, [], ◌∷◌, ◌++◌, length, map, reverse, Bool, Option, None, Some, Result, Ok, Err, is_some, IsSome, IsTrue, ◌⊎◌, nat_le, nat_lt, if◌then◌else◌, option_map, option_and_then, slice_get, position}
+use Rattle.std.specs.Prelude.{◌≡◌, ℕ, ◌+◌, ◌||◌, List, [], ◌∷◌, ◌++◌, length, map, reverse, Bool, Option, None, Some, Result, Ok, Err, is_some, IsSome, IsTrue, ◌⊎◌, nat_le, nat_lt, if◌then◌else◌, option_map, option_and_then}
 use Rattle.std.specs.List.{find}
 use Rattle.serde_json.specs.Data.{Data}
 use Rattle.asl_fields.specs.Refusal.{Names}
@@ -15,12 +15,12 @@ use Rattle.asl_forward.specs.declared.frame.Frame.{Frame}
 use Rattle.saved_steps.specs.Deeds.{Deed, move_deed}
 use Rattle.saved_steps.specs.Held.{paths_of}
 use Rattle.saved_steps.specs.Steps.{Step, started, moved, name_of, start_name}
-use Rattle.saved_steps.specs.World.{World, is_same_step}
+use Rattle.saved_steps.specs.World.{is_same_step}
 use Rattle.saved_steps.specs.declared.fact.Fact.{Fact}
 use Rattle.depends.specs.Dependence.{depends_directly}
 use Rattle.depends.specs.Instance.{steps}
 use Rattle.step_history.specs.History.{Past}
-use Rattle.book_log.specs.Story.{Story, accepted, base_of, remaining, machine_of, setting_of, world_of, past_of, facts_of, consequences_of}
+use Rattle.book_log.specs.Story.{Story, accepted, base_of, remaining, machine_of, setting_of, world_of, facts_of, consequences_of}
 use Rattle.book_log.specs.declared.entry.Entry.{Entry}
 use Rattle.book_log.specs.declared.entry.Entry.TheVariants.{Define, Start, Step as Stepped, Undo, Rollback}
 use Rattle.book_log.specs.declared.moved.Moved.{Moved}
@@ -106,15 +106,15 @@ found_answer name (Some p) = free_answer name (find (depends_directly p.0) p.1)
 unfoldable pub undo_answer : Story → StepName → Result StepName Refusal
 undo_answer story name = found_answer name (from_step name (facts_of story))
 
--- the steps undone one by one in this order, or the refusal of the first that can't be undone at its turn
-abbrev mutual
-  pub order_answer : Story → List StepName → Result Story Refusal
-  order_answer story [] = Ok story
-  order_answer story (name ∷ names) = order_after story name names (undo_answer story name)
+-- where a step is undone, what comes after that
+abbrev pub once_undone : Result StepName Refusal → Result Story Refusal → Result Story Refusal
+once_undone (Ok name) rest = rest
+once_undone (Err e) rest = Err e
 
-  pub order_after : Story → StepName → List StepName → Result StepName Refusal → Result Story Refusal
-  order_after story name names (Ok _) = order_answer (accepted story (Undo name)) names
-  order_after story name names (Err e) = Err e
+-- the steps undone one by one in this order, or the refusal of the first that can't be undone at its turn
+abbrev pub order_answer : Story → List StepName → Result Story Refusal
+order_answer story [] = Ok story
+order_answer story (name ∷ names) = once_undone (undo_answer story name) (order_answer (accepted story (Undo name)) names)
 
 -- ---- rollback
 

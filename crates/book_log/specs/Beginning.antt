@@ -1,6 +1,6 @@
 -- The items with which a book begins: an object is an item's, by the form of attribute values, and its key is that of the
 -- table's attributes.
-use Rattle.std.specs.Prelude.{ℕ, List, [], ◌∷◌, Option, Some, None, Result, Ok, Err}
+use Rattle.std.specs.Prelude.{List, [], ◌∷◌, Some, None, Result, Ok, Err}
 use Rattle.json_tree.specs.Data.{Data}
 use Rattle.attr_values.specs.Faults.{result_map, result_and_then}
 use Rattle.attr_values.specs.Key.{key_of}

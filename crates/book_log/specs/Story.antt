@@ -1,6 +1,6 @@
 -- A book as contracts see it: what it began with, and the commands that it accepted. What remains of them, and the world that
 -- this gives, are functions of these two: a list is filtered and run from the start, and nothing is undone.
-use Rattle.std.specs.Prelude.{ℕ, List, [], ◌∷◌, ◌++◌, Bool, not, fold, filter, map, Option, None, Some, unwrap_or, if◌then◌else◌}
+use Rattle.std.specs.Prelude.{ℕ, List, [], ◌∷◌, ◌++◌, not, fold, filter, map, Option, None, Some, unwrap_or, if◌then◌else◌}
 use Rattle.asl_fields.specs.Fields.{is_text}
 use Rattle.asl_machine.specs.Definition.{Definition}
 use Rattle.step_names.specs.declared.step.StepName.{StepName}
