@@ -1,5 +1,5 @@
 // Lines that are still being counted.
-ghost use Rattle.std.specs.Prelude.{◌≡◌, ℕ, List, ◌+◌, ◌<◌, ◌^◌, ◌∷◌, ◌++◌, [], ◌≤◌, string_bytes, string_len, OnOk};
+ghost use Rattle.std.specs.Prelude.{◌≡◌, ℕ, List, ◌+◌, ◌<◌, ◌^◌, ◌∷◌, ◌++◌, [], ◌≤◌, string_bytes, string_len, OnOk, OnErr};
 ghost use Rattle.step_names.specs.Written.{step_text};
 ghost use Rattle.reply_lines.specs.Replying.{AreLines, has_room_for_line};
 
@@ -41,20 +41,18 @@ impl Lines {
         self.text.reserve(LONGEST_STEP + 1)
     }
 
-    /// Adds the line of a step, in room that is there. Takes no memory.
-    pub fn add_step(&mut self, step: &StepName)
-        requires room { has_room_for_line self.old.text }
-        requires few { self.old.count + 1 < 2 ^ 32 }
-        ensures lines { (texts : List (List ℕ)) → AreLines self.old texts → AreLines self.new (texts ++ step_text step.now ∷ []) }
-        ensures count { self.new.count ≡ self.old.count + 1 }
-        ensures longer { string_len self.new.text ≤ string_len self.old.text + 758 }
+    /// Adds the line of a step. Takes memory only where no room was made.
+    pub fn add_step(&mut self, step: &StepName) -> Result<(), AllocError>
+        requires { self.old.count + 1 < 2 ^ 32 }
+        ensures lines { OnOk result ((texts : List (List ℕ)) → AreLines self.old texts → AreLines self.new (texts ++ step_text step.now ∷ [])) }
+        ensures count { OnOk result (self.new.count ≡ self.old.count + 1) }
+        ensures longer { OnOk result (string_len self.new.text ≤ string_len self.old.text + 758) }
+        ensures room { has_room_for_line self.old.text → OnErr result ⊥ }
     {
-        let Ok(()) = step.write_to(&mut self.text) else {
-            unreachable!()
-        };
-        let Ok(()) = self.text.push_str("\n") else {
-            unreachable!()
-        };
+        self.text.reserve(step.text_len() + 1)?;
+        step.write_to(&mut self.text)?;
+        self.text.push_str("\n")?;
         self.count += 1;
+        Ok(())
     }
 }

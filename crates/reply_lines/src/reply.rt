@@ -19,7 +19,7 @@ use item_store::Items;
 use json_tree::{Json, Text, write_text};
 use saved_steps::{Kind, StepRecord};
 use std::alloc::{AllocError, Global};
-use step_names::{LONGEST_STEP, StepName, push_decimal};
+use step_names::{LONGEST_STEP, StepName, decimal_len, push_decimal};
 
 use crate::lines::Lines;
 
@@ -114,8 +114,8 @@ impl Reply {
 
     /// `ok`, the number of items, and a line for each. The lines are made first, since they have to be counted.
     pub fn accept_items(&mut self, alloc: Global, items: Items<'_>) -> Result<(), AllocError>
-        requires { length (items_left items.entry) < 2 ^ 63 }
-        ensures ok { Writes result self.old self.new (list_reply (map (λ i. text_of (item_json i)) (items_left items.entry))) }
+        requires { length (items_left items) < 2 ^ 63 }
+        ensures ok { Writes result self.old self.new (list_reply (map (λ i. text_of (item_json i)) (items_left items))) }
     {
         let mut lines = Reply::new(alloc);
         let mut count: u64 = 0;
@@ -136,21 +136,17 @@ impl Reply {
         self.text.reserve(lines.text.len() + LONGEST_STEP + 32)
     }
 
-    /// `ok`, how many lines there are, and these lines, in room that is there. Takes no memory.
-    pub fn accept_lines(&mut self, lines: &Lines)
-        requires { has_room_for_lines self.old.text (string_len lines.now.text) }
-        ensures { (texts : List (List ℕ)) → AreLines lines.now texts → string_bytes self.new.text ≡ string_bytes self.old.text ++ list_reply texts }
+    /// `ok`, how many lines there are, and these lines. Takes memory only where no room was made.
+    pub fn accept_lines(&mut self, lines: &Lines) -> Result<(), AllocError>
+        ensures ok { (texts : List (List ℕ)) → AreLines lines.now texts → Writes result self.old self.new (list_reply texts) }
+        ensures room { has_room_for_lines self.old.text (string_len lines.now.text) → OnErr result ⊥ }
     {
-        let Ok(()) = self.text.push_str("ok ") else {
-            unreachable!()
-        };
+        let digits = decimal_len(lines.count);
+        self.text.reserve(lines.text.len() + digits + 4)?;
+        self.text.push_str("ok ")?;
         push_decimal(&mut self.text, lines.count);
-        let Ok(()) = self.text.push_str("\n") else {
-            unreachable!()
-        };
-        let Ok(()) = self.text.push_str(lines.text.as_str()) else {
-            unreachable!()
-        };
+        self.text.push_str("\n")?;
+        self.text.push_str(lines.text.as_str())
     }
 
     /// `ok` and a thread's frame.

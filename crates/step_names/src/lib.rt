@@ -33,7 +33,7 @@ use std::error::Error;
 use std::fmt;
 pub use step::{LONGEST_STEP, StepName};
 pub use thread::{LONGEST_THREAD, ThreadName};
-pub use written::push_decimal;
+pub use written::{decimal_len, push_decimal};
 
 /// Why there is no such name.
 #[derive(Clone, Copy, Debug, PartialEq, Eq)]
