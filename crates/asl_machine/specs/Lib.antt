@@ -11,5 +11,4 @@ pub mod Profile
 pub mod Levels
 pub mod Faults
 pub mod Laws
-pub mod Levels
 pub mod Same

@@ -115,7 +115,7 @@ impl Reply {
     /// `ok`, the number of items, and a line for each. The lines are made first, since they have to be counted.
     pub fn accept_items(&mut self, alloc: Global, items: Items<'_>) -> Result<(), AllocError>
         requires { length (items_left items) < 2 ^ 63 }
-        ensures ok { Writes result self.old self.new (list_reply (map (λ i. text_of (item_json i)) (items_left items))) }
+        ensures ok { Writes result self.old self.new (list_reply (map (λ i. text_of (item_json i)) (items_left items.entry))) }
     {
         let mut lines = Reply::new(alloc);
         let mut count: u64 = 0;
