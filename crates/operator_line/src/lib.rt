@@ -1,9 +1,9 @@
 #![tactic(auto)]
 
 //! The operators' language: lines in, replies out.
+mod driving;
 mod laws;
 mod line;
-mod reply;
 mod serving;
 mod session;
 #[cfg(test)]

@@ -4,7 +4,7 @@ use Rattle.json_tree.specs.Data.{Data, list, items_of}
 use Rattle.json_tree.specs.Reading.{source_of, read_json}
 use Rattle.json_tree.specs.View.{data_of}
 use Rattle.operator_line.specs.Answers.{AnswersTable, AnswersItems, Tells}
-use Rattle.operator_line.specs.Replies.{refused_by, json_reply}
+use Rattle.reply_lines.specs.Replies.{refused_by, json_reply}
 use Rattle.operator_line.proofs.Json.{json-read, json-refused, items-refused}
 use Rattle.operator_line.proofs.session.Session.table.Goals as goal
 
