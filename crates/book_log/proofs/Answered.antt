@@ -53,14 +53,16 @@ pub record Found (name : StepName) (ts : List Past) (f : Fact) (later : List Fac
   pub behind : facts_of back ≡ later
   pub named : name ≡ f.name
 
+found_first : (name : StepName) (ts : List Past) (t : Past) (f : Fact) (later : List Fact) → is_same_step name t.fact.name ≡ true → ◌≡◌ {A = Fact × List Fact} (t.fact, facts_of ts) (f, later) → Found name (t ∷ ts) f later
+found_first name ts t f later k e =
+    let fact : t.fact ≡ f = ap (λ (p : Fact × List Fact). p.0) e in
+    record { front = []; back = ts; step = t; whole = refl; fact = fact; behind = ap (λ (p : Fact × List Fact). p.1) e; named = step_same name t.fact.name k ∙ ap (λ (x : Fact). x.name) fact }
+
 pub found_by : (name : StepName) (ts : List Past) (f : Fact) (later : List Fact) → from_step name (facts_of ts) ≡ Some (f, later) → Found name ts f later
 found_by name [] f later h = cc
 found_by name (t ∷ ts) f later h =
     by_bool (is_same_step name t.fact.name) _
-    (λ k.
-    let e : (t.fact, facts_of ts) ≡ (f, later) = same_Some _ _ (rw k at h) in
-    let fact : t.fact ≡ f = ap (λ (p : Fact × List Fact). p.0) e in
-    record { front = []; back = ts; step = t; whole = refl; fact = fact; behind = ap (λ (p : Fact × List Fact). p.1) e; named = step_same name t.fact.name k ∙ ap (λ (x : Fact). x.name) fact })
+    (λ k. found_first name ts t f later k (same_Some _ _ (rw k at h)))
     (λ k. let r = found_by name ts f later (rw k at h) in record { front = t ∷ r.front; back = r.back; step = r.step; whole = ap (λ (l : List Past). t ∷ l) r.whole; fact = r.fact; behind = r.behind; named = r.named })
 
 pub found_at : (name : StepName) (front back : List Past) (t : Past) → ((y : Past) → In y front → is_same_step name y.fact.name ≡ false) → is_same_step name t.fact.name ≡ true → from_step name (facts_of (front ++ t ∷ back)) ≡ Some (t.fact, facts_of back)

@@ -76,6 +76,11 @@ module _ (story : Story) (s : Setting) (w : World) (ts : List Past) (h : StandsA
   map_there f None b k = cc
   map_there f (Some a) b k = refl
 
+  -- a start or a step is accepted only where there is room
+  pub start_room : (exec : Thread) (machine : List ℕ) (name : StepName) → start_answer story exec machine ≡ Ok name → is_full_for_step story ≡ false
+  unfolding start_answer
+  start_room exec machine name a = (start_split (is_some (machine_of story machine)) (is_some ((world_of story).frames exec)) (is_full_for_step story) (start_name exec.exec) name a).2
+
   pub start_accepted : (exec machine : List ℕ) (input : Json) → CanTake s w (started exec machine input) → is_full_for_step story ≡ false → start_answer story (execution exec) machine ≡ Ok (start_name exec)
   unfolding start_answer
   start_accepted exec machine input can room =
@@ -87,20 +92,25 @@ module _ (story : Story) (s : Setting) (w : World) (ts : List Past) (h : StandsA
 
   -- ---- moves
 
-  moved_split : (r : Readiness) (o : Option Deed) (x : Moved) → moved_answer story r o ≡ Ok x → (d : Deed) × (o ≡ Some d) × (d.fact.name ≡ x.name) × (d.fact.kind ≡ x.kind)
+  moved_split : (r : Readiness) (o : Option Deed) (x : Moved) → moved_answer story r o ≡ Ok x → (d : Deed) × (o ≡ Some d) × (d.fact.name ≡ x.name) × (d.fact.kind ≡ x.kind) × (is_full_for_step story ≡ false)
   moved_split r None x k = cc
   moved_split r (Some d) x k = with_room (is_full_for_step story) k
     where
-      with_room : (b : Bool) → cond b (Err Full) (Ok (record { name = d.fact.name; kind = d.fact.kind })) ≡ Ok x → (e : Deed) × (Some d ≡ Some e) × (e.fact.name ≡ x.name) × (e.fact.kind ≡ x.kind)
+      with_room : (b : Bool) → cond b (Err Full) (Ok (record { name = d.fact.name; kind = d.fact.kind })) ≡ Ok x → (e : Deed) × (Some d ≡ Some e) × (e.fact.name ≡ x.name) × (e.fact.kind ≡ x.kind) × (b ≡ false)
       with_room true e = cc
-      with_room false e = let f : record { name = d.fact.name; kind = d.fact.kind } ≡ x = cc in (d, refl, ap (λ (y : Moved). y.name) f, ap (λ (y : Moved). y.kind) f)
+      with_room false e = let f : record { name = d.fact.name; kind = d.fact.kind } ≡ x = cc in (d, refl, ap (λ (y : Moved). y.name) f, ap (λ (y : Moved). y.kind) f, refl)
 
-  thread_split : (t : Thread) (o : Option Frame) (x : Moved) → thread_answer story t o ≡ Ok x → (d : Deed) × (move_deed (setting_of story) (world_of story) t ≡ Some d) × (d.fact.name ≡ x.name) × (d.fact.kind ≡ x.kind)
+  thread_split : (t : Thread) (o : Option Frame) (x : Moved) → thread_answer story t o ≡ Ok x
+      → (d : Deed) × (move_deed (setting_of story) (world_of story) t ≡ Some d) × (d.fact.name ≡ x.name) × (d.fact.kind ≡ x.kind) × (is_full_for_step story ≡ false)
   thread_split t None x k = cc
   thread_split t (Some f) x k = moved_split (readiness_at (paths_of (world_of story).frames t.exec) t.path) (move_deed (setting_of story) (world_of story) t) x k
 
   move_there : (t : Thread) → move_deed (setting_of story) (world_of story) t ≡ move_deed s w t
   move_there t = ap₂ (λ (x : Setting) (y : World). move_deed x y t) h.setting (world_there story s w ts h)
+
+  pub step_room : (t : Thread) (x : Moved) → step_answer story t ≡ Ok x → is_full_for_step story ≡ false
+  unfolding step_answer
+  step_room t x a = (thread_split t ((world_of story).frames t) x a).4
 
   pub step_said : (t : Thread) (x : Moved) → step_answer story t ≡ Ok x → x.name.thread ≡ t → (can : CanTake s w (moved x.name)) × (can.fact.kind ≡ x.kind)
   unfolding step_answer
