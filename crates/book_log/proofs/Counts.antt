@@ -1,6 +1,6 @@
 -- How many steps remain after each entry, and what a legal log's counts keep.
-use Rattle.std.proofs.Common.{◌≡◌, ◌≤◌, ◌<◌, ◌+◌, ℕ, true, false, List, [], ◌∷◌, ◌++◌, length, length-append, map, arith, refl, ap, sym, subst, ◌∙◌, suc, inl, inr, Ok}
-use Rattle.std.specs.Prelude.{◌||◌, reverse, nat_le, nat_lt}
+use Rattle.std.proofs.Common.{◌≡◌, ◌≤◌, ◌<◌, ◌+◌, false, List, [], ◌∷◌, ◌++◌, length, length-append, map, arith, refl, ap, sym, subst, ◌∙◌, suc, inl, inr, Ok}
+use Rattle.std.specs.Prelude.{reverse, nat_le, nat_lt}
 use Rattle.std.proofs.lemmas.Bool.{or_parts, leb-false, lt-leb, ltb-false, le-ltb}
 use Rattle.std.proofs.lemmas.List.{length-reverse}
 use Rattle.json_tree.specs.Data.{depth}
@@ -17,7 +17,7 @@ use Rattle.saved_steps.specs.World.{Setting, World}
 use Rattle.depends.specs.Instance.{steps}
 use Rattle.depends.proofs.Named.{steps_have_names}
 use Rattle.step_history.specs.History.{Past}
-use Rattle.book_log.specs.Answers.{is_full_for_step, is_full_for_define, undo_answer, plan_answer, names_of_facts, defines}
+use Rattle.book_log.specs.Answers.{is_full_for_step, is_full_for_define, undo_answer, plan_answer, defines}
 use Rattle.book_log.specs.Legal.{IsAccepted, IsLegal}
 use Rattle.book_log.specs.Story.{Story, Remainder, accepted, after_entry, base_of, remainder, remaining, setting_of, world_of, past_of}
 use Rattle.book_log.specs.declared.begin.Begin.{Begin}

@@ -1,13 +1,12 @@
 -- Legal logs: what remains of them can be run, and an accepted entry makes one more.
-use Rattle.std.proofs.Common.{◌≡◌, Bool, true, false, cond, List, [], ◌∷◌, ◌++◌, map, append_assoc, refl, ap, ap₂, sym, subst, ◌∙◌, Option, None, Some, Result, Ok, Err}
+use Rattle.std.proofs.Common.{◌≡◌, Bool, true, false, List, [], ◌∷◌, ◌++◌, append_assoc, refl, ap, sym, subst, ◌∙◌, Option, None, Some, Ok, Err}
 use Rattle.std.specs.Prelude.{is_some, reverse, if◌then◌else◌}
 use Rattle.std.proofs.lemmas.List.{append-nil}
-use Rattle.std.proofs.lemmas.Option.{same_Some}
 use Rattle.item_store.specs.Table.{Table}
 use Rattle.step_names.specs.declared.step.StepName.{StepName}
 use Rattle.trace_theory.specs.Traces.{In, after}
 use Rattle.trace_theory.proofs.Lists.{here}
-use Rattle.saved_steps.specs.Steps.{Step, started, moved, name_of, start_name}
+use Rattle.saved_steps.specs.Steps.{moved, name_of, start_name}
 use Rattle.saved_steps.specs.World.{Setting, World}
 use Rattle.saved_steps.specs.declared.fact.Fact.{Fact}
 use Rattle.depends.specs.Instance.{steps}
@@ -17,11 +16,10 @@ use Rattle.book_log.specs.Answers.{from_step, names_of_facts, remains, plan_answ
 use Rattle.book_log.specs.Beginning.{table_of}
 use Rattle.book_log.specs.Laws.{LegalLogsRun, AcceptedIsLegal}
 use Rattle.book_log.specs.Legal.{IsAccepted, GoesOnLegally, IsLegal}
-use Rattle.book_log.specs.Story.{Story, accepted, setting_in, base_of, run_in, nothing, remainder, setting_of, world_of, past_of, consequences_of}
+use Rattle.book_log.specs.Story.{Story, accepted, base_of, run_in, remainder, setting_of, world_of, past_of, consequences_of}
 use Rattle.book_log.specs.declared.begin.Begin.{Begin}
 use Rattle.book_log.specs.declared.entry.Entry.{Entry}
 use Rattle.book_log.specs.declared.entry.Entry.TheVariants.{Define, Start, Step as Stepped, Undo, Rollback}
-use Rattle.book_log.specs.declared.refusal.Refusal.{Refusal}
 use Rattle.book_log.specs.declared.refusal.Refusal.TheVariants.{NoStep}
 use Rattle.book_log.proofs.Standing.{StandsAt, after_same, past_there, fact_named, consequences_there, stands, stands_defined, stands_started, stands_moved, stands_undone, stands_rolled}
 use Rattle.book_log.proofs.Answered.{found_by, undo_said}
@@ -118,14 +116,15 @@ pub of_legal : (P : Story → Type 0) → ((begin : Begin) → IsLegal (of_log b
 unfolding IsLegal
 of_legal P first more story h = let empty = empty_legal story.begin h.0.0 h.0.1 in along P more story.log (of_log story.begin []) empty (first story.begin empty) h.1
 
-first_stands : (begin : Begin) → IsLegal (of_log begin []) → StandsSome (of_log begin [])
+-- where a beginning stands
+pub first_stands_there : (begin : Begin) → StandsAt (of_log begin []) (setting_of (of_log begin [])) (base_of begin) []
 unfolding remainder run_in
-first_stands begin legal = record { setting = setting_in begin nothing; world = base_of begin; past = []; stands_there = record { setting = refl; runs = refl } }
+first_stands_there begin = record { setting = refl; runs = refl }
 
 -- a legal story stands in its own world
 pub legal_stands : (story : Story) → IsLegal story → StandsAt story (setting_of story) (world_of story) (past_of story)
 legal_stands story h =
-    let k = of_legal StandsSome first_stands (λ story e legal p a. accepted_stands story e p.setting p.world p.past p.stands_there a) story h in
+    let k = of_legal StandsSome (λ begin legal. some_stands _ _ _ _ (first_stands_there begin)) (λ story e legal p a. accepted_stands story e p.setting p.world p.past p.stands_there a) story h in
     stands story k.world k.past k.stands_there.runs
 
 pub legal_logs_run : LegalLogsRun

@@ -1,13 +1,12 @@
 -- A step that is taken can be undone at once, and one that is undone can be taken again.
 use Rattle.std.proofs.Common.{◌≡◌, false, List, [], ◌∷◌, ◌++◌, refl, ap, sym, subst, ◌∙◌, Some, Ok}
 use Rattle.std.proofs.lemmas.List.{append-nil}
-use Rattle.step_names.specs.Thread.{Thread, execution}
-use Rattle.step_names.specs.declared.step.StepName.{StepName}
+use Rattle.step_names.specs.Thread.{execution}
 use Rattle.trace_theory.specs.Traces.{In, Takes, names_of, without, undone, IsRun, IsFree}
 use Rattle.trace_theory.proofs.Arranged.{In-names}
 use Rattle.trace_theory.proofs.Commuting.{free_steps_undo}
 use Rattle.trace_theory.proofs.Least.{without_one}
-use Rattle.trace_theory.proofs.Lists.{here, place}
+use Rattle.trace_theory.proofs.Lists.{place}
 use Rattle.trace_theory.proofs.Orders.{unneeded_behind}
 use Rattle.trace_theory.proofs.Records.{free_record}
 use Rattle.saved_steps.specs.Keeping.{Kept}
@@ -21,13 +20,13 @@ use Rattle.depends.proofs.Lawful.{steps_are_lawful}
 use Rattle.depends.proofs.Named.{steps_have_names}
 use Rattle.step_history.specs.History.{Past, taken_in}
 use Rattle.book_log.specs.Answers.{undo_answer, is_full_for_step, entry_for, entry_of}
-use Rattle.book_log.specs.Laws.{LeavesTheSame, UndoTakesBack, UndoTakesBackStart, IsGivenBack, AgainGivesBack}
-use Rattle.book_log.specs.Legal.{IsAccepted, IsLegal}
+use Rattle.book_log.specs.Laws.{LeavesTheSame, UndoTakesBack, UndoTakesBackStart, AgainGivesBack}
+use Rattle.book_log.specs.Legal.{IsAccepted}
 use Rattle.book_log.specs.Story.{Story, accepted, base_of, setting_of, world_of, past_of}
 use Rattle.book_log.specs.declared.entry.Entry.TheVariants.{Start, Step as Stepped, Undo}
 use Rattle.book_log.proofs.Standing.{StandsAt, no_frames, world_there, past_there, names_there, is_run, stands_started, stands_moved, stands_undone}
 use Rattle.book_log.proofs.Answered.{once, undo_said, free_undone}
-use Rattle.book_log.proofs.Taking.{CanTake, start_said, start_accepted, step_said, step_accepted}
+use Rattle.book_log.proofs.Taking.{start_said, start_accepted, step_said, step_accepted}
 use Rattle.book_log.proofs.LegalRuns.{legal_stands}
 use Rattle.book_log.proofs.Counts.{IsShallow, legal_counts}
 

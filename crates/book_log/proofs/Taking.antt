@@ -1,9 +1,6 @@
 -- A step that is accepted can be taken, and one that can be taken is accepted where there is room.
-use Rattle.std.proofs.Common.{◌≡◌, ◌==◌, ◌≤◌, Bool, true, false, cond, List, [], refl, ap, ap₂, sym, subst, ◌∙◌, eq-eqb, Option, None, Some, Result, Ok, Err}
+use Rattle.std.proofs.Common.{◌≡◌, ◌==◌, Bool, true, false, cond, List, [], refl, ap, ap₂, sym, ◌∙◌, eq-eqb, Option, None, Some, Ok, Err}
 use Rattle.std.specs.Prelude.{ℕ, is_some, option_map, option_and_then, if◌then◌else◌}
-use Rattle.std.proofs.lemmas.Option.{same_Some}
-use Rattle.json_tree.specs.Data.{depth}
-use Rattle.json_tree.specs.View.{data_of}
 use Rattle.json_tree.specs.declared.tree.Json.{Json}
 use Rattle.asl_machine.specs.Definition.{Definition}
 use Rattle.asl_forward.specs.Turn.{first_frame}
@@ -16,21 +13,19 @@ use Rattle.trace_theory.proofs.Runs.{and_then_some}
 use Rattle.saved_steps.specs.Deeds.{Deed, deed, deed_of, frame_deed, move_deed, if_numbered}
 use Rattle.saved_steps.specs.Held.{paths_of}
 use Rattle.saved_steps.specs.Run.{carried_out, take_step}
-use Rattle.saved_steps.specs.Steps.{Step, started, moved, name_of, start_name}
+use Rattle.saved_steps.specs.Steps.{Step, started, moved, start_name}
 use Rattle.saved_steps.specs.World.{Setting, World}
 use Rattle.saved_steps.specs.declared.fact.Fact.{Fact}
 use Rattle.saved_steps.specs.declared.fact.Kind.{Kind}
 use Rattle.saved_steps.specs.declared.fact.Kind.TheVariants as kind
 use Rattle.depends.proofs.Planned.{planned, numbered}
 use Rattle.depends.proofs.Worlds.{deed_taken}
-use Rattle.step_history.specs.History.{Past, taken_in}
-use Rattle.book_log.specs.Answers.{start_answer, moved_answer, thread_answer, step_answer, is_full_for_step, entry_for}
-use Rattle.book_log.specs.Legal.{IsAccepted}
+use Rattle.step_history.specs.History.{Past}
+use Rattle.book_log.specs.Answers.{start_answer, moved_answer, thread_answer, step_answer, is_full_for_step}
 use Rattle.book_log.specs.Story.{Story, machine_of, setting_of, world_of}
 use Rattle.book_log.specs.declared.moved.Moved.{Moved}
-use Rattle.book_log.specs.declared.refusal.Refusal.{Refusal}
-use Rattle.book_log.specs.declared.refusal.Refusal.TheVariants.{NoMachine, ExecTaken, NoThread, NotReady, Full}
-use Rattle.book_log.proofs.Standing.{StandsAt, world_there, taken_named}
+use Rattle.book_log.specs.declared.refusal.Refusal.TheVariants.{NoMachine, ExecTaken, Full}
+use Rattle.book_log.proofs.Standing.{StandsAt, world_there}
 
 -- a step that can be taken in a world
 pub record CanTake (s : Setting) (w : World) (step : Step) : Type 0 where

@@ -1,6 +1,6 @@
 //! Laws of logs: each function's contract is the law, and it does nothing.
 
-ghost use Rattle.book_log.specs.Laws.{LegalLogsRun, AcceptedIsLegal, UndoTakesBack, UndoTakesBackStart, AgainGivesBack, AllowedOrdersAreAccepted, AcceptedOrdersAreWhole, OrdersAgree, RollbackIsExact};
+ghost use Rattle.book_log.specs.Laws.{LegalLogsRun, AcceptedIsLegal, UndoTakesBack, UndoTakesBackStart, AgainGivesBack, AllowedOrdersAreAccepted, AcceptedOrdersAreWhole, OrdersAgree, RollbackIsExact, RerunsAreLegal, ArrangementsAgree};
 
 /// What remains of a legal log can be run from the start, and a legal log with an entry that is accepted is one.
 pub fn legal_logs_run()
@@ -27,4 +27,11 @@ pub fn orders_undo()
 /// A rollback takes back a step and its consequences and no other, and leaves the run of the rest.
 pub fn rollback_is_exact()
     ensures { RollbackIsExact }
+{}
+
+/// What a rerun answers is legal; and every arrangement that keeps directly dependent steps in their order can be rerun, to the same
+/// world.
+pub fn reruns_agree()
+    ensures legal { RerunsAreLegal }
+    ensures arranged { ArrangementsAgree }
 {}
