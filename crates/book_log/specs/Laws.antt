@@ -1,16 +1,14 @@
 -- Laws of logs, each the contract of a function of the crate.
-use Rattle.std.specs.Prelude.{◌≡◌, ◌↔◌, ℕ, List, [], ◌∷◌, ◌++◌, map, false, Some, None, Ok, Err, IsSome}
+use Rattle.std.specs.Prelude.{◌≡◌, ◌↔◌, ℕ, List, [], ◌∷◌, ◌++◌, map, false, Some, Ok}
 use Rattle.json_tree.specs.declared.tree.Json.{Json}
-use Rattle.branch_tree.specs.declared.readiness.Readiness.{Readiness}
-use Rattle.branch_tree.specs.declared.readiness.Readiness.TheVariants.{Waiting, Done, Failed}
 use Rattle.step_names.specs.Thread.{Thread}
 use Rattle.step_names.specs.declared.step.StepName.{StepName}
 use Rattle.trace_theory.specs.Traces.{In, IsLeast, IsAllowed, IsArrangement, without}
-use Rattle.saved_steps.specs.Steps.{Step, started, moved, name_of, start_name}
+use Rattle.saved_steps.specs.Steps.{Step, name_of, start_name}
 use Rattle.saved_steps.specs.declared.fact.Kind.{Kind}
 use Rattle.depends.specs.Instance.{steps}
 use Rattle.step_history.specs.History.{Past}
-use Rattle.book_log.specs.Answers.{start_answer, step_answer, undo_answer, order_answer, plan_answer, rerun_answer, is_full_for_step, names_of_facts, entry_of}
+use Rattle.book_log.specs.Answers.{undo_answer, order_answer, plan_answer, rerun_answer, is_full_for_step, names_of_facts, entry_of}
 use Rattle.book_log.specs.Legal.{IsAccepted, IsLegal}
 use Rattle.book_log.specs.Story.{Story, accepted, remaining, setting_of, run_of, world_of, past_of, consequences_of}
 use Rattle.book_log.specs.declared.entry.Entry.{Entry}

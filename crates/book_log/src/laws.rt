@@ -1,0 +1,37 @@
+//! Laws of logs: each function's contract is the law, and it does nothing.
+
+ghost use Rattle.book_log.specs.Laws.{LegalLogsRun, AcceptedIsLegal, UndoTakesBack, UndoTakesBackStart, AgainGivesBack, AllowedOrdersAreAccepted, AcceptedOrdersAreWhole, OrdersAgree, RollbackIsExact, RerunsAreLegal, ArrangementsAgree};
+
+/// What remains of a legal log can be run from the start, and a legal log with an entry that is accepted is one.
+pub fn legal_logs_run()
+    ensures runs { LegalLogsRun }
+    ensures goes_on { AcceptedIsLegal }
+{}
+
+/// A step followed by its undoing changes nothing, and the undoing of a step on which nothing depends, followed by that step, gives
+/// all of it back.
+pub fn undoing_is_exact()
+    ensures step { UndoTakesBack }
+    ensures start { UndoTakesBackStart }
+    ensures again { AgainGivesBack }
+{}
+
+/// Every order in which each step is free at its turn is accepted, one result for the same steps; and one that is accepted holds
+/// with each step all its consequences.
+pub fn orders_undo()
+    ensures accepted { AllowedOrdersAreAccepted }
+    ensures whole { AcceptedOrdersAreWhole }
+    ensures agree { OrdersAgree }
+{}
+
+/// A rollback takes back a step and its consequences and no other, and leaves the run of the rest.
+pub fn rollback_is_exact()
+    ensures { RollbackIsExact }
+{}
+
+/// What a rerun answers is legal; and every arrangement that keeps directly dependent steps in their order can be rerun, to the same
+/// world.
+pub fn reruns_agree()
+    ensures legal { RerunsAreLegal }
+    ensures arranged { ArrangementsAgree }
+{}
