@@ -5,7 +5,7 @@ ghost use Rattle.depends.specs.Plans as plans;
 ghost use Rattle.item_store.specs.Store.{items_of};
 ghost use Rattle.saved_steps.specs.Held.{frames_of, paths_of};
 ghost use Rattle.saved_steps.specs.World.{Setting, is_same_step};
-ghost use Rattle.step_history.specs.History.{IsHistory, nothing_over};
+ghost use Rattle.step_history.specs.History.{IsHistory, IsSomeHistory, nothing_over};
 
 use asl_forward::Frame;
 use branch_tree::Readiness;
@@ -67,13 +67,20 @@ impl History {
         self.records.len()
     }
 
-    /// The place of the step of a name. Takes no memory, and looks at each step up to it.
+    /// The place of the step of a name. Takes no memory, and looks at the later steps first.
     pub fn find(&self, name: &StepName) -> Option<usize>
+        requires { IsSomeHistory self.now }
         ensures { result ≡ position (λ r. is_same_step r.fact.name name.now) self.now.records.items }
     {
-        self.records
-            .iter()
-            .position(|record| is_of_name(record, name))
+        let mut later = self.records.len();
+        while 0 < later {
+            let at = later - 1;
+            if is_of_name(&self.records[at], name) {
+                return Some(at);
+            }
+            later = at;
+        }
+        None
     }
 }
 
