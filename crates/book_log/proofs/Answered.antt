@@ -79,18 +79,21 @@ module _ (story : Story) (s : Setting) (w : World) (ts : List Past) (h : StandsA
   pub once : Once (steps s) (base_of story.begin) (steps_have_names s (base_of story.begin) (no_frames story.begin)) ts
   once x y b = (steps_have_names s (base_of story.begin) (no_frames story.begin)).once ts w x y (is_run story s w ts h) b
 
+  free_found : (name : StepName) (f : Fact) (later : List Fact) → Found name ts f later → find (depends_directly f) later ≡ None → FreeNamed s ts name
+  free_found name f later g none =
+      let none_behind : find (depends_directly g.step.fact) (facts_of g.back) ≡ None = ap₂ (λ (x : Fact) (l : List Fact). find (depends_directly x) l) g.fact g.behind ∙ none in
+      let o = subst (Once (steps s) (base_of story.begin) (steps_have_names s (base_of story.begin) (no_frames story.begin))) g.whole once in
+      let free = free_record (steps s) (base_of story.begin) (steps_have_names s (base_of story.begin) (no_frames story.begin)) g.front g.back g.step o (none_found (depends_directly g.step.fact) g.back none_behind) in
+      let fact : g.step.fact.name ≡ name = ap (λ (x : Fact). x.name) g.fact ∙ sym g.named in
+      let there : In g.step ts = subst (In g.step) (sym g.whole) (here g.step g.front g.back) in
+      record { step = g.step; fact = fact; named = sym (fact_named story s w ts h g.step there) ∙ fact; free = subst (λ l. IsFree (steps s) l g.step) (sym g.whole) free }
+
   -- what is told to be undone is free
   pub undo_said : (name n : StepName) → undo_answer story name ≡ Ok n → FreeNamed s ts name × (name ≡ n)
   unfolding undo_answer
   undo_said name n a =
       let k = found_said name n (from_step name (facts_of (past_of story))) a in
-      let g = found_by name ts k.0.0 k.0.1 (ap (λ (l : List Past). from_step name (facts_of l)) (sym (past_there story s w ts h)) ∙ k.1) in
-      let none : find (depends_directly g.step.fact) (facts_of g.back) ≡ None = ap₂ (λ (f : Fact) (l : List Fact). find (depends_directly f) l) g.fact g.behind ∙ k.2 in
-      let o = subst (Once (steps s) (base_of story.begin) (steps_have_names s (base_of story.begin) (no_frames story.begin))) g.whole once in
-      let free = free_record (steps s) (base_of story.begin) (steps_have_names s (base_of story.begin) (no_frames story.begin)) g.front g.back g.step o (none_found (depends_directly g.step.fact) g.back none) in
-      let fact : g.step.fact.name ≡ name = ap (λ (f : Fact). f.name) g.fact ∙ sym g.named in
-      let there : In g.step ts = subst (In g.step) (sym g.whole) (here g.step g.front g.back) in
-      (record { step = g.step; fact = fact; named = sym (fact_named story s w ts h g.step there) ∙ fact; free = subst (λ l. IsFree (steps s) l g.step) (sym g.whole) free }, k.3)
+      (free_found name k.0.0 k.0.1 (found_by name ts k.0.0 k.0.1 (ap (λ (l : List Past). from_step name (facts_of l)) (sym (past_there story s w ts h)) ∙ k.1)) k.2, k.3)
 
   -- where a step of this name is found
   pub step_found : (t : Past) (name : StepName) (front back : List Past) → ts ≡ front ++ t ∷ back → name_of t.step ≡ name → from_step name (facts_of (past_of story)) ≡ Some (t.fact, facts_of back)

@@ -22,7 +22,7 @@ use Rattle.book_log.specs.declared.entry.Entry.{Entry}
 use Rattle.book_log.specs.declared.entry.Entry.TheVariants.{Define, Start, Step as Stepped, Undo, Rollback}
 use Rattle.book_log.specs.declared.refusal.Refusal.TheVariants.{NoStep}
 use Rattle.book_log.proofs.Standing.{StandsAt, after_same, past_there, fact_named, consequences_there, stands, stands_defined, stands_started, stands_moved, stands_undone, stands_rolled}
-use Rattle.book_log.proofs.Answered.{found_by, undo_said}
+use Rattle.book_log.proofs.Answered.{Found, found_by, undo_said}
 use Rattle.book_log.proofs.Taking.{start_said, step_said}
 
 -- ---- what a plan says
@@ -43,22 +43,26 @@ one_found : (o : Option (Fact × List Fact)) → is_some o ≡ true → (p : Fac
 one_found None h = cc
 one_found (Some p) h = (p, refl)
 
-pub plan_said : (story : Story) (s : Setting) (w : World) (ts : List Past) (h : StandsAt story s w ts) (name : StepName) (undone : List StepName) → plan_answer story name ≡ Ok undone → PlanNamed s ts name undone
-unfolding plan_answer
-plan_said story s w ts h name undone a =
-    let k = plan_split (remains story name) (names_of_facts (reverse (consequences_of story name))) undone a in
-    let p = one_found (from_step name (facts_of (past_of story))) k.0 in
-    let g = found_by name ts p.0.0 p.0.1 (ap (λ (l : List Past). from_step name (facts_of l)) (sym (past_there story s w ts h)) ∙ p.1) in
+plan_found : (story : Story) (s : Setting) (w : World) (ts : List Past) → StandsAt story s w ts → (name : StepName) (undone : List StepName) (f : Fact) (later : List Fact) → Found name ts f later
+    → names_of_facts (reverse (consequences_of story name)) ≡ undone → PlanNamed s ts name undone
+plan_found story s w ts h name undone f later g e =
     let there : In g.step ts = subst (In g.step) (sym g.whole) (here g.step g.front g.back) in
-    let fact : g.step.fact.name ≡ name = ap (λ (f : Fact). f.name) g.fact ∙ sym g.named in
+    let fact : g.step.fact.name ≡ name = ap (λ (x : Fact). x.name) g.fact ∙ sym g.named in
     let named : name_of g.step.step ≡ name = sym (fact_named story s w ts h g.step there) ∙ fact in
     record {
       step = g.step;
       fact = fact;
       named = named;
       stood = there;
-      names = sym k.1 ∙ ap (λ (l : List Past). names_of_facts (reverse l)) (consequences_there story s w ts h name ∙ after_same s (moved name) g.step.step ts (sym named));
+      names = sym e ∙ ap (λ (l : List Past). names_of_facts (reverse l)) (consequences_there story s w ts h name ∙ after_same s (moved name) g.step.step ts (sym named));
     }
+
+pub plan_said : (story : Story) (s : Setting) (w : World) (ts : List Past) (h : StandsAt story s w ts) (name : StepName) (undone : List StepName) → plan_answer story name ≡ Ok undone → PlanNamed s ts name undone
+unfolding plan_answer
+plan_said story s w ts h name undone a =
+    let k = plan_split (remains story name) (names_of_facts (reverse (consequences_of story name))) undone a in
+    let p = one_found (from_step name (facts_of (past_of story))) k.0 in
+    plan_found story s w ts h name undone p.0.0 p.0.1 (found_by name ts p.0.0 p.0.1 (ap (λ (l : List Past). from_step name (facts_of l)) (sym (past_there story s w ts h)) ∙ p.1)) k.1
 
 -- ---- one more entry
 

@@ -1,5 +1,5 @@
 -- What a rerun answers: the definitions alone, and then the steps, one after another.
-use Rattle.std.proofs.Common.{◌≡◌, ◌≤◌, ◌+◌, List, [], ◌∷◌, ◌++◌, length, length-append, map, append_assoc, arith, refl, ap, ap₂, sym, subst, ◌∙◌, inl, inr, Option, None, Some, Ok}
+use Rattle.std.proofs.Common.{◌≡◌, ◌≤◌, ◌+◌, List, [], ◌∷◌, ◌++◌, length, length-append, map, append_assoc, arith, refl, ap, ap₂, sym, subst, ◌∙◌, inl, inr, Option, None, Some, Ok, Err}
 use Rattle.std.specs.Prelude.{option_map, option_and_then}
 use Rattle.std.proofs.lemmas.List.{append-nil}
 use Rattle.std.proofs.lemmas.Option.{same_Some}
@@ -19,10 +19,12 @@ use Rattle.step_history.specs.History.{Past}
 use Rattle.book_log.specs.Answers.{step_named, steps_named, defines, entry_of, retold, or_no_step, rerun_answer}
 use Rattle.book_log.specs.Laws as laws
 use Rattle.book_log.specs.Legal.{IsAccepted, IsLegal}
-use Rattle.book_log.specs.Story.{Story, accepted, after_entry, base_of, remaining, setting_of, setting_in, remainder, world_of, past_of}
+use Rattle.book_log.specs.Story.{Story, accepted, after_entry, base_of, remaining, machine_of, setting_of, setting_in, remainder, world_of, past_of}
 use Rattle.book_log.specs.declared.begin.Begin.{Begin}
 use Rattle.book_log.specs.declared.entry.Entry.{Entry}
 use Rattle.book_log.specs.declared.entry.Entry.TheVariants.{Define, Start, Step as Stepped, Undo, Rollback}
+use Rattle.book_log.specs.declared.refusal.Refusal.{Refusal}
+use Rattle.book_log.specs.declared.refusal.Refusal.TheVariants.{NoStep}
 use Rattle.book_log.proofs.Standing.{StandsAt, step_same, step_itself, no_frames, world_there, past_there, names_there, is_run, remainder_next, knowing, stands_defined}
 use Rattle.book_log.proofs.Answered.{once}
 use Rattle.book_log.proofs.LegalRuns.{of_log, of_legal, accepted_is_legal, legal_stands, first_stands_there}
@@ -187,6 +189,44 @@ reruns_are_legal story again names legal h =
     let k = retold_run story c.0 p.0.0 p.0.1 legal n.1 c.2 in
     subst (λ x. IsLegal x × (map name_of (remaining x) ≡ names)) p.2
     (k.legal, ap (map name_of) (sym (names_there (retold story p.0.1) s p.0.0 p.0.1 k.there) ∙ run_names (steps s) c.0 (base_of story.begin) p.0.0 p.0.1 c.2) ∙ n.0)
+
+rerun_refused : (o : Option Story) (e : Refusal) → or_no_step o ≡ Err e → e ≡ NoStep
+rerun_refused None e h = cc
+rerun_refused (Some story) e h = cc
+
+pub reruns_are_exact : laws.RerunsAreExact
+unfolding rerun_answer
+reruns_are_exact story names legal =
+    let s = setting_of story in
+    let w = world_of story in
+    let ts = past_of story in
+    let h = legal_stands story legal in
+    let base = base_of story.begin in
+    let there = names_there story s w ts h in
+    record {
+      of_story = λ again a.
+          let o = rerun_split _ again a in
+          let p = map_some (λ (q : World × List Past). retold story q.1) (option_and_then (run (steps s) base) (steps_named (remaining story) names)) again o in
+          let c = and_then_some (run (steps s) base) (steps_named (remaining story) names) p.0 p.1 in
+          let n = named_chosen (remaining story) names c.0 c.1 in
+          let k = retold_run story c.0 p.0.0 p.0.1 legal n.1 c.2 in
+          let own : remaining (retold story p.0.1) ≡ c.0 = sym (names_there (retold story p.0.1) s p.0.0 p.0.1 k.there) ∙ run_names (steps s) c.0 base p.0.0 p.0.1 c.2 in
+          subst (λ x. ((step : Step) → In step (remaining x) → In step (remaining story)) × (machine_of x ≡ machine_of story)) p.2
+          (λ step i. n.1 step (subst (In step) own i), ap (λ (x : Setting). x.machines) k.there.setting);
+      runnable = λ chosen v us inside e runs.
+          let named : steps_named (remaining story) (map name_of chosen) ≡ Some chosen = ap (λ (l : List Step). steps_named l (map name_of chosen)) (sym there) ∙ all_named s story.begin ts chosen (once story s w ts h) (λ x i. subst (In x) (sym there) (inside x i)) in
+          let k = retold_run story chosen v us legal inside runs in
+          let again = retold story us in (
+            again,
+            ap (λ (l : List StepName). or_no_step (option_map (λ (p : World × List Past). retold story p.1) (option_and_then (run (steps s) base) (steps_named (remaining story) l)))) (sym e)
+                ∙ ap (λ (o : Option (List Step)). or_no_step (option_map (λ (p : World × List Past). retold story p.1) (option_and_then (run (steps s) base) o))) named
+                ∙ ap (λ (o : Option (World × List Past)). or_no_step (option_map (λ (p : World × List Past). retold story p.1) o)) runs,
+            sym (names_there again s v us k.there) ∙ run_names (steps s) chosen base v us runs,
+            world_there again s v us k.there,
+            past_there again s v us k.there,
+          );
+      refused = λ e a. rerun_refused _ e a;
+    }
 
 pub arrangements_agree_all : laws.ArrangementsAgree
 unfolding rerun_answer

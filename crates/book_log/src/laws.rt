@@ -1,6 +1,6 @@
 //! Laws of logs: each function's contract is the law, and it does nothing.
 
-ghost use Rattle.book_log.specs.Laws.{LegalLogsRun, AcceptedIsLegal, UndoTakesBack, UndoTakesBackStart, AgainGivesBack, AllowedOrdersAreAccepted, AcceptedOrdersAreWhole, OrdersAgree, RollbackIsExact, RerunsAreLegal, ArrangementsAgree};
+ghost use Rattle.book_log.specs.Laws.{LegalLogsRun, AcceptedIsLegal, UndoTakesBack, UndoTakesBackStart, AgainGivesBack, UndoAnswersAreExact, AllowedOrdersAreAccepted, AcceptedOrdersAreWhole, OrdersAgree, RollbackIsExact, RerunsAreLegal, RerunsAreExact, ArrangementsAgree};
 
 /// What remains of a legal log can be run from the start, and a legal log with an entry that is accepted is one.
 pub fn legal_logs_run()
@@ -16,6 +16,11 @@ pub fn undoing_is_exact()
     ensures again { AgainGivesBack }
 {}
 
+/// A step is undone exactly where it remains and nothing depends directly on it, and refused for the first that does.
+pub fn undo_answers_are_exact()
+    ensures { UndoAnswersAreExact }
+{}
+
 /// Every order in which each step is free at its turn is accepted, one result for the same steps; and one that is accepted holds
 /// with each step all its consequences.
 pub fn orders_undo()
@@ -29,9 +34,10 @@ pub fn rollback_is_exact()
     ensures { RollbackIsExact }
 {}
 
-/// What a rerun answers is legal; and every arrangement that keeps directly dependent steps in their order can be rerun, to the same
-/// world.
+/// Every list of remaining steps that can be run is rerun, and every arrangement that keeps directly dependent steps in their order,
+/// to the same world.
 pub fn reruns_agree()
     ensures legal { RerunsAreLegal }
+    ensures exact { RerunsAreExact }
     ensures arranged { ArrangementsAgree }
 {}
