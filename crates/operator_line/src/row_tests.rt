@@ -399,3 +399,33 @@ const SEVERAL_STEPS_REFUSED: &[(&str, &str)] = &[
 fn several_steps_refused(rt: HostRuntime) -> Result<(), Fail> {
     expect(&rt, rt.alloc(), SEVERAL_STEPS_REFUSED)
 }
+
+const A_WRONG_BILL: &[(&str, &str)] = &[
+    (r#"table shop id:S [{"id":{"S":"ann"},"blocked":{"BOOL":false}},{"id":{"S":"bob"},"blocked":{"BOOL":false}}]"#, "ok\n"),
+    (r#"define order {"StartAt":"Look","States":{"Look":{"Type":"Task","Resource":"arn:aws:states:::dynamodb:getItem","Parameters":{"TableName":"shop","Key":{"id":{"S.$":"$.customer"}}},"ResultPath":"$.found","Next":"Judge"},"Judge":{"Type":"Choice","Choices":[{"Variable":"$.found.Item.blocked.BOOL","BooleanEquals":true,"Next":"Refuse"}],"Default":"Ship"},"Ship":{"Type":"Task","Resource":"arn:aws:states:::dynamodb:putItem","Parameters":{"TableName":"shop","Item":{"id":{"S.$":"$.order"},"for":{"S.$":"$.customer"}}},"ResultPath":null,"End":true},"Refuse":{"Type":"Fail","Error":"CustomerBlocked","Cause":"unpaid bills"}}}"#, "ok\n"),
+    (r#"define billing {"StartAt":"Overdue","States":{"Overdue":{"Type":"Choice","Choices":[{"Variable":"$.overdue","BooleanEquals":true,"Next":"Block"}],"Default":"Clear"},"Block":{"Type":"Task","Resource":"arn:aws:states:::dynamodb:putItem","Parameters":{"TableName":"shop","Item":{"id":{"S.$":"$.customer"},"blocked":{"BOOL":true}}},"End":true},"Clear":{"Type":"Task","Resource":"arn:aws:states:::dynamodb:putItem","Parameters":{"TableName":"shop","Item":{"id":{"S.$":"$.customer"},"blocked":{"BOOL":false}}},"End":true}}}"#, "ok\n"),
+    (r#"start order-1 order {"customer":"ann","order":"shipment-1"}"#, "ok order-1#0\n"),
+    (r#"start order-3 order {"customer":"bob","order":"shipment-3"}"#, "ok order-3#0\n"),
+    ("drive 3", "ok 3\norder-1#1\norder-1#2\norder-1#3\n"),
+    (r#"start billing-7 billing {"customer":"ann","overdue":true}"#, "ok billing-7#0\n"),
+    ("step billing-7", "ok billing-7#1 plain\n"),
+    ("step billing-7", "ok billing-7#2 call\n"),
+    (r#"start order-2 order {"customer":"ann","order":"shipment-2"}"#, "ok order-2#0\n"),
+    ("step order-2", "ok order-2#1 call\n"),
+    ("step order-2", "ok order-2#2 plain\n"),
+    ("step order-2", "ok order-2#3 plain\n"),
+    ("step order-3", "ok order-3#1 call\n"),
+    ("show order-2", "ok failed \"CustomerBlocked\" \"unpaid bills\"\n"),
+    ("plan billing-7#0", "ok 6\norder-2#3\norder-2#2\norder-2#1\nbilling-7#2\nbilling-7#1\nbilling-7#0\n"),
+    ("rollback billing-7#0", "ok 6\norder-2#3\norder-2#2\norder-2#1\nbilling-7#2\nbilling-7#1\nbilling-7#0\n"),
+    (r#"start billing-7 billing {"customer":"carol","overdue":true}"#, "ok billing-7#0\n"),
+    ("drive 10", "ok 7\nbilling-7#1\nbilling-7#2\norder-2#1\norder-2#2\norder-2#3\norder-3#2\norder-3#3\n"),
+    ("show order-2", "ok done {\"customer\":\"ann\",\"found\":{\"Item\":{\"blocked\":{\"BOOL\":false},\"id\":{\"S\":\"ann\"}}},\"order\":\"shipment-2\"}\n"),
+    ("items", "ok 6\n{\"blocked\":{\"BOOL\":false},\"id\":{\"S\":\"ann\"}}\n{\"blocked\":{\"BOOL\":false},\"id\":{\"S\":\"bob\"}}\n{\"blocked\":{\"BOOL\":true},\"id\":{\"S\":\"carol\"}}\n{\"for\":{\"S\":\"ann\"},\"id\":{\"S\":\"shipment-1\"}}\n{\"for\":{\"S\":\"ann\"},\"id\":{\"S\":\"shipment-2\"}}\n{\"for\":{\"S\":\"bob\"},\"id\":{\"S\":\"shipment-3\"}}\n"),
+    ("history", "ok 15\norder-1#0\norder-3#0\norder-1#1\norder-1#2\norder-1#3\norder-2#0\norder-3#1\nbilling-7#0\nbilling-7#1\nbilling-7#2\norder-2#1\norder-2#2\norder-2#3\norder-3#2\norder-3#3\n"),
+];
+
+#[test]
+fn a_wrong_bill(rt: HostRuntime) -> Result<(), Fail> {
+    expect(&rt, rt.alloc(), A_WRONG_BILL)
+}
