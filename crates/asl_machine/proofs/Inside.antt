@@ -6,10 +6,12 @@ use Rattle.std.specs.Cmp.Lexicographic.{slice_cmp}
 use Rattle.std.specs.List.{AllByRecursion}
 use Rattle.std.specs.Map.{lookup}
 use Rattle.std.specs.Ordering.{nat_cmp}
-use Rattle.serde_json.specs.Data.{Data as Source}
+use Rattle.serde_json.specs.Data.{Data as Source, Members}
+use Rattle.asl_fields.specs.declared.fields.Place.{Place}
+use Rattle.asl_fields.specs.declared.fields.Place.TheVariants as at
 use Rattle.asl_machine.specs.Complete.{state_of, IsState, LeadsInto, StaysInside, IsComplete}
 use Rattle.asl_machine.specs.Definition.{StateTree, Definition}
-use Rattle.asl_machine.specs.Profile.{Defines}
+use Rattle.asl_machine.specs.Profile.{MachineOver, StatesWithin, Defines}
 use Rattle.asl_machine.specs.Targets.{if_missing, or_else, missing_next, missing_catcher, missing_rule, missing_default, missing_target, first_missing}
 use Rattle.asl_machine.specs.TreeView.{state_in}
 use Rattle.asl_choice.specs.declared.choice.Rule.{Rule}
@@ -87,5 +89,8 @@ no_fault : (o : Option (List ℕ)) → option_map NoTarget o ≡ None → None �
 no_fault None h = refl
 no_fault (Some name) h = cc h
 
+pub complete_over : (S : Members → States → Type 0) (place : Place) (d : Source) (m : Definition) → MachineOver S place d m → IsComplete m
+complete_over S place d m is = complete_by m.start m.states (no_fault (or_else (if_missing m.states m.start) (first_missing m.states m.states)) is.3)
+
 pub machine_whole : (d : Source) (m : Definition) → Defines d m → IsComplete m
-machine_whole d m is = complete_by m.start m.states (no_fault (or_else (if_missing m.states m.start) (first_missing m.states m.states)) is.3)
+machine_whole d m is = complete_over (StatesWithin 32) at.Top d m is

@@ -4,3 +4,4 @@ pub mod Inside
 pub mod OneMachine
 pub mod Refused
 pub mod Within
+pub mod Levels

@@ -8,6 +8,7 @@ pub mod Find
 pub mod Alone
 pub mod Reading
 pub mod Profile
+pub mod Levels
 pub mod Faults
 pub mod Laws
 pub mod Same

@@ -1,4 +1,5 @@
 // Laws of definitions: each call does nothing, and its contract is the law.
+ghost use Rattle.asl_machine.specs.Levels.{DefinedMachinesAreWhole};
 ghost use Rattle.asl_machine.specs.Laws.{EqualityIsOfMachines, OneMachine, FaultyIsNone, IsWhole};
 
 /// A definition is one machine at most, so that what is read of it is that machine.
@@ -14,6 +15,11 @@ pub fn faulty_definitions_are_none()
 /// The machine of a definition starts at a state that it has, and each place where a state may go is one.
 pub fn machines_are_whole()
     ensures { IsWhole }
+{}
+
+/// Each machine that stands in the machine of a definition is complete, and they nest 32 deep at most.
+pub fn levels_are_whole()
+    ensures { DefinedMachinesAreWhole }
 {}
 
 /// `==` says whether two machines are one: what they have room for is no part of it.

@@ -21,7 +21,7 @@ pub use asl_errors::{Catcher, Catchers, ErrorHandling, ErrorNames, Retrier, Retr
 pub use asl_fields::MachineFault;
 pub use laws::{
     definitions_are_one_machine, equality_is_of_machines, faulty_definitions_are_none,
-    machines_are_whole,
+    levels_are_whole, machines_are_whole,
 };
 pub use level::{Level, LevelPath, LevelStep};
 pub use shared::SharedMachine;
