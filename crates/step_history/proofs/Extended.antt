@@ -64,7 +64,7 @@ module _ (s more : Setting) (e : Extends s more) where
       whole_record : record { machines = more.machines; table = s.table; schema = s.schema } ≡ more
       whole_record = ap₂ (λ (x : List ℕ) (k : KeySchema). let r : Setting = record { machines = more.machines; table = x; schema = k } in r) (sym e.table) (sym e.schema)
 
-  runs_more : (ts : List Past) (w v : World) → Runs (steps s) w ts v → Runs (steps more) w ts v
+  pub runs_more : (ts : List Past) (w v : World) → Runs (steps s) w ts v → Runs (steps more) w ts v
   runs_more [] w v h = h
   runs_more (t ∷ ts) w v h = (h.0, (take_more w h.0 t.step t.fact h.1.0, h.1.1), runs_more ts h.0 v h.2)
 

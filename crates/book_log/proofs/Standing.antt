@@ -1,0 +1,190 @@
+-- Where a story stands: its setting, and the run of what remains. And where it stands after one more entry.
+use Rattle.std.proofs.Common.{◌≡◌, ℕ, ◌==◌, Bool, true, false, List, [], ◌∷◌, ◌++◌, refl, ap, ap₂, sym, subst, ◌∙◌, inl, inr, eq-eqb, Option, None, Some}
+use Rattle.std.specs.Prelude.{◌||◌, not, reverse, unwrap_or, if◌then◌else◌}
+use Rattle.std.specs.Cmp.Lexicographic.{same_text}
+use Rattle.std.proofs.lemmas.Bool.{and_parts, eqb-true}
+use Rattle.std.proofs.lemmas.List.Sums.{fold-append}
+use Rattle.std.proofs.lemmas.Option.{same_Some}
+use Rattle.json_tree.specs.declared.tree.Json.{Json}
+use Rattle.asl_fields.specs.Fields.{is_text}
+use Rattle.asl_machine.specs.Definition.{Definition}
+use Rattle.step_names.specs.Thread.{Thread}
+use Rattle.step_names.specs.declared.step.StepName.{StepName}
+use Rattle.step_names.proofs.OrderLaws.{thread_same, thread_itself}
+use Rattle.trace_theory.specs.Traces.{In, run, names_of, after, without, undone, undo_each, IsRun, IsFree}
+use Rattle.trace_theory.proofs.Lists.{by_bool, filter-same}
+use Rattle.trace_theory.proofs.Runs.{Runs, from_run, to_run}
+use Rattle.trace_theory.proofs.Records.{run_names, run_is, run_then, names-without}
+use Rattle.trace_theory.proofs.Orders.{undo_free, after_undoes}
+use Rattle.saved_steps.specs.Run.{take_step}
+use Rattle.saved_steps.specs.Steps.{Step, started, moved, name_of}
+use Rattle.saved_steps.specs.World.{Setting, World, is_same_thread, is_same_step}
+use Rattle.saved_steps.specs.declared.fact.Fact.{Fact}
+use Rattle.saved_steps.specs.declared.fact.Kind.{Kind}
+use Rattle.depends.specs.Instance.{steps}
+use Rattle.depends.specs.Laws.{HasNoFrames}
+use Rattle.depends.proofs.Lawful.{steps_are_lawful}
+use Rattle.depends.proofs.Named.{steps_have_names}
+use Rattle.depends.proofs.Planned.{planned}
+use Rattle.depends.proofs.Worlds.{deed_taken}
+use Rattle.step_history.specs.History.{Past, taken_in}
+use Rattle.step_history.specs.Laws.{Extends}
+use Rattle.step_history.proofs.Extended.{runs_more}
+use Rattle.book_log.specs.Story.{Story, Remainder, accepted, setting_in, base_of, run_in, world_in, past_in, consequences_in, but, rolled_back, with_machine, after_entry, nothing, remainder, remaining, machine_of, setting_of, run_of, world_of, past_of, consequences_of}
+use Rattle.book_log.specs.declared.begin.Begin.{Begin}
+use Rattle.book_log.specs.declared.entry.Entry.{Entry}
+use Rattle.book_log.specs.declared.entry.Entry.TheVariants.{Define, Start, Step as Stepped, Undo, Rollback}
+
+-- ---- names
+
+pub step_same : (a b : StepName) → is_same_step a b ≡ true → a ≡ b
+step_same a b h =
+    let k = and_parts (is_same_thread a.thread b.thread) (a.no == b.no) h in
+    ap₂ (λ (t : Thread) (n : ℕ). let x : StepName = record { thread = t; no = n } in x) (thread_same a.thread b.thread k.0) (eqb-true a.no b.no k.1)
+
+pub step_itself : (a : StepName) → is_same_step a a ≡ true
+step_itself a = let t = thread_itself a.thread in let n = eq-eqb a.no a.no refl in rw (t, n) refl
+
+-- a fact has the name of its step
+pub taken_named : (s : Setting) (w v : World) (step : Step) (fact : Fact) → take_step s w step ≡ Some (v, fact) → fact.name ≡ name_of step
+taken_named s w v step fact h =
+    let k = deed_taken s w v step fact h in
+    sym (ap (λ (f : Fact). f.name) k.3) ∙ (planned s w step k.0 k.1).0
+
+named_along : (s : Setting) (ts : List Past) (w v : World) → Runs (steps s) w ts v → (t : Past) → In t ts → t.fact.name ≡ name_of t.step
+named_along s [] w v h t i = absurd i
+named_along s (u ∷ ts) w v h t (inl e) = subst (λ (x : Past). x.fact.name ≡ name_of x.step) (sym e) (taken_named s w h.0 u.step u.fact h.1.0)
+named_along s (u ∷ ts) w v h t (inr i) = named_along s ts h.0 v h.2 t i
+
+-- the consequences of a step are those of its name
+pub after_same : (s : Setting) (a b : Step) (ts : List Past) → name_of a ≡ name_of b → after (steps s) ts a ≡ after (steps s) ts b
+after_same s a b [] e = refl
+after_same s a b (t ∷ ts) e =
+    let k : is_same_step (name_of a) (name_of t.step) ≡ is_same_step (name_of b) (name_of t.step) = ap (λ n. is_same_step n (name_of t.step)) e in
+    let rest = after_same s a b ts e in
+    rw (k, rest) refl
+
+-- ---- where a story stands
+
+pub record StandsAt (story : Story) (s : Setting) (w : World) (ts : List Past) : Type 0 where
+  pub setting : setting_of story ≡ s
+  pub runs : run_of story ≡ Some (w, ts)
+
+world_given : (begin : Begin) (r : Remainder) (w : World) (ts : List Past) → run_in begin r ≡ Some (w, ts) → world_in begin r ≡ w
+unfolding world_in
+world_given begin r w ts h = ap (λ (o : Option (World × List Past)). (unwrap_or o (base_of begin, [])).0) h
+
+past_given : (begin : Begin) (r : Remainder) (w : World) (ts : List Past) → run_in begin r ≡ Some (w, ts) → past_in begin r ≡ ts
+unfolding past_in
+past_given begin r w ts h = ap (λ (o : Option (World × List Past)). (unwrap_or o (base_of begin, [])).1) h
+
+run_there : (begin : Begin) (r : Remainder) (s : Setting) → setting_in begin r ≡ s → run_in begin r ≡ run (steps s) (base_of begin) r.steps
+unfolding run_in
+run_there begin r s e = ap (λ (x : Setting). run (steps x) (base_of begin) r.steps) e
+
+pub no_frames : (begin : Begin) → HasNoFrames (base_of begin)
+no_frames begin t = refl
+
+module _ (story : Story) (s : Setting) (w : World) (ts : List Past) (h : StandsAt story s w ts) where
+  pub world_there : world_of story ≡ w
+  world_there = world_given story.begin (remainder story) w ts h.runs
+
+  pub past_there : past_of story ≡ ts
+  past_there = past_given story.begin (remainder story) w ts h.runs
+
+  pub steps_run : run (steps s) (base_of story.begin) (remaining story) ≡ Some (w, ts)
+  steps_run = sym (run_there story.begin (remainder story) s h.setting) ∙ h.runs
+
+  pub is_run : IsRun (steps s) (base_of story.begin) ts w
+  is_run = run_is (steps s) (remaining story) (base_of story.begin) w ts steps_run
+
+  pub names_there : names_of (steps s) ts ≡ remaining story
+  names_there = run_names (steps s) (remaining story) (base_of story.begin) w ts steps_run
+
+  pub fact_named : (t : Past) → In t ts → t.fact.name ≡ name_of t.step
+  fact_named t i = named_along s ts (base_of story.begin) w (from_run (steps s) ts (base_of story.begin) w is_run) t i
+
+  pub consequences_there : (name : StepName) → consequences_of story name ≡ after (steps s) ts (moved name)
+  unfolding consequences_in
+  consequences_there name = ap₂ (λ (x : Setting) (l : List Past). after (steps x) l (moved name)) h.setting past_there
+
+pub stands : (story : Story) (w : World) (ts : List Past) → run_of story ≡ Some (w, ts) → StandsAt story (setting_of story) (world_of story) (past_of story)
+stands story w ts h =
+    let k : StandsAt story (setting_of story) w ts = record { setting = refl; runs = h } in
+    record { setting = refl; runs = h ∙ ap₂ (λ (x : World) (l : List Past). Some (x, l)) (sym (world_there story (setting_of story) w ts k)) (sym (past_there story (setting_of story) w ts k)) }
+
+-- ---- one more entry
+
+pub remainder_next : (story : Story) (e : Entry) → remainder (accepted story e) ≡ after_entry story.begin (remainder story) e
+unfolding remainder
+remainder_next story e = fold-append (after_entry story.begin) nothing story.log (e ∷ [])
+
+pub stands_next : (story : Story) (e : Entry) (s : Setting) (w : World) (ts : List Past) → setting_in story.begin (after_entry story.begin (remainder story) e) ≡ s
+    → run (steps s) (base_of story.begin) (after_entry story.begin (remainder story) e).steps ≡ Some (w, ts) → StandsAt (accepted story e) s w ts
+stands_next story e s w ts setting runs = record {
+  setting = ap (setting_in story.begin) (remainder_next story e) ∙ setting;
+  runs = ap (run_in story.begin) (remainder_next story e) ∙ run_there story.begin (after_entry story.begin (remainder story) e) s setting ∙ runs;
+}
+
+-- with a machine more
+abbrev pub knowing : Setting → List ℕ → Definition → Setting
+knowing s name machine = record { machines = with_machine s.machines name machine; table = s.table; schema = s.schema }
+
+extended : (s : Setting) (name : List ℕ) (machine : Definition) → s.machines name ≡ None → Extends s (knowing s name machine)
+extended s name machine none = record { table = refl; schema = refl; machines = known }
+  where
+    known : (n : List ℕ) (d : Definition) → s.machines n ≡ Some d → with_machine s.machines name machine n ≡ Some d
+    known n d h = by_bool (is_text name n) _
+        (λ k. let e = ap s.machines (same_text name n (sym k)) in absurd (cc))
+        (λ k. rw k h)
+
+pub stands_defined : (story : Story) (s : Setting) (w : World) (ts : List Past) (name : List ℕ) (machine : Definition) → StandsAt story s w ts → s.machines name ≡ None
+    → StandsAt (accepted story (Define name machine)) (knowing s name machine) w ts
+stands_defined story s w ts name machine h none =
+    stands_next story (Define name machine) (knowing s name machine) w ts (ap (λ (x : Setting). knowing x name machine) h.setting)
+    (subst (λ l. run (steps (knowing s name machine)) (base_of story.begin) l ≡ Some (w, ts)) (names_there story s w ts h)
+    (to_run (steps (knowing s name machine)) ts (base_of story.begin) w (runs_more s (knowing s name machine) (extended s name machine none) ts (base_of story.begin) w (from_run (steps s) ts (base_of story.begin) w (is_run story s w ts h)))))
+
+pub stands_started : (story : Story) (s : Setting) (w v : World) (ts : List Past) (exec : Thread) (machine : List ℕ) (input : Json) (f : Fact) → StandsAt story s w ts → take_step s w (started exec.exec machine input) ≡ Some (v, f)
+    → StandsAt (accepted story (Start exec machine input)) s v (ts ++ taken_in w (started exec.exec machine input) f ∷ [])
+stands_started story s w v ts exec machine input f h k =
+    stands_next story (Start exec machine input) s v (ts ++ taken_in w (started exec.exec machine input) f ∷ []) h.setting
+    (run_then (steps s) (remaining story) (base_of story.begin) w v ts (started exec.exec machine input) f (steps_run story s w ts h) k)
+
+pub stands_moved : (story : Story) (s : Setting) (w v : World) (ts : List Past) (name : StepName) (kind : Kind) (f : Fact) → StandsAt story s w ts → take_step s w (moved name) ≡ Some (v, f)
+    → StandsAt (accepted story (Stepped name kind)) s v (ts ++ taken_in w (moved name) f ∷ [])
+stands_moved story s w v ts name kind f h k =
+    stands_next story (Stepped name kind) s v (ts ++ taken_in w (moved name) f ∷ []) h.setting
+    (run_then (steps s) (remaining story) (base_of story.begin) w v ts (moved name) f (steps_run story s w ts h) k)
+
+or_false : (b : Bool) → (b || false) ≡ b
+or_false true = refl
+or_false false = refl
+
+-- the steps but a step are those of its past without it
+but_one : (s : Setting) (t : Past) (ts : List Past) → names_of (steps s) (without (steps s) (t ∷ []) ts) ≡ but (name_of t.step) (names_of (steps s) ts)
+but_one s t ts =
+    names-without (steps s) (t ∷ []) ts
+    ∙ filter-same (λ n. not (is_same_step (name_of t.step) (name_of n) || false)) (λ n. not (is_same_step (name_of t.step) (name_of n))) (names_of (steps s) ts) (λ n i. ap not (or_false (is_same_step (name_of t.step) (name_of n))))
+
+pub stands_undone : (story : Story) (s : Setting) (w : World) (ts : List Past) (name : StepName) (t : Past) → StandsAt story s w ts → IsFree (steps s) ts t → name_of t.step ≡ name
+    → StandsAt (accepted story (Undo name)) s (undone (steps s) w t) (without (steps s) (t ∷ []) ts)
+stands_undone story s w ts name t h free e =
+    stands_next story (Undo name) s (undone (steps s) w t) (without (steps s) (t ∷ []) ts) h.setting
+    (subst (λ l. run (steps s) (base_of story.begin) l ≡ Some (undone (steps s) w t, without (steps s) (t ∷ []) ts))
+    (but_one s t ts ∙ ap₂ (λ (n : StepName) (l : List Step). but n l) e (names_there story s w ts h))
+    (undo_free (steps s) (base_of story.begin) (steps_have_names s (base_of story.begin) (no_frames story.begin)) (steps_are_lawful s (base_of story.begin) (no_frames story.begin)) w ts t (is_run story s w ts h) free))
+
+rolled_there : (story : Story) (s : Setting) (w : World) (ts : List Past) (name : StepName) → StandsAt story s w ts
+    → rolled_back story.begin (remainder story) name ≡ names_of (steps s) (without (steps s) (after (steps s) ts (moved name)) ts)
+unfolding rolled_back consequences_in
+rolled_there story s w ts name h = ap₂ (λ (x : Setting) (l : List Past). names_of (steps x) (without (steps x) (after (steps x) l (moved name)) l)) h.setting (past_there story s w ts h)
+
+pub stands_rolled : (story : Story) (s : Setting) (w : World) (ts : List Past) (name : StepName) (undone_names : List StepName) (t : Past) → StandsAt story s w ts → In t ts → name_of t.step ≡ name
+    → StandsAt (accepted story (Rollback name undone_names)) s (undo_each (steps s) w (reverse (after (steps s) ts t.step))) (without (steps s) (after (steps s) ts t.step) ts)
+stands_rolled story s w ts name undone_names t h i e =
+    let all = after (steps s) ts t.step in
+    stands_next story (Rollback name undone_names) s (undo_each (steps s) w (reverse all)) (without (steps s) all ts) h.setting
+    (subst (λ l. run (steps s) (base_of story.begin) l ≡ Some (undo_each (steps s) w (reverse all), without (steps s) all ts))
+    (ap (λ (l : List Past). names_of (steps s) (without (steps s) l ts)) (after_same s t.step (moved name) ts e) ∙ sym (rolled_there story s w ts name h))
+    (after_undoes (steps s) (base_of story.begin) (steps_have_names s (base_of story.begin) (no_frames story.begin)) (steps_are_lawful s (base_of story.begin) (no_frames story.begin)) w ts t (is_run story s w ts h) i).1)
