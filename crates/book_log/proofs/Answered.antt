@@ -1,45 +1,23 @@
 -- What an answer says of the steps that remain, and when it is given.
-use Rattle.std.proofs.Common.{◌≡◌, ℕ, ◌+◌, ◌==◌, Bool, true, false, cond, List, [], ◌∷◌, ◌++◌, map, refl, ap, ap₂, sym, subst, ◌∙◌, inl, inr, eq-eqb, Option, None, Some, Result, Ok, Err}
-use Rattle.std.specs.Prelude.{◌≤◌, is_some, option_map, if◌then◌else◌}
+use Rattle.std.proofs.Common.{◌≡◌, Bool, true, false, List, [], ◌∷◌, ◌++◌, refl, ap, ap₂, sym, subst, ◌∙◌, inl, inr, Option, None, Some, Ok}
 use Rattle.std.specs.List.{find, list_any}
 use Rattle.std.proofs.lemmas.Option.{same_Some}
-use Rattle.json_tree.specs.Data.{depth}
-use Rattle.json_tree.specs.View.{data_of}
-use Rattle.json_tree.specs.declared.tree.Json.{Json}
-use Rattle.asl_machine.specs.Definition.{Definition}
-use Rattle.asl_forward.specs.Turn.{first_frame}
-use Rattle.asl_forward.specs.declared.frame.Frame.{Frame}
-use Rattle.branch_tree.specs.Ready.{readiness_at}
-use Rattle.branch_tree.specs.declared.readiness.Readiness.{Readiness}
-use Rattle.step_names.specs.Thread.{Thread, execution}
 use Rattle.step_names.specs.declared.step.StepName.{StepName}
-use Rattle.trace_theory.specs.Traces.{In, needs, IsFree}
+use Rattle.trace_theory.specs.Traces.{In, IsFree}
 use Rattle.trace_theory.proofs.Lists.{by_bool, here, place, In-front}
-use Rattle.trace_theory.proofs.Runs.{and_then_some}
-use Rattle.trace_theory.proofs.Least.{at_place, not_in_front, Once}
+use Rattle.trace_theory.proofs.Least.{not_in_front, Once}
 use Rattle.trace_theory.proofs.Records.{free_record, record_free}
-use Rattle.saved_steps.specs.Deeds.{Deed, deed, deed_of, frame_deed, move_deed, if_numbered}
-use Rattle.saved_steps.specs.Held.{paths_of}
-use Rattle.saved_steps.specs.Run.{carried_out, take_step}
-use Rattle.saved_steps.specs.Steps.{Step, started, moved, name_of, start_name}
+use Rattle.saved_steps.specs.Steps.{name_of}
 use Rattle.saved_steps.specs.World.{Setting, World, is_same_step}
 use Rattle.saved_steps.specs.declared.fact.Fact.{Fact}
-use Rattle.saved_steps.specs.declared.fact.Kind.{Kind}
-use Rattle.saved_steps.specs.declared.fact.Kind.TheVariants as kind
 use Rattle.depends.specs.Dependence.{depends_directly}
 use Rattle.depends.specs.Instance.{steps}
 use Rattle.depends.specs.Laws.{facts_of}
 use Rattle.depends.proofs.Named.{steps_have_names}
-use Rattle.depends.proofs.Planned.{planned, numbered}
-use Rattle.depends.proofs.Worlds.{deed_taken}
 use Rattle.step_history.specs.History.{Past}
-use Rattle.book_log.specs.Answers.{start_answer, moved_answer, thread_answer, step_answer, from_step, free_answer, found_answer, undo_answer, is_full_for_step, remains, entry_for}
-use Rattle.book_log.specs.Legal.{IsAccepted}
-use Rattle.book_log.specs.Story.{Story, base_of, machine_of, setting_of, world_of, past_of}
-use Rattle.book_log.specs.declared.moved.Moved.{Moved}
-use Rattle.book_log.specs.declared.refusal.Refusal.{Refusal}
-use Rattle.book_log.specs.declared.refusal.Refusal.TheVariants.{NoMachine, ExecTaken, NoThread, NotReady, Full}
-use Rattle.book_log.proofs.Standing.{StandsAt, step_same, step_itself, no_frames, world_there, past_there, is_run, fact_named}
+use Rattle.book_log.specs.Answers.{from_step, free_answer, found_answer, undo_answer}
+use Rattle.book_log.specs.Story.{Story, base_of, past_of}
+use Rattle.book_log.proofs.Standing.{StandsAt, step_same, step_itself, no_frames, past_there, is_run, fact_named}
 
 -- ---- the step of a name
 
@@ -53,15 +31,20 @@ pub record Found (name : StepName) (ts : List Past) (f : Fact) (later : List Fac
   pub behind : facts_of back ≡ later
   pub named : name ≡ f.name
 
+found_first : (name : StepName) (ts : List Past) (t : Past) (f : Fact) (later : List Fact) → is_same_step name t.fact.name ≡ true → ◌≡◌ {A = Fact × List Fact} (t.fact, facts_of ts) (f, later) → Found name (t ∷ ts) f later
+found_first name ts t f later k e =
+    let fact : t.fact ≡ f = ap (λ (p : Fact × List Fact). p.0) e in
+    record { front = []; back = ts; step = t; whole = refl; fact = fact; behind = ap (λ (p : Fact × List Fact). p.1) e; named = step_same name t.fact.name k ∙ ap (λ (x : Fact). x.name) fact }
+
+found_behind : (name : StepName) (ts : List Past) (t : Past) (f : Fact) (later : List Fact) → Found name ts f later → Found name (t ∷ ts) f later
+found_behind name ts t f later r = record { front = t ∷ r.front; back = r.back; step = r.step; whole = ap (λ (l : List Past). t ∷ l) r.whole; fact = r.fact; behind = r.behind; named = r.named }
+
 pub found_by : (name : StepName) (ts : List Past) (f : Fact) (later : List Fact) → from_step name (facts_of ts) ≡ Some (f, later) → Found name ts f later
 found_by name [] f later h = cc
 found_by name (t ∷ ts) f later h =
     by_bool (is_same_step name t.fact.name) _
-    (λ k.
-    let e : (t.fact, facts_of ts) ≡ (f, later) = same_Some _ _ (rw k at h) in
-    let fact : t.fact ≡ f = ap (λ (p : Fact × List Fact). p.0) e in
-    record { front = []; back = ts; step = t; whole = refl; fact = fact; behind = ap (λ (p : Fact × List Fact). p.1) e; named = step_same name t.fact.name k ∙ ap (λ (x : Fact). x.name) fact })
-    (λ k. let r = found_by name ts f later (rw k at h) in record { front = t ∷ r.front; back = r.back; step = r.step; whole = ap (λ (l : List Past). t ∷ l) r.whole; fact = r.fact; behind = r.behind; named = r.named })
+    (λ k. found_first name ts t f later k (same_Some _ _ (rw k at h)))
+    (λ k. found_behind name ts t f later (found_by name ts f later (rw k at h)))
 
 pub found_at : (name : StepName) (front back : List Past) (t : Past) → ((y : Past) → In y front → is_same_step name y.fact.name ≡ false) → is_same_step name t.fact.name ≡ true → from_step name (facts_of (front ++ t ∷ back)) ≡ Some (t.fact, facts_of back)
 found_at name [] back t h k = rw k refl
@@ -96,18 +79,21 @@ module _ (story : Story) (s : Setting) (w : World) (ts : List Past) (h : StandsA
   pub once : Once (steps s) (base_of story.begin) (steps_have_names s (base_of story.begin) (no_frames story.begin)) ts
   once x y b = (steps_have_names s (base_of story.begin) (no_frames story.begin)).once ts w x y (is_run story s w ts h) b
 
+  free_found : (name : StepName) (f : Fact) (later : List Fact) → Found name ts f later → find (depends_directly f) later ≡ None → FreeNamed s ts name
+  free_found name f later g none =
+      let none_behind : find (depends_directly g.step.fact) (facts_of g.back) ≡ None = ap₂ (λ (x : Fact) (l : List Fact). find (depends_directly x) l) g.fact g.behind ∙ none in
+      let o = subst (Once (steps s) (base_of story.begin) (steps_have_names s (base_of story.begin) (no_frames story.begin))) g.whole once in
+      let free = free_record (steps s) (base_of story.begin) (steps_have_names s (base_of story.begin) (no_frames story.begin)) g.front g.back g.step o (none_found (depends_directly g.step.fact) g.back none_behind) in
+      let fact : g.step.fact.name ≡ name = ap (λ (x : Fact). x.name) g.fact ∙ sym g.named in
+      let there : In g.step ts = subst (In g.step) (sym g.whole) (here g.step g.front g.back) in
+      record { step = g.step; fact = fact; named = sym (fact_named story s w ts h g.step there) ∙ fact; free = subst (λ l. IsFree (steps s) l g.step) (sym g.whole) free }
+
   -- what is told to be undone is free
   pub undo_said : (name n : StepName) → undo_answer story name ≡ Ok n → FreeNamed s ts name × (name ≡ n)
   unfolding undo_answer
   undo_said name n a =
       let k = found_said name n (from_step name (facts_of (past_of story))) a in
-      let g = found_by name ts k.0.0 k.0.1 (ap (λ (l : List Past). from_step name (facts_of l)) (sym (past_there story s w ts h)) ∙ k.1) in
-      let none : find (depends_directly g.step.fact) (facts_of g.back) ≡ None = ap₂ (λ (f : Fact) (l : List Fact). find (depends_directly f) l) g.fact g.behind ∙ k.2 in
-      let o = subst (Once (steps s) (base_of story.begin) (steps_have_names s (base_of story.begin) (no_frames story.begin))) g.whole once in
-      let free = free_record (steps s) (base_of story.begin) (steps_have_names s (base_of story.begin) (no_frames story.begin)) g.front g.back g.step o (none_found (depends_directly g.step.fact) g.back none) in
-      let fact : g.step.fact.name ≡ name = ap (λ (f : Fact). f.name) g.fact ∙ sym g.named in
-      let there : In g.step ts = subst (In g.step) (sym g.whole) (here g.step g.front g.back) in
-      (record { step = g.step; fact = fact; named = sym (fact_named story s w ts h g.step there) ∙ fact; free = subst (λ l. IsFree (steps s) l g.step) (sym g.whole) free }, k.3)
+      (free_found name k.0.0 k.0.1 (found_by name ts k.0.0 k.0.1 (ap (λ (l : List Past). from_step name (facts_of l)) (sym (past_there story s w ts h)) ∙ k.1)) k.2, k.3)
 
   -- where a step of this name is found
   pub step_found : (t : Past) (name : StepName) (front back : List Past) → ts ≡ front ++ t ∷ back → name_of t.step ≡ name → from_step name (facts_of (past_of story)) ≡ Some (t.fact, facts_of back)
@@ -116,9 +102,9 @@ module _ (story : Story) (s : Setting) (w : World) (ts : List Past) (h : StandsA
       let there : In t ts = subst (In t) (sym whole) (here t front back) in
       ap (λ (l : List Past). from_step name (facts_of l)) (past_there story s w ts h ∙ whole)
       ∙ found_at name front back t
-          (λ y i. ap₂ (λ (a b : StepName). is_same_step a b) (sym named) (fact_named story s w ts h y (subst (In y) (sym whole) (In-front y front (t ∷ back) i)))
-          ∙ not_in_front (steps s) (base_of story.begin) (steps_have_names s (base_of story.begin) (no_frames story.begin)) front back t o y i)
-          (ap (is_same_step name) (fact_named story s w ts h t there ∙ named) ∙ step_itself name)
+      (λ y i. ap₂ (λ (a b : StepName). is_same_step a b) (sym named) (fact_named story s w ts h y (subst (In y) (sym whole) (In-front y front (t ∷ back) i)))
+      ∙ not_in_front (steps s) (base_of story.begin) (steps_have_names s (base_of story.begin) (no_frames story.begin)) front back t o y i)
+      (ap (is_same_step name) (fact_named story s w ts h t there ∙ named) ∙ step_itself name)
 
   -- a free step is told to be undone
   pub free_undone : (t : Past) (name : StepName) → IsFree (steps s) ts t → name_of t.step ≡ name → undo_answer story name ≡ Ok name

@@ -1,10 +1,9 @@
 -- Where a story stands: its setting, and the run of what remains. And where it stands after one more entry.
 use Rattle.std.proofs.Common.{◌≡◌, ℕ, ◌==◌, Bool, true, false, List, [], ◌∷◌, ◌++◌, refl, ap, ap₂, sym, subst, ◌∙◌, inl, inr, eq-eqb, Option, None, Some}
-use Rattle.std.specs.Prelude.{◌||◌, not, reverse, unwrap_or, if◌then◌else◌}
+use Rattle.std.specs.Prelude.{◌||◌, not, reverse, unwrap_or}
 use Rattle.std.specs.Cmp.Lexicographic.{same_text}
 use Rattle.std.proofs.lemmas.Bool.{and_parts, eqb-true}
 use Rattle.std.proofs.lemmas.List.Sums.{fold-append}
-use Rattle.std.proofs.lemmas.Option.{same_Some}
 use Rattle.json_tree.specs.declared.tree.Json.{Json}
 use Rattle.asl_fields.specs.Fields.{is_text}
 use Rattle.asl_machine.specs.Definition.{Definition}
@@ -30,7 +29,7 @@ use Rattle.depends.proofs.Worlds.{deed_taken}
 use Rattle.step_history.specs.History.{Past, taken_in}
 use Rattle.step_history.specs.Laws.{Extends}
 use Rattle.step_history.proofs.Extended.{runs_more}
-use Rattle.book_log.specs.Story.{Story, Remainder, accepted, setting_in, base_of, run_in, world_in, past_in, consequences_in, but, rolled_back, with_machine, after_entry, nothing, remainder, remaining, machine_of, setting_of, run_of, world_of, past_of, consequences_of}
+use Rattle.book_log.specs.Story.{Story, Remainder, accepted, setting_in, base_of, run_in, world_in, past_in, consequences_in, but, rolled_back, with_machine, after_entry, nothing, remainder, remaining, setting_of, run_of, world_of, past_of, consequences_of}
 use Rattle.book_log.specs.declared.begin.Begin.{Begin}
 use Rattle.book_log.specs.declared.entry.Entry.{Entry}
 use Rattle.book_log.specs.declared.entry.Entry.TheVariants.{Define, Start, Step as Stepped, Undo, Rollback}

@@ -1,9 +1,6 @@
 -- A step that is accepted can be taken, and one that can be taken is accepted where there is room.
-use Rattle.std.proofs.Common.{◌≡◌, ◌==◌, ◌≤◌, Bool, true, false, cond, List, [], refl, ap, ap₂, sym, subst, ◌∙◌, eq-eqb, Option, None, Some, Result, Ok, Err}
+use Rattle.std.proofs.Common.{◌≡◌, ◌==◌, Bool, true, false, cond, List, [], refl, ap, ap₂, sym, ◌∙◌, eq-eqb, Option, None, Some, Ok, Err}
 use Rattle.std.specs.Prelude.{ℕ, is_some, option_map, option_and_then, if◌then◌else◌}
-use Rattle.std.proofs.lemmas.Option.{same_Some}
-use Rattle.json_tree.specs.Data.{depth}
-use Rattle.json_tree.specs.View.{data_of}
 use Rattle.json_tree.specs.declared.tree.Json.{Json}
 use Rattle.asl_machine.specs.Definition.{Definition}
 use Rattle.asl_forward.specs.Turn.{first_frame}
@@ -16,21 +13,19 @@ use Rattle.trace_theory.proofs.Runs.{and_then_some}
 use Rattle.saved_steps.specs.Deeds.{Deed, deed, deed_of, frame_deed, move_deed, if_numbered}
 use Rattle.saved_steps.specs.Held.{paths_of}
 use Rattle.saved_steps.specs.Run.{carried_out, take_step}
-use Rattle.saved_steps.specs.Steps.{Step, started, moved, name_of, start_name}
+use Rattle.saved_steps.specs.Steps.{Step, started, moved, start_name}
 use Rattle.saved_steps.specs.World.{Setting, World}
 use Rattle.saved_steps.specs.declared.fact.Fact.{Fact}
 use Rattle.saved_steps.specs.declared.fact.Kind.{Kind}
 use Rattle.saved_steps.specs.declared.fact.Kind.TheVariants as kind
 use Rattle.depends.proofs.Planned.{planned, numbered}
 use Rattle.depends.proofs.Worlds.{deed_taken}
-use Rattle.step_history.specs.History.{Past, taken_in}
-use Rattle.book_log.specs.Answers.{start_answer, moved_answer, thread_answer, step_answer, is_full_for_step, entry_for}
-use Rattle.book_log.specs.Legal.{IsAccepted}
+use Rattle.step_history.specs.History.{Past}
+use Rattle.book_log.specs.Answers.{start_answer, moved_answer, thread_answer, step_answer, is_full_for_step}
 use Rattle.book_log.specs.Story.{Story, machine_of, setting_of, world_of}
 use Rattle.book_log.specs.declared.moved.Moved.{Moved}
-use Rattle.book_log.specs.declared.refusal.Refusal.{Refusal}
-use Rattle.book_log.specs.declared.refusal.Refusal.TheVariants.{NoMachine, ExecTaken, NoThread, NotReady, Full}
-use Rattle.book_log.proofs.Standing.{StandsAt, world_there, taken_named}
+use Rattle.book_log.specs.declared.refusal.Refusal.TheVariants.{NoMachine, ExecTaken, Full}
+use Rattle.book_log.proofs.Standing.{StandsAt, world_there}
 
 -- a step that can be taken in a world
 pub record CanTake (s : Setting) (w : World) (step : Step) : Type 0 where
@@ -76,6 +71,11 @@ module _ (story : Story) (s : Setting) (w : World) (ts : List Past) (h : StandsA
   map_there f None b k = cc
   map_there f (Some a) b k = refl
 
+  -- a start or a step is accepted only where there is room
+  pub start_room : (exec : Thread) (machine : List ℕ) (name : StepName) → start_answer story exec machine ≡ Ok name → is_full_for_step story ≡ false
+  unfolding start_answer
+  start_room exec machine name a = (start_split (is_some (machine_of story machine)) (is_some ((world_of story).frames exec)) (is_full_for_step story) (start_name exec.exec) name a).2
+
   pub start_accepted : (exec machine : List ℕ) (input : Json) → CanTake s w (started exec machine input) → is_full_for_step story ≡ false → start_answer story (execution exec) machine ≡ Ok (start_name exec)
   unfolding start_answer
   start_accepted exec machine input can room =
@@ -87,20 +87,25 @@ module _ (story : Story) (s : Setting) (w : World) (ts : List Past) (h : StandsA
 
   -- ---- moves
 
-  moved_split : (r : Readiness) (o : Option Deed) (x : Moved) → moved_answer story r o ≡ Ok x → (d : Deed) × (o ≡ Some d) × (d.fact.name ≡ x.name) × (d.fact.kind ≡ x.kind)
+  moved_split : (r : Readiness) (o : Option Deed) (x : Moved) → moved_answer story r o ≡ Ok x → (d : Deed) × (o ≡ Some d) × (d.fact.name ≡ x.name) × (d.fact.kind ≡ x.kind) × (is_full_for_step story ≡ false)
   moved_split r None x k = cc
   moved_split r (Some d) x k = with_room (is_full_for_step story) k
     where
-      with_room : (b : Bool) → cond b (Err Full) (Ok (record { name = d.fact.name; kind = d.fact.kind })) ≡ Ok x → (e : Deed) × (Some d ≡ Some e) × (e.fact.name ≡ x.name) × (e.fact.kind ≡ x.kind)
+      with_room : (b : Bool) → cond b (Err Full) (Ok (record { name = d.fact.name; kind = d.fact.kind })) ≡ Ok x → (e : Deed) × (Some d ≡ Some e) × (e.fact.name ≡ x.name) × (e.fact.kind ≡ x.kind) × (b ≡ false)
       with_room true e = cc
-      with_room false e = let f : record { name = d.fact.name; kind = d.fact.kind } ≡ x = cc in (d, refl, ap (λ (y : Moved). y.name) f, ap (λ (y : Moved). y.kind) f)
+      with_room false e = let f : record { name = d.fact.name; kind = d.fact.kind } ≡ x = cc in (d, refl, ap (λ (y : Moved). y.name) f, ap (λ (y : Moved). y.kind) f, refl)
 
-  thread_split : (t : Thread) (o : Option Frame) (x : Moved) → thread_answer story t o ≡ Ok x → (d : Deed) × (move_deed (setting_of story) (world_of story) t ≡ Some d) × (d.fact.name ≡ x.name) × (d.fact.kind ≡ x.kind)
+  thread_split : (t : Thread) (o : Option Frame) (x : Moved) → thread_answer story t o ≡ Ok x
+      → (d : Deed) × (move_deed (setting_of story) (world_of story) t ≡ Some d) × (d.fact.name ≡ x.name) × (d.fact.kind ≡ x.kind) × (is_full_for_step story ≡ false)
   thread_split t None x k = cc
   thread_split t (Some f) x k = moved_split (readiness_at (paths_of (world_of story).frames t.exec) t.path) (move_deed (setting_of story) (world_of story) t) x k
 
   move_there : (t : Thread) → move_deed (setting_of story) (world_of story) t ≡ move_deed s w t
   move_there t = ap₂ (λ (x : Setting) (y : World). move_deed x y t) h.setting (world_there story s w ts h)
+
+  pub step_room : (t : Thread) (x : Moved) → step_answer story t ≡ Ok x → is_full_for_step story ≡ false
+  unfolding step_answer
+  step_room t x a = (thread_split t ((world_of story).frames t) x a).4
 
   pub step_said : (t : Thread) (x : Moved) → step_answer story t ≡ Ok x → x.name.thread ≡ t → (can : CanTake s w (moved x.name)) × (can.fact.kind ≡ x.kind)
   unfolding step_answer

@@ -1,20 +1,21 @@
 -- Laws of logs, each the contract of a function of the crate.
-use Rattle.std.specs.Prelude.{◌≡◌, ◌↔◌, ℕ, List, [], ◌∷◌, ◌++◌, map, false, Some, None, Ok, Err, IsSome}
+use Rattle.std.specs.Prelude.{◌≡◌, ◌↔◌, ℕ, List, [], ◌∷◌, ◌++◌, map, true, false, Some, Ok, Err}
 use Rattle.json_tree.specs.declared.tree.Json.{Json}
-use Rattle.branch_tree.specs.declared.readiness.Readiness.{Readiness}
-use Rattle.branch_tree.specs.declared.readiness.Readiness.TheVariants.{Waiting, Done, Failed}
 use Rattle.step_names.specs.Thread.{Thread}
 use Rattle.step_names.specs.declared.step.StepName.{StepName}
-use Rattle.trace_theory.specs.Traces.{In, IsLeast, IsAllowed, IsArrangement, without}
-use Rattle.saved_steps.specs.Steps.{Step, started, moved, name_of, start_name}
+use Rattle.trace_theory.specs.Traces.{In, Before, needs, run, IsFree, IsLeast, IsAllowed, IsArrangement, without}
+use Rattle.saved_steps.specs.Steps.{Step, name_of, start_name}
+use Rattle.saved_steps.specs.World.{Setting, World}
 use Rattle.saved_steps.specs.declared.fact.Kind.{Kind}
 use Rattle.depends.specs.Instance.{steps}
 use Rattle.step_history.specs.History.{Past}
-use Rattle.book_log.specs.Answers.{start_answer, step_answer, undo_answer, order_answer, plan_answer, rerun_answer, is_full_for_step, names_of_facts, entry_of}
+use Rattle.book_log.specs.Answers.{undo_answer, order_answer, plan_answer, rerun_answer, is_full_for_step, names_of_facts, entry_of}
 use Rattle.book_log.specs.Legal.{IsAccepted, IsLegal}
-use Rattle.book_log.specs.Story.{Story, accepted, remaining, setting_of, run_of, world_of, past_of, consequences_of}
+use Rattle.book_log.specs.Story.{Story, accepted, base_of, remaining, machine_of, setting_of, run_of, world_of, past_of, consequences_of}
 use Rattle.book_log.specs.declared.entry.Entry.{Entry}
 use Rattle.book_log.specs.declared.entry.Entry.TheVariants.{Start, Step as Stepped, Undo, Rollback}
+use Rattle.book_log.specs.declared.refusal.Refusal.{Refusal}
+use Rattle.book_log.specs.declared.refusal.Refusal.TheVariants.{NoStep, HasDependents}
 
 -- ---- legal logs
 
@@ -56,6 +57,22 @@ pub record IsGivenBack (story : Story) (name : StepName) : Type 0 where
 abbrev pub AgainGivesBack : Type 0
 AgainGivesBack = (story : Story) (name : StepName) → IsLegal story → undo_answer story name ≡ Ok name → IsGivenBack story name
 
+-- the first later step that depends directly on a step
+pub record IsFirstDependent (s : Setting) (ts : List Past) (t : Past) (y : Past) : Type 0 where
+  pub later : Before t y ts
+  pub depends : needs (steps s) t y ≡ true
+  pub first : (z : Past) → Before t z ts → Before z y ts → needs (steps s) t z ≡ false
+
+-- A step is undone exactly where it remains and no later one depends directly on it. Its undoing is refused where it doesn't
+-- remain, and for the first that depends directly on it, and only there.
+pub record AreUndoAnswers (story : Story) (name : StepName) : Type 0 where
+  pub undone : (undo_answer story name ≡ Ok name) ↔ ((t : Past) × (t.fact.name ≡ name) × IsFree (steps (setting_of story)) (past_of story) t)
+  pub none : (undo_answer story name ≡ Err NoStep) ↔ ((step : Step) → In step (remaining story) → name_of step ≡ name → ⊥)
+  pub dependent : (d : StepName) → (undo_answer story name ≡ Err (HasDependents d)) ↔ ((t : Past) × (y : Past) × (t.fact.name ≡ name) × (y.fact.name ≡ d) × IsFirstDependent (setting_of story) (past_of story) t y)
+
+abbrev pub UndoAnswersAreExact : Type 0
+UndoAnswersAreExact = (story : Story) (name : StepName) → IsLegal story → AreUndoAnswers story name
+
 -- ---- orders
 
 -- Every order in which each step is free at its turn is accepted to its end, and leaves the run of the rest.
@@ -95,6 +112,18 @@ RollbackIsExact = (story : Story) (name : StepName) (undone : List StepName) →
 -- What a rerun answers is legal, its steps are those of the names in their order, and it has the world of their run.
 abbrev pub RerunsAreLegal : Type 0
 RerunsAreLegal = (story again : Story) (names : List StepName) → IsLegal story → rerun_answer story names ≡ Ok again → IsLegal again × (map name_of (remaining again) ≡ names)
+
+-- A rerun has steps of the story and its machines; each list of remaining steps that can be run is answered, by its run; and else no
+-- refusal is given but that there is no such step.
+pub record IsRerun (story : Story) (names : List StepName) : Type 0 where
+  pub of_story : (again : Story) → rerun_answer story names ≡ Ok again → ((step : Step) → In step (remaining again) → In step (remaining story)) × (machine_of again ≡ machine_of story)
+  pub runnable : (chosen : List Step) (v : World) (ts : List Past) → ((step : Step) → In step chosen → In step (remaining story)) → map name_of chosen ≡ names
+      → run (steps (setting_of story)) (base_of story.begin) chosen ≡ Some (v, ts)
+      → (again : Story) × (rerun_answer story names ≡ Ok again) × (remaining again ≡ chosen) × (world_of again ≡ v) × (past_of again ≡ ts)
+  pub refused : (e : Refusal) → rerun_answer story names ≡ Err e → e ≡ NoStep
+
+abbrev pub RerunsAreExact : Type 0
+RerunsAreExact = (story : Story) (names : List StepName) → IsLegal story → IsRerun story names
 
 -- Every arrangement of the remaining steps that keeps directly dependent ones in their order can be rerun: the same world, and step by
 -- step the same facts and what was kept.

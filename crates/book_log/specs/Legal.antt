@@ -1,5 +1,5 @@
 -- Logs whose every entry was accepted at its place, with the reply that stands in it.
-use Rattle.std.specs.Prelude.{◌≡◌, ◌≤◌, List, [], ◌∷◌, ◌++◌, None, Ok, false}
+use Rattle.std.specs.Prelude.{◌≡◌, ◌≤◌, List, [], ◌∷◌, None, Ok, false}
 use Rattle.json_tree.specs.Data.{depth}
 use Rattle.json_tree.specs.View.{data_of}
 use Rattle.item_store.specs.Table.{Table}
@@ -8,7 +8,6 @@ use Rattle.saved_steps.specs.Steps.{start_name}
 use Rattle.book_log.specs.Answers.{start_answer, step_answer, undo_answer, plan_answer, is_full_for_define}
 use Rattle.book_log.specs.Beginning.{table_of}
 use Rattle.book_log.specs.Story.{Story, accepted, machine_of}
-use Rattle.book_log.specs.declared.begin.Begin.{Begin}
 use Rattle.book_log.specs.declared.entry.Entry.{Entry}
 use Rattle.book_log.specs.declared.entry.Entry.TheVariants.{Define, Start, Step as Stepped, Undo, Rollback}
 

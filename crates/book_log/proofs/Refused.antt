@@ -1,0 +1,186 @@
+-- When a step is undone, and for which step its undoing is refused.
+use Rattle.std.proofs.Common.{◌≡◌, Bool, true, false, List, [], ◌∷◌, ◌++◌, refl, ap, ap₂, sym, subst, ◌∙◌, inl, inr, Option, None, Some, Err}
+use Rattle.std.specs.List.{find}
+use Rattle.std.proofs.lemmas.Option.{same_Some}
+use Rattle.step_names.specs.declared.step.StepName.{StepName}
+use Rattle.trace_theory.specs.Traces.{In, Before}
+use Rattle.trace_theory.proofs.Arranged.{named_place, In-names}
+use Rattle.trace_theory.proofs.Least.{Once, never_twice}
+use Rattle.trace_theory.proofs.Lists.{by_bool, place, here, In-front, In-split, Before-back, Before-across, Before-first, behind_place, never_both}
+use Rattle.saved_steps.specs.Steps.{name_of}
+use Rattle.saved_steps.specs.World.{Setting, World}
+use Rattle.saved_steps.specs.declared.fact.Fact.{Fact}
+use Rattle.depends.specs.Dependence.{depends_directly}
+use Rattle.depends.specs.Instance.{steps}
+use Rattle.depends.specs.Laws.{facts_of}
+use Rattle.depends.proofs.Named.{steps_have_names}
+use Rattle.step_history.specs.History.{Past}
+use Rattle.book_log.specs.Answers.{from_step, free_answer, found_answer, undo_answer}
+use Rattle.book_log.specs.Laws.{IsFirstDependent, UndoAnswersAreExact}
+use Rattle.book_log.specs.Story.{Story, base_of, setting_of, world_of, past_of}
+use Rattle.book_log.specs.declared.refusal.Refusal.TheVariants.{NoStep, HasDependents}
+use Rattle.book_log.proofs.Standing.{StandsAt, no_frames, past_there, names_there, fact_named}
+use Rattle.book_log.proofs.Answered.{Found, found_by, once, undo_said, step_found, free_undone}
+use Rattle.book_log.proofs.LegalRuns.{legal_stands}
+
+-- the first of some steps whose fact passes
+record FirstOf (p : Fact → Bool) (ts : List Past) (f : Fact) : Type 0 where
+  front : List Past
+  back : List Past
+  step : Past
+  whole : ts ≡ front ++ step ∷ back
+  fact : step.fact ≡ f
+  passes : p step.fact ≡ true
+  before : (z : Past) → In z front → p z.fact ≡ false
+
+first_later : (p : Fact → Bool) (ts : List Past) (t : Past) (f : Fact) → p t.fact ≡ false → FirstOf p ts f → FirstOf p (t ∷ ts) f
+first_later p ts t f k r = record {
+  front = t ∷ r.front;
+  back = r.back;
+  step = r.step;
+  whole = ap (λ (l : List Past). t ∷ l) r.whole;
+  fact = r.fact;
+  passes = r.passes;
+  before = λ z i. elim i [ inl e ↦ ap (λ (x : Past). p x.fact) e ∙ k | inr j ↦ r.before z j ];
+}
+
+first_found : (p : Fact → Bool) (ts : List Past) (f : Fact) → find p (facts_of ts) ≡ Some f → FirstOf p ts f
+first_found p [] f h = cc
+first_found p (t ∷ ts) f h =
+    by_bool (p t.fact) _
+    (λ k. record { front = []; back = ts; step = t; whole = refl; fact = same_Some _ _ (rw k at h); passes = k; before = λ z i. absurd i })
+    (λ k. first_later p ts t f k (first_found p ts f (rw k at h)))
+
+found_first : (p : Fact → Bool) (front back : List Past) (t : Past) → ((z : Past) → In z front → p z.fact ≡ false) → p t.fact ≡ true → find p (facts_of (front ++ t ∷ back)) ≡ Some t.fact
+found_first p [] back t h k = rw k refl
+found_first p (z ∷ front) back t h k = let e = h z (inl refl) in rw e (found_first p front back t (λ y i. h y (inr i)) k)
+
+-- ---- what was answered
+
+no_step_said : (name : StepName) (o : Option (Fact × List Fact)) → found_answer name o ≡ Err NoStep → o ≡ None
+no_step_said name None h = refl
+no_step_said name (Some p) h = absurd (later (find (depends_directly p.0) p.1) h)
+  where
+    later : (o : Option Fact) → free_answer name o ≡ Err NoStep → ⊥
+    later None k = cc
+    later (Some f) k = cc
+
+dependent_said : (name d : StepName) (o : Option (Fact × List Fact)) → found_answer name o ≡ Err (HasDependents d) → (p : Fact × List Fact) × (f : Fact) × (o ≡ Some p) × (find (depends_directly p.0) p.1 ≡ Some f) × (f.name ≡ d)
+dependent_said name d None h = cc
+dependent_said name d (Some p) h = let k = later (find (depends_directly p.0) p.1) h in (p, k.0, refl, k.1, k.2)
+  where
+    later : (o : Option Fact) → free_answer name o ≡ Err (HasDependents d) → (f : Fact) × (o ≡ Some f) × (f.name ≡ d)
+    later None k = cc
+    later (Some f) k = (f, refl, cc)
+
+not_found : (name : StepName) (ts : List Past) → ((t : Past) → In t ts → t.fact.name ≡ name → ⊥) → (o : Option (Fact × List Fact)) → from_step name (facts_of ts) ≡ o → o ≡ None
+not_found name ts none None e = refl
+not_found name ts none (Some p) e =
+    let g = found_by name ts p.0 p.1 e in
+    absurd (none g.step (subst (In g.step) (sym g.whole) (here g.step g.front g.back)) (ap (λ (f : Fact). f.name) g.fact ∙ sym g.named))
+
+-- ---- the first dependent, at its place
+
+module _ (s : Setting) (story : Story) where
+  abbrev OnceIn : List Past → Type 0
+  OnceIn ts = Once (steps s) (base_of story.begin) (steps_have_names s (base_of story.begin) (no_frames story.begin)) ts
+
+  twice : (ts : List Past) → OnceIn ts → (x : Past) → Before x x ts → ⊥
+  twice ts o = never_twice (steps s) (base_of story.begin) (steps_have_names s (base_of story.begin) (no_frames story.begin)) ts o
+
+  first_there : (front middle back : List Past) (t y : Past) → OnceIn (front ++ t ∷ (middle ++ y ∷ back)) → depends_directly t.fact y.fact ≡ true → ((z : Past) → In z middle → depends_directly t.fact z.fact ≡ false)
+      → IsFirstDependent s (front ++ t ∷ (middle ++ y ∷ back)) t y
+  first_there front middle back t y o depends before = record {
+    later = Before-back t y front (t ∷ (middle ++ y ∷ back)) (inl (refl, here y middle back));
+    depends = depends;
+    first = λ z b c. elim (In-split z middle (y ∷ back) (behind_place t z front (middle ++ y ∷ back) (twice (front ++ t ∷ (middle ++ y ∷ back)) o) b)) [
+      | inl i ↦ before z i
+      | inr i ↦ absurd (elim i [
+        | inl e ↦ twice (front ++ t ∷ (middle ++ y ∷ back)) o y (subst (λ (x : Past). Before x y (front ++ t ∷ (middle ++ y ∷ back))) e c)
+        | inr j ↦ never_both z y (front ++ t ∷ (middle ++ y ∷ back)) (twice (front ++ t ∷ (middle ++ y ∷ back)) o) c (Before-back y z front (t ∷ (middle ++ y ∷ back)) (inr (Before-back y z middle (y ∷ back) (inl (refl, j)))))
+      ])
+    ];
+  }
+
+  none_before : (front middle back : List Past) (t y : Past) → IsFirstDependent s (front ++ t ∷ (middle ++ y ∷ back)) t y → (z : Past) → In z middle → depends_directly t.fact z.fact ≡ false
+  none_before front middle back t y is z i =
+      is.first z
+      (Before-back t z front (t ∷ (middle ++ y ∷ back)) (inl (refl, In-front z middle (y ∷ back) i)))
+      (Before-back z y front (t ∷ (middle ++ y ∷ back)) (inr (Before-across z y middle (y ∷ back) i (inl refl))))
+
+module _ (story : Story) (s : Setting) (w : World) (ts : List Past) (h : StandsAt story s w ts) where
+  -- without a step of this name
+  none_answered : (name : StepName) → ((t : Past) → In t ts → t.fact.name ≡ name → ⊥) → undo_answer story name ≡ Err NoStep
+  unfolding undo_answer
+  none_answered name none = ap (λ (l : List Past). found_answer name (from_step name (facts_of l))) (past_there story s w ts h) ∙ ap (found_answer name) (not_found name ts none (from_step name (facts_of ts)) refl)
+
+  none_remains : (name : StepName) → undo_answer story name ≡ Err NoStep → (t : Past) → In t ts → t.fact.name ≡ name → ⊥
+  unfolding undo_answer
+  none_remains name a t i e =
+      let p = place t ts i in
+      let there = step_found story s w ts h t name p.front p.back p.whole (sym (fact_named story s w ts h t i) ∙ e) in
+      let none = no_step_said name (from_step name (facts_of (past_of story))) a in
+      cc
+
+  -- with a later step that depends on it
+  abbrev Dependent : StepName → StepName → Type 0
+  Dependent name d = (t : Past) × (y : Past) × (t.fact.name ≡ name) × (y.fact.name ≡ d) × IsFirstDependent s ts t y
+
+  dependent_found : (name d : StepName) (f g : Fact) (later : List Fact) (x : Found name ts f later) → FirstOf (depends_directly x.step.fact) x.back g → g.name ≡ d → Dependent name d
+  dependent_found name d f g later x y e =
+      let whole : ts ≡ x.front ++ x.step ∷ (y.front ++ y.step ∷ y.back) = x.whole ∙ ap (λ (l : List Past). x.front ++ x.step ∷ l) y.whole in (
+        x.step,
+        y.step,
+        ap (λ (a : Fact). a.name) x.fact ∙ sym x.named,
+        ap (λ (a : Fact). a.name) y.fact ∙ e,
+        subst (λ (l : List Past). IsFirstDependent s l x.step y.step) (sym whole) (first_there s story x.front y.front y.back x.step y.step (subst (OnceIn s story) whole (once story s w ts h)) y.passes y.before),
+      )
+
+  dependent_behind : (name d : StepName) (f g : Fact) (later : List Fact) → Found name ts f later → find (depends_directly f) later ≡ Some g → g.name ≡ d → Dependent name d
+  dependent_behind name d f g later x k e =
+      dependent_found name d f g later x (first_found (depends_directly x.step.fact) x.back g (ap₂ (λ (a : Fact) (l : List Fact). find (depends_directly a) l) x.fact x.behind ∙ k)) e
+
+  dependent_stands : (name d : StepName) → undo_answer story name ≡ Err (HasDependents d) → Dependent name d
+  unfolding undo_answer
+  dependent_stands name d a =
+      let k = dependent_said name d (from_step name (facts_of (past_of story))) a in
+      dependent_behind name d k.0.0 k.1 k.0.1 (found_by name ts k.0.0 k.0.1 (ap (λ (l : List Past). from_step name (facts_of l)) (sym (past_there story s w ts h)) ∙ k.2)) k.3 k.4
+
+  dependent_at : (name d : StepName) (front middle back : List Past) (t y : Past) → ts ≡ front ++ t ∷ (middle ++ y ∷ back) → t.fact.name ≡ name → y.fact.name ≡ d → IsFirstDependent s ts t y → undo_answer story name ≡ Err (HasDependents d)
+  unfolding undo_answer
+  dependent_at name d front middle back t y whole e f is =
+      let before = none_before s story front middle back t y (subst (λ (l : List Past). IsFirstDependent s l t y) whole is) in
+      let i : In t ts = subst (In t) (sym whole) (here t front (middle ++ y ∷ back)) in
+      ap (found_answer name) (step_found story s w ts h t name front (middle ++ y ∷ back) whole (sym (fact_named story s w ts h t i) ∙ e))
+      ∙ ap (free_answer name) (found_first (depends_directly t.fact) middle back y before is.depends)
+      ∙ ap (λ (n : StepName). Err (HasDependents n)) f
+
+  dependent_answered : (name d : StepName) (t y : Past) → t.fact.name ≡ name → y.fact.name ≡ d → IsFirstDependent s ts t y → undo_answer story name ≡ Err (HasDependents d)
+  dependent_answered name d t y e f is =
+      let p = place t ts (Before-first t y ts is.later) in
+      let behind = behind_place t y p.front p.back (twice s story (p.front ++ t ∷ p.back) (subst (OnceIn s story) p.whole (once story s w ts h))) (subst (Before t y) p.whole is.later) in
+      let q = place y p.back behind in
+      dependent_at name d p.front q.front q.back t y (p.whole ∙ ap (λ (l : List Past). p.front ++ t ∷ l) q.whole) e f is
+
+pub undo_answers_are_exact : UndoAnswersAreExact
+undo_answers_are_exact story name legal =
+    let s = setting_of story in
+    let w = world_of story in
+    let ts = past_of story in
+    let h = legal_stands story legal in
+    let names = names_there story s w ts h in
+    let base = base_of story.begin in
+    let have = steps_have_names s base (no_frames story.begin) in
+    record {
+      undone = (
+        λ a. let k = (undo_said story s w ts h name name a).0 in (k.step, k.fact, k.free),
+        λ r. free_undone story s w ts h r.0 name r.2 (sym (fact_named story s w ts h r.0 r.2.0) ∙ r.1),
+      );
+      none = (
+        λ a x i e. let p = named_place (steps s) base have x ts (subst (In x) (sym names) i) in
+            let there : In p.step ts = subst (In p.step) (sym p.whole) (here p.step p.front p.back) in
+            none_remains story s w ts h name a p.step there (fact_named story s w ts h p.step there ∙ ap name_of p.named ∙ e),
+        λ none. none_answered story s w ts h name (λ t i e. none t.step (subst (In t.step) names (In-names (steps s) base have t ts i)) (sym (fact_named story s w ts h t i) ∙ e)),
+      );
+      dependent = λ d. (dependent_stands story s w ts h name d, λ r. dependent_answered story s w ts h name d r.0 r.1 r.2 r.3 r.4);
+    }

@@ -1,0 +1,43 @@
+//! Laws of logs: each function's contract is the law, and it does nothing.
+
+ghost use Rattle.book_log.specs.Laws.{LegalLogsRun, AcceptedIsLegal, UndoTakesBack, UndoTakesBackStart, AgainGivesBack, UndoAnswersAreExact, AllowedOrdersAreAccepted, AcceptedOrdersAreWhole, OrdersAgree, RollbackIsExact, RerunsAreLegal, RerunsAreExact, ArrangementsAgree};
+
+/// What remains of a legal log can be run from the start, and a legal log with an entry that is accepted is one.
+pub fn legal_logs_run()
+    ensures runs { LegalLogsRun }
+    ensures goes_on { AcceptedIsLegal }
+{}
+
+/// A step followed by its undoing changes nothing, and the undoing of a step on which nothing depends, followed by that step, gives
+/// all of it back.
+pub fn undoing_is_exact()
+    ensures step { UndoTakesBack }
+    ensures start { UndoTakesBackStart }
+    ensures again { AgainGivesBack }
+{}
+
+/// A step is undone exactly where it remains and nothing depends directly on it, and refused for the first that does.
+pub fn undo_answers_are_exact()
+    ensures { UndoAnswersAreExact }
+{}
+
+/// Every order in which each step is free at its turn is accepted, one result for the same steps; and one that is accepted holds
+/// with each step all its consequences.
+pub fn orders_undo()
+    ensures accepted { AllowedOrdersAreAccepted }
+    ensures whole { AcceptedOrdersAreWhole }
+    ensures agree { OrdersAgree }
+{}
+
+/// A rollback takes back a step and its consequences and no other, and leaves the run of the rest.
+pub fn rollback_is_exact()
+    ensures { RollbackIsExact }
+{}
+
+/// Every list of remaining steps that can be run is rerun, and every arrangement that keeps directly dependent steps in their order,
+/// to the same world.
+pub fn reruns_agree()
+    ensures legal { RerunsAreLegal }
+    ensures exact { RerunsAreExact }
+    ensures arranged { ArrangementsAgree }
+{}
