@@ -1,6 +1,6 @@
 -- The frames with which a fork's branches begin: each is ready, has made no move, and stands before the first state of its
 -- branch, with a counter for each retrier.
-use Rattle.std.proofs.Common.{◌≡◌, ℕ, zero, suc, ◌+◌, nat_le, Bool, true, false, if◌then◌else◌, codes, List, [], ◌∷◌, ◌++◌, length, replicate, IsSome, Option, Some, None, Result, Ok, Err, option_map, option_and_then, slice_get, refl, ap, subst, sym, ◌∙◌, arith}
+use Rattle.std.proofs.Common.{◌≡◌, ℕ, suc, ◌+◌, nat_le, Bool, true, false, if◌then◌else◌, codes, List, [], ◌∷◌, ◌++◌, length, replicate, IsSome, Option, Some, None, Result, Ok, Err, option_map, option_and_then, slice_get, refl, ap, subst, sym, ◌∙◌, arith}
 use Rattle.std.specs.List.{AllByRecursion}
 use Rattle.json_tree.specs.Data.{Data}
 use Rattle.json_tree.specs.View.{data_of}
@@ -26,7 +26,7 @@ use Rattle.asl_forward.specs.declared.prepared.Outcome.TheVariants as outcome
 -- ---- what stands
 
 -- a frame stands where its level's path leads, before the state of its name there
-standing_parts : (o : Option Definition) (name : List ℕ) (at : Standing) → option_and_then (λ level. option_map (λ s. (level, s)) (state_of name level.states)) o ≡ Some at
+pub standing_parts : (o : Option Definition) (name : List ℕ) (at : Standing) → option_and_then (λ level. option_map (λ s. (level, s)) (state_of name level.states)) o ≡ Some at
     → (o ≡ Some at.0) × (state_of name at.0.states ≡ Some at.1)
 standing_parts None name at h = cc h
 standing_parts (Some level) name at h = on_state (state_of name level.states) refl h
@@ -38,7 +38,7 @@ standing_parts (Some level) name at h = on_state (state_of name level.states) re
         subst (λ (a : Standing). (Some level ≡ Some a.0) × (state_of name a.0.states ≡ Some a.1)) same (refl, is)
 
 -- the machine that a path leads to with one more step
-one_step_further : (path : List LevelStep) (step : LevelStep) (machine m d : Definition) (s : State) → machine_at path machine ≡ Some m → state_of step.state m.states ≡ Some s
+pub one_step_further : (path : List LevelStep) (step : LevelStep) (machine m d : Definition) (s : State) → machine_at path machine ≡ Some m → state_of step.state m.states ≡ Some s
     → branch_of step.branch s ≡ Some d → machine_at (path ++ step ∷ []) machine ≡ Some d
 one_step_further [] step machine m d s h there is =
     let same : machine ≡ m = cc h in
@@ -70,7 +70,7 @@ pub record IsFirst (machine : Definition) (g : Frame) : Type 0 where
 abbrev pub BranchesStart : State → Type 0
 BranchesStart s = (branch : ℕ) (d : Definition) → branch_of branch s ≡ Some d → IsState d.states d.start
 
-first_of : (machine : Definition) (at : Standing) (f : Frame) (d : Definition) (branch : ℕ) (input : Data) → standing machine f ≡ Some at → branch_of branch at.1 ≡ Some d
+pub first_of : (machine : Definition) (at : Standing) (f : Frame) (d : Definition) (branch : ℕ) (input : Data) → standing machine f ≡ Some at → branch_of branch at.1 ≡ Some d
     → IsState d.states d.start → IsFirst machine (branch_frame f d branch input)
 first_of machine at f d branch input stands is starts = on_start (state_of d.start d.states) refl starts
   where
@@ -155,32 +155,33 @@ map_all P s f (Ok input) fs all h = on_elements (elements s.items_path input) h
     on_elements (Err error) k = cc k
     on_elements (Ok xs) k = on_count (nat_le (length xs) 4096) xs k
 
-pub turn-branches : (machine : Definition) (at : Standing) (f : Frame) → standing machine f ≡ Some at → BranchesStart at.1 → OnBranches (IsFirst machine) (turn at f)
-turn-branches machine (level, state.Pass s) f stands start = tt
-turn-branches machine (level, state.Choice s) f stands start = tt
-turn-branches machine (level, state.Wait s) f stands start = tt
-turn-branches machine (level, state.Succeed s) f stands start = tt
-turn-branches machine (level, state.Fail s) f stands start = tt
-turn-branches machine (level, state.Task s) f stands start = on_input (effective s.processing (data_of f.raw))
+-- P of each branch's frame, where it is so of the frame with which each branch of the state begins
+pub branches_all : (P : Frame → Type 0) (level : Definition) (s : State) (f : Frame) → ((branch : ℕ) (d : Definition) (j : Data) → branch_of branch s ≡ Some d → P (branch_frame f d branch j))
+    → OnBranches P (turn_of level s f)
+branches_all P level (state.Pass s) f all = tt
+branches_all P level (state.Choice s) f all = tt
+branches_all P level (state.Wait s) f all = tt
+branches_all P level (state.Succeed s) f all = tt
+branches_all P level (state.Fail s) f all = tt
+branches_all P level (state.Task s) f all = on_input (effective s.processing (data_of f.raw))
   where
-    on_call : (o : Option Call) → OnBranches (IsFirst machine) (asks level s f o)
+    on_call : (o : Option Call) → OnBranches P (asks level s f o)
     on_call (Some c) = tt
     on_call None = tt
 
-    on_input : (o : Result Data (List ℕ)) → OnBranches (IsFirst machine) (task_turn level s f o)
+    on_input : (o : Result Data (List ℕ)) → OnBranches P (task_turn level s f o)
     on_input (Ok input) = on_call (call_of (action_of s.resource) input)
     on_input (Err error) = tt
-turn-branches machine (level, state.Parallel s) f stands start = on_frames (fork_of (parallel_frames s) f (effective s.processing (data_of f.raw))) refl
+branches_all P level (state.Parallel s) f all = on_frames (fork_of (parallel_frames s) f (effective s.processing (data_of f.raw))) refl
   where
-    on_frames : (o : Result (List Frame) (List ℕ)) → fork_of (parallel_frames s) f (effective s.processing (data_of f.raw)) ≡ o → OnBranches (IsFirst machine) (forks level s.errors f o)
+    on_frames : (o : Result (List Frame) (List ℕ)) → fork_of (parallel_frames s) f (effective s.processing (data_of f.raw)) ≡ o → OnBranches P (forks level s.errors f o)
     on_frames (Err error) is = tt
-    on_frames (Ok fs) is =
-        parallel_all (IsFirst machine) s f (effective s.processing (data_of f.raw)) fs
-        (λ branch d j there. first_of machine (level, state.Parallel s) f d branch j stands there (start branch d there)) is
-turn-branches machine (level, state.Map s) f stands start = on_frames (fork_of (map_frames s) f (effective s.processing (data_of f.raw))) refl
+    on_frames (Ok fs) is = parallel_all P s f (effective s.processing (data_of f.raw)) fs all is
+branches_all P level (state.Map s) f all = on_frames (fork_of (map_frames s) f (effective s.processing (data_of f.raw))) refl
   where
-    on_frames : (o : Result (List Frame) (List ℕ)) → fork_of (map_frames s) f (effective s.processing (data_of f.raw)) ≡ o → OnBranches (IsFirst machine) (forks level s.errors f o)
+    on_frames : (o : Result (List Frame) (List ℕ)) → fork_of (map_frames s) f (effective s.processing (data_of f.raw)) ≡ o → OnBranches P (forks level s.errors f o)
     on_frames (Err error) is = tt
-    on_frames (Ok fs) is =
-        map_all (IsFirst machine) s f (effective s.processing (data_of f.raw)) fs
-        (λ j. first_of machine (level, state.Map s) f s.processor 0 j stands refl (start 0 s.processor refl)) is
+    on_frames (Ok fs) is = map_all P s f (effective s.processing (data_of f.raw)) fs (λ j. all 0 s.processor j refl) is
+
+pub turn-branches : (machine : Definition) (at : Standing) (f : Frame) → standing machine f ≡ Some at → BranchesStart at.1 → OnBranches (IsFirst machine) (turn at f)
+turn-branches machine at f stands start = branches_all (IsFirst machine) at.0 at.1 f (λ branch d j there. first_of machine at f d branch j stands there (start branch d there))

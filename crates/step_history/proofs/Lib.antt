@@ -7,3 +7,5 @@ pub mod Counts
 pub mod Closing
 pub mod Worked
 pub mod Extended
+pub mod Placed
+pub mod Movable

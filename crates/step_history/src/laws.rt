@@ -1,5 +1,6 @@
 //! Laws of histories: each function's contract is the law, and it does nothing.
 
+ghost use Rattle.step_history.specs.Levels.{FramesStand, ThreadsMoveWhereReady};
 ghost use Rattle.step_history.specs.Laws.{FramesAreCounted, MoreMachinesKeepHistories, AllowedOrdersUndo, FreeStepsReturn};
 
 /// A frame counts no further than there are steps, and a parked one has made one.
@@ -21,4 +22,14 @@ pub fn allowed_orders_undo()
 /// A free step that is undone can be taken again, and then stands last, with all as before.
 pub fn free_steps_return()
     ensures { FreeStepsReturn }
+{}
+
+/// In a setting whose machines are whole, every frame stands before a state of its machine, as deep as its thread's name.
+pub fn frames_stand()
+    ensures { FramesStand }
+{}
+
+/// There a thread has a move just where it is ready, or can join or terminate.
+pub fn threads_move_where_ready()
+    ensures { ThreadsMoveWhereReady }
 {}

@@ -9,5 +9,6 @@ mod undoing;
 
 pub use history::History;
 pub use laws::{
-    allowed_orders_undo, frames_are_counted, free_steps_return, more_machines_keep_histories,
+    allowed_orders_undo, frames_are_counted, frames_stand, free_steps_return,
+    more_machines_keep_histories, threads_move_where_ready,
 };

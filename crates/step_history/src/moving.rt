@@ -1,14 +1,14 @@
 // What a thread's move is to do.
-ghost use Rattle.std.specs.Prelude.{◌≡◌, ◌<◌, ◌≤◌, ◌+◌, ◌^◌, true, List, length, IfOk, IfSome, IsSome, Some, None, is_some, option_copied, option_map};
+ghost use Rattle.std.specs.Prelude.{◌≡◌, ◌<◌, ◌≤◌, ◌+◌, ◌^◌, List, length, IfOk, IfSome, IsSome, Some, None, is_some, option_copied, option_map};
 ghost use Rattle.json_tree.specs.View.{data_of};
 ghost use Rattle.asl_forward.specs.Outcomes.{work_of, work_at};
 ghost use Rattle.asl_forward.specs.Turn.{standing};
-ghost use Rattle.branch_tree.specs.FlatMap.{is_parked};
 ghost use Rattle.step_names.specs.Thread.{child_of};
 ghost use Rattle.saved_steps.specs.Deeds.{first_fault, outputs};
 ghost use Rattle.saved_steps.specs.Held.{frames_of};
 ghost use Rattle.saved_steps.specs.World.{Setting, World};
 ghost use Rattle.step_history.specs.History.{Past, IsHistory, IsSomeHistory};
+ghost use Rattle.step_history.specs.Levels.{HasNamesBelow};
 ghost use Rattle.step_history.specs.Moves.{IsMachineOf, IsMoveOf, IsCloseOf, branches_of, fault_in, output_in};
 
 use crate::history::History;
@@ -38,7 +38,7 @@ impl History {
     ) -> Result<Option<Next>, AllocError>
         requires history { IsSomeHistory self.now }
         requires count { length self.now.records.items + 1 < 2 ^ 32 }
-        requires depth { IfSome (frames_of self.now.world thread.now) (λ f. is_parked f.phase ≡ true → length thread.now.path < 31) }
+        requires depth { IfSome (frames_of self.now.world thread.now) (HasNamesBelow thread.now) }
         ensures { IfOk result (λ next. (s : Setting) (base : World) (ts : List Past) → IsHistory s base ts self.now → IsMachineOf s (frames_of self.now.world thread.now) machine.now → IsMoveOf s self.now.world thread.now next) }
     {
         nexts_are_moves();
@@ -72,7 +72,7 @@ impl History {
         works: bool,
     ) -> Result<Option<Next>, AllocError>
         requires fork { 1 ≤ frame.now.count }
-        requires depth { length thread.now.path < 31 }
+        requires depth { 1 ≤ branches → length thread.now.path < 31 }
         requires count { frame.now.count + 1 < 2 ^ 32 }
         requires stands { IsSome (standing machine.now frame.now) }
         requires works { works ≡ is_some (work_at machine.now frame.now) }
@@ -162,7 +162,7 @@ impl History {
         branches: u32,
     ) -> Result<Option<&Fault>, AllocError>
         requires fork { 1 ≤ fork }
-        requires depth { length thread.now.path < 31 }
+        requires depth { 1 ≤ branches → length thread.now.path < 31 }
         ensures { IfOk result (λ f. option_copied f ≡ first_fault (branches_of self.now.world thread.now fork 0 branches)) }
     {
         for number in 0..branches {
@@ -182,7 +182,7 @@ impl History {
         branches: u32,
     ) -> Result<Option<JsonList>, AllocError>
         requires fork { 1 ≤ fork }
-        requires depth { length thread.now.path < 31 }
+        requires depth { 1 ≤ branches → length thread.now.path < 31 }
         ensures { IfOk result (λ l. l ≡ outputs (branches_of self.now.world thread.now fork 0 branches)) }
     {
         let mut shared = Vec::new(alloc);
