@@ -1,18 +1,29 @@
 -- A book as its contracts see it: its story, and what it holds for that.
-use Rattle.std.specs.Prelude.{◌≡◌, ◌+◌, ◌≤◌, ℕ, List, length, Option, Some, None}
+use Rattle.std.specs.Prelude.{◌≡◌, ◌+◌, ◌≤◌, ℕ, List, length, map, position, Option, Some, None, Ok, vec_capacity}
+use Rattle.std.specs.Global.{Vec}
 use Rattle.std.specs.Ordering.{nat_cmp}
 use Rattle.std.specs.Cmp.Lexicographic.{slice_cmp}
-use Rattle.std.specs.BTreeMap.{BTreeMap, get}
+use Rattle.std.specs.BTreeMap.{BTreeMap, is_at}
+use Rattle.std.specs.Map.{lookup}
 use Rattle.asl_machine.specs.Definition.{Definition}
+use Rattle.depends.specs.Plans.{first_dependent}
 use Rattle.saved_steps.specs.Held.{seen}
+use Rattle.saved_steps.specs.World.{is_same_step}
+use Rattle.step_names.specs.declared.step.StepName.{StepName}
 use Rattle.step_history.specs.History.{IsHistory}
 use Rattle.step_history.specs.declared.history.History.{History}
+use Rattle.book_log.specs.Answers.{undo_answer}
 use Rattle.book_log.specs.Legal.{IsLegal}
-use Rattle.book_log.specs.Story.{Story, base_of, machine_of, past_of, run_of, setting_of, world_of}
+use Rattle.book_log.specs.declared.begin.Begin.{Begin}
+use Rattle.book_log.specs.declared.entry.Entry.{Entry}
+use Rattle.book_log.specs.Story.{Story, base_of, machine_of, past_of, run_of, setting_of}
 
--- Places of machines by their names: a place may be empty.
+-- places of machines, each with its name: a place may be empty
 abbrev pub Places : Type 0
-Places = List ℕ → Option (Option Definition)
+Places = List (List ℕ × Option Definition)
+
+abbrev pub place_in : Places → List ℕ → Option (Option Definition)
+place_in places name = lookup (is_at (slice_cmp nat_cmp name)) places
 
 -- the machine in a place, if it is not empty
 abbrev pub placed : Option (Option Definition) → Option Definition
@@ -26,8 +37,9 @@ pub record Volume : Type 0 where
   pub places : Places
   pub capacity : ℕ
 
-abbrev pub places_in : BTreeMap (List ℕ) (Option Definition) → Places
-places_in m name = get (slice_cmp nat_cmp) m name
+-- a book of these fields
+abbrev pub volume : Begin → BTreeMap (List ℕ) (Option Definition) → History → Vec Entry → Volume
+volume begin machines history log = record { story = record { begin = begin; log = log.items }; history = history; places = machines.entries; capacity = vec_capacity log }
 
 -- what a book holds belongs to its story
 pub record IsTied (b : Volume) : Type 0 where
@@ -35,8 +47,18 @@ pub record IsTied (b : Volume) : Type 0 where
   -- the history is the run of the remaining steps from the start
   pub history : IsHistory (setting_of b.story) (base_of b.story.begin) (past_of b.story) b.history
   pub run : run_of b.story ≡ Some (seen b.history.world, past_of b.story)
-  pub machines : (name : List ℕ) → placed (b.places name) ≡ machine_of b.story name
+  pub machines : (name : List ℕ) → placed (place_in b.places name) ≡ machine_of b.story name
   -- there is room for the entry of each remaining step's undoing
   pub room : length b.story.log + length b.history.records.items ≤ b.capacity
   pub few : length b.history.records.items ≤ 65536
   pub bounded : length b.story.log + length b.history.records.items ≤ 1000000
+
+-- the step of this name stands at a place
+abbrev pub IsAt : Volume → StepName → ℕ → Type 0
+IsAt b name at = position (λ r. is_same_step r.fact.name name) b.history.records.items ≡ Some at
+
+-- it may be undone there
+pub record IsFreePlace (b : Volume) (name : StepName) (at : ℕ) : Type 0 where
+  pub there : IsAt b name at
+  pub free : first_dependent (map (λ r. r.fact) b.history.records.items) at ≡ None
+  pub answer : undo_answer b.story name ≡ Ok name

@@ -1,5 +1,5 @@
 -- What is made ready of a command before it is entered.
-use Rattle.std.specs.Prelude.{◌≡◌, ◌⊎◌, ◌+◌, ◌≤◌, ◌<◌, ℕ, List, [], ◌++◌, length, Option, Some, None, Result, Ok, Err}
+use Rattle.std.specs.Prelude.{◌≡◌, ◌+◌, ◌≤◌, ℕ, List, [], ◌++◌, length, slice_get, Option, Some, None, option_map, Result, Ok, Err}
 use Rattle.json_tree.specs.Data.{depth}
 use Rattle.json_tree.specs.View.{data_of}
 use Rattle.serde_json.specs.View.{view}
@@ -20,7 +20,7 @@ use Rattle.book_log.specs.declared.entry.Entry.TheVariants.{Define, Start, Step 
 use Rattle.book_log.specs.declared.moved.Moved.{Moved}
 use Rattle.book_log.specs.declared.refusal.Refusal.{Refusal}
 use Rattle.book_log.specs.declared.refusal.Refusal.TheVariants.{Memory}
-use Rattle.rollback_book.specs.Book.{Volume}
+use Rattle.rollback_book.specs.Book.{Volume, place_in}
 use Rattle.rollback_book.specs.declared.making.Change.{Change}
 use Rattle.rollback_book.specs.declared.making.Change.TheVariants as change
 use Rattle.rollback_book.specs.declared.making.Entered.{Entered}
@@ -74,7 +74,7 @@ pub record IsStepFor (b : Volume) (step : Step) (m : MadeStep) : Type 0 where
 
 -- a definition has an empty place, and a step can be applied
 abbrev pub Fits : Volume → Entry → MadeChange → Type 0
-Fits b (Define name machine) (made.Define place shared) = (place ≡ name) × (shared ≡ machine) × (b.places name ≡ Some None)
+Fits b (Define name machine) (made.Define place shared) = (place ≡ name) × (shared ≡ machine) × (place_in b.places name ≡ Some None)
 Fits b (Start exec machine input) (made.Step m) = IsStepFor b (started exec.exec machine input) m
 Fits b (Stepped name kind) (made.Step m) = IsStepFor b (moved name) m
 Fits b _ _ = ⊥
@@ -93,8 +93,9 @@ pub record IsPlanned (story : Story) (r : PlanRoom) : Type 0 where
   pub names : plan_answer story r.step ≡ Ok r.names
   pub kept : r.undone ≡ r.names
   pub entries : length story.log ≡ r.entries
+  -- the step stands at this place
   pub at : ℕ
-  pub there : at < length (facts_of story)
+  pub there : option_map (λ f. f.name) (slice_get (facts_of story) at) ≡ Some r.step
   pub places : r.places ≡ plan (facts_of story) at
 
 -- The room was planned when the book had its first entries, as many as the room counts.

@@ -1,30 +1,26 @@
 // The book: the history of its remaining steps, and the log of what was accepted.
-ghost use Rattle.std.specs.Prelude.{◌≡◌, ◌+◌, ◌<◌, ◌≤◌, ◌∷◌, ◌++◌, ◌⊎◌, ℕ, List, [], map, length, IfOk, IfErr, IsTrue, IsOk, OnOk, OnErr, MatchResult, MatchOption, Some, None, Ok, Err, false};
-ghost use Rattle.json_tree.specs.Data.{depth};
-ghost use Rattle.json_tree.specs.View.{data_of};
-ghost use Rattle.serde_json.specs.View.{view};
-ghost use Rattle.asl_machine.specs.Definition.{Definition};
-ghost use Rattle.asl_machine.specs.Profile.{Defines};
+ghost use Rattle.std.specs.Prelude.{◌≡◌, ◌<◌, ◌⊎◌, [], map, length, IfOk, IfErr, IsOk, OnOk, OnErr, MatchResult, Some, None, Ok, Err};
 ghost use Rattle.item_store.specs.Listing.{IsListing, items_left};
 ghost use Rattle.saved_steps.specs.Steps.{name_of};
 ghost use Rattle.step_history.specs.History.{AreRecordsOf};
-ghost use Rattle.book_log.specs.Answers.{Gives, Refuses, IsDefineRefusal, start_answer, step_answer, undo_answer, plan_answer};
+ghost use Rattle.book_log.specs.Answers.{undo_answer, plan_answer};
 ghost use Rattle.book_log.specs.Beginning.{table_of};
 ghost use Rattle.book_log.specs.Legal.{IsLegal};
-ghost use Rattle.book_log.specs.Story.{Story, accepted, past_of, remaining, world_of};
-ghost use Rattle.rollback_book.specs.Making.{Answers, CanEnter, IsProper, IsPlanned, WasPlanned};
+ghost use Rattle.book_log.specs.Story.{accepted, past_of, remaining, world_of};
+ghost use Rattle.rollback_book.specs.Book.{IsAt, IsFreePlace};
+ghost use Rattle.rollback_book.specs.Making.{IsPlanned, WasPlanned};
 
-use crate::making::{Change, Entered, Made, MadeChange};
+use crate::lists::{names_at, push_with_room};
+use crate::opening::first_store;
 use crate::room::{PlanRoom, Room};
 use asl_forward::Frame;
 use asl_machine::SharedMachine;
 use attr_values::ItemFault;
-use book_log::{Begin, Entry, Moved, Refusal, StepNames};
+use book_log::{Begin, Entry, Refusal, StepNames};
 use item_store::Items;
-use json_tree::{Json, Text};
+use json_tree::Text;
 use saved_steps::StepRecord;
-use serde_json::Value;
-use std::alloc::Global;
+use std::alloc::{AllocError, Global};
 use std::collections::BTreeMap;
 use std::marker::Model;
 use step_history::History;
@@ -44,14 +40,20 @@ pub struct Book {
 }
 
 impl Model for Book {
-    ghost use Rattle.std.specs.Prelude.{vec_capacity};
-    ghost use Rattle.rollback_book.specs.Book.{Volume, IsTied, places_in};
+    ghost use Rattle.rollback_book.specs.Book.{Volume, IsTied, volume};
+    ghost use Rattle.asl_machine.specs.TreeCode.{definition_code};
+    ghost use Rattle.book_log.specs.contracts.begin.Begin as begin_row;
+    ghost use Rattle.book_log.specs.contracts.entry.Entry as entry_row;
+    ghost use Rattle.step_history.specs.contracts.history.History as history_row;
+    ghost use Rattle.std.specs.Coded.{codes};
 
     ghost Value = { Volume };
 
-    ghost view = { λ b. record { story = record { begin = b.begin; log = b.log.items }; history = b.history; places = places_in b.machines; capacity = vec_capacity b.log } };
+    ghost coded = { Prim.hlevel (codes, begin_row.the_row.coded, entry_row.the_row.coded, history_row.the_row.coded, definition_code) };
 
-    ghost invariant = { λ b. IsTied (record { story = record { begin = b.begin; log = b.log.items }; history = b.history; places = places_in b.machines; capacity = vec_capacity b.log }) };
+    ghost view = { λ b. volume b.begin b.machines b.history b.log };
+
+    ghost invariant = { λ b. IsTied (volume b.begin b.machines b.history b.log) };
 }
 
 impl Book {
@@ -65,58 +67,28 @@ impl Book {
         ensures { MatchResult result
             (λ book. (book.story ≡ record { begin = begin; log = [] }) × IsOk (table_of begin))
             (λ e. (e ≡ ItemFault.Memory) ⊎ (table_of begin ≡ Err e)) }
-    { .. }
-
-    /// Defines a machine. Takes time linear in the definition and logarithmic in the number of machines.
-    pub fn define(&mut self, alloc: Global, name: &Text, definition: &Value) -> Result<(), Refusal>
-        ensures ok { OnOk result ((machine : Definition) × Defines (view definition.now) machine
-            × (self.new.story ≡ accepted self.old.story (Entry.Define name.now machine))) }
-        ensures refused { IfErr result (IsDefineRefusal self.old.story name.now (view definition.now)) }
-        ensures err { OnErr result (self.new.story ≡ self.old.story) }
-    { .. ready_entry, then enter .. }
-
-    /// Starts an execution of a machine, and answers its start's name.
-    pub fn start(&mut self, alloc: Global, exec: &ThreadName, machine: &Text, input: Json) -> Result<StepName, Refusal>
-        requires execution { exec.now.path ≡ [] }
-        requires shallow { depth (data_of input) ≤ 127 }
-        ensures answer { Gives result (start_answer self.old.story exec.now machine.now) }
-        ensures ok { OnOk result (self.new.story ≡ accepted self.old.story (Entry.Start exec.now machine.now input)) }
-        ensures err { OnErr result (self.new.story ≡ self.old.story) }
-    { .. }
-
-    /// Takes the next step of a thread, and answers its name and kind.
-    pub fn step(&mut self, alloc: Global, thread: &ThreadName) -> Result<Moved, Refusal>
-        ensures answer { Gives result (step_answer self.old.story thread.now) }
-        ensures ok { IfOk result (λ m. self.new.story ≡ accepted self.old.story (Entry.Step m.name m.kind)) }
-        ensures err { OnErr result (self.new.story ≡ self.old.story) }
-    { .. }
-
-    /// Makes everything that a command needs, so that to enter it takes no memory and is not refused. The story is the same then.
-    pub fn ready_entry(&mut self, alloc: Global, change: Change<'_>) -> Result<Made, Refusal>
-        requires { IsProper change.entry }
-        ensures answer { Answers self.old.story change.entry result }
-        ensures ready { IfOk result (λ m. CanEnter self.new m) }
-        ensures story { self.new.story ≡ self.old.story }
-    { .. }
-
-    /// Enters a command for which everything is made, where the book is as that left it. Takes no memory.
-    pub fn enter(&mut self, made: Made) -> Entered
-        requires { CanEnter self.old made }
-        ensures answer { result ≡ made.answer }
-        ensures story { self.new.story ≡ accepted self.old.story made.entry }
-    { .. }
-
-    /// The least thread outside a set, by the order of names, that has a move. 
-    pub fn first_ready(&self, alloc: Global, outside: &BTreeSet<ThreadName>) -> Result<Option<ThreadName>, Refusal>
-        -- contract: Memory is its only refusal; None: every name t with has_move self.now.story t ≡ true is in the set; Some t: it has a move, isn't in
-        -- the set, and no lesser name (thread_cmp) outside the set has one   (Answers.has_move of book_log)
-    { .. self.history.first_ready .. }
+    {
+        match first_store(alloc, &begin) {
+            Ok(items) => Ok(Book {
+                begin,
+                machines: BTreeMap::new(alloc),
+                history: History::new(alloc, items),
+                log: Vec::new(alloc),
+            }),
+            Err(fault) => {
+                drop(begin);
+                Err(fault)
+            }
+        }
+    }
 
     /// Makes what `undo` of this step needs. Whether there is such a step is not looked at.
     pub fn room(&self, alloc: Global, step: &StepName) -> Result<Room, Refusal>
         ensures ok { IfOk result (λ r. r.step ≡ step.now) }
         ensures err { IfErr result (λ e. e ≡ Refusal.Memory) }
-    { .. }
+    {
+        Ok(Room::new(alloc, step)?)
+    }
 
     /// Whether a step may be undone; the room comes back where it may. Takes no memory; looks at each remaining step up to the first
     /// that depends directly on it.
@@ -124,21 +96,37 @@ impl Book {
         ensures { MatchResult result
             (λ r. (r.step ≡ room.step) × (undo_answer self.now.story room.step ≡ Ok room.step))
             (λ e. undo_answer self.now.story room.step ≡ Err e) }
-    { .. }
+    {
+        let (_, room) = self.free_place(room)?;
+        Ok(room)
+    }
 
     /// Takes a step back on which no remaining step depends directly, and answers its name. Takes no memory.
     pub fn undo(&mut self, room: Room) -> Result<StepName, Refusal>
         ensures answer { result ≡ undo_answer self.old.story room.step }
         ensures ok { OnOk result (self.new.story ≡ accepted self.old.story (Entry.Undo room.step)) }
         ensures err { OnErr result (self.new.story ≡ self.old.story) }
-    { .. }
+    {
+        let (at, Room { step, spare }) = self.free_place(room)?;
+        let answer = spare.step(&step);
+        self.take_back(at, step);
+        Ok(answer)
+    }
 
     /// Plans the rollback of a step: it and its consequences, the latest first. Takes memory for their names, twice, and places.
     pub fn plan_room(&self, alloc: Global, step: &StepName) -> Result<PlanRoom, Refusal>
         ensures { MatchResult result
             (λ r. (r.step ≡ step.now) × IsPlanned self.now.story r)
             (λ e. ((e ≡ Refusal.Memory) × IsOk (plan_answer self.now.story step.now)) ⊎ (plan_answer self.now.story step.now ≡ Err e)) }
-    { .. }
+    {
+        let Some(at) = self.history.find(step) else {
+            return Err(Refusal::NoStep);
+        };
+        match self.plan_at(alloc, step, at) {
+            Ok(room) => Ok(room),
+            Err(AllocError) => Err(Refusal::Memory),
+        }
+    }
 
     /// Takes back a step and its consequences, and no other step, as they were planned, and answers their names, the latest first.
     /// Takes no memory.
@@ -151,30 +139,98 @@ impl Book {
         ensures ok { IfOk result (λ names. (names ≡ room.names) × (plan_answer self.old.story room.step ≡ Ok names) × (self.new.story ≡ accepted self.old.story (Entry.Rollback room.step names))) }
         ensures stale { IfErr result (λ e. (e ≡ Refusal.Stale (length self.old.story.log)) × (room.entries < length self.old.story.log)) }
         ensures err { OnErr result (self.new.story ≡ self.old.story) }
-    { .. }
+    {
+        if self.log.len() != room.entries {
+            return Err(Refusal::Stale(self.log.len()));
+        }
+        let PlanRoom {
+            step,
+            names,
+            undone,
+            places,
+            entries: _,
+        } = room;
+        self.history.rollback(&places);
+        push_with_room(&mut self.log, Entry::Rollback { step, undone });
+        Ok(names)
+    }
 
     /// The frame of a thread. Takes no memory, and time logarithmic in the number of executions.
     pub fn show(&self, thread: &ThreadName) -> Result<&Frame, Refusal>
         ensures { MatchResult result
             (λ f. (world_of self.now.story).frames thread.now ≡ Some f.now)
             (λ e. (e ≡ Refusal.NoThread) × ((world_of self.now.story).frames thread.now ≡ None)) }
-    { .. }
+    {
+        match self.history.frame(thread) {
+            Some(frame) => Ok(frame),
+            None => Err(Refusal::NoThread),
+        }
+    }
 
     /// The items of the table in the order of their keys. Takes no memory.
     pub fn items(&self) -> Items<'_>
         ensures { IsListing (world_of self.now.story).items (items_left result) }
-    { .. }
+    {
+        self.history.items().items()
+    }
 
     /// The remaining steps in the order in which they were taken, each with what its undoing gives back. Takes no memory.
     pub fn history(&self) -> &[StepRecord]
         ensures names { map (λ r. r.fact.name) result.now ≡ map name_of (remaining self.now.story) }
         ensures saved { AreRecordsOf self.now.history.world.items result.now (past_of self.now.story) }
-    { .. }
+    {
+        self.history.records()
+    }
 
     /// What the book began with, and the commands that it accepted, each with its reply. Takes no memory.
     pub fn entries(&self) -> (&Begin, &[Entry])
         ensures begin { result.0.now ≡ self.now.story.begin }
         ensures log { result.1.now ≡ self.now.story.log }
         ensures legal { IsLegal self.now.story }
-    { .. }
+    {
+        (&self.begin, self.log.as_slice())
+    }
+
+    /// The place of a step that may be undone, and its room.
+    fn free_place(&self, room: Room) -> Result<(usize, Room), Refusal>
+        ensures { MatchResult result
+            (λ p. (p.1.step ≡ room.step) × IsFreePlace self.now room.step p.0)
+            (λ e. undo_answer self.now.story room.step ≡ Err e) }
+    {
+        let Some(at) = self.history.find(&room.step) else {
+            return Err(Refusal::NoStep);
+        };
+        let Some(dependent) = self.history.first_dependent(at) else {
+            return Ok((at, room));
+        };
+        let Room { step: _, spare } = room;
+        let needing = &self.history.records()[dependent];
+        Err(Refusal::HasDependents(spare.step(&needing.fact.name)))
+    }
+
+    /// The plan of the step at a place.
+    fn plan_at(&self, alloc: Global, step: &StepName, at: usize) -> Result<PlanRoom, AllocError>
+        requires { IsAt self.now step.now at }
+        ensures { IfOk result (λ r. (r.step ≡ step.now) × IsPlanned self.now.story r) }
+    {
+        let places = self.history.plan(alloc, at)?;
+        let names = names_at(alloc, self.history.records(), places.places())?;
+        let undone = names_at(alloc, self.history.records(), places.places())?;
+        Ok(PlanRoom {
+            step: step.copy()?,
+            names,
+            undone,
+            places,
+            entries: self.log.len(),
+        })
+    }
+
+    /// Takes back the step at a place.
+    fn take_back(&mut self, at: usize, step: StepName)
+        requires { IsFreePlace self.old step at }
+        ensures { self.new.story ≡ accepted self.old.story (Entry.Undo step) }
+    {
+        self.history.undo(at);
+        push_with_room(&mut self.log, Entry::Undo { step });
+    }
 }

@@ -2,6 +2,7 @@
 
 //! The book: executions of state machines over one table, the commands that were accepted, and the taking back of their steps.
 mod book;
+mod lists;
 mod making;
 mod opening;
 mod room;

@@ -1,5 +1,8 @@
 // A step for which everything is made.
-use crate::fact::Access;
+ghost use Rattle.std.specs.Prelude.{◌≡◌};
+ghost use Rattle.saved_steps.specs.Made.{fact_made};
+
+use crate::fact::{Access, Kind};
 use asl_forward::Frame;
 use attr_values::Item;
 use branch_tree::Branch;
@@ -32,4 +35,20 @@ pub enum Change {
 pub struct Made {
     pub(crate) name: StepName,
     pub(crate) change: Change,
+}
+
+impl Made {
+    /// What the step is.
+    pub fn kind(&self) -> Kind
+        ensures { result ≡ (fact_made self.now).kind }
+    {
+        match &self.change {
+            Change::Begin(_) => Kind::Start,
+            Change::Plain(_) => Kind::Plain,
+            Change::Call { .. } => Kind::Call,
+            Change::Fork(..) => Kind::Fork,
+            Change::Join(_) => Kind::Join,
+            Change::Terminate(_) => Kind::Terminate,
+        }
+    }
 }
