@@ -9,3 +9,4 @@ pub mod Answered
 pub mod Ready
 pub mod Moves
 pub mod Left
+pub mod Earliest

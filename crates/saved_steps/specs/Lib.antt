@@ -9,3 +9,4 @@ pub mod Run
 pub mod Steps
 pub mod Undoing
 pub mod World
+pub mod First

@@ -4,6 +4,7 @@
 mod answering;
 mod applying;
 mod fact;
+mod first;
 mod laws;
 mod made;
 mod making;

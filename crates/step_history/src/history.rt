@@ -1,17 +1,21 @@
 // The steps that remain, and the world that they give.
-ghost use Rattle.std.specs.Prelude.{◌≡◌, [], None, length, position, option_copied};
+ghost use Rattle.std.specs.Prelude.{◌≡◌, [], None, IfOk, length, position, option_copied};
+ghost use Rattle.std.specs.BTreeSet.{contains};
 ghost use Rattle.branch_tree.specs.Ready.{readiness_at};
 ghost use Rattle.depends.specs.Plans as plans;
 ghost use Rattle.item_store.specs.Store.{items_of};
+ghost use Rattle.saved_steps.specs.First.{IsFirstReady};
 ghost use Rattle.saved_steps.specs.Held.{frames_of, paths_of};
 ghost use Rattle.saved_steps.specs.World.{Setting, is_same_step};
+ghost use Rattle.step_names.specs.Order.{thread_cmp};
 ghost use Rattle.step_history.specs.History.{IsHistory, nothing_over};
 
 use asl_forward::Frame;
 use branch_tree::Readiness;
 use item_store::ItemStore;
 use saved_steps::{StepRecord, World};
-use std::alloc::Global;
+use std::alloc::{AllocError, Global};
+use std::collections::BTreeSet;
 use step_names::{StepName, ThreadName};
 
 /// The steps that were taken and remain, in their order, with the executions and items that they give.
@@ -44,6 +48,18 @@ impl History {
         ensures { result ≡ readiness_at (paths_of (frames_of self.now.world) thread.now.exec) thread.now.path }
     {
         self.world.ready(thread)
+    }
+
+    /// The least name of a thread that has a move and is not passed by. Takes the memory and the time of `World::first_ready`:
+    /// executions that are done or have failed cost a step each and no memory.
+    pub fn first_ready(
+        &self,
+        alloc: Global,
+        passed: &BTreeSet<ThreadName>,
+    ) -> Result<Option<ThreadName>, AllocError>
+        ensures { IfOk result (λ found. IsFirstReady (frames_of self.now.world) (contains thread_cmp passed.now) found) }
+    {
+        self.world.first_ready(alloc, passed)
     }
 
     /// The items of the table.

@@ -1,0 +1,172 @@
+-- The executions gone through in the order of their names.
+use Rattle.std.proofs.Common.{◌≡◌, ℕ, arith, Bool, true, false, ◌&&◌, not, Ordering, Less, Equal, Greater, is_eq, List, [], ◌∷◌, ◌++◌, refl, ap, sym, subst, ◌∙◌, Option, None, Some, Global, inl, inr}
+use Rattle.std.specs.Prelude.{◌⊎◌, IsTrue, IfOk, Result}
+use Rattle.std.specs.BTreeMap.{BTreeMap, is_at, get_by_text}
+use Rattle.std.specs.Cmp.Lexicographic.{slice_cmp}
+use Rattle.std.specs.List.{AllByRecursion}
+use Rattle.std.specs.List.Sorted.{IsStrictlySortedBy}
+use Rattle.std.specs.Map.{lookup, keys_of}
+use Rattle.std.specs.Ordering.{nat_cmp}
+use Rattle.std.specs.String.{string_bytes, string_cmp}
+use Rattle.std.specs.declared.string.String.{String}
+use Rattle.std.proofs.lemmas.Cmp.{nat_list_cmp_total}
+use Rattle.std.proofs.lemmas.Map.Text.{is_eq-slice_cmp}
+use Rattle.std.proofs.lemmas.Slice.Eq.{bytes_eq-Decides}
+use Rattle.json_tree.specs.declared.tree.Json.{Json}
+use Rattle.asl_forward.specs.declared.frame.Fault.{Fault}
+use Rattle.asl_forward.specs.declared.frame.Frame.{Frame}
+use Rattle.asl_forward.specs.declared.frame.Phase.TheVariants.{Done, Failed}
+use Rattle.branch_tree.specs.First.{IsFirst, is_free, thread_under, path_cmp, has_move}
+use Rattle.branch_tree.specs.FlatMap.{FrameMap, IsTree, branch_count}
+use Rattle.branch_tree.specs.Laws.{BelowIsParked}
+use Rattle.branch_tree.specs.Paths.{Path}
+use Rattle.branch_tree.specs.Ready.{readiness_of, readiness_at}
+use Rattle.branch_tree.specs.Tree.{Rows, frame_at}
+use Rattle.step_names.specs.Order.{thread_cmp}
+use Rattle.step_names.specs.Thread.{Thread, IsThread, execution, is_name}
+use Rattle.saved_steps.specs.First.{free, IsFirstReady}
+use Rattle.saved_steps.specs.Held.{placed, tree_in, rows_at, frames_in}
+
+by_bool : (b : Bool) (P : Type 0) → (b ≡ true → P) → (b ≡ false → P) → P
+by_bool true P = λ yes no. yes refl
+by_bool false P = λ yes no. no refl
+
+-- ---- executions that have ended
+
+-- where nothing stands under a root that has no move, no thread is free
+pub none_free : (frames : FrameMap) (f : Frame) (base : Thread) (passed : Thread → Bool) → BelowIsParked → IsTree frames → frames [] ≡ Some f → has_move (readiness_of frames (Some f)) ≡ false
+    → branch_count f.phase ≡ 0 → IsFirst frames base passed None
+none_free frames f base passed parked tree root still alone [] named = rw (root, still) refl
+none_free frames f base passed parked tree root still alone (b ∷ p) named = by (frames ((b ∷ p) ++ [])) refl
+  where
+    by : (o : Option Frame) → frames ((b ∷ p) ++ []) ≡ o → (has_move (readiness_of (λ q. frames ((b ∷ p) ++ q)) o) && not (passed (thread_under base (b ∷ p)))) ≡ false
+    by None e = refl
+    by (Some g) e =
+        let k = parked frames [] (p ++ []) b g tree e in
+        let same : Some k.0 ≡ Some f = sym k.1 ∙ root in
+        let it : k.0 ≡ f = cc in
+        let many = k.3 in
+        absurd (omega (arith, many, ap (λ (x : Frame). branch_count x.phase) it ∙ alone))
+
+pub ended_free : (frames : FrameMap) (f : Frame) (base : Thread) (passed : Thread → Bool) → BelowIsParked → IsTree frames → frames [] ≡ Some f
+    → ((output : Json) × (f.phase ≡ Done output)) ⊎ ((fault : Fault) × (f.phase ≡ Failed fault)) → IsFirst frames base passed None
+ended_free frames f base passed parked tree root (inl d) = let e = d.1 in none_free frames f base passed parked tree root (rw e refl) (ap branch_count e)
+ended_free frames f base passed parked tree root (inr d) = let e = d.1 in none_free frames f base passed parked tree root (rw e refl) (ap branch_count e)
+
+pub nameless : (frames : FrameMap) (exec : List ℕ) (passed : Thread → Bool) → (IsTrue (is_name exec) → ⊥) → IsFirst frames (execution exec) passed None
+nameless frames exec passed none p named = absurd (none named.named)
+
+pub treeless : (base : Thread) (passed : Thread → Bool) → IsFirst (rows_at None) base passed None
+treeless base passed p named = refl
+
+pub in_place : {E : Type 0} (r : Result (Option Thread) E) (place : Option Rows) (rows : Rows) (name base : Thread) (passed : Thread → Bool) → place ≡ Some rows → name ≡ base
+    → IfOk r (IsFirst (frame_at rows) name passed) → IfOk r (IsFirst (rows_at place) base passed)
+in_place r place rows name base passed there same h =
+    subst (λ (o : Option Rows). IfOk r (IsFirst (rows_at o) base passed)) (sym there) (subst (λ (t : Thread). IfOk r (IsFirst (frame_at rows) t passed)) same h)
+
+-- ---- one execution after another
+
+abbrev Entries : Type 0
+Entries = List (String Global × Option Rows)
+
+-- the place that these have for an execution
+abbrev among : Entries → List ℕ → Option (Option Rows)
+among es exec = lookup (is_at (λ (k : String Global). slice_cmp nat_cmp exec (string_bytes k))) es
+
+-- none of those after a name is at or before it
+after_all : (exec : List ℕ) (es : Entries) → AllByRecursion (λ (k : String Global). slice_cmp nat_cmp exec (string_bytes k) ≡ Less) (keys_of es) → among es exec ≡ None
+after_all exec [] h = refl
+after_all exec (e ∷ es) h = let less = h.0 in rw less (after_all exec es h.1)
+
+all_after : (exec : List ℕ) (k : String Global) (ks : List (String Global)) → (slice_cmp nat_cmp exec (string_bytes k) ≡ Greater → ⊥) → AllByRecursion (λ y. string_cmp k y ≡ Less) ks
+    → AllByRecursion (λ (y : String Global). slice_cmp nat_cmp exec (string_bytes y) ≡ Less) ks
+all_after exec k [] h all = tt
+all_after exec k (y ∷ ks) h all = (by (slice_cmp nat_cmp exec (string_bytes k)) refl, all_after exec k ks h all.1)
+  where
+    by : (o : Ordering) → slice_cmp nat_cmp exec (string_bytes k) ≡ o → slice_cmp nat_cmp exec (string_bytes y) ≡ Less
+    by Less e = nat_list_cmp_total.trans exec (string_bytes k) (string_bytes y) e all.0
+    by Equal e = nat_list_cmp_total.congr exec (string_bytes k) (string_bytes y) e ∙ all.0
+    by Greater e = absurd (h e)
+
+same_exec : (a b : List ℕ) → is_eq (slice_cmp nat_cmp a b) ≡ true → a ≡ b
+same_exec a b h = (bytes_eq-Decides a b).0 (sym (is_eq-slice_cmp a b) ∙ h)
+
+module _ (m : BTreeMap (String Global) (Option Rows)) (passed : Thread → Bool) where
+  -- no thread of an execution that is not among those left is free
+  pub record IsGone (rest : Entries) : Type 0 where
+    pub ordered : IsStrictlySortedBy string_cmp (keys_of rest)
+    pub held : (exec : List ℕ) (place : Option Rows) → among rest exec ≡ Some place → get_by_text m exec ≡ Some place
+    pub gone : (t : Thread) → IsThread t → among rest t.exec ≡ None → free (frames_in m) passed t ≡ false
+
+  pub none_gone : (es : Entries) → es ≡ m.entries → IsStrictlySortedBy string_cmp (keys_of m.entries) → IsGone es
+  none_gone es e ordered = subst IsGone (sym e) (record { ordered = ordered; held = λ exec place h. h; gone = λ t named h. rw h refl })
+
+  module _ (k : String Global) (v : Option Rows) (rest : Entries) (i : IsGone ((k, v) ∷ rest)) where
+    after_it : AllByRecursion (λ y. string_cmp k y ≡ Less) (keys_of rest) × IsStrictlySortedBy string_cmp (keys_of rest)
+    unfolding IsStrictlySortedBy
+    after_it = i.ordered
+
+    later : (exec : List ℕ) → (slice_cmp nat_cmp exec (string_bytes k) ≡ Greater → ⊥) → among rest exec ≡ None
+    later exec h = after_all exec rest (all_after exec k (keys_of rest) h after_it.0)
+
+    not_greater : (o : Ordering) → is_eq o ≡ true → o ≡ Greater → ⊥
+    not_greater Less h e = cc
+    not_greater Equal h e = cc
+    not_greater Greater h e = cc
+
+    tree_here : (exec : List ℕ) → is_eq (slice_cmp nat_cmp exec (string_bytes k)) ≡ true → tree_in m exec ≡ v
+    tree_here exec h = ap placed (i.held exec v (rw h refl))
+
+    free_here : (t : Thread) → is_eq (slice_cmp nat_cmp t.exec (string_bytes k)) ≡ true → free (frames_in m) passed t ≡ is_free (rows_at v) (execution (string_bytes k)) passed t.path
+    free_here t h =
+        let same = same_exec t.exec (string_bytes k) h in
+        let tree = tree_here t.exec h in
+        ap (λ (o : Option Rows). has_move (readiness_at (rows_at o) t.path) && not (passed t)) tree
+        ∙ ap (λ (exec : List ℕ). has_move (readiness_at (rows_at v) t.path) && not (passed (record { exec = exec; path = t.path }))) same
+
+    named_here : (t : Thread) → is_eq (slice_cmp nat_cmp t.exec (string_bytes k)) ≡ true → IsThread t → IsThread (thread_under (execution (string_bytes k)) t.path)
+    named_here t h named = subst (λ (exec : List ℕ). IsThread (record { exec = exec; path = t.path })) (same_exec t.exec (string_bytes k) h) named
+
+    pub goes_by : IsFirst (rows_at v) (execution (string_bytes k)) passed None → IsGone rest
+    goes_by none = record {
+      ordered = after_it.1;
+      held = λ exec place h.
+          by_bool (is_eq (slice_cmp nat_cmp exec (string_bytes k))) (get_by_text m exec ≡ Some place)
+          (λ e. let clash = sym (later exec (not_greater (slice_cmp nat_cmp exec (string_bytes k)) e)) ∙ h in cc)
+          (λ e. i.held exec place (rw e h));
+      gone = λ t named h.
+          by_bool (is_eq (slice_cmp nat_cmp t.exec (string_bytes k))) (free (frames_in m) passed t ≡ false)
+          (λ e. free_here t e ∙ none t.path (named_here t e named))
+          (λ e. i.gone t named (rw e h));
+    }
+
+    pub is_found : (t : Thread) → IsThread t → IsFirst (rows_at v) (execution (string_bytes k)) passed (Some t) → IsFirstReady (frames_in m) passed (Some t)
+    is_found t named found = (named, free_here t at_it ∙ ap (is_free (rows_at v) (execution (string_bytes k)) passed) path ∙ found.2, before)
+      where
+        exec : t.exec ≡ string_bytes k
+        exec = ap (λ (x : Thread). x.exec) found.1
+
+        path : t.path ≡ found.0
+        path = ap (λ (x : Thread). x.path) found.1
+
+        equal : (a b : List ℕ) → a ≡ b → is_eq (slice_cmp nat_cmp a b) ≡ true
+        equal a b e = is_eq-slice_cmp a b ∙ (bytes_eq-Decides a b).1 e
+
+        at_it : is_eq (slice_cmp nat_cmp t.exec (string_bytes k)) ≡ true
+        at_it = equal t.exec (string_bytes k) exec
+
+        by : (u : Thread) → IsThread u → (o : Ordering) → slice_cmp nat_cmp u.exec t.exec ≡ o → thread_cmp u t ≡ Less → free (frames_in m) passed u ≡ false
+        by u is Less e h =
+            let less : slice_cmp nat_cmp u.exec (string_bytes k) ≡ Less = subst (λ (x : List ℕ). slice_cmp nat_cmp u.exec x ≡ Less) exec e in
+            i.gone u is (rw less (later u.exec (λ g. let clash = sym less ∙ g in cc)))
+        by u is Equal e h =
+            let here : is_eq (slice_cmp nat_cmp u.exec (string_bytes k)) ≡ true = ap is_eq (subst (λ (x : List ℕ). slice_cmp nat_cmp u.exec x ≡ Equal) exec e) in
+            let less : path_cmp u.path t.path ≡ Less = rw e at h in
+            free_here u here ∙ found.3 u.path (named_here u here is) (subst (λ (p : Path). path_cmp u.path p ≡ Less) path less)
+        by u is Greater e h = let clash : Greater ≡ Less = rw e at h in cc
+
+        before : (u : Thread) → IsThread u → thread_cmp u t ≡ Less → free (frames_in m) passed u ≡ false
+        before u is h = by u is (slice_cmp nat_cmp u.exec t.exec) refl h
+
+  pub all_gone : IsGone [] → IsFirstReady (frames_in m) passed None
+  all_gone i t named = i.gone t named refl

@@ -1,0 +1,19 @@
+use Rattle.std.proofs.Common.{sym, subst, Option, None, ap, ◌∙◌}
+use Rattle.std.specs.BTreeSet.{contains}
+use Rattle.branch_tree.specs.First.{IsFirst}
+use Rattle.branch_tree.specs.Tree.{Rows}
+use Rattle.step_names.specs.Order.{thread_cmp}
+use Rattle.step_names.specs.Thread.{execution}
+use Rattle.saved_steps.specs.Held.{rows_at}
+use Rattle.saved_steps.proofs.Earliest.{in_place}
+use Rattle.saved_steps.proofs.first.first_in.Goals as goal
+
+pub returns-then-has_ended : goal.returns-then-has_ended
+returns-then-has_ended c =
+    let passed = contains thread_cmp c.args.passed.now in
+    subst (λ (o : Option Rows). IsFirst (rows_at o) (execution c.args.exec.now) passed None) (sym c.in-Some.is) (c.if-has_ended.ensures (execution c.args.exec.now) passed)
+
+pub returns : goal.returns
+returns c =
+    in_place c.first_ready.result c.args.place.now c.in-Some.tree c.in-Some-new.name (execution c.args.exec.now) (contains thread_cmp c.args.passed.now) c.in-Some.is
+    (c.in-Some-new.ensures.1 ∙ ap execution c.in_ok-from_str.ensures.ok) c.first_ready.ensures
