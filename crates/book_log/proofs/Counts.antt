@@ -18,6 +18,7 @@ use Rattle.depends.specs.Instance.{steps}
 use Rattle.depends.proofs.Named.{steps_have_names}
 use Rattle.step_history.specs.History.{Past}
 use Rattle.book_log.specs.Answers.{is_full_for_step, is_full_for_define, undo_answer, plan_answer, defines}
+use Rattle.book_log.specs.Laws.{LegalLogsHaveRoom}
 use Rattle.book_log.specs.Legal.{IsAccepted, IsLegal}
 use Rattle.book_log.specs.Story.{Story, Remainder, accepted, after_entry, base_of, remainder, remaining, setting_of, world_of, past_of}
 use Rattle.book_log.specs.declared.begin.Begin.{Begin}
@@ -215,3 +216,6 @@ first_counted begin legal = record { some = omega arith; all = omega arith; defi
 
 pub legal_counts : (story : Story) → IsLegal story → IsCounted story
 legal_counts story legal = of_legal IsCounted first_counted counted_next story legal
+
+pub legal_logs_have_room : LegalLogsHaveRoom
+legal_logs_have_room story legal = let c = legal_counts story legal in (c.some, c.all)

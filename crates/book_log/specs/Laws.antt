@@ -1,5 +1,5 @@
 -- Laws of logs, each the contract of a function of the crate.
-use Rattle.std.specs.Prelude.{◌≡◌, ◌↔◌, ℕ, List, [], ◌∷◌, ◌++◌, map, true, false, Some, Ok, Err}
+use Rattle.std.specs.Prelude.{◌≡◌, ◌↔◌, ◌≤◌, ℕ, ◌+◌, List, [], ◌∷◌, ◌++◌, length, map, true, false, Some, Ok, Err}
 use Rattle.json_tree.specs.declared.tree.Json.{Json}
 use Rattle.step_names.specs.Thread.{Thread}
 use Rattle.step_names.specs.declared.step.StepName.{StepName}
@@ -26,6 +26,10 @@ LegalLogsRun = (story : Story) → IsLegal story → run_of story ≡ Some (worl
 -- a legal log with an entry that is accepted is one
 abbrev pub AcceptedIsLegal : Type 0
 AcceptedIsLegal = (story : Story) (entry : Entry) → IsLegal story → IsAccepted story entry → IsLegal (accepted story entry)
+
+-- a legal log keeps to its limits: there is room for an entry that undoes each of the remaining steps
+abbrev pub LegalLogsHaveRoom : Type 0
+LegalLogsHaveRoom = (story : Story) → IsLegal story → (length (remaining story) ≤ 65536) × (length story.log + length (remaining story) ≤ 1000000)
 
 -- ---- what is undone
 

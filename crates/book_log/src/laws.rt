@@ -1,11 +1,13 @@
 //! Laws of logs: each function's contract is the law, and it does nothing.
 
-ghost use Rattle.book_log.specs.Laws.{LegalLogsRun, AcceptedIsLegal, UndoTakesBack, UndoTakesBackStart, AgainGivesBack, UndoAnswersAreExact, AllowedOrdersAreAccepted, AcceptedOrdersAreWhole, OrdersAgree, RollbackIsExact, RerunsAreLegal, RerunsAreExact, ArrangementsAgree};
+ghost use Rattle.book_log.specs.Laws.{LegalLogsRun, AcceptedIsLegal, LegalLogsHaveRoom, UndoTakesBack, UndoTakesBackStart, AgainGivesBack, UndoAnswersAreExact, AllowedOrdersAreAccepted, AcceptedOrdersAreWhole, OrdersAgree, RollbackIsExact, RerunsAreLegal, RerunsAreExact, ArrangementsAgree};
 
-/// What remains of a legal log can be run from the start, and a legal log with an entry that is accepted is one.
+/// What remains of a legal log can be run from the start, a legal log with an entry that is accepted is one, and its limits leave
+/// room to undo each remaining step.
 pub fn legal_logs_run()
     ensures runs { LegalLogsRun }
     ensures goes_on { AcceptedIsLegal }
+    ensures room { LegalLogsHaveRoom }
 {}
 
 /// A step followed by its undoing changes nothing, and the undoing of a step on which nothing depends, followed by that step, gives
