@@ -129,7 +129,7 @@ stands_next story e s w ts setting runs = record {
 abbrev pub knowing : Setting → List ℕ → Definition → Setting
 knowing s name machine = record { machines = with_machine s.machines name machine; table = s.table; schema = s.schema }
 
-extended : (s : Setting) (name : List ℕ) (machine : Definition) → s.machines name ≡ None → Extends s (knowing s name machine)
+pub extended : (s : Setting) (name : List ℕ) (machine : Definition) → s.machines name ≡ None → Extends s (knowing s name machine)
 extended s name machine none = record { table = refl; schema = refl; machines = known }
   where
     known : (n : List ℕ) (d : Definition) → s.machines n ≡ Some d → with_machine s.machines name machine n ≡ Some d

@@ -5,3 +5,8 @@ pub mod TakenBack
 pub mod Opened
 pub mod Planning
 pub mod Empty
+pub mod Refusing
+pub mod Added
+pub mod Places
+pub mod Whole
+pub mod Moving

@@ -79,12 +79,16 @@ Fits b (Start exec machine input) (made.Step m) = IsStepFor b (started exec.exec
 Fits b (Stepped name kind) (made.Step m) = IsStepFor b (moved name) m
 Fits b _ _ = ⊥
 
+-- there is room for one more entry, and for that of its undoing
+abbrev pub HasLogRoom : Volume → Type 0
+HasLogRoom b = length b.story.log + length b.history.records.items + 2 ≤ b.capacity
+
 -- The command is accepted, everything is made for it, and there is room for its entry and that of its undoing: the book is as it was
 -- left when this was made.
 pub record CanEnter (b : Volume) (m : Made) : Type 0 where
   pub accepted : IsAccepted b.story m.entry
   pub fits : Fits b m.entry m.change
-  pub room : length b.story.log + length b.history.records.items + 2 ≤ b.capacity
+  pub room : HasLogRoom b
 
 -- ---- rollback
 

@@ -11,14 +11,13 @@ ghost use Rattle.rollback_book.specs.Book.{IsAt, IsFreePlace};
 ghost use Rattle.rollback_book.specs.Making.{IsPlanned, WasPlanned};
 
 use crate::lists::{names_at, push_with_room};
+use crate::machines::Machines;
 use crate::opening::first_store;
 use crate::room::{PlanRoom, Room};
 use asl_forward::Frame;
-use asl_machine::SharedMachine;
 use attr_values::ItemFault;
 use book_log::{Begin, Entry, Refusal, StepNames};
 use item_store::Items;
-use json_tree::Text;
 use saved_steps::StepRecord;
 use std::alloc::{AllocError, Global};
 use std::collections::BTreeMap;
@@ -34,7 +33,7 @@ use step_names::{StepName, ThreadName};
 #[derive(Drop)]
 pub struct Book {
     pub(crate) begin: Begin,
-    pub(crate) machines: BTreeMap<Text, Option<SharedMachine>>,
+    pub(crate) machines: Machines,
     pub(crate) history: History,
     pub(crate) log: Vec<Entry>,
 }

@@ -2,10 +2,14 @@
 
 //! The book: executions of state machines over one table, the commands that were accepted, and the taking back of their steps.
 mod book;
+mod checks;
+mod entering;
 mod lists;
+mod machines;
 mod making;
 mod opening;
 mod room;
+mod stepping;
 
 pub use book::Book;
 pub use book_log::{Begin, Entry, Moved, Refusal, StepNames};

@@ -1,25 +1,19 @@
 // What the book does to the lists that it keeps.
-ghost use Rattle.std.specs.Prelude.{◌≡◌, ◌+◌, ◌<◌, ◌≤◌, ◌∷◌, ◌++◌, [], Some, IfOk, map, length, ◌||◌, nat_le, nat_lt, option_map, slice_get, vec_len, vec_capacity};
+ghost use Rattle.std.specs.Prelude.{◌≡◌, ◌+◌, ◌<◌, ◌≤◌, ◌∷◌, ◌++◌, [], Some, IfOk, OnOk, map, length, option_map, slice_get, vec_len, vec_capacity};
 ghost use Rattle.std.specs.List.{All};
 
-use book_log::StepNames;
+use book_log::{Entry, StepNames};
 use saved_steps::StepRecord;
 use std::alloc::{AllocError, Global};
 
-/// Whether no step can be taken more: 65,536 remain, or a million would be passed by its entry and that of its undoing.
-pub fn is_full_for_step(entries: usize, steps: usize) -> bool
-    requires { entries + steps ≤ 1000000 }
-    ensures { result ≡ (nat_le 65536 steps || nat_lt 999998 (entries + steps)) }
+/// Makes room for one more entry, and for those of the undoing of it and of so many steps.
+pub fn reserve_entries(log: &mut Vec<Entry>, steps: usize) -> Result<(), AllocError>
+    requires { steps ≤ 65536 }
+    ensures items { log.new.items ≡ log.old.items }
+    ensures kept { vec_capacity log.old ≤ vec_capacity log.new }
+    ensures room { OnOk result (length log.new.items + steps + 2 ≤ vec_capacity log.new) }
 {
-    65536 <= steps || 999_998 < entries + steps
-}
-
-/// Whether no machine can be defined more.
-pub fn is_full_for_define(entries: usize, steps: usize) -> bool
-    requires { entries + steps ≤ 1000000 }
-    ensures { result ≡ nat_le 1000000 (entries + steps) }
-{
-    1_000_000 <= entries + steps
+    log.reserve(steps + 2)
 }
 
 /// Adds an element where there is room for it. Takes no memory.

@@ -1,10 +1,11 @@
 // Commands for which everything is made, so that to enter them takes no memory.
-ghost use Rattle.std.specs.Prelude.{◌≡◌};
+ghost use Rattle.std.specs.Prelude.{◌≡◌, IfOk};
 
-use asl_machine::SharedMachine;
+use asl_machine::{Machine, SharedMachine};
 use book_log::{Entry, Moved};
 use json_tree::{Json, Text};
 use serde_json::Value;
+use std::alloc::{AllocError, Global};
 use step_names::{StepName, ThreadName};
 
 /// A command that adds to a book.
@@ -54,4 +55,41 @@ impl Made {
     {
         &self.answer
     }
+}
+
+/// Makes all that a definition needs.
+pub fn make_define(alloc: Global, name: &Text, machine: Machine) -> Result<Made, AllocError>
+    ensures { IfOk result (λ m. m ≡ record { entry = Entry.Define name.now machine; answer = Entered.Defined; change = MadeChange.Define name.now machine }) }
+{
+    let machine = SharedMachine::new(alloc, machine)?;
+    let entry = Entry::Define {
+        name: name.copy()?,
+        machine: machine.share()?,
+    };
+    let name = name.copy()?;
+    Ok(Made {
+        entry,
+        answer: Entered::Defined,
+        change: MadeChange::Define { name, machine },
+    })
+}
+
+/// The entry of a start, and its name.
+pub fn start_entry(
+    exec: &ThreadName,
+    machine: &Text,
+    input: Json,
+) -> Result<(Entry, StepName), AllocError>
+    ensures { IfOk result (λ p. (p.0 ≡ Entry.Start exec.now machine.now input) × (p.1 ≡ record { thread = exec.now; no = 0 })) }
+{
+    let name = StepName {
+        thread: exec.copy()?,
+        no: 0,
+    };
+    let entry = Entry::Start {
+        exec: exec.copy()?,
+        machine: machine.copy()?,
+        input,
+    };
+    Ok((entry, name))
 }
