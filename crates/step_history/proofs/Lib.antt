@@ -10,3 +10,4 @@ pub mod Extended
 pub mod Placed
 pub mod Movable
 pub mod Found
+pub mod Trials

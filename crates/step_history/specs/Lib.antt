@@ -2,3 +2,4 @@ pub mod History
 pub mod Laws
 pub mod Moves
 pub mod Levels
+pub mod OneMachine
