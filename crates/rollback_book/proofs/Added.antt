@@ -1,6 +1,6 @@
 -- A book whose places and room are made, and after a command that adds to it.
-use Rattle.std.proofs.Common.{◌≡◌, ◌≤◌, arith, ℕ, ◌+◌, Bool, true, false, cond, List, [], ◌∷◌, ◌++◌, length, length-append, refl, ap, ap₂, sym, subst, ◌∙◌, Option, None, Some, Result, Ok, Err}
-use Rattle.std.specs.Prelude.{option_map, is_err, OnOk, if◌then◌else◌}
+use Rattle.std.proofs.Common.{◌≡◌, ◌≤◌, arith, ℕ, false, cond, List, [], ◌∷◌, ◌++◌, length, length-append, refl, ap, ap₂, sym, subst, ◌∙◌, None, Some, Result, Ok, Err}
+use Rattle.std.specs.Prelude.{option_map, is_err, OnOk}
 use Rattle.std.proofs.lemmas.Option.{same_Some}
 use Rattle.json_tree.specs.Data.{depth}
 use Rattle.json_tree.specs.View.{data_of}
@@ -31,6 +31,7 @@ use Rattle.book_log.specs.Story.{Story, accepted, base_of, machine_of, past_of, 
 use Rattle.book_log.specs.declared.entry.Entry.{Entry}
 use Rattle.book_log.specs.declared.entry.Entry.TheVariants.{Define, Start, Step as Stepped, Undo, Rollback}
 use Rattle.book_log.proofs.Counts.{room_for_step, room_for_define}
+use Rattle.book_log.proofs.LegalRuns.{accepted_is_legal}
 use Rattle.book_log.proofs.Standing.{StandsAt, knowing, extended, stands_defined, stands_started, stands_moved}
 use Rattle.rollback_book.specs.Book.{Volume, Places, IsTied, place_in, placed}
 use Rattle.rollback_book.specs.Making.{CanEnter, Fits, HasLogRoom, IsStepFor}
@@ -41,7 +42,7 @@ use Rattle.rollback_book.specs.declared.making.Made.{Made}
 use Rattle.rollback_book.specs.declared.making.MadeChange.TheVariants as made
 use Rattle.rollback_book.proofs.Refusing.{start_not_full, step_not_full}
 use Rattle.rollback_book.proofs.TakenBack.{with_entry}
-use Rattle.rollback_book.proofs.Tied.{stands, tied_by, legal_more, many, world_is}
+use Rattle.rollback_book.proofs.Tied.{stands, tied_by, many, world_is}
 
 pub on_ok : {T E : Type 0} (r : Result T E) (P : Type 0) → is_err r ≡ false → OnOk r P → P
 on_ok (Ok x) P h p = p
@@ -99,7 +100,7 @@ module _ (b : Volume) (tied : IsTied b) (capacity : ℕ) (log_room : HasLogRoom 
       filled x ∙ ap (cond (is_text name x) (Some machine)) (tied.machines x)
       ∙ ap₂ (λ (y : List ℕ) (z : Definition). cond (is_text y x) (Some z) (s.machines x)) fits.0 fits.1 in
       tied_by (record { story = accepted b.story entry; history = b.history; places = places; capacity = capacity }) more (seen b.history.world) (past_of b.story)
-      (legal_more b.story entry tied.legal a) (stands_defined b.story s (seen b.history.world) (past_of b.story) n m (stands b tied) a.0)
+      (accepted_is_legal b.story entry tied.legal a) (stands_defined b.story s (seen b.history.world) (past_of b.story) n m (stands b tied) a.0)
       (more_machines s more (base_of b.story.begin) (past_of b.story) b.history (extended s n m a.0) tied.history) own
       (omega (arith, log_room, grown, logged)) few (omega (arith, free, count, logged))
   tied_defined (Start exec machine input) name shared places a fits filled = absurd fits
@@ -138,7 +139,7 @@ module _ (b : Volume) (tied : IsTied b) (capacity : ℕ) (log_room : HasLogRoom 
       let few = free.0 in
       let bounded = free.1 in
       let logged = length-append b.story.log (entry ∷ []) in
-      tied_by (with_entry b entry h capacity) s (carried_out (seen b.history.world) f.deed) ts (legal_more b.story entry tied.legal a) there is tied.machines
+      tied_by (with_entry b entry h capacity) s (carried_out (seen b.history.world) f.deed) ts (accepted_is_legal b.story entry tied.legal a) there is tied.machines
       (omega (arith, log_room, grown, logged, now, before, one)) (omega (arith, few, count, now, before, one)) (omega (arith, bounded, count, logged, now, before, one))
 
   pub tied_stepped : (entry : Entry) (m : MadeStep) (h : History) → IsAccepted b.story entry → Fits b entry (made.Step m) → Grows h m → IsTied (with_entry b entry h capacity)

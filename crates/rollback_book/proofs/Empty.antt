@@ -1,5 +1,5 @@
 -- A book without entries.
-use Rattle.std.proofs.Common.{◌≡◌, arith, ℕ, List, [], length, refl, ap, ap₂, sym, subst, ◌∙◌, None, Option, Some, Ok, Result}
+use Rattle.std.proofs.Common.{◌≡◌, arith, ℕ, List, [], length, refl, ap, sym, subst, None, Option, Ok, Result}
 use Rattle.std.specs.Prelude.{vec_capacity}
 use Rattle.std.specs.Global.{Vec}
 use Rattle.std.specs.BTreeMap.{BTreeMap}
@@ -7,16 +7,13 @@ use Rattle.attr_values.specs.declared.fault.ItemFault.{ItemFault}
 use Rattle.asl_machine.specs.Definition.{Definition}
 use Rattle.item_store.specs.Store.{Store, items_of}
 use Rattle.item_store.specs.Table.{Table}
-use Rattle.saved_steps.specs.Held.{seen}
 use Rattle.saved_steps.specs.World.{Setting, World}
-use Rattle.saved_steps.specs.declared.record.StepRecord.{StepRecord}
-use Rattle.step_history.specs.History.{Past, IsHistory, nothing_over}
+use Rattle.step_history.specs.History.{IsHistory, nothing_over}
 use Rattle.step_history.specs.declared.history.History.{History}
 use Rattle.step_history.proofs.Left.{as_many}
 use Rattle.book_log.specs.Beginning.{table_of, or_empty}
 use Rattle.book_log.specs.Legal.{IsLegal}
-use Rattle.book_log.specs.Story as story
-use Rattle.book_log.specs.Story.{Story, base_of, setting_of, setting_in, nothing, remainder, run_in, run_of}
+use Rattle.book_log.specs.Story.{Story, base_of, setting_in, nothing, remainder, run_in}
 use Rattle.book_log.specs.declared.begin.Begin.{Begin}
 use Rattle.book_log.specs.declared.entry.Entry.{Entry}
 use Rattle.book_log.proofs.Standing.{StandsAt}

@@ -1,16 +1,14 @@
 -- Steps of a book by their names: which may be undone, and what is planned for one.
-use Rattle.std.proofs.Common.{◌≡◌, ◌<◌, ◌≤◌, arith, ℕ, ◌+◌, ◌-◌, Bool, true, false, cond, List, [], ◌∷◌, ◌++◌, length, map, length-append, refl, ap, ap₂, sym, subst, ◌∙◌, inl, inr, Option, None, Some, Result, Ok, Err}
+use Rattle.std.proofs.Common.{◌≡◌, ◌<◌, arith, ℕ, ◌-◌, Bool, true, cond, List, length, map, ap, sym, ◌∙◌, None, Some, Ok, Err}
 use Rattle.std.specs.Prelude.{slice_get, position, reverse, is_some, option_map}
-use Rattle.std.specs.List.{find}
 use Rattle.std.proofs.lemmas.Option.{same_Some, slice_get-map, slice_get_within}
 use Rattle.step_names.specs.declared.step.StepName.{StepName}
-use Rattle.trace_theory.specs.Traces.{In, IsFree, after, without}
+use Rattle.trace_theory.specs.Traces.{IsFree, after}
 use Rattle.saved_steps.specs.Held.{seen}
 use Rattle.saved_steps.specs.Steps.{moved, name_of}
-use Rattle.saved_steps.specs.World.{Setting, World, is_same_step}
+use Rattle.saved_steps.specs.World.{is_same_step}
 use Rattle.saved_steps.specs.declared.fact.Fact.{Fact}
 use Rattle.saved_steps.specs.declared.record.StepRecord.{StepRecord}
-use Rattle.depends.specs.Dependence.{depends_directly}
 use Rattle.depends.specs.Instance.{steps}
 use Rattle.depends.specs.Laws.{facts_of}
 use Rattle.depends.specs.Plans.{first_dependent, plan}
@@ -21,9 +19,7 @@ use Rattle.step_history.specs.History.{Past}
 use Rattle.step_history.proofs.Left.{step_there, free_by}
 use Rattle.step_history.proofs.Planned.{in_list}
 use Rattle.book_log.specs.Answers.{undo_answer, found_answer, free_answer, from_step, plan_answer, remains, names_of_facts}
-use Rattle.book_log.specs.Story as story
-use Rattle.book_log.specs.Story.{Story, setting_of, base_of, past_of, consequences_of}
-use Rattle.book_log.specs.declared.refusal.Refusal.{Refusal}
+use Rattle.book_log.specs.Story.{setting_of, base_of, past_of, consequences_of}
 use Rattle.book_log.specs.declared.refusal.Refusal.TheVariants.{NoStep, HasDependents}
 use Rattle.book_log.proofs.Standing.{fact_named, consequences_there, after_same}
 use Rattle.rollback_book.specs.Book.{Volume, IsTied, IsAt, IsFreePlace}

@@ -1,8 +1,7 @@
 -- Which threads of a book have a move, and what their next step does.
-use Rattle.std.proofs.Common.{◌≡◌, ◌<◌, ◌≤◌, ◌+◌, arith, ℕ, ◌==◌, eq-eqb, Bool, true, false, cond, List, refl, ap, ap₂, sym, subst, ◌∙◌, Option, None, Some, Result, Ok, Err}
-use Rattle.std.specs.Prelude.{is_some, option_and_then, ◌^◌}
+use Rattle.std.proofs.Common.{◌≡◌, ◌<◌, ◌+◌, arith, ◌==◌, eq-eqb, Bool, true, false, cond, List, refl, ap, ap₂, sym, subst, ◌∙◌, Option, None, Some, Result, Ok, Err}
+use Rattle.std.specs.Prelude.{◌&&◌, not, is_some, option_and_then, ◌^◌}
 use Rattle.std.proofs.lemmas.Option.{same_Some}
-use Rattle.trace_theory.proofs.Runs.{and_then_some}
 use Rattle.asl_forward.specs.declared.frame.Frame.{Frame}
 use Rattle.asl_machine.specs.Definition.{Definition}
 use Rattle.branch_tree.specs.First.{has_move}
@@ -10,8 +9,8 @@ use Rattle.branch_tree.specs.Ready.{readiness_at}
 use Rattle.branch_tree.specs.declared.readiness.Readiness.{Readiness}
 use Rattle.step_names.specs.Thread.{Thread}
 use Rattle.step_names.specs.declared.step.StepName.{StepName}
-use Rattle.saved_steps.specs.Deeds as deeds
 use Rattle.saved_steps.specs.Deeds.{Deed, deed, frame_deed, if_numbered, move_deed, next_step}
+use Rattle.saved_steps.specs.First.{IsFirstReady, free}
 use Rattle.saved_steps.specs.Held.{frames_of, paths_of, seen}
 use Rattle.saved_steps.specs.Made.{Suits, deed_of_next, fact_made}
 use Rattle.saved_steps.specs.Steps.{moved}
@@ -21,7 +20,7 @@ use Rattle.saved_steps.specs.declared.fact.Kind.{Kind}
 use Rattle.saved_steps.specs.declared.made.Made.{Made as MadeStep}
 use Rattle.saved_steps.specs.declared.next.Next.{Next}
 use Rattle.depends.proofs.Turned.{frame_move}
-use Rattle.step_history.specs.History.{Past, IsHistory, IsSomeHistory}
+use Rattle.step_history.specs.History.{Past, IsHistory}
 use Rattle.step_history.specs.Levels.{HasNamesBelow}
 use Rattle.step_history.specs.Moves.{IsMachineOf, IsMoveOf}
 use Rattle.step_history.proofs.Counts.{counted}
@@ -35,8 +34,7 @@ use Rattle.book_log.specs.declared.refusal.Refusal.{Refusal}
 use Rattle.book_log.specs.declared.refusal.Refusal.TheVariants.{NoThread, NotReady, Full}
 use Rattle.rollback_book.specs.Book.{Volume, IsTied, place_in, placed}
 use Rattle.rollback_book.specs.Making.{CanEnter, HasLogRoom}
-use Rattle.rollback_book.specs.Ready.{IsMadeIn, IsNextOf, IsReadyTo}
-use Rattle.rollback_book.specs.declared.making.Entered.{Entered}
+use Rattle.rollback_book.specs.Ready.{IsFirstToMove, IsMadeIn, IsNextOf, IsReadyTo, moves_freely}
 use Rattle.rollback_book.specs.declared.making.Made.{Made}
 use Rattle.rollback_book.specs.declared.making.MadeChange.{MadeChange}
 use Rattle.rollback_book.specs.declared.making.MadeChange.TheVariants as made
@@ -55,7 +53,7 @@ module _ (b : Volume) (tied : IsTied b) (t : Thread) where
   moves_there : move_deed (setting_of b.story) (world_of b.story) t ≡ move_deed (setting_of b.story) (seen b.history.world) t
   moves_there = ap (λ (w : World). move_deed (setting_of b.story) w t) (world_is b tied)
 
-  moves_where : is_some (move_deed (setting_of b.story) (world_of b.story) t) ≡ has_move readiness_there
+  pub moves_where : is_some (move_deed (setting_of b.story) (world_of b.story) t) ≡ has_move readiness_there
   moves_where =
       ap is_some moves_there
       ∙ threads_move (setting_of b.story) (base_of b.story.begin) (past_of b.story) b.history t (legal_whole b.story tied.legal) tied.history
@@ -186,3 +184,13 @@ step_told story before after t name next m same is step =
     let d : is.deed ≡ step.deed = same_Some is.deed step.deed (sym is.same ∙ step.is) in
     let kind : is.deed.fact.kind ≡ (fact_made m).kind = ap (λ (x : Deed). x.fact.kind) d ∙ sym (ap (λ (x : Fact). x.kind) step.made.fact) in
     ap (λ (x : Story). step_answer x t) (sym same) ∙ is.answer ∙ ap (λ (k : Kind). let x : Moved = record { name = name; kind = k } in Ok x) kind
+
+-- ---- the first thread that has a move
+
+module _ (b : Volume) (tied : IsTied b) (passed : Thread → Bool) where
+  freely : (t : Thread) → moves_freely b.story passed t ≡ free (frames_of b.history.world) passed t
+  freely t = ap (λ (x : Bool). x && not (passed t)) (moves_where b tied t)
+
+  pub first_to_move : (found : Option Thread) → IsFirstReady (frames_of b.history.world) passed found → IsFirstToMove b.story passed found
+  first_to_move None h = λ t i. freely t ∙ h t i
+  first_to_move (Some t) h = (h.0, freely t ∙ h.1, λ u i less. freely u ∙ h.2 u i less)

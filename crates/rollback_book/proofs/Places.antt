@@ -1,5 +1,5 @@
 -- Places of machines that are made and filled.
-use Rattle.std.proofs.Common.{◌≡◌, Bool, true, false, cond, List, refl, ap, sym, subst, ◌∙◌, Option, None, Some}
+use Rattle.std.proofs.Common.{◌≡◌, Bool, true, false, cond, List, ap, sym, ◌∙◌, Option, None, Some}
 use Rattle.std.specs.Prelude.{ℕ}
 use Rattle.std.specs.Ordering.{nat_cmp}
 use Rattle.std.specs.Cmp.{Equal-is}

@@ -1,6 +1,6 @@
 -- What is planned for a step, and is still planned as long as nothing was accepted since.
 use Rattle.std.proofs.Common.{◌≡◌, ◌<◌, arith, ℕ, ◌+◌, List, [], ◌∷◌, ◌++◌, All, append_assoc, drop, get_or, length, length-append, map, zero, suc, refl, ap, ap₂, sym, subst, ◌∙◌, Option, None, Some, Ok}
-use Rattle.std.specs.Prelude.{slice_get, reverse, option_map, ◌-◌}
+use Rattle.std.specs.Prelude.{slice_get, reverse, option_map}
 use Rattle.std.proofs.Math.Seq.{drop-cons}
 use Rattle.std.proofs.lemmas.List.{append-nil, map-append}
 use Rattle.std.proofs.lemmas.Option.{same_Some, slice_get-map, slice_get_within}
@@ -14,7 +14,6 @@ use Rattle.depends.specs.Plans.{plan}
 use Rattle.depends.proofs.Searching.{facts}
 use Rattle.step_history.specs.History.{Past, IsPlanOf}
 use Rattle.book_log.specs.Answers.{plan_answer, names_of_facts}
-use Rattle.book_log.specs.Story as story
 use Rattle.book_log.specs.Story.{Story, past_of, setting_of}
 use Rattle.book_log.specs.declared.entry.Entry.{Entry}
 use Rattle.rollback_book.specs.Book.{Volume, IsTied, IsAt}

@@ -1,9 +1,9 @@
 -- When commands that add to a book are refused.
-use Rattle.std.proofs.Common.{◌≡◌, ◌⊎◌, Bool, true, false, cond, List, [], refl, ap, sym, subst, ◌∙◌, ◌==◌, Option, None, Some, Result, Ok, Err, inl, inr}
-use Rattle.std.specs.Prelude.{ℕ, is_some, IsTrue, IsSome, option_map, if◌then◌else◌}
+use Rattle.std.proofs.Common.{◌≡◌, ◌⊎◌, Bool, true, false, cond, List, [], refl, ap, sym, subst, ◌∙◌, Option, None, Some, Result, Ok, Err, inl, inr}
+use Rattle.std.specs.Prelude.{ℕ, is_some, IsTrue}
 use Rattle.serde_json.specs.Data.{Data}
 use Rattle.json_tree.specs.declared.tree.Json.{Json}
-use Rattle.asl_fields.specs.Refusal.{Names, Refuses}
+use Rattle.asl_fields.specs.Refusal.{Refuses}
 use Rattle.asl_fields.specs.declared.fault.MachineFault.{MachineFault}
 use Rattle.asl_fields.specs.declared.fault.MachineFault.TheVariants.{Missing, UnknownField, Unsupported, BadField, NoTarget, NextAndEnd, StatesAllPlace, TooDeep, Memory as NoMemory}
 use Rattle.asl_forward.specs.Turn.{first_frame}
@@ -19,11 +19,9 @@ use Rattle.step_names.specs.declared.step.StepName.{StepName}
 use Rattle.saved_steps.specs.Deeds as deeds
 use Rattle.saved_steps.specs.Deeds.{Deed, deed_of, move_deed}
 use Rattle.saved_steps.specs.Held.{frames_of, paths_of, seen}
-use Rattle.saved_steps.specs.Made.{Suits}
 use Rattle.saved_steps.specs.Steps.{started, start_name}
 use Rattle.saved_steps.specs.World.{Setting, World}
 use Rattle.saved_steps.specs.declared.fact.Kind.TheVariants as kind
-use Rattle.saved_steps.specs.declared.next.Next.TheVariants.{Begin}
 use Rattle.book_log.specs.Answers.{IsReadRefusal, IsDefineRefusal, is_full_for_step, is_full_for_define, start_answer, step_answer, thread_answer, moved_answer}
 use Rattle.book_log.specs.Story.{Story, machine_of, setting_of, world_of}
 use Rattle.book_log.specs.declared.moved.Moved.{Moved}

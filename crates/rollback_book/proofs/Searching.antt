@@ -1,5 +1,5 @@
 -- Steps that are looked up by their names, and by their places.
-use Rattle.std.proofs.Common.{◌≡◌, ◌<◌, ◌≤◌, arith, ℕ, ◌+◌, ◌-◌, Bool, true, false, cond, List, [], ◌∷◌, drop, length, map, zero, suc, refl, ap, ap₂, sym, subst, ◌∙◌, Option, None, Some}
+use Rattle.std.proofs.Common.{◌≡◌, ◌<◌, ◌≤◌, arith, ℕ, ◌+◌, ◌-◌, Bool, true, false, cond, List, [], ◌∷◌, drop, length, zero, suc, refl, ap, sym, subst, ◌∙◌, Option, None, Some}
 use Rattle.std.specs.Prelude.{slice_get, position}
 use Rattle.std.specs.List.{find, position_from}
 use Rattle.std.proofs.lemmas.Iterator.Adapters.{position_from-zero}

@@ -1,11 +1,10 @@
 -- A book after an undoing, and after a rollback.
-use Rattle.std.proofs.Common.{◌≡◌, ◌<◌, ◌≤◌, arith, ℕ, ◌+◌, Bool, true, false, ◌||◌, List, [], ◌∷◌, ◌++◌, length, map, length-append, refl, ap, ap₂, sym, subst, ◌∙◌, inl, Option, None, Some, Ok}
+use Rattle.std.proofs.Common.{◌≡◌, ◌≤◌, arith, ℕ, ◌+◌, true, false, List, [], ◌∷◌, length, length-append, refl, ap, inl, Some, Ok}
 use Rattle.std.specs.Prelude.{slice_get, not, reverse}
-use Rattle.std.specs.List.{list_any}
 use Rattle.step_names.specs.declared.step.StepName.{StepName}
 use Rattle.trace_theory.specs.Traces.{In, without, after, is_among, undone, undo_each}
 use Rattle.trace_theory.proofs.Lists.{any_one}
-use Rattle.trace_theory.proofs.Least.{least_of, Once}
+use Rattle.trace_theory.proofs.Least.{least_of}
 use Rattle.saved_steps.specs.Held.{seen}
 use Rattle.saved_steps.specs.World.{Setting, World}
 use Rattle.depends.specs.Instance.{steps, is_one_step}
@@ -17,12 +16,13 @@ use Rattle.step_history.specs.declared.history.History.{History}
 use Rattle.step_history.proofs.Left.{as_many}
 use Rattle.step_history.proofs.Planned.{in_list}
 use Rattle.book_log.specs.Answers.{plan_answer}
-use Rattle.book_log.specs.Story.{Story, accepted, base_of, setting_of, past_of}
+use Rattle.book_log.specs.Story.{accepted, base_of, setting_of, past_of}
 use Rattle.book_log.specs.declared.entry.Entry.{Entry}
 use Rattle.book_log.specs.declared.entry.Entry.TheVariants.{Undo, Rollback}
-use Rattle.book_log.proofs.Standing.{no_frames, stands_undone, stands_rolled}
-use Rattle.rollback_book.specs.Book.{Volume, Places, IsTied, IsFreePlace}
-use Rattle.rollback_book.proofs.Tied.{stands, tied_by, legal_more, one_fewer, as_many_records}
+use Rattle.book_log.proofs.LegalRuns.{accepted_is_legal}
+use Rattle.book_log.proofs.Standing.{stands_undone, stands_rolled}
+use Rattle.rollback_book.specs.Book.{Volume, IsTied, IsFreePlace}
+use Rattle.rollback_book.proofs.Tied.{stands, tied_by, one_fewer, as_many_records}
 use Rattle.rollback_book.proofs.Free.{Stood, stood, freed}
 
 -- the book with one more entry, and this history
@@ -62,7 +62,7 @@ module _ (b : Volume) (tied : IsTied b) (name : StepName) (h : History) (capacit
       let room = tied.room in
       let few = tied.few in
       let bounded = tied.bounded in
-      tied_by (with_entry b entry h capacity) s (undone (steps s) (seen b.history.world) t.step) rest (legal_more b.story entry tied.legal free.answer)
+      tied_by (with_entry b entry h capacity) s (undone (steps s) (seen b.history.world) t.step) rest (accepted_is_legal b.story entry tied.legal free.answer)
       (stands_undone b.story s (seen b.history.world) ts name t.step (stands b tied) (freed b tied name at free) t.named) is tied.machines
       (omega (arith, grown, less, now, before, logged, room)) (omega (arith, less, now, before, few)) (omega (arith, less, now, before, logged, bounded))
 
@@ -88,6 +88,6 @@ module _ (b : Volume) (tied : IsTied b) (name : StepName) (h : History) (capacit
       let room = tied.room in
       let few = tied.few in
       let bounded = tied.bounded in
-      tied_by (with_entry b entry h capacity) s (undo_each (steps s) (seen b.history.world) (reverse all)) rest (legal_more b.story entry tied.legal planned)
+      tied_by (with_entry b entry h capacity) s (undo_each (steps s) (seen b.history.world) (reverse all)) rest (accepted_is_legal b.story entry tied.legal planned)
       (stands_rolled b.story s (seen b.history.world) ts name undone_names t.step (stands b tied) there t.named) is tied.machines
       (omega (arith, grown, less, now, before, logged, room)) (omega (arith, less, now, before, few)) (omega (arith, less, now, before, logged, bounded))

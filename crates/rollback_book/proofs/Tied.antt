@@ -1,32 +1,25 @@
 -- What a book holds says of its story, and the story says of what it holds.
-use Rattle.std.proofs.Common.{◌≡◌, ◌<◌, ◌≤◌, arith, ℕ, ◌+◌, Bool, true, false, ◌||◌, cond, List, [], ◌∷◌, ◌++◌, length, map, append_assoc, refl, ap, ap₂, sym, subst, ◌∙◌, inl, inr, Option, None, Some}
-use Rattle.std.specs.Prelude.{nat_le, nat_lt, slice_get, filter, not}
-use Rattle.std.specs.List.{list_any}
-use Rattle.std.proofs.lemmas.List.{append-nil, length-map}
+use Rattle.std.proofs.Common.{◌≡◌, ◌≤◌, arith, ℕ, ◌+◌, Bool, false, ◌||◌, List, [], ◌∷◌, length, map, refl, ap, ap₂, sym, subst, ◌∙◌, inl, inr, Some}
+use Rattle.std.specs.Prelude.{nat_le, nat_lt, filter}
+use Rattle.std.proofs.lemmas.List.{length-map}
 use Rattle.std.proofs.lemmas.Option.{same_Some}
 use Rattle.step_names.specs.declared.step.StepName.{StepName}
 use Rattle.trace_theory.specs.Traces.{In, IsRun, run}
 use Rattle.trace_theory.proofs.Lists.{by_bool}
-use Rattle.trace_theory.proofs.Least.{least_of}
 use Rattle.saved_steps.specs.Held.{seen}
-use Rattle.saved_steps.specs.Steps.{Step, name_of}
+use Rattle.saved_steps.specs.Steps.{name_of}
 use Rattle.saved_steps.specs.World.{Setting, World}
 use Rattle.saved_steps.specs.declared.fact.Fact.{Fact}
 use Rattle.saved_steps.specs.declared.record.StepRecord.{StepRecord}
 use Rattle.depends.specs.Instance.{steps}
 use Rattle.depends.specs.Laws.{facts_of}
-use Rattle.depends.proofs.Named.{steps_have_names}
 use Rattle.depends.proofs.Searching.{facts}
-use Rattle.item_store.specs.Store.{Store}
-use Rattle.step_history.specs.History.{Past, IsHistory, AreRecordsOf}
-use Rattle.step_history.specs.declared.history.History.{History}
+use Rattle.step_history.specs.History.{Past, IsHistory}
 use Rattle.step_history.proofs.Left.{as_many, facts_alike}
 use Rattle.book_log.specs.Answers.{is_full_for_step, is_full_for_define}
-use Rattle.book_log.specs.Legal.{IsAccepted, GoesOnLegally, IsLegal}
-use Rattle.book_log.specs.Story as story
-use Rattle.book_log.specs.Story.{Story, accepted, base_of, remaining, machine_of, setting_of, run_of, world_of, past_of}
-use Rattle.book_log.specs.declared.entry.Entry.{Entry}
-use Rattle.book_log.proofs.Standing.{StandsAt, world_there, past_there, steps_run, names_there, fact_named, no_frames}
+use Rattle.book_log.specs.Legal.{IsLegal}
+use Rattle.book_log.specs.Story.{Story, base_of, remaining, setting_of, world_of, past_of}
+use Rattle.book_log.proofs.Standing.{StandsAt, world_there, past_there, steps_run, names_there, fact_named}
 use Rattle.rollback_book.specs.Book.{Volume, IsTied, place_in, placed}
 
 -- ---- a story that stands somewhere
@@ -37,15 +30,6 @@ stands_as story s w v ts h runs =
     let e : (w, ts) ≡ (v, ts) =
     same_Some (w, ts) (v, ts) (sym (steps_run story s w ts h) ∙ sym (ap (λ l. run (steps s) (base_of story.begin) l) (names_there story s w ts h)) ∙ runs) in
     record { setting = h.setting; runs = h.runs ∙ ap (λ (p : World × List Past). Some p) e }
-
-legal_onward : (before : Story) (log : List Entry) (e : Entry) → GoesOnLegally before log → IsAccepted (record { begin = before.begin; log = before.log ++ log }) e → GoesOnLegally before (log ++ e ∷ [])
-legal_onward before [] e h a = (subst (λ (l : List Entry). IsAccepted (record { begin = before.begin; log = l }) e) (append-nil before.log) a, tt)
-legal_onward before (x ∷ log) e h a =
-    (h.0, legal_onward (accepted before x) log e h.1 (subst (λ (l : List Entry). IsAccepted (record { begin = before.begin; log = l }) e) (sym (append_assoc before.log (x ∷ []) log)) a))
-
-pub legal_more : (story : Story) (e : Entry) → IsLegal story → IsAccepted story e → IsLegal (accepted story e)
-unfolding IsLegal
-legal_more story e h a = (h.0, legal_onward (record { begin = story.begin; log = [] }) story.log e h.1 a)
 
 -- ---- what is held
 

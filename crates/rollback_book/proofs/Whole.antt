@@ -1,12 +1,12 @@
 -- The machines of a legal story are whole.
-use Rattle.std.proofs.Common.{◌≡◌, Bool, true, false, cond, List, [], refl, ap, sym, subst, ◌∙◌, Option, Some}
+use Rattle.std.proofs.Common.{Bool, true, false, cond, List, [], sym, subst, Option, Some}
 use Rattle.std.specs.Prelude.{ℕ, IfSome}
 use Rattle.asl_fields.specs.Fields.{is_text}
 use Rattle.asl_machine.specs.Definition.{Definition}
 use Rattle.asl_machine.specs.Levels.{IsWhole}
 use Rattle.step_history.specs.Levels.{HasWholeMachines}
 use Rattle.book_log.specs.Legal.{IsAccepted, IsLegal}
-use Rattle.book_log.specs.Story.{Story, Remainder, accepted, after_entry, remainder, setting_of}
+use Rattle.book_log.specs.Story.{Story, Remainder, after_entry, remainder, setting_of}
 use Rattle.book_log.specs.declared.begin.Begin.{Begin}
 use Rattle.book_log.specs.declared.entry.Entry.{Entry}
 use Rattle.book_log.specs.declared.entry.Entry.TheVariants.{Define, Start, Step as Stepped, Undo, Rollback}

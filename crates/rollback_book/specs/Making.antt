@@ -1,5 +1,5 @@
 -- What is made ready of a command before it is entered.
-use Rattle.std.specs.Prelude.{◌≡◌, ◌+◌, ◌≤◌, ℕ, List, [], ◌++◌, length, slice_get, Option, Some, None, option_map, Result, Ok, Err}
+use Rattle.std.specs.Prelude.{◌≡◌, ◌+◌, ◌≤◌, ℕ, List, [], ◌++◌, length, slice_get, Some, None, option_map, Result, Ok, Err}
 use Rattle.json_tree.specs.Data.{depth}
 use Rattle.json_tree.specs.View.{data_of}
 use Rattle.serde_json.specs.View.{view}
@@ -8,15 +8,15 @@ use Rattle.asl_machine.specs.Profile.{Defines}
 use Rattle.depends.specs.Plans.{plan}
 use Rattle.saved_steps.specs.Deeds as deeds
 use Rattle.saved_steps.specs.Made.{CanApply, IsMadeFor}
-use Rattle.saved_steps.specs.Steps.{Step, started, moved, start_name}
+use Rattle.saved_steps.specs.Steps.{Step, started, moved}
 use Rattle.saved_steps.specs.declared.made.Made.{Made as MadeStep}
 use Rattle.step_history.specs.History.{HasRoom}
 use Rattle.step_names.specs.declared.step.StepName.{StepName}
 use Rattle.book_log.specs.Answers.{IsDefineRefusal, start_answer, step_answer, plan_answer}
 use Rattle.book_log.specs.Legal.{IsAccepted}
-use Rattle.book_log.specs.Story.{Story, accepted, facts_of, setting_of, world_of}
+use Rattle.book_log.specs.Story.{Story, facts_of, setting_of, world_of}
 use Rattle.book_log.specs.declared.entry.Entry.{Entry}
-use Rattle.book_log.specs.declared.entry.Entry.TheVariants.{Define, Start, Step as Stepped, Undo, Rollback}
+use Rattle.book_log.specs.declared.entry.Entry.TheVariants.{Define, Start, Step as Stepped}
 use Rattle.book_log.specs.declared.moved.Moved.{Moved}
 use Rattle.book_log.specs.declared.refusal.Refusal.{Refusal}
 use Rattle.book_log.specs.declared.refusal.Refusal.TheVariants.{Memory}

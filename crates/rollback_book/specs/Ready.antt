@@ -1,5 +1,6 @@
 -- What is worked out of a command before everything is made for it.
-use Rattle.std.specs.Prelude.{◌≡◌, ◌+◌, ◌<◌, ◌^◌, ℕ, List, Some, Ok}
+use Rattle.std.specs.Prelude.{◌≡◌, ◌+◌, ◌<◌, ◌^◌, ◌&&◌, ℕ, List, Bool, not, true, false, Option, None, Some, Ok}
+use Rattle.std.specs.declared.cmp.Ordering.TheVariants.{Less}
 use Rattle.json_tree.specs.declared.tree.Json.{Json}
 use Rattle.asl_forward.specs.declared.frame.Frame.{Frame}
 use Rattle.asl_machine.specs.Definition.{Definition}
@@ -13,11 +14,11 @@ use Rattle.saved_steps.specs.declared.next.Next.{Next}
 use Rattle.saved_steps.specs.declared.next.Next.TheVariants.{Begin}
 use Rattle.step_history.specs.History.{HasRoom}
 use Rattle.step_history.specs.Levels.{HasNamesBelow}
-use Rattle.step_names.specs.Thread.{Thread}
+use Rattle.step_names.specs.Order.{thread_cmp}
+use Rattle.step_names.specs.Thread.{Thread, IsThread}
 use Rattle.step_names.specs.declared.step.StepName.{StepName}
-use Rattle.book_log.specs.Answers.{start_answer, step_answer}
+use Rattle.book_log.specs.Answers.{has_move, start_answer, step_answer}
 use Rattle.book_log.specs.Story.{Story, setting_of, world_of}
-use Rattle.book_log.specs.declared.moved.Moved.{Moved}
 use Rattle.rollback_book.specs.Book.{Volume}
 
 -- the execution begins with this frame, and the start is accepted
@@ -52,3 +53,13 @@ pub record IsReadyTo (b : Volume) (t : Thread) (machine : Definition) (f : Frame
   pub few : f.count + 1 < 2 ^ 32
   pub below : HasNamesBelow t f
   pub answer : step_answer b.story t ≡ Ok (record { name = deed.fact.name; kind = deed.fact.kind })
+
+-- the thread has a move and is not passed by
+abbrev pub moves_freely : Story → (Thread → Bool) → Thread → Bool
+moves_freely story passed t = has_move story t && not (passed t)
+
+-- Nothing, where each thread that has a move is passed by; or the name of one that isn't, with none before it.
+abbrev pub IsFirstToMove : Story → (Thread → Bool) → Option Thread → Type 0
+IsFirstToMove story passed None = (t : Thread) → IsThread t → moves_freely story passed t ≡ false
+IsFirstToMove story passed (Some t) =
+    IsThread t × (moves_freely story passed t ≡ true) × ((u : Thread) → IsThread u → thread_cmp u t ≡ Less → moves_freely story passed u ≡ false)

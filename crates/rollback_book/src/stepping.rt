@@ -1,12 +1,14 @@
 // Steps of threads: what is next is worked out and made, and then it is entered.
-ghost use Rattle.std.specs.Prelude.{◌≡◌, ◌+◌, ◌<◌, ◌^◌, IfOk, MatchResult, OnErr, Err};
+ghost use Rattle.std.specs.Prelude.{◌≡◌, ◌+◌, ◌<◌, ◌^◌, IfOk, IfErr, MatchResult, OnErr, Err};
+ghost use Rattle.std.specs.BTreeSet.{contains};
 ghost use Rattle.branch_tree.specs.First.{has_move};
+ghost use Rattle.step_names.specs.Order.{thread_cmp};
 ghost use Rattle.saved_steps.specs.Deeds.{next_step};
 ghost use Rattle.saved_steps.specs.Made.{fact_made};
 ghost use Rattle.book_log.specs.Answers.{Gives, step_answer};
 ghost use Rattle.book_log.specs.Story.{accepted};
 ghost use Rattle.rollback_book.specs.Making.{AnswersStep, CanEnter, OrMemory};
-ghost use Rattle.rollback_book.specs.Ready.{IsNextOf, IsReadyTo};
+ghost use Rattle.rollback_book.specs.Ready.{IsFirstToMove, IsNextOf, IsReadyTo};
 
 use crate::book::Book;
 use crate::checks::is_full_for_step;
@@ -18,6 +20,7 @@ use book_log::{Entry, Moved, Refusal};
 use branch_tree::Readiness;
 use saved_steps::Next;
 use std::alloc::{AllocError, Global};
+use std::collections::BTreeSet;
 use step_names::{StepName, ThreadName};
 
 /// Whether a thread has a move.
@@ -92,6 +95,26 @@ impl Book {
         };
         match step_made(name, step) {
             Ok(made) => Ok(made),
+            Err(AllocError) => Err(Refusal::Memory),
+        }
+    }
+
+    /// The least thread outside a set, by the order of names, that has a move. Takes the memory and the time of
+    /// `History::first_ready`: executions that are done or have failed cost a step each and no memory.
+    ///
+    /// # Errors
+    ///
+    /// `Memory`.
+    pub fn first_ready(
+        &self,
+        alloc: Global,
+        outside: &BTreeSet<ThreadName>,
+    ) -> Result<Option<ThreadName>, Refusal>
+        ensures first { IfOk result (IsFirstToMove self.now.story (contains thread_cmp outside.now)) }
+        ensures memory { IfErr result (λ e. e ≡ Refusal.Memory) }
+    {
+        match self.history.first_ready(alloc, outside) {
+            Ok(found) => Ok(found),
             Err(AllocError) => Err(Refusal::Memory),
         }
     }

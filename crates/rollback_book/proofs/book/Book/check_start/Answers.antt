@@ -1,4 +1,4 @@
-use Rattle.std.proofs.Common.{◌≡◌, ◌∙◌, ap, sym, subst, true, false, Bool, Ok, Err}
+use Rattle.std.proofs.Common.{◌≡◌, ◌∙◌, ap, sym, subst, Ok, Err}
 use Rattle.std.specs.Prelude.{is_some}
 use Rattle.saved_steps.specs.Held.{frames_of, seen}
 use Rattle.saved_steps.specs.Steps.{start_name}

@@ -1,4 +1,4 @@
-use Rattle.std.proofs.Common.{◌≡◌, ◌∙◌, ap, sym, subst, true, false, Err}
+use Rattle.std.proofs.Common.{◌≡◌, ◌∙◌, ap, sym, subst, Err}
 use Rattle.branch_tree.specs.First.{has_move}
 use Rattle.branch_tree.specs.declared.readiness.Readiness.{Readiness}
 use Rattle.book_log.specs.Answers.{step_answer}

@@ -1,7 +1,6 @@
-use Rattle.std.proofs.Common.{◌≡◌, arith, refl, ◌∙◌, ap, sym, subst, length, List, Err}
+use Rattle.std.proofs.Common.{◌≡◌, arith, refl, ◌∙◌, ap, sym, subst, length, Err}
 use Rattle.std.proofs.lemmas.Option.{slice_get_read}
 use Rattle.step_names.specs.declared.step.StepName.{StepName}
-use Rattle.saved_steps.specs.declared.record.StepRecord.{StepRecord}
 use Rattle.book_log.specs.Answers.{undo_answer}
 use Rattle.book_log.specs.declared.refusal.Refusal.TheVariants.{NoStep, HasDependents}
 use Rattle.rollback_book.specs.Book.{Volume, IsFreePlace}

@@ -2,7 +2,6 @@ use Rattle.std.proofs.Common.{sym, subst, Option}
 use Rattle.std.specs.Prelude.{IfSome}
 use Rattle.asl_forward.specs.declared.frame.Frame.{Frame}
 use Rattle.saved_steps.specs.Held.{frames_of}
-use Rattle.saved_steps.specs.declared.next.Next.{Next}
 use Rattle.step_history.specs.Levels.{HasNamesBelow}
 use Rattle.rollback_book.specs.Book.{Volume, volume}
 use Rattle.rollback_book.specs.Ready.{IsNextOf, IsReadyTo}
