@@ -57,7 +57,7 @@ items-begin name schema ds reply after h =
 
 pub begin-done : (begin : Begin) (r : Result Table ItemFault) (reply : List ℕ) (after : Option Story) → IsOk r → (reply ≡ done_reply) × (after ≡ Some (record { begin = begin; log = [] })) → AnswersBegin begin r reply after
 begin-done begin (Ok items) reply after ok h = h
-begin-done begin (Err fault) reply after ok h = absurd ok
+begin-done begin (Err fault) reply after ok h = cc
 
 pub begin-refused : (begin : Begin) (r : Result Table ItemFault) (fault : ItemFault) (reply : List ℕ) (after : Option Story) → r ≡ Err fault → (reply ≡ item_fault_reply fault) × (after ≡ None) → AnswersBegin begin r reply after
 begin-refused begin r fault reply after e h = subst (λ (x : Result Table ItemFault). AnswersBegin begin x reply after) (sym e) h

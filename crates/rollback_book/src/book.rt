@@ -1,5 +1,5 @@
 // The book: the history of its remaining steps, and the log of what was accepted.
-ghost use Rattle.std.specs.Prelude.{◌≡◌, ◌<◌, ◌⊎◌, [], map, length, IfOk, IfErr, IsOk, OnOk, OnErr, MatchResult, Some, None, Ok, Err};
+ghost use Rattle.std.specs.Prelude.{◌≡◌, ◌^◌, ◌<◌, ◌⊎◌, [], map, length, IfOk, IfErr, IsOk, OnOk, OnErr, MatchResult, Some, None, Ok, Err};
 ghost use Rattle.item_store.specs.Listing.{IsListing, items_left};
 ghost use Rattle.saved_steps.specs.Steps.{name_of};
 ghost use Rattle.step_history.specs.History.{AreRecordsOf};
@@ -168,7 +168,8 @@ impl Book {
 
     /// The items of the table in the order of their keys. Takes no memory.
     pub fn items(&self) -> Items<'_>
-        ensures { IsListing (world_of self.now.story).items (items_left result) }
+        ensures items { IsListing (world_of self.now.story).items (items_left result) }
+        ensures fits { length (items_left result) < 2 ^ 63 }
     {
         self.history.items().items()
     }

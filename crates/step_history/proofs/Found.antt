@@ -1,5 +1,5 @@
 -- No two records have one name, so a record that has a name is the first that does.
-use Rattle.std.proofs.Common.{◌≡◌, ◌<◌, ◌≤◌, arith, ℕ, ◌+◌, zero, suc, cond, Bool, true, false, List, [], ◌∷◌, drop, length, map, nat_lt, refl, ap, ap₂, sym, subst, ◌∙◌, inl, inr, Option, None, Some}
+use Rattle.std.proofs.Common.{◌≡◌, ◌<◌, arith, ℕ, zero, suc, Bool, true, false, List, [], ◌∷◌, length, nat_lt, refl, ap, ap₂, sym, subst, ◌∙◌, inl, inr, None, Some}
 use Rattle.std.specs.Prelude.{slice_get, position}
 use Rattle.std.specs.List.{list_any, position_or_len}
 use Rattle.std.proofs.lemmas.Bool.{and_parts, lt-ltb, le-ltb, eqb-true}
@@ -11,7 +11,7 @@ use Rattle.saved_steps.specs.Steps.{Step, name_of}
 use Rattle.saved_steps.specs.World.{Setting, World, is_same_step, is_same_thread}
 use Rattle.saved_steps.specs.declared.fact.Fact.{Fact}
 use Rattle.saved_steps.specs.declared.record.StepRecord.{StepRecord}
-use Rattle.trace_theory.specs.Traces.{In, Before, IsRun}
+use Rattle.trace_theory.specs.Traces.{In, Before}
 use Rattle.trace_theory.proofs.Lists.{by_bool}
 use Rattle.trace_theory.proofs.Runs.{Runs, from_run}
 use Rattle.depends.specs.Instance.{steps}
@@ -20,7 +20,7 @@ use Rattle.depends.proofs.Named.{steps_have_names}
 use Rattle.depends.proofs.Planned.{planned}
 use Rattle.depends.proofs.Searching.{facts}
 use Rattle.depends.proofs.Worlds.{deed_taken}
-use Rattle.step_history.specs.History.{Past, IsHistory, IsSomeHistory}
+use Rattle.step_history.specs.History.{Past, IsSomeHistory}
 use Rattle.step_history.specs.declared.history.History.{History}
 use Rattle.step_history.proofs.Left.{facts_alike}
 
@@ -49,8 +49,8 @@ named : (ts : List Past) → ((t : Past) → In t ts → t.fact.name ≡ name_of
 named [] own once = tt
 named (t ∷ ts) own once = (
   λ g i. let k = In-facts ts g i in
-    subst (λ (f : Fact). is_same_step t.fact.name f.name ≡ false) (sym k.2)
-    (ap₂ is_same_step (own t (inl refl)) (own k.0 (inr k.1)) ∙ once t k.0 (inl (refl, k.1))),
+      subst (λ (f : Fact). is_same_step t.fact.name f.name ≡ false) (sym k.2)
+      (ap₂ is_same_step (own t (inl refl)) (own k.0 (inr k.1)) ∙ once t k.0 (inl (refl, k.1))),
   named ts (λ u i. own u (inr i)) (λ x y b. once x y (inr b)),
 )
 

@@ -10,7 +10,7 @@ use Rattle.operator_line.proofs.session.Session.history.Goals as goal
 
 pub returns-in-Some : goal.returns-in-Some
 returns-in-Some c =
-    let story = c.in-Some.book in
+    let story = c.in-Some.book.story in
     let opened : c.args.self.now ≡ Some story = search rules in
     let texts = texts-named c.history.result.now (remaining story) c.history.ensures.names in
     let told : OnOk c.accept_steps.result (Tells (history_reply story) (Some story) (string_bytes c.accept_steps.new.self.text) (Some story)) =

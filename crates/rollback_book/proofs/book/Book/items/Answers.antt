@@ -7,8 +7,8 @@ use Rattle.rollback_book.specs.Book.{Volume}
 use Rattle.rollback_book.proofs.Tied.{world_is}
 use Rattle.rollback_book.proofs.book.Book.items.Goals as goal
 
-pub returns : goal.returns
-returns c =
+pub returns-clause-items : goal.returns-clause-items
+returns-clause-items c =
     subst (λ (b : Volume). IsListing (world_of b.story).items (items_left c.items-2.result)) c.self.view_is
     (subst (λ (w : World). IsListing w.items (items_left c.items-2.result)) (sym (world_is _ c.self.invariant))
     (subst (λ (s : Store). IsListing (items_of s) (items_left c.items-2.result)) c.items.ensures c.items-2.ensures.items))
