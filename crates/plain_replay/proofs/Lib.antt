@@ -1,3 +1,0 @@
-pub mod Defined
-pub mod Lists
-pub mod Runs
