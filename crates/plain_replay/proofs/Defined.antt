@@ -1,5 +1,5 @@
 -- A machine that is put under a name.
-use Rattle.std.proofs.Common.{◌≡◌, Bool, true, false, cond, List, refl, ap, sym, ◌∙◌, Option, None, Some}
+use Rattle.std.proofs.Common.{◌≡◌, Bool, true, false, cond, List, ap, sym, ◌∙◌, Some}
 use Rattle.std.specs.Prelude.{ℕ}
 use Rattle.std.specs.Ordering.{nat_cmp}
 use Rattle.std.specs.Cmp.{Equal-is}

@@ -1,5 +1,5 @@
 -- The frames of a flat list, once a step has given out its own.
-use Rattle.std.proofs.Common.{◌≡◌, ℕ, ◌+◌, zero, suc, arith, Bool, true, false, cond, not, ◌&&◌, ◌==◌, List, [], ◌∷◌, ◌++◌, refl, ap, ap₂, sym, subst, ◌∙◌, Option, None, Some}
+use Rattle.std.proofs.Common.{◌≡◌, ℕ, ◌+◌, zero, suc, arith, Bool, true, false, cond, not, ◌&&◌, ◌==◌, List, [], ◌∷◌, ◌++◌, refl, ap, ap₂, sym, ◌∙◌, Option, None, Some}
 use Rattle.std.specs.Prelude.{filter, slice_get}
 use Rattle.std.specs.Str.{bytes_eq}
 use Rattle.std.proofs.Math.Path.{fun_ext}
@@ -14,8 +14,7 @@ use Rattle.saved_steps.specs.Deeds.{Deed, or_else}
 use Rattle.saved_steps.specs.Run.{begun_at, begun, frames_after}
 use Rattle.saved_steps.specs.Steps.{makes, closes, is_fork}
 use Rattle.saved_steps.specs.World.{is_same_thread}
-use Rattle.saved_steps.specs.declared.fact.Fact.{Fact}
-use Rattle.saved_steps.proofs.Threads.{same_by_parts, path_itself}
+use Rattle.saved_steps.proofs.Threads.{same_by_parts}
 use Rattle.saved_steps.proofs.Under.{under_is, first_is, whole_is}
 use Rattle.depends.proofs.Threads.{child_is_under}
 use Rattle.plain_replay.specs.Deeds.{begun_rows, rows_after}

@@ -1,5 +1,5 @@
 -- What a thread's move does, by its phase.
-use Rattle.std.proofs.Common.{◌≡◌, ℕ, ◌+◌, ◌==◌, Bool, true, false, List, [], inl, inr, refl, ap, sym, subst, ◌∙◌, Option, None, Some, Result, Ok, Err}
+use Rattle.std.proofs.Common.{◌≡◌, ℕ, ◌+◌, ◌==◌, false, List, [], inl, inr, refl, ap, sym, subst, ◌∙◌, Option, None, Some, Result, Ok, Err}
 use Rattle.std.specs.Prelude.{◌⊎◌, IfOk, option_map, option_and_then}
 use Rattle.std.proofs.lemmas.Bool.{eq-eqb}
 use Rattle.std.proofs.lemmas.Option.{same_Some}
@@ -27,11 +27,9 @@ use Rattle.item_store.specs.declared.fault.CallFault.{CallFault}
 use Rattle.item_store.specs.declared.fault.CallFault.TheVariants.{Memory}
 use Rattle.step_names.specs.Thread.{Thread}
 use Rattle.step_names.specs.declared.step.StepName.{StepName}
-use Rattle.trace_theory.proofs.Lists.{by_bool}
-use Rattle.saved_steps.specs.Deeds.{Deed, deed, deed_of, deed_in, deed_over, deed_of_turn, call_deed, called, close_deed, join_deed, frame_deed, stands, kids, next_step, if_numbered, first_fault, outputs}
+use Rattle.saved_steps.specs.Deeds.{Deed, deed, deed_of, deed_in, deed_over, deed_of_turn, called, close_deed, join_deed, frame_deed, stands, kids, next_step, if_numbered, first_fault, outputs}
 use Rattle.saved_steps.specs.Steps.{moved}
 use Rattle.saved_steps.specs.World.{Setting, World}
-use Rattle.saved_steps.specs.declared.fact.Kind.{Kind}
 use Rattle.saved_steps.specs.declared.fact.Kind.TheVariants.{Terminate, Join, Call}
 use Rattle.plain_replay.specs.Deeds.{CallDoes, IsAnswerOf, IsCloseOf}
 

@@ -1,4 +1,4 @@
-use Rattle.std.proofs.Common.{◌≡◌, ap, subst, ◌∙◌, Some}
+use Rattle.std.proofs.Common.{ap, subst, ◌∙◌, Some}
 use Rattle.asl_machine.specs.Definition.{Definition}
 use Rattle.asl_forward.specs.declared.frame.Frame.{Frame}
 use Rattle.asl_forward.specs.declared.prepared.Outcome.TheVariants as outcome

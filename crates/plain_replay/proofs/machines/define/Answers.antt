@@ -1,11 +1,3 @@
-use Rattle.std.proofs.Common.{◌≡◌, ◌∙◌, ap, sym, subst, List, Some}
-use Rattle.std.specs.Prelude.{ℕ}
-use Rattle.asl_fields.specs.Fields.{is_text}
-use Rattle.asl_machine.specs.Definition.{Definition}
-use Rattle.std.specs.BTreeMap.{UpdatesBy}
-use Rattle.std.specs.Ordering.{nat_cmp}
-use Rattle.std.specs.Cmp.Lexicographic.{slice_cmp}
-use Rattle.plain_replay.specs.Worlds.{machine_in}
 use Rattle.plain_replay.proofs.Defined.{put_under}
 use Rattle.plain_replay.proofs.machines.define.Goals as goal
 
