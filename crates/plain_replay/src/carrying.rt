@@ -76,10 +76,12 @@ fn put_item(items: &mut ItemStore, fact: &Fact, item: Option<Item>) -> Result<()
     ensures schema { items.new.schema ≡ items.old.schema }
 {
     match &fact.access {
-        Some(Access {
-            key,
-            mode: AccessMode::Write,
-        }) => put(items, key, item),
+        Some(
+            Access {
+                key,
+                mode: AccessMode::Write,
+            },
+        ) => put(items, key, item),
         _ => {
             drop(item);
             Ok(())

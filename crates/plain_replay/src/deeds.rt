@@ -120,7 +120,15 @@ fn move_deed(
         Phase::Ready => Ok(Some(turn_deed(alloc, machine, items, frame, name)?)),
         Phase::Parked(branches) => {
             let works = has_work(state);
-            let closed = close(alloc, places, machine.machine(), &name.thread, frame, *branches, works)?;
+            let closed = close(
+                alloc,
+                places,
+                machine.machine(),
+                &name.thread,
+                frame,
+                *branches,
+                works,
+            )?;
             close_deed(alloc, name, closed)
         }
         Phase::Done(_) | Phase::Failed(_) => Ok(None),
@@ -142,11 +150,7 @@ fn close_deed(
 }
 
 /// What the turn of a frame comes to.
-fn outcome_of(
-    alloc: Global,
-    machine: &SharedMachine,
-    frame: &Frame,
-) -> Result<Outcome, AllocError>
+fn outcome_of(alloc: Global, machine: &SharedMachine, frame: &Frame) -> Result<Outcome, AllocError>
     requires ready { frame.now.phase ≡ Phase.Ready }
     requires stands { IsSome (standing machine.now frame.now) }
     requires count { frame.now.count + 1 < 2 ^ 32 }

@@ -34,8 +34,7 @@ impl Place {
     fn is_under(&self, thread: &ThreadName, fork: u32) -> bool
         ensures { result ≡ is_under (thread_of self.now) thread.now fork }
     {
-        self.exec.as_str() == thread.exec()
-            && goes_on_by(self.path.as_slice(), thread.path(), fork)
+        self.exec.as_str() == thread.exec() && goes_on_by(self.path.as_slice(), thread.path(), fork)
     }
 
     /// Whether it lies under the fork that a step is.
@@ -101,7 +100,12 @@ pub fn take_out(places: &mut Vec<Place>, fact: &Fact)
 }
 
 /// Adds the frame of a thread that is not there.
-pub fn add(places: &mut Vec<Place>, alloc: Global, thread: &ThreadName, frame: Frame) -> Result<(), AllocError>
+pub fn add(
+    places: &mut Vec<Place>,
+    alloc: Global,
+    thread: &ThreadName,
+    frame: Frame,
+) -> Result<(), AllocError>
     ensures { OnOk result (rows_of places.new.items ≡ rows_of places.old.items ++ (record { exec = thread.now.exec; path = thread.now.path }, frame) ∷ []) }
 {
     let (Ok(exec), Ok(path)) = (
