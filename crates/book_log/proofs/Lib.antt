@@ -7,3 +7,4 @@ pub mod Reruns
 pub mod Standing
 pub mod TakenBack
 pub mod Taking
+pub mod Opened

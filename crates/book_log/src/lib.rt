@@ -6,6 +6,7 @@ mod begin;
 mod entry;
 mod laws;
 mod moved;
+mod opening;
 mod refusal;
 mod step_names_list;
 
@@ -16,5 +17,6 @@ pub use laws::{
     undoing_is_exact,
 };
 pub use moved::Moved;
+pub use opening::first_store;
 pub use refusal::Refusal;
 pub use step_names_list::StepNames;

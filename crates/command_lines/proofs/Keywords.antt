@@ -17,12 +17,15 @@ by_keyword text keyword rest not_items not_history cut =
     rw (other_text text (codes "items") not_items, other_text text (codes "history") not_history, cut)
 
 pub no_keyword : (keyword rest : List ℕ) → (keyword ≡ codes "table" → ⊥) → (keyword ≡ codes "define" → ⊥) → (keyword ≡ codes "start" → ⊥)
-    → (keyword ≡ codes "step" → ⊥) → (keyword ≡ codes "undo" → ⊥) → (keyword ≡ codes "show" → ⊥) → command_by keyword rest ≡ None
-no_keyword keyword rest table define start step undo show = rw (
+    → (keyword ≡ codes "step" → ⊥) → (keyword ≡ codes "undo" → ⊥) → (keyword ≡ codes "plan" → ⊥) → (keyword ≡ codes "rollback" → ⊥) → (keyword ≡ codes "drive" → ⊥) → (keyword ≡ codes "show" → ⊥) → command_by keyword rest ≡ None
+no_keyword keyword rest table define start step undo plan rollback drive show = rw (
   other_text keyword (codes "table") table,
   other_text keyword (codes "define") define,
   other_text keyword (codes "start") start,
   other_text keyword (codes "step") step,
   other_text keyword (codes "undo") undo,
+  other_text keyword (codes "plan") plan,
+  other_text keyword (codes "rollback") rollback,
+  other_text keyword (codes "drive") drive,
   other_text keyword (codes "show") show,
 )

@@ -2,5 +2,4 @@ pub mod Cuts
 pub mod Keywords
 pub mod ReadBack
 pub mod Spelling
-pub mod Steps
 pub mod Utf8

@@ -1,22 +1,27 @@
 -- The one line of a command is read as that command.
-use Rattle.std.proofs.Common.{◌≡◌, ◌∙◌, sym, ap, subst, refl, ℕ, ◌==◌, nat_le, true, false, not, ◌&&◌, List, [], ◌∷◌, ◌++◌, length, append-nil, Option, Some, None}
+use Rattle.std.proofs.Common.{arith, ◌≡◌, ◌≤◌, ◌∙◌, sym, ap, subst, refl, ℕ, ◌==◌, nat_le, true, false, not, ◌&&◌, List, [], ◌∷◌, ◌++◌, length, append-nil, Option, Some, None}
 use Rattle.std.specs.List.{list_all}
 use Rattle.std.specs.Fmt.{decimal}
-use Rattle.std.proofs.lemmas.Bool.{and_parts, not-true}
+use Rattle.std.proofs.lemmas.Bool.{and_parts, le-leb, not-true}
 use Rattle.step_names.specs.Thread.{Thread, execution, is_name, is_name_byte}
-use Rattle.step_names.specs.Written.{thread_text, step_text}
-use Rattle.step_names.specs.declared.step.StepName.{StepName}
+use Rattle.step_names.specs.Written.{thread_text}
 use Rattle.step_names.proofs.Parts.{lacks, lacks-append, passing_lacks}
 use Rattle.step_names.proofs.Numbers.{number_reads}
+use Rattle.step_names.proofs.Spelling.{thread_reads, step_reads}
 use Rattle.attr_values.specs.declared.key.KeyAttribute.{KeyAttribute}
 use Rattle.attr_values.specs.declared.key.KeyType.{KeyType}
 use Rattle.attr_values.specs.declared.key.KeyType.TheVariants.{S, N}
 use Rattle.asl_fields.specs.Fields.{is_text}
-use Rattle.command_lines.specs.Grammar.{Spoken, table, define, start, step, undo, show, items, history, is_table_name, is_table_name_byte, thread_in, step_in, type_in, key_name_in, key_in, first_word, table_by, table_of, define_of, start_of, text_command}
+use Rattle.command_lines.specs.Grammar.{Spoken, table, define, start, step, undo, plan, rollback, drive, show, items, history, is_table_name, is_table_name_byte, execution_in, count_in, type_in, key_name_in, key_in, first_word, table_by, table_of, define_of, start_of, text_command}
 use Rattle.command_lines.specs.Spelled.{type_text, key_text, items_text, is_key_name, IsExecution, IsSort, IsProper, line_of}
 use Rattle.command_lines.specs.GrammarLaws.{LineIsRead}
 use Rattle.command_lines.proofs.Cuts.{cut_some}
-use Rattle.command_lines.proofs.Steps.{name_bytes}
+
+-- the bytes of a NAME
+name_bytes : (word : List ℕ) → is_name word ≡ true → list_all is_name_byte word ≡ true
+name_bytes word h =
+    let s = and_parts (nat_le 1 (length word)) (nat_le (length word) 64 && list_all is_name_byte word) h in
+    (and_parts (nat_le (length word) 64) (list_all is_name_byte word) s.1).1
 
 name_lacks : (c : ℕ) (name : List ℕ) → is_name_byte c ≡ false → is_name name ≡ true → lacks c name ≡ true
 name_lacks c name apart h = passing_lacks is_name_byte c name apart (name_bytes name h)
@@ -29,17 +34,16 @@ table_name_lacks name h =
 execution_is : (thread : Thread) → IsExecution thread → execution thread.exec ≡ thread
 execution_is thread kept = ap (λ (path : List (ℕ × ℕ)). let t : Thread = record { exec = thread.exec; path = path } in t) (sym kept.1)
 
-thread_reads : (thread : Thread) → IsExecution thread → thread_in (thread_text thread) ≡ Some thread
-thread_reads thread kept =
-    subst (λ (t : Thread). thread_in (thread_text t) ≡ Some t) (execution_is thread kept) (ap thread_in (append-nil thread.exec) ∙ rw kept.0)
+execution_reads : (thread : Thread) → IsExecution thread → execution_in (thread_text thread) ≡ Some thread
+execution_reads thread kept =
+    subst (λ (t : Thread). execution_in (thread_text t) ≡ Some t) (execution_is thread kept) (ap execution_in (append-nil thread.exec) ∙ rw kept.0)
 
 thread_lacks : (c : ℕ) (thread : Thread) → is_name_byte c ≡ false → IsExecution thread → lacks c (thread_text thread) ≡ true
 thread_lacks c thread apart kept =
     subst (λ (t : Thread). lacks c (thread_text t) ≡ true) (execution_is thread kept) (ap (lacks c) (append-nil thread.exec) ∙ name_lacks c thread.exec apart kept.0)
 
-step_reads : (named : StepName) → IsProper (undo named) → step_in (step_text named) ≡ Some named
-step_reads named kept =
-    rw (cut_some 35 (thread_text named.thread) (decimal named.no) (thread_lacks 35 named.thread refl kept.0), thread_reads named.thread kept.0, number_reads named.no kept.1)
+count_reads : (count : ℕ) → (1 ≤ count) × (count ≤ 65536) → count_in (decimal count) ≡ Some count
+count_reads count kept = rw (number_reads count (omega (arith, kept.1)), le-leb 1 count kept.0, le-leb count 65536 kept.1)
 
 -- ---- keys
 
@@ -93,7 +97,7 @@ define_reads name json h = rw (cut_some 32 name json (name_lacks 32 name refl h)
 start_reads : (exec : Thread) (machine json : List ℕ) → IsExecution exec → is_name machine ≡ true → start_of (thread_text exec ++ 32 ∷ (machine ++ 32 ∷ json)) ≡ Some (start exec machine json)
 start_reads exec machine json kept h = rw (
   cut_some 32 (thread_text exec) (machine ++ 32 ∷ json) (thread_lacks 32 exec refl kept),
-  thread_reads exec kept,
+  execution_reads exec kept,
   cut_some 32 machine json (name_lacks 32 machine refl h),
   h,
 )
@@ -104,6 +108,9 @@ text_reads (define name json) kept = define_reads name json kept
 text_reads (start exec machine json) kept = start_reads exec machine json kept.0 kept.1
 text_reads (step thread) kept = rw (thread_reads thread kept)
 text_reads (undo named) kept = rw (step_reads named kept)
+text_reads (plan named) kept = rw (step_reads named kept)
+text_reads (rollback named) kept = rw (step_reads named kept)
+text_reads (drive count) kept = rw (count_reads count kept)
 text_reads (show thread) kept = rw (thread_reads thread kept)
 text_reads items kept = refl
 text_reads history kept = refl

@@ -1,21 +1,21 @@
 -- A line that is a command is its one line.
-use Rattle.std.proofs.Common.{◌≡◌, ◌∙◌, sym, ap, subst, refl, ℕ, ◌==◌, Bool, true, false, not, cond, List, [], ◌∷◌, ◌++◌, append-nil, Option, Some, None, codes, ◌⊎◌, inl, inr, eqb-true}
+use Rattle.std.proofs.Common.{◌≡◌, ◌≤◌, ◌∙◌, sym, ap, subst, refl, ℕ, ◌==◌, nat_le, ◌&&◌, Bool, true, false, not, cond, List, [], ◌∷◌, ◌++◌, append-nil, Option, Some, None, codes, ◌⊎◌, inl, inr, eqb-true}
 use Rattle.std.specs.Option.{option_map, option_and_then}
 use Rattle.std.specs.Str.{is_utf8}
 use Rattle.std.specs.Fmt.{decimal}
 use Rattle.std.specs.Cmp.Lexicographic.{bytes_decides}
-use Rattle.std.proofs.lemmas.Bool.{and_parts, and_from}
+use Rattle.std.proofs.lemmas.Bool.{and_parts, and_from, leb-true}
 use Rattle.step_names.specs.Thread.{Thread, execution, is_name}
-use Rattle.step_names.specs.Written.{thread_text, step_text}
-use Rattle.step_names.specs.Grammar.{read_number}
-use Rattle.step_names.specs.declared.step.StepName.{StepName}
+use Rattle.step_names.specs.Written.{thread_text}
+use Rattle.step_names.specs.Grammar.{read_number, read_thread, read_step}
 use Rattle.step_names.proofs.Parts.{lacks}
-use Rattle.step_names.proofs.Numbers.{number_parts, number_writes}
+use Rattle.step_names.proofs.Numbers.{number_writes}
+use Rattle.step_names.proofs.Spelling.{thread_writes, step_writes}
 use Rattle.attr_values.specs.declared.key.KeyAttribute.{KeyAttribute}
 use Rattle.attr_values.specs.declared.key.KeyType.{KeyType}
 use Rattle.attr_values.specs.declared.key.KeyType.TheVariants.{S, N}
 use Rattle.asl_fields.specs.Fields.{is_text}
-use Rattle.command_lines.specs.Grammar.{Spoken, table, step, undo, show, items, history, cut_at, is_table_name, thread_in, step_in, type_in, key_name_in, key_in, first_word, table_by, table_of, define_of, start_of, command_by, text_command}
+use Rattle.command_lines.specs.Grammar.{Spoken, table, step, undo, plan, rollback, drive, show, items, history, cut_at, is_table_name, execution_in, within_drive, count_in, type_in, key_name_in, key_in, first_word, table_by, table_of, define_of, start_of, command_by, text_command}
 use Rattle.command_lines.specs.Spelled.{type_text, key_text, items_text, is_key_name, IsExecution, IsSort, IsProper, line_of}
 use Rattle.command_lines.specs.GrammarLaws.{LineSaysOne, LineIsSpelled}
 
@@ -60,20 +60,18 @@ cut_back c (b ∷ bs) p h = by_test (b == c) refl (cut_at c bs) (λ q e. cut_bac
 
 -- ---- words
 
-pub thread_says : (word : List ℕ) (thread : Thread) → thread_in word ≡ Some thread → IsExecution thread × (word ≡ thread_text thread)
-thread_says word thread h =
+pub execution_says : (word : List ℕ) (thread : Thread) → execution_in word ≡ Some thread → IsExecution thread × (word ≡ thread_text thread)
+execution_says word thread h =
     let found = test_found (is_name word) (execution word) thread h in
     subst (λ (t : Thread). IsExecution t × (word ≡ thread_text t)) found.1 ((found.0, refl), sym (append-nil word))
 
-pub step_says : (word : List ℕ) (named : StepName) → step_in word ≡ Some named → IsProper (undo named) × (word ≡ step_text named)
-step_says word named h =
-    let cut = bind_found (cut_at 35 word) _ named h in
-    let exec = bind_found (thread_in cut.0.0) _ named cut.2 in
-    let number = bind_found (read_number cut.0.1) _ named exec.2 in
-    let thread = thread_says cut.0.0 exec.0 exec.1 in
-    let joined : word ≡ thread_text exec.0 ++ 35 ∷ decimal number.0 =
-    (cut_back 35 word cut.0 cut.1).0 ∙ ap (λ (w : List ℕ). w ++ 35 ∷ cut.0.1) thread.1 ∙ ap (λ (w : List ℕ). thread_text exec.0 ++ 35 ∷ w) (sym (number_writes cut.0.1 number.0 number.1)) in
-    subst (λ (s : StepName). IsProper (undo s) × (word ≡ step_text s)) (same_some _ named number.2) ((thread.0, (number_parts cut.0.1 number.0 number.1).2), joined)
+count_says : (word : List ℕ) (count : ℕ) → count_in word ≡ Some count → IsProper (drive count) × (word ≡ decimal count)
+count_says word count h =
+    let number = bind_found (read_number word) within_drive count h in
+    let found = test_found (nat_le 1 number.0 && nat_le number.0 65536) number.0 count number.2 in
+    let bounds = and_parts (nat_le 1 number.0) (nat_le number.0 65536) found.0 in
+    subst (λ (n : ℕ). ((1 ≤ n) × (n ≤ 65536)) × (word ≡ decimal n)) found.1
+    ((leb-true 1 number.0 bounds.0, leb-true number.0 65536 bounds.1), sym (number_writes word number.0 number.1))
 
 -- ---- lines
 
@@ -89,11 +87,11 @@ define_says text command h =
 pub start_says : (text : List ℕ) (command : Spoken) → start_of text ≡ Some command → IsProper command × (codes "start " ++ text ≡ line_of command)
 start_says text command h =
     let cut = bind_found (cut_at 32 text) _ command h in
-    let exec = bind_found (thread_in cut.0.0) _ command cut.2 in
+    let exec = bind_found (execution_in cut.0.0) _ command cut.2 in
     let rest = bind_found (cut_at 32 cut.0.1) _ command exec.2 in
     let name = bind_found (cond (is_name rest.0.0) (Some rest.0.0) None) _ command rest.2 in
     let word = test_found (is_name rest.0.0) rest.0.0 name.0 name.1 in
-    let thread = thread_says cut.0.0 exec.0 exec.1 in
+    let thread = execution_says cut.0.0 exec.0 exec.1 in
     let after : cut.0.1 ≡ name.0 ++ 32 ∷ rest.0.1 = (cut_back 32 cut.0.1 rest.0 rest.1).0 ∙ ap (λ (w : List ℕ). w ++ 32 ∷ rest.0.1) word.1 in
     let joined : text ≡ thread_text exec.0 ++ 32 ∷ (name.0 ++ 32 ∷ rest.0.1) =
     (cut_back 32 text cut.0 cut.1).0 ∙ ap (λ (w : List ℕ). w ++ 32 ∷ cut.0.1) thread.1 ∙ ap (λ (w : List ℕ). thread_text exec.0 ++ 32 ∷ w) after in
@@ -171,23 +169,41 @@ table_says text command h =
     subst (λ (s : Spoken). IsProper s × (codes "table " ++ text ≡ line_of s)) sort.1
     ((subst (λ (w : List ℕ). is_table_name w ≡ true) word.1 word.0, key.0, sort.2), ap (λ (w : List ℕ). codes "table " ++ w) joined)
 
-step_line : (text : List ℕ) (command : Spoken) → option_map step (thread_in text) ≡ Some command → IsProper command × (codes "step " ++ text ≡ line_of command)
+step_line : (text : List ℕ) (command : Spoken) → option_map step (read_thread text) ≡ Some command → IsProper command × (codes "step " ++ text ≡ line_of command)
 step_line text command h =
-    let found = map_found (thread_in text) step command h in
-    let thread = thread_says text found.0 found.1 in
-    subst (λ (s : Spoken). IsProper s × (codes "step " ++ text ≡ line_of s)) found.2 (thread.0, ap (λ (w : List ℕ). codes "step " ++ w) thread.1)
+    let found = map_found (read_thread text) step command h in
+    let thread = thread_writes text found.0 found.1 in
+    subst (λ (s : Spoken). IsProper s × (codes "step " ++ text ≡ line_of s)) found.2 (thread.0, ap (λ (w : List ℕ). codes "step " ++ w) (sym thread.1))
 
-undo_line : (text : List ℕ) (command : Spoken) → option_map undo (step_in text) ≡ Some command → IsProper command × (codes "undo " ++ text ≡ line_of command)
-undo_line text command h =
-    let found = map_found (step_in text) undo command h in
-    let named = step_says text found.0 found.1 in
-    subst (λ (s : Spoken). IsProper s × (codes "undo " ++ text ≡ line_of s)) found.2 (named.0, ap (λ (w : List ℕ). codes "undo " ++ w) named.1)
-
-show_line : (text : List ℕ) (command : Spoken) → option_map show (thread_in text) ≡ Some command → IsProper command × (codes "show " ++ text ≡ line_of command)
+show_line : (text : List ℕ) (command : Spoken) → option_map show (read_thread text) ≡ Some command → IsProper command × (codes "show " ++ text ≡ line_of command)
 show_line text command h =
-    let found = map_found (thread_in text) show command h in
-    let thread = thread_says text found.0 found.1 in
-    subst (λ (s : Spoken). IsProper s × (codes "show " ++ text ≡ line_of s)) found.2 (thread.0, ap (λ (w : List ℕ). codes "show " ++ w) thread.1)
+    let found = map_found (read_thread text) show command h in
+    let thread = thread_writes text found.0 found.1 in
+    subst (λ (s : Spoken). IsProper s × (codes "show " ++ text ≡ line_of s)) found.2 (thread.0, ap (λ (w : List ℕ). codes "show " ++ w) (sym thread.1))
+
+undo_line : (text : List ℕ) (command : Spoken) → option_map undo (read_step text) ≡ Some command → IsProper command × (codes "undo " ++ text ≡ line_of command)
+undo_line text command h =
+    let found = map_found (read_step text) undo command h in
+    let named = step_writes text found.0 found.1 in
+    subst (λ (s : Spoken). IsProper s × (codes "undo " ++ text ≡ line_of s)) found.2 (named.0, ap (λ (w : List ℕ). codes "undo " ++ w) (sym named.1))
+
+plan_line : (text : List ℕ) (command : Spoken) → option_map plan (read_step text) ≡ Some command → IsProper command × (codes "plan " ++ text ≡ line_of command)
+plan_line text command h =
+    let found = map_found (read_step text) plan command h in
+    let named = step_writes text found.0 found.1 in
+    subst (λ (s : Spoken). IsProper s × (codes "plan " ++ text ≡ line_of s)) found.2 (named.0, ap (λ (w : List ℕ). codes "plan " ++ w) (sym named.1))
+
+rollback_line : (text : List ℕ) (command : Spoken) → option_map rollback (read_step text) ≡ Some command → IsProper command × (codes "rollback " ++ text ≡ line_of command)
+rollback_line text command h =
+    let found = map_found (read_step text) rollback command h in
+    let named = step_writes text found.0 found.1 in
+    subst (λ (s : Spoken). IsProper s × (codes "rollback " ++ text ≡ line_of s)) found.2 (named.0, ap (λ (w : List ℕ). codes "rollback " ++ w) (sym named.1))
+
+drive_line : (text : List ℕ) (command : Spoken) → option_map drive (count_in text) ≡ Some command → IsProper command × (codes "drive " ++ text ≡ line_of command)
+drive_line text command h =
+    let found = map_found (count_in text) drive command h in
+    let count = count_says text found.0 found.1 in
+    subst (λ (s : Spoken). IsProper s × (codes "drive " ++ text ≡ line_of s)) found.2 (count.0, ap (λ (w : List ℕ). codes "drive " ++ w) count.1)
 
 by_word : (keyword text word : List ℕ) (command : Spoken) → is_text keyword word ≡ true → IsProper command × (word ++ 32 ∷ text ≡ line_of command)
     → IsProper command × (keyword ++ 32 ∷ text ≡ line_of command)
@@ -200,13 +216,22 @@ command_says keyword text command h = elim (choice_found (is_text keyword (codes
     | inl w ↦ by_word keyword text (codes "define") command w.0 (define_says text command w.1)
     | inr h2 ↦ elim (choice_found (is_text keyword (codes "start")) (start_of text) _ command h2) [
       | inl w ↦ by_word keyword text (codes "start") command w.0 (start_says text command w.1)
-      | inr h3 ↦ elim (choice_found (is_text keyword (codes "step")) (option_map step (thread_in text)) _ command h3) [
+      | inr h3 ↦ elim (choice_found (is_text keyword (codes "step")) (option_map step (read_thread text)) _ command h3) [
         | inl w ↦ by_word keyword text (codes "step") command w.0 (step_line text command w.1)
-        | inr h4 ↦ elim (choice_found (is_text keyword (codes "undo")) (option_map undo (step_in text)) _ command h4) [
+        | inr h4 ↦ elim (choice_found (is_text keyword (codes "undo")) (option_map undo (read_step text)) _ command h4) [
           | inl w ↦ by_word keyword text (codes "undo") command w.0 (undo_line text command w.1)
-          | inr h5 ↦ elim (choice_found (is_text keyword (codes "show")) (option_map show (thread_in text)) _ command h5) [
-            | inl w ↦ by_word keyword text (codes "show") command w.0 (show_line text command w.1)
-            | inr h6 ↦ cc
+          | inr h5 ↦ elim (choice_found (is_text keyword (codes "plan")) (option_map plan (read_step text)) _ command h5) [
+            | inl w ↦ by_word keyword text (codes "plan") command w.0 (plan_line text command w.1)
+            | inr h6 ↦ elim (choice_found (is_text keyword (codes "rollback")) (option_map rollback (read_step text)) _ command h6) [
+              | inl w ↦ by_word keyword text (codes "rollback") command w.0 (rollback_line text command w.1)
+              | inr h7 ↦ elim (choice_found (is_text keyword (codes "drive")) (option_map drive (count_in text)) _ command h7) [
+                | inl w ↦ by_word keyword text (codes "drive") command w.0 (drive_line text command w.1)
+                | inr h8 ↦ elim (choice_found (is_text keyword (codes "show")) (option_map show (read_thread text)) _ command h8) [
+                  | inl w ↦ by_word keyword text (codes "show") command w.0 (show_line text command w.1)
+                  | inr h9 ↦ cc
+                ]
+              ]
+            ]
           ]
         ]
       ]

@@ -1,19 +1,18 @@
 -- The grammar of lines: which command a line is, if it is one.
 --
---     table NAME2 K:TYPE [K:TYPE] J        step T        items
---     define NAME J                        undo S        history
---     start NAME NAME J                    show T
+--     table NAME2 K:TYPE [K:TYPE] J        step T        plan S          items
+--     define NAME J                        show T        rollback S      history
+--     start NAME NAME J                    undo S        drive K
 --
 -- Between two words stands one space and no more, and J is all that is left. NAME is the name of an execution or a machine.
--- T is a thread and S a step, as far as commands take them: a thread has no branches, and so is written as its
--- execution's NAME, and a step as NAME `#` NUM.
+-- T is a thread and S a step, written as these names are; K is a number from 1 to 65,536.
 use Rattle.std.specs.Prelude.{◌≡◌, ℕ, ◌==◌, Bool, ◌&&◌, ◌||◌, List, [], ◌∷◌, length, nat_le, if◌then◌else◌, Option, Some, None, option_and_then, option_map, codes}
 use Rattle.std.specs.List.{list_all}
 use Rattle.std.specs.Option.{option_map_or}
 use Rattle.std.specs.Str.{is_utf8}
 use Rattle.asl_fields.specs.Fields.{is_text}
 use Rattle.step_names.specs.Thread.{Thread, execution, is_name, is_name_byte}
-use Rattle.step_names.specs.Grammar.{read_number}
+use Rattle.step_names.specs.Grammar.{read_number, read_thread, read_step}
 use Rattle.step_names.specs.declared.step.StepName.{StepName}
 use Rattle.attr_values.specs.declared.key.KeyAttribute.{KeyAttribute}
 use Rattle.attr_values.specs.declared.key.KeySchema.{KeySchema}
@@ -21,7 +20,7 @@ use Rattle.attr_values.specs.declared.key.KeyType.{KeyType}
 use Rattle.attr_values.specs.declared.key.KeyType.TheVariants.{S, N}
 use Rattle.command_lines.specs.declared.words.KeyWord.{KeyWord}
 use Rattle.command_lines.specs.declared.command.Command.{Command}
-use Rattle.command_lines.specs.declared.command.Command.TheVariants.{Table, Define, Start, Step, Undo, Show, Items, History}
+use Rattle.command_lines.specs.declared.command.Command.TheVariants.{Table, Define, Start, Step, Undo, Plan, Rollback, Drive, Show, Items, History}
 
 -- A command: of a table its name, its key and its items' JSON; of a definition the machine's name and the definition's
 -- JSON; of a start the execution's thread, the machine's name and the input's JSON. Texts are their bytes.
@@ -31,6 +30,9 @@ pub data Spoken : Type 0 where
   start : Thread → List ℕ → List ℕ → Spoken
   step : Thread → Spoken
   undo : StepName → Spoken
+  plan : StepName → Spoken
+  rollback : StepName → Spoken
+  drive : ℕ → Spoken
   show : Thread → Spoken
   items : Spoken
   history : Spoken
@@ -64,17 +66,16 @@ is_table_name word = nat_le 1 (length word) && (nat_le (length word) 255 && list
 abbrev pub table_name_in : List ℕ → Option (List ℕ)
 table_name_in word = if is_table_name word then Some word else None
 
--- T: NAME
-abbrev pub thread_in : List ℕ → Option Thread
-thread_in word = if is_name word then Some (execution word) else None
+-- an execution's own thread: NAME
+abbrev pub execution_in : List ℕ → Option Thread
+execution_in word = if is_name word then Some (execution word) else None
 
--- S: NAME `#` NUM
-abbrev pub step_in : List ℕ → Option StepName
-step_in word = do
-  (exec, digits) ← cut_at 35 word
-  thread ← thread_in exec
-  number ← read_number digits
-  Some (record { thread = thread; no = number })
+-- K: a number from 1 to 65,536
+abbrev pub within_drive : ℕ → Option ℕ
+within_drive number = if nat_le 1 number && nat_le number 65536 then Some number else None
+
+abbrev pub count_in : List ℕ → Option ℕ
+count_in word = read_number word >>= within_drive
 
 -- K: it isn't empty, and has no `[` in front
 abbrev pub key_name_in : List ℕ → Option (List ℕ)
@@ -121,7 +122,7 @@ define_of text = do
 abbrev pub start_of : List ℕ → Option Spoken
 start_of text = do
   (first, after_exec) ← cut_at 32 text
-  thread ← thread_in first
+  thread ← execution_in first
   (second, json) ← cut_at 32 after_exec
   machine ← name_in second
   Some (start thread machine json)
@@ -132,10 +133,13 @@ command_by keyword text =
     if is_text keyword (codes "table") then table_of text
     else (if is_text keyword (codes "define") then define_of text
     else (if is_text keyword (codes "start") then start_of text
-    else (if is_text keyword (codes "step") then option_map step (thread_in text)
-    else (if is_text keyword (codes "undo") then option_map undo (step_in text)
-    else (if is_text keyword (codes "show") then option_map show (thread_in text)
-    else None)))))
+    else (if is_text keyword (codes "step") then option_map step (read_thread text)
+    else (if is_text keyword (codes "undo") then option_map undo (read_step text)
+    else (if is_text keyword (codes "plan") then option_map plan (read_step text)
+    else (if is_text keyword (codes "rollback") then option_map rollback (read_step text)
+    else (if is_text keyword (codes "drive") then option_map drive (count_in text)
+    else (if is_text keyword (codes "show") then option_map show (read_thread text)
+    else None))))))))
 
 -- of a text
 abbrev pub text_command : List ℕ → Option Spoken
@@ -165,6 +169,9 @@ spoken (Define name json) = define name json.now
 spoken (Start exec machine json) = start exec.thread machine json.now
 spoken (Step thread) = step thread
 spoken (Undo named) = undo named
+spoken (Plan named) = plan named
+spoken (Rollback named) = rollback named
+spoken (Drive count) = drive count
 spoken (Show thread) = show thread
 spoken Items = items
 spoken History = history

@@ -1,8 +1,8 @@
 -- The grammar at some texts.
-use Rattle.std.specs.Prelude.{◌≡◌, [], codes, Some, None, refl}
+use Rattle.std.specs.Prelude.{◌≡◌, [], ◌∷◌, codes, Some, None, refl}
 use Rattle.step_names.specs.Thread.{execution}
 use Rattle.attr_values.specs.declared.key.KeyType.TheVariants.{S, N}
-use Rattle.command_lines.specs.Grammar.{table, define, start, step, undo, show, items, history, text_command}
+use Rattle.command_lines.specs.Grammar.{table, define, start, step, undo, plan, rollback, drive, show, items, history, text_command}
 
 row_one_key : text_command (codes "table items id:S []")
     ≡ Some (table (codes "items") (record { partition = record { name = codes "id"; kind = S }; sort = None }) (codes "[]"))
@@ -37,11 +37,35 @@ row_start = refl
 row_step : text_command (codes "step a") ≡ Some (step (execution (codes "a")))
 row_step = refl
 
-row_branch : text_command (codes "step a/1.0") ≡ None
+row_branch : text_command (codes "step a/1.0") ≡ Some (step (record { exec = codes "a"; path = (1, 0) ∷ [] }))
 row_branch = refl
+
+row_no_fork : text_command (codes "step a/0.1") ≡ None
+row_no_fork = refl
+
+row_start_of_a_branch : text_command (codes "start a/1.0 p {}") ≡ None
+row_start_of_a_branch = refl
 
 row_undo : text_command (codes "undo a#10") ≡ Some (undo (record { thread = execution (codes "a"); no = 10 }))
 row_undo = refl
+
+row_undo_branch : text_command (codes "undo a/2.10#3") ≡ Some (undo (record { thread = record { exec = codes "a"; path = (2, 10) ∷ [] }; no = 3 }))
+row_undo_branch = refl
+
+row_plan : text_command (codes "plan a#0") ≡ Some (plan (record { thread = execution (codes "a"); no = 0 }))
+row_plan = refl
+
+row_rollback : text_command (codes "rollback a#1") ≡ Some (rollback (record { thread = execution (codes "a"); no = 1 }))
+row_rollback = refl
+
+row_drive : text_command (codes "drive 65536") ≡ Some (drive 65536)
+row_drive = refl
+
+row_drive_nothing : text_command (codes "drive 0") ≡ None
+row_drive_nothing = refl
+
+row_drive_more : text_command (codes "drive 65537") ≡ None
+row_drive_more = refl
 
 row_leading_zero : text_command (codes "undo a#01") ≡ None
 row_leading_zero = refl

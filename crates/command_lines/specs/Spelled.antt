@@ -1,13 +1,14 @@
 -- The one line of each command, and what the parts of a command keep.
-use Rattle.std.specs.Prelude.{◌≡◌, ℕ, ◌<◌, ◌^◌, ◌==◌, Bool, false, not, ◌&&◌, List, [], ◌∷◌, ◌++◌, Option, Some, None, IsTrue, codes}
+use Rattle.std.specs.Fmt.{decimal}
+use Rattle.std.specs.Prelude.{◌≡◌, ℕ, ◌≤◌, ◌==◌, Bool, false, not, ◌&&◌, List, [], ◌∷◌, ◌++◌, Option, Some, None, IsTrue, codes}
 use Rattle.std.specs.List.{list_all}
-use Rattle.step_names.specs.Thread.{Thread, is_name}
+use Rattle.step_names.specs.Thread.{Thread, IsThread, IsStep, is_name}
 use Rattle.step_names.specs.Written.{thread_text, step_text}
 use Rattle.attr_values.specs.declared.key.KeyAttribute.{KeyAttribute}
 use Rattle.attr_values.specs.declared.key.KeyType.{KeyType}
 use Rattle.attr_values.specs.declared.key.KeyType.TheVariants.{S, N}
 use Rattle.asl_fields.specs.Fields.{is_text}
-use Rattle.command_lines.specs.Grammar.{Spoken, table, define, start, step, undo, show, items, history, is_table_name, first_word, key_in}
+use Rattle.command_lines.specs.Grammar.{Spoken, table, define, start, step, undo, plan, rollback, drive, show, items, history, is_table_name, first_word, key_in}
 
 abbrev pub type_text : KeyType → List ℕ
 type_text S = codes "S"
@@ -28,6 +29,9 @@ line_of (define name json) = codes "define " ++ (name ++ 32 ∷ json)
 line_of (start exec machine json) = codes "start " ++ (thread_text exec ++ 32 ∷ (machine ++ 32 ∷ json))
 line_of (step thread) = codes "step " ++ thread_text thread
 line_of (undo named) = codes "undo " ++ step_text named
+line_of (plan named) = codes "plan " ++ step_text named
+line_of (rollback named) = codes "rollback " ++ step_text named
+line_of (drive count) = codes "drive " ++ decimal count
 line_of (show thread) = codes "show " ++ thread_text thread
 line_of items = codes "items"
 line_of history = codes "history"
@@ -50,8 +54,11 @@ abbrev pub IsProper : Spoken → Type 0
 IsProper (table name schema json) = IsTrue (is_table_name name) × IsTrue (is_key_name schema.partition.name) × IsSort schema.partition schema.sort json
 IsProper (define name json) = IsTrue (is_name name)
 IsProper (start exec machine json) = IsExecution exec × IsTrue (is_name machine)
-IsProper (step thread) = IsExecution thread
-IsProper (undo named) = IsExecution named.thread × (named.no < 2 ^ 32)
-IsProper (show thread) = IsExecution thread
+IsProper (step thread) = IsThread thread
+IsProper (undo named) = IsStep named.thread named.no
+IsProper (plan named) = IsStep named.thread named.no
+IsProper (rollback named) = IsStep named.thread named.no
+IsProper (drive count) = (1 ≤ count) × (count ≤ 65536)
+IsProper (show thread) = IsThread thread
 IsProper items = Unit {0}
 IsProper history = Unit {0}

@@ -1,13 +1,14 @@
 // The commands, read from lines.
 ghost use Rattle.std.specs.Prelude.{◌≡◌, ◌↔◌, None, Some, IfOk, IsErrOf, MatchResult, option_map};
-ghost use Rattle.command_lines.specs.Grammar.{cut_at, command_of, text_command, command_by, table_of, define_of, start_of, thread_in, step_in, spoken, attribute_of};
+ghost use Rattle.step_names.specs.Grammar as grammar;
+ghost use Rattle.command_lines.specs.Grammar.{cut_at, command_of, text_command, command_by, table_of, define_of, start_of, execution_in, count_in, spoken, attribute_of};
 
 pub use crate::execution::Execution;
 use crate::words::{KeyWord, cut, first_word, is_table_name, read_key};
 use attr_values::{KeyAttribute, KeySchema};
 use json_tree::Text;
 use std::alloc::{AllocError, AllocFailed, Global};
-use step_names::{NameFault, StepName, ThreadName, is_name};
+use step_names::{NameFault, StepName, ThreadName, is_name, read_number};
 
 /// Why a line is no command.
 #[derive(Clone, Copy, Debug, PartialEq, Eq)]
@@ -59,6 +60,10 @@ pub enum Command<'a> {
     },
     Step(ThreadName),
     Undo(StepName),
+    Plan(StepName),
+    Rollback(StepName),
+    /// At most so many steps, from 1 to 65,536.
+    Drive(u32),
     Show(ThreadName),
     Items,
     History,
@@ -105,9 +110,12 @@ fn read_words<'a>(alloc: Global, keyword: &str, rest: &'a str) -> Result<Command
         "table" => read_table(alloc, rest),
         "define" => read_define(alloc, rest),
         "start" => read_start(alloc, rest),
-        "step" => Ok(Command::Step(read_execution(alloc, rest)?.thread)),
+        "step" => Ok(Command::Step(read_thread(alloc, rest)?)),
         "undo" => Ok(Command::Undo(read_step(alloc, rest)?)),
-        "show" => Ok(Command::Show(read_execution(alloc, rest)?.thread)),
+        "plan" => Ok(Command::Plan(read_step(alloc, rest)?)),
+        "rollback" => Ok(Command::Rollback(read_step(alloc, rest)?)),
+        "drive" => Ok(Command::Drive(read_count(rest)?)),
+        "show" => Ok(Command::Show(read_thread(alloc, rest)?)),
         _ => Err(CommandFault::BadLine),
     }
 }
@@ -197,10 +205,10 @@ fn read_start(alloc: Global, text: &str) -> Result<Command<'_>, CommandFault>
     })
 }
 
-/// A thread without branches, the only one that a command takes yet.
+/// An execution's own thread.
 fn read_execution(alloc: Global, word: &str) -> Result<Execution, CommandFault>
-    ensures ok { IfOk result (λ e. thread_in word.now ≡ Some e.thread) }
-    ensures bad { IsErrOf result CommandFault.BadLine ↔ (thread_in word.now ≡ None) }
+    ensures ok { IfOk result (λ e. execution_in word.now ≡ Some e.thread) }
+    ensures bad { IsErrOf result CommandFault.BadLine ↔ (execution_in word.now ≡ None) }
 {
     if !is_name(word) {
         return Err(CommandFault::BadLine);
@@ -211,21 +219,35 @@ fn read_execution(alloc: Global, word: &str) -> Result<Execution, CommandFault>
     }
 }
 
-/// A step of such a thread.
-fn read_step(alloc: Global, word: &str) -> Result<StepName, CommandFault>
-    ensures ok { IfOk result (λ s. step_in word.now ≡ Some s) }
-    ensures bad { IsErrOf result CommandFault.BadLine ↔ (step_in word.now ≡ None) }
+fn read_thread(alloc: Global, word: &str) -> Result<ThreadName, CommandFault>
+    ensures ok { IfOk result (λ t. grammar.read_thread word.now ≡ Some t) }
+    ensures bad { IsErrOf result CommandFault.BadLine ↔ (grammar.read_thread word.now ≡ None) }
 {
-    let Some((exec, _)) = cut(word, '#') else {
-        return Err(CommandFault::BadLine);
-    };
-    if !is_name(exec) {
-        return Err(CommandFault::BadLine);
+    match ThreadName::read(alloc, word) {
+        Ok(thread) => Ok(thread),
+        Err(NameFault::BadName) => Err(CommandFault::BadLine),
+        Err(NameFault::Memory) => Err(CommandFault::Memory),
     }
+}
+
+fn read_step(alloc: Global, word: &str) -> Result<StepName, CommandFault>
+    ensures ok { IfOk result (λ s. grammar.read_step word.now ≡ Some s) }
+    ensures bad { IsErrOf result CommandFault.BadLine ↔ (grammar.read_step word.now ≡ None) }
+{
     match StepName::read(alloc, word) {
         Ok(step) => Ok(step),
         Err(NameFault::BadName) => Err(CommandFault::BadLine),
         Err(NameFault::Memory) => Err(CommandFault::Memory),
+    }
+}
+
+/// A number of steps, from 1 to 65,536.
+fn read_count(word: &str) -> Result<u32, CommandFault>
+    ensures { MatchResult result (λ n. count_in word.now ≡ Some n) (λ e. (e ≡ CommandFault.BadLine) × (count_in word.now ≡ None)) }
+{
+    match read_number(word) {
+        Some(count) if 1 <= count && count <= 65_536 => Ok(count),
+        _ => Err(CommandFault::BadLine),
     }
 }
 

@@ -50,6 +50,15 @@ fn parts(alloc: Global, command: &Command<'_>) -> Result<String, AllocError> {
             let step = step.write_text(alloc)?;
             format!(in alloc; "undo|{step}")
         }
+        Command::Plan(step) => {
+            let step = step.write_text(alloc)?;
+            format!(in alloc; "plan|{step}")
+        }
+        Command::Rollback(step) => {
+            let step = step.write_text(alloc)?;
+            format!(in alloc; "rollback|{step}")
+        }
+        Command::Drive(count) => format!(in alloc; "drive|{count}"),
         Command::Show(thread) => {
             let thread = thread.write_text(alloc)?;
             format!(in alloc; "show|{thread}")
@@ -94,7 +103,7 @@ fn expect_bad(rt: &impl Abort, alloc: Global, lines: &[&str]) -> Result<(), Fail
     Ok(())
 }
 
-const COMMANDS: [(&str, &str); 11] = [
+const COMMANDS: [(&str, &str); 19] = [
     ("define p {\"a\": 1}", "define|p|{\"a\": 1}"),
     ("define p ", "define|p|"),
     ("define p  x", "define|p| x"),
@@ -103,6 +112,14 @@ const COMMANDS: [(&str, &str); 11] = [
     ("step a", "step|a"),
     ("undo a#0", "undo|a#0"),
     ("undo a#4294967295", "undo|a#4294967295"),
+    ("step a/1.0/20.4095", "step|a/1.0/20.4095"),
+    ("undo a/1.0#2", "undo|a/1.0#2"),
+    ("plan a#0", "plan|a#0"),
+    ("plan a/1.0#1", "plan|a/1.0#1"),
+    ("rollback a/1.0/2.1#10", "rollback|a/1.0/2.1#10"),
+    ("drive 1", "drive|1"),
+    ("drive 65536", "drive|65536"),
+    ("show a/1.0", "show|a/1.0"),
     ("show a", "show|a"),
     ("items", "items"),
     ("history", "history"),
@@ -158,7 +175,7 @@ fn bad_tables(rt: HostRuntime) -> Result<(), Fail> {
     expect_bad(&rt, rt.alloc(), BAD_TABLES.as_slice())
 }
 
-const BAD_LINES: [&str; 35] = [
+const BAD_LINES: [&str; 44] = [
     "",
     " ",
     " items",
@@ -172,8 +189,11 @@ const BAD_LINES: [&str; 35] = [
     "step a b",
     "step a.b",
     "step a#1",
-    "step a/1.0",
-    "show a/1.0",
+    "step a/0.1",
+    "step a/1",
+    "step a/1.0/",
+    "step a/01.0",
+    "show a/1.0.1",
     "undo a",
     "undo a#",
     "undo #1",
@@ -181,7 +201,7 @@ const BAD_LINES: [&str; 35] = [
     "undo a#+1",
     "undo a#1#2",
     "undo a#4294967296",
-    "undo a/1.0#1",
+    "undo a/1.0#",
     "define",
     "define p",
     "define  p {}",
@@ -190,9 +210,15 @@ const BAD_LINES: [&str; 35] = [
     "start a  p {}",
     "start a/1.0 p {}",
     "start a p.q {}",
-    "plan a#0",
-    "rollback a#0",
-    "drive 1",
+    "plan a",
+    "plan",
+    "rollback a",
+    "drive 0",
+    "drive 65537",
+    "drive 01",
+    "drive +1",
+    "drive",
+    "work 1 1",
     "hold a#0",
 ];
 

@@ -1,6 +1,6 @@
 -- JSON of a line, and what is told where it is none.
-use Rattle.std.proofs.Common.{◌≡◌, ℕ, List, [], ◌∷◌, Option, Some, None, OnOk, refl, sym, subst}
-use Rattle.std.specs.Prelude.{Result, IsSome, option_and_then}
+use Rattle.std.proofs.Common.{◌≡◌, ℕ, List, [], ◌∷◌, Option, Some, None, OnOk, refl, sym, ap, subst}
+use Rattle.std.specs.Prelude.{Result, Ok, Err, IsOk, IsSome, option_and_then}
 use Rattle.std.specs.declared.alloc.AllocError.{AllocError}
 use Rattle.std.proofs.lemmas.Result.{on_ok_weaker}
 use Rattle.serde_json.specs.Data as source
@@ -8,10 +8,13 @@ use Rattle.json_tree.specs.Data.{Data, list, items_of}
 use Rattle.json_tree.specs.Reading.{source_of, whole_of, read_json}
 use Rattle.json_tree.specs.declared.fault.JsonFault.{JsonFault}
 use Rattle.json_tree.specs.declared.fault.JsonFault.TheVariants.{NotJson, NotWhole, Memory}
-use Rattle.rollback_book.specs.Story.{Story}
+use Rattle.book_log.specs.Story.{Story}
 use Rattle.attr_values.specs.declared.key.KeySchema.{KeySchema}
-use Rattle.operator_line.specs.Answers.{Tells, OfJson, OfSource, OfWhole, AnswersItems}
-use Rattle.operator_line.specs.Replies.{json_reply, refused_by}
+use Rattle.attr_values.specs.declared.fault.ItemFault.{ItemFault}
+use Rattle.item_store.specs.Table.{Table}
+use Rattle.book_log.specs.declared.begin.Begin.{Begin}
+use Rattle.operator_line.specs.Answers.{Tells, OfJson, OfSource, OfWhole, values_in, AnswersItems, AnswersBegin, AnswersBeginning}
+use Rattle.reply_lines.specs.Replies.{done_reply, json_reply, item_fault_reply, refused_by}
 
 of_whole : (w : Option Data) (d : Data) (Refused : List ℕ → Type 0) (Read : Data → Type 0) → w ≡ Some d → Read d → OfWhole w Refused Read
 of_whole None d Refused Read e p = cc
@@ -41,7 +44,20 @@ json-refused json NotJson r text book Read none part memory w =
 json-refused json NotWhole r text book Read none part memory w = of_part (source_of json) r text book Read (part refl).0 (part refl).1 w
 json-refused json Memory r text book Read none part memory w = on_ok_weaker r (λ b. absurd b) (memory refl)
 
+-- the items of a list are its values
+pub values_of : (ds : List Data) → values_in (items_of ds) ≡ ds
+values_of [] = refl
+values_of (d ∷ ds) = ap (λ (es : List Data). d ∷ es) (values_of ds)
+
 -- a table with items
-pub items-refused : (name : List ℕ) (schema : KeySchema) (ds : List Data) (text : List ℕ) → (ds ≡ [] → ⊥) → text ≡ refused_by 23 1 → AnswersItems name schema (list (items_of ds)) text None
-items-refused name schema [] text some e = absurd (some refl)
-items-refused name schema (d ∷ ds) text some e = (e, refl)
+pub items-begin : (name : List ℕ) (schema : KeySchema) (ds : List Data) (reply : List ℕ) (after : Option Story) → AnswersBeginning (record { table = name; schema = schema; items = ds }) reply after
+    → AnswersItems name schema (list (items_of ds)) reply after
+items-begin name schema ds reply after h =
+    subst (λ (es : List Data). AnswersBeginning (record { table = name; schema = schema; items = es }) reply after) (sym (values_of ds)) h
+
+pub begin-done : (begin : Begin) (r : Result Table ItemFault) (reply : List ℕ) (after : Option Story) → IsOk r → (reply ≡ done_reply) × (after ≡ Some (record { begin = begin; log = [] })) → AnswersBegin begin r reply after
+begin-done begin (Ok items) reply after ok h = h
+begin-done begin (Err fault) reply after ok h = cc
+
+pub begin-refused : (begin : Begin) (r : Result Table ItemFault) (fault : ItemFault) (reply : List ℕ) (after : Option Story) → r ≡ Err fault → (reply ≡ item_fault_reply fault) × (after ≡ None) → AnswersBegin begin r reply after
+begin-refused begin r fault reply after e h = subst (λ (x : Result Table ItemFault). AnswersBegin begin x reply after) (sym e) h

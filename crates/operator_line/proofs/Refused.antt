@@ -1,22 +1,25 @@
 -- A line that is refused leaves the book as it was: each answer that changes it begins with `ok`.
-use Rattle.std.proofs.Common.{◌≡◌, ℕ, Bool, true, false, List, [], ◌∷◌, ◌++◌, Option, None, Some, refl, sym, ap, ◌∙◌, inl, inr}
+use Rattle.std.proofs.Common.{◌≡◌, ℕ, zero, suc, Bool, true, false, List, [], ◌∷◌, ◌++◌, Option, None, Some, refl, sym, ap, ◌∙◌, inl, inr}
 use Rattle.std.proofs.lemmas.Bool.{true≢false}
 use Rattle.std.specs.Prelude.{◌⊎◌, option_and_then, Result, Ok, Err}
 use Rattle.serde_json.specs.Data as source
 use Rattle.serde_json.specs.Read as source_text
-use Rattle.json_tree.specs.Data.{Data, null, boolean, whole, text, list, fields, no_items, item}
+use Rattle.json_tree.specs.Data.{Data, null, boolean, whole, text, list, fields}
 use Rattle.json_tree.specs.Reading.{source_of, whole_of}
 use Rattle.step_names.specs.declared.step.StepName.{StepName}
-use Rattle.rollback_book.specs.Story.{Story, world_of}
-use Rattle.rollback_book.specs.Answers.{start_answer, step_answer, undo_answer}
+use Rattle.book_log.specs.Story.{Story, world_of}
+use Rattle.book_log.specs.Answers.{start_answer, step_answer, undo_answer, plan_answer}
+use Rattle.book_log.specs.declared.begin.Begin.{Begin}
 use Rattle.asl_forward.specs.declared.frame.Frame.{Frame}
-use Rattle.rollback_book.specs.declared.log.Entry.{Entry}
+use Rattle.book_log.specs.declared.entry.Entry.{Entry}
+use Rattle.attr_values.specs.declared.fault.ItemFault.{ItemFault}
 use Rattle.attr_values.specs.declared.key.KeySchema.{KeySchema}
-use Rattle.rollback_book.specs.declared.refusal.Refusal.{Refusal}
-use Rattle.rollback_book.specs.declared.step.Moved.{Moved}
+use Rattle.item_store.specs.Table.{Table}
+use Rattle.book_log.specs.declared.refusal.Refusal.{Refusal}
+use Rattle.book_log.specs.declared.moved.Moved.{Moved}
 use Rattle.command_lines.specs.Grammar as spoken
 use Rattle.command_lines.specs.Grammar.{Spoken, command_of}
-use Rattle.operator_line.specs.Answers.{Tells, OfWhole, OfSource, AnswersItems, AnswersDefine, AnswersStarted, AnswersStep, AnswersUndo, AnswersShow, AnswersOpen, AnswersClosed, AnswersSpoken, AnswersText, AnswersLine}
+use Rattle.operator_line.specs.Answers.{Tells, OfWhole, OfSource, AnswersBegin, AnswersItems, AnswersDefine, AnswersStarted, AnswersStep, AnswersUndo, AnswersPlan, AnswersRollback, Drives, drive_reply, AnswersDrive, AnswersShow, AnswersOpen, AnswersClosed, AnswersSpoken, AnswersText, AnswersLine}
 use Rattle.operator_line.specs.LineLaws.{is_refusal}
 
 -- what changes nothing where it is refused
@@ -42,9 +45,12 @@ of_source : (d : Option source.Data) (Refused : List ℕ → List ℕ → Option
 of_source None Refused Read before r h = r _
 of_source (Some d) Refused Read before r h = of_whole (whole_of d) Refused Read before r h
 
+begin_keeps : (begin : Begin) (r : Result Table ItemFault) → Unchanging (AnswersBegin begin r) None
+begin_keeps begin (Ok items) = accepts _ _ _ refl
+begin_keeps begin (Err fault) = keeps _ _
+
 items_keep : (name : List ℕ) (schema : KeySchema) (d : Data) → Unchanging (AnswersItems name schema d) None
-items_keep name schema (list no_items) = accepts _ _ _ refl
-items_keep name schema (list (item d ds)) = keeps _ _
+items_keep name schema (list ds) = begin_keeps _ _
 items_keep name schema null = keeps _ _
 items_keep name schema (boolean b) = keeps _ _
 items_keep name schema (whole z) = keeps _ _
@@ -68,6 +74,24 @@ undo_keeps : (story : Story) (name : StepName) (answer : Result StepName Refusal
 undo_keeps story name (Ok undone) = accepts _ _ _ refl
 undo_keeps story name (Err refusal) = keeps _ _
 
+plan_keeps : (story : Story) (answer : Result (List StepName) Refusal) → Unchanging (AnswersPlan story answer) (Some story)
+plan_keeps story (Ok names) = accepts _ _ _ refl
+plan_keeps story (Err refusal) = keeps _ _
+
+rollback_keeps : (story : Story) (name : StepName) (answer : Result (List StepName) Refusal) → Unchanging (AnswersRollback story name answer) (Some story)
+rollback_keeps story name (Ok names) = accepts _ _ _ refl
+rollback_keeps story name (Err refusal) = keeps _ _
+
+drive_told : (story last : Story) (count : ℕ) (names : List StepName) (stop : Option Refusal) → Drives count story names stop last
+    → Unchanging (Tells (drive_reply names stop) (Some last)) (Some story)
+drive_told story last count [] None d = accepts _ _ _ refl
+drive_told story last zero [] (Some refusal) d = absurd d
+drive_told story last (suc count) [] (Some refusal) d = λ reply after h refused. h.1 ∙ ap Some d.1
+drive_told story last count (name ∷ names) stop d = accepts _ _ _ refl
+
+drive_keeps : (story : Story) (count : ℕ) → Unchanging (AnswersDrive story count) (Some story)
+drive_keeps story count reply after h refused = drive_told story h.last count h.names h.stop h.drives reply after h.told refused
+
 show_keeps : (story : Story) (found : Option Frame) → Unchanging (AnswersShow story found) (Some story)
 show_keeps story None = keeps _ _
 show_keeps story (Some f) = keeps _ _
@@ -76,11 +100,14 @@ open_keeps : (story : Story) (command : Spoken) → Unchanging (AnswersOpen stor
 open_keeps story (spoken.table name schema json) = keeps _ _
 open_keeps story (spoken.define name json) = define_keeps story name (source_text.read json)
 open_keeps story (spoken.start exec machine json) =
-    of_source (source_of json) _ _ (Some story) (λ told. keeps told (Some story)) (λ d reply after h. started_keeps story _ (start_answer story.log exec machine) reply after h.told)
-open_keeps story (spoken.step thread) = step_keeps story (step_answer story.log thread)
-open_keeps story (spoken.undo name) = undo_keeps story name (undo_answer story.log name)
-open_keeps story (spoken.show thread) = show_keeps story ((world_of story.log).frames thread)
-open_keeps story spoken.items = keeps _ _
+    of_source (source_of json) _ _ (Some story) (λ told. keeps told (Some story)) (λ d reply after h. started_keeps story _ (start_answer story exec machine) reply after h.told)
+open_keeps story (spoken.step thread) = step_keeps story (step_answer story thread)
+open_keeps story (spoken.undo name) = undo_keeps story name (undo_answer story name)
+open_keeps story (spoken.plan name) = plan_keeps story (plan_answer story name)
+open_keeps story (spoken.rollback name) = rollback_keeps story name (plan_answer story name)
+open_keeps story (spoken.drive count) = drive_keeps story count
+open_keeps story (spoken.show thread) = show_keeps story ((world_of story).frames thread)
+open_keeps story spoken.items = λ reply after h. accepts _ _ _ refl reply after h.told
 open_keeps story spoken.history = keeps _ _
 
 closed_keeps : (command : Spoken) → Unchanging (AnswersClosed command) None
@@ -90,6 +117,9 @@ closed_keeps (spoken.define name json) = keeps _ _
 closed_keeps (spoken.start exec machine json) = keeps _ _
 closed_keeps (spoken.step thread) = keeps _ _
 closed_keeps (spoken.undo name) = keeps _ _
+closed_keeps (spoken.plan name) = keeps _ _
+closed_keeps (spoken.rollback name) = keeps _ _
+closed_keeps (spoken.drive count) = keeps _ _
 closed_keeps (spoken.show thread) = keeps _ _
 closed_keeps spoken.items = keeps _ _
 closed_keeps spoken.history = keeps _ _

@@ -5,17 +5,17 @@ use Rattle.std.specs.declared.alloc.AllocError.{AllocError}
 use Rattle.std.proofs.lemmas.Result.{on_ok_weaker}
 use Rattle.step_names.specs.declared.step.StepName.{StepName}
 use Rattle.step_names.specs.Written.{step_text}
-use Rattle.rollback_book.specs.Names.{Step, name_of}
-use Rattle.rollback_book.specs.Story.{Story, accepted}
-use Rattle.rollback_book.specs.Answers.{Gives}
-use Rattle.rollback_book.specs.declared.log.Entry.{Entry}
-use Rattle.rollback_book.specs.declared.log.Entry.TheVariants.{Step as Stepped}
-use Rattle.rollback_book.specs.declared.refusal.Refusal.{Refusal}
-use Rattle.rollback_book.specs.declared.refusal.Refusal.TheVariants.{Memory}
-use Rattle.rollback_book.specs.declared.step.Moved.{Moved}
-use Rattle.rollback_book.specs.declared.step.StepRecord.{StepRecord}
+use Rattle.saved_steps.specs.Steps.{Step, name_of}
+use Rattle.book_log.specs.Story.{Story, accepted}
+use Rattle.book_log.specs.Answers.{Gives}
+use Rattle.book_log.specs.declared.entry.Entry.{Entry}
+use Rattle.book_log.specs.declared.entry.Entry.TheVariants.{Step as Stepped}
+use Rattle.book_log.specs.declared.refusal.Refusal.{Refusal}
+use Rattle.book_log.specs.declared.refusal.Refusal.TheVariants.{Memory}
+use Rattle.book_log.specs.declared.moved.Moved.{Moved}
+use Rattle.saved_steps.specs.declared.record.StepRecord.{StepRecord}
 use Rattle.operator_line.specs.Answers.{AnswersStep, AnswersStarted}
-use Rattle.operator_line.specs.Replies.{moved_reply, step_reply, refusal_reply}
+use Rattle.reply_lines.specs.Replies.{moved_reply, step_reply, refusal_reply}
 
 given-ok : {T : Type 0} → (x : T) (r : Result T Refusal) → Gives (Ok x) r → r ≡ Ok x
 given-ok x (Ok y) (inl e) = sym e

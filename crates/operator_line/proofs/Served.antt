@@ -5,7 +5,7 @@ use lib.Pointwise.{pointwise}
 use lib.ListN.{length-take}
 use Rattle.std.specs.Io.KnownBytes.{Appends, Keeps, Consumes}
 use Rattle.std.proofs.KnownBytes.{Appends-nil, Appends-trans, Appends-kept}
-use Rattle.rollback_book.specs.Story.{Story}
+use Rattle.book_log.specs.Story.{Story}
 use Rattle.operator_line.specs.Lines.{grown, kept, within_limit, without_return, ended_line, last_line}
 use Rattle.operator_line.specs.Texts.{lines_of, lines_after, has_no_feed}
 use Rattle.operator_line.specs.Answers.{AnswersLine, AnswersLines}

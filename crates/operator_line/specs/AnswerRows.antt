@@ -3,12 +3,12 @@ use Rattle.std.specs.Prelude.{◌≡◌, ℕ, [], ◌∷◌, Some, refl, codes}
 use Rattle.std.specs.Fmt.{digits}
 use Rattle.step_names.specs.Thread.{execution}
 use Rattle.step_names.specs.declared.step.StepName.{StepName}
-use Rattle.rollback_book.specs.declared.refusal.Refusal.TheVariants.{NoThread, NotReady, HasDependents, NotLast, Full}
-use Rattle.rollback_book.specs.declared.step.Kind.TheVariants.{Plain}
-use Rattle.rollback_book.specs.declared.step.Readiness.TheVariants.{Done}
+use Rattle.book_log.specs.declared.refusal.Refusal.TheVariants.{NoThread, NotReady, HasDependents, Full}
+use Rattle.saved_steps.specs.declared.fact.Kind.TheVariants.{Plain}
+use Rattle.branch_tree.specs.declared.readiness.Readiness.TheVariants.{Done}
 use Rattle.asl_fields.specs.declared.fault.MachineFault.TheVariants.{Missing}
-use Rattle.rollback_book.specs.declared.refusal.Refusal.TheVariants.{BadMachine}
-use Rattle.operator_line.specs.Replies.{step_reply, moved_reply, list_reply, refused, refused_by, refusal_reply}
+use Rattle.book_log.specs.declared.refusal.Refusal.TheVariants.{BadMachine}
+use Rattle.reply_lines.specs.Replies.{step_reply, moved_reply, list_reply, refused, refused_by, refusal_reply}
 use Rattle.operator_line.specs.Texts.{lines_of}
 
 -- the n-th step of the execution `a`
@@ -65,10 +65,6 @@ depends = refl
 is_full : refusal_reply Full ≡ codes "no 10\n"
 unfolding digits
 is_full = refl
-
-not_last : refusal_reply (NotLast (step_a 12)) ≡ codes "no 14 a#12\n"
-unfolding step_a digits
-not_last = refl
 
 missing : refusal_reply (BadMachine (Missing (codes "StartAt"))) ≡ codes "no 3 1 \"StartAt\"\n"
 unfolding digits

@@ -1,29 +1,40 @@
--- What lines are answered, and what the book is afterwards. Open are want of memory, which is told and changes nothing, and
--- which fault of a definition is told, among those that stand.
-use Rattle.std.specs.Prelude.{◌≡◌, ℕ, ◌⊎◌, List, [], ◌∷◌, ◌++◌, map, false, Option, None, Some, option_and_then, Result, Ok, Err}
+-- What lines are answered, and what the book is afterwards. Open are want of memory, which is told and changes nothing, where a
+-- drive stops early because of it, and which fault of a definition is told, among those that stand.
+use Rattle.std.specs.Prelude.{◌≡◌, ℕ, zero, suc, ◌⊎◌, List, [], ◌∷◌, ◌++◌, map, false, true, Option, None, Some, option_and_then, Result, Ok, Err}
+use Rattle.std.specs.declared.cmp.Ordering.TheVariants.{Less}
 use Rattle.serde_json.specs.Data as source
 use Rattle.serde_json.specs.Read as source_text
-use Rattle.json_tree.specs.Data.{Data, null, boolean, whole, text, list, fields, no_items, item}
+use Rattle.json_tree.specs.Data.{Data, Items, null, boolean, whole, text, list, fields, no_items, item}
 use Rattle.json_tree.specs.Reading.{source_of, whole_of}
 use Rattle.json_tree.specs.View.{data_of}
+use Rattle.json_tree.specs.Written.{text_of}
 use Rattle.json_tree.specs.declared.tree.Json.{Json}
+use Rattle.attr_values.specs.Writing.{item_json}
+use Rattle.attr_values.specs.declared.fault.ItemFault.{ItemFault}
+use Rattle.attr_values.specs.declared.key.KeySchema.{KeySchema}
+use Rattle.item_store.specs.Deciding.{Attributes}
+use Rattle.item_store.specs.Listing.{IsListing}
+use Rattle.item_store.specs.Table.{Table}
 use Rattle.asl_machine.specs.Definition.{Definition}
-use Rattle.rollback_book.specs.Taking.{Takes as IsMachineOf}
-use Rattle.step_names.specs.Thread.{Thread}
+use Rattle.asl_machine.specs.Profile.{Defines as DefinesMachine}
+use Rattle.asl_forward.specs.declared.frame.Frame.{Frame}
+use Rattle.step_names.specs.Order.{thread_cmp}
+use Rattle.step_names.specs.Thread.{Thread, IsThread}
 use Rattle.step_names.specs.Written.{step_text}
 use Rattle.step_names.specs.declared.step.StepName.{StepName}
-use Rattle.rollback_book.specs.Names.{name_of}
-use Rattle.rollback_book.specs.Story.{Story, accepted, remaining, machine_of, world_of}
-use Rattle.rollback_book.specs.Answers.{IsDefineRefusal, is_full_for_define, start_answer, step_answer, undo_answer}
-use Rattle.asl_forward.specs.declared.frame.Frame.{Frame}
-use Rattle.rollback_book.specs.declared.log.Entry.{Entry}
-use Rattle.rollback_book.specs.declared.log.Entry.TheVariants.{Define, Start, Step as Stepped, Undo}
-use Rattle.attr_values.specs.declared.key.KeySchema.{KeySchema}
-use Rattle.rollback_book.specs.declared.refusal.Refusal.{Refusal}
-use Rattle.rollback_book.specs.declared.step.Moved.{Moved}
+use Rattle.saved_steps.specs.Steps.{name_of}
+use Rattle.book_log.specs.Answers.{IsDefineRefusal, start_answer, step_answer, undo_answer, plan_answer, has_move}
+use Rattle.book_log.specs.Beginning.{table_of}
+use Rattle.book_log.specs.Story.{Story, accepted, remaining, world_of}
+use Rattle.book_log.specs.declared.begin.Begin.{Begin}
+use Rattle.book_log.specs.declared.entry.Entry.{Entry}
+use Rattle.book_log.specs.declared.entry.Entry.TheVariants.{Define, Start, Step as Stepped, Undo, Rollback}
+use Rattle.book_log.specs.declared.moved.Moved.{Moved}
+use Rattle.book_log.specs.declared.refusal.Refusal.{Refusal}
+use Rattle.book_log.specs.declared.refusal.Refusal.TheVariants.{Memory}
 use Rattle.command_lines.specs.Grammar as spoken
 use Rattle.command_lines.specs.Grammar.{Spoken, command_of}
-use Rattle.operator_line.specs.Replies.{done_reply, step_reply, moved_reply, list_reply, frame_reply, refused, refused_by, refusal_reply, memory_reply}
+use Rattle.reply_lines.specs.Replies.{done_reply, step_reply, moved_reply, list_reply, names_reply, item_fault_reply, frame_reply, refused, refused_by, refusal_reply, memory_reply}
 
 -- this is told, and this is the book then: such is the reply, and the book afterwards
 abbrev pub Tells : List ℕ → Option Story → List ℕ → Option Story → Type 0
@@ -45,10 +56,21 @@ OfJson json Refused Read = OfSource (source_of json) Refused Read
 
 -- ---- each command
 
--- the table begins with a list of items, of which none is taken yet
+abbrev pub values_in : Items → List Data
+values_in no_items = []
+values_in (item d ds) = d ∷ values_in ds
+
+-- the table begins with its items, or with the first that is none, which is told
+abbrev pub AnswersBegin : Begin → Result Table ItemFault → List ℕ → Option Story → Type 0
+AnswersBegin begin (Ok items) = Tells done_reply (Some (record { begin = begin; log = [] }))
+AnswersBegin begin (Err fault) = Tells (item_fault_reply fault) None
+
+abbrev pub AnswersBeginning : Begin → List ℕ → Option Story → Type 0
+AnswersBeginning begin = AnswersBegin begin (table_of begin)
+
+-- the items are a list
 abbrev pub AnswersItems : List ℕ → KeySchema → Data → List ℕ → Option Story → Type 0
-AnswersItems name schema (list no_items) = Tells done_reply (Some (record { begin = record { table = name; schema = schema; items = [] }; log = [] }))
-AnswersItems name schema (list (item d ds)) = Tells (refused_by 23 1) None
+AnswersItems name schema (list ds) = AnswersBeginning (record { table = name; schema = schema; items = values_in ds })
 AnswersItems name schema null = Tells (refused_by 23 1) None
 AnswersItems name schema (boolean b) = Tells (refused_by 23 1) None
 AnswersItems name schema (whole z) = Tells (refused_by 23 1) None
@@ -62,14 +84,12 @@ AnswersTable name schema json reply after =
 -- a machine is defined where its name is free, where it is one, and where there is room; else it is refused for what stands
 pub record Defines (story : Story) (name : List ℕ) (d : source.Data) (reply : List ℕ) (after : Option Story) : Type 0 where
   pub machine : Definition
-  pub is_one : IsMachineOf d machine
-  pub free : machine_of name story.log ≡ None
-  pub room : is_full_for_define story.log ≡ false
+  pub is_one : DefinesMachine d machine
   pub told : Tells done_reply (Some (accepted story (Define name machine))) reply after
 
 pub record RefusesDefine (story : Story) (name : List ℕ) (d : source.Data) (reply : List ℕ) (after : Option Story) : Type 0 where
   pub refusal : Refusal
-  pub stands : IsDefineRefusal story.log name d refusal
+  pub stands : IsDefineRefusal story name d refusal
   pub told : Tells (refusal_reply refusal) (Some story) reply after
 
 abbrev pub AnswersDefine : Story → List ℕ → Option source.Data → List ℕ → Option Story → Type 0
@@ -83,7 +103,7 @@ AnswersStarted story entry (Err refusal) = Tells (refusal_reply refusal) (Some s
 pub record AnswersInput (story : Story) (exec : Thread) (machine : List ℕ) (d : Data) (reply : List ℕ) (after : Option Story) : Type 0 where
   pub input : Json
   pub is_read : data_of input ≡ d
-  pub told : AnswersStarted story (Start exec machine input) (start_answer story.log exec machine) reply after
+  pub told : AnswersStarted story (Start exec machine input) (start_answer story exec machine) reply after
 
 abbrev pub AnswersStart : Story → Thread → List ℕ → List ℕ → List ℕ → Option Story → Type 0
 AnswersStart story exec machine json reply after =
@@ -97,13 +117,69 @@ abbrev pub AnswersUndo : Story → StepName → Result StepName Refusal → List
 AnswersUndo story name (Ok undone) = Tells done_reply (Some (accepted story (Undo name)))
 AnswersUndo story name (Err refusal) = Tells (refusal_reply refusal) (Some story)
 
+abbrev pub AnswersPlan : Story → Result (List StepName) Refusal → List ℕ → Option Story → Type 0
+AnswersPlan story (Ok names) = Tells (names_reply names) (Some story)
+AnswersPlan story (Err refusal) = Tells (refusal_reply refusal) (Some story)
+
+abbrev pub AnswersRollback : Story → StepName → Result (List StepName) Refusal → List ℕ → Option Story → Type 0
+AnswersRollback story name (Ok names) = Tells (names_reply names) (Some (accepted story (Rollback name names)))
+AnswersRollback story name (Err refusal) = Tells (refusal_reply refusal) (Some story)
+
 abbrev pub AnswersShow : Story → Option Frame → List ℕ → Option Story → Type 0
 AnswersShow story None = Tells (refused 5) (Some story)
 AnswersShow story (Some f) = Tells (frame_reply f) (Some story)
 
+abbrev pub item_text : Attributes → List ℕ
+item_text attributes = text_of (item_json attributes)
+
+-- the items, in the order of their keys
+pub record AnswersListing (story : Story) (reply : List ℕ) (after : Option Story) : Type 0 where
+  pub listed : List Attributes
+  pub listing : IsListing (world_of story).items listed
+  pub told : Tells (list_reply (map item_text listed)) (Some story) reply after
+
 -- the remaining steps, in the order in which they were taken
 abbrev pub history_reply : Story → List ℕ
-history_reply story = list_reply (map (λ s. step_text (name_of s)) (remaining story.log))
+history_reply story = list_reply (map (λ s. step_text (name_of s)) (remaining story))
+
+-- ---- several steps
+
+-- no thread has a move
+abbrev pub NoneMoves : Story → Type 0
+NoneMoves story = (t : Thread) → IsThread t → has_move story t ≡ false
+
+-- the least thread, by the order of names, that has a move
+pub record MovesFirst (story : Story) (t : Thread) : Type 0 where
+  pub moves : has_move story t ≡ true
+  pub least : (u : Thread) → IsThread u → thread_cmp u t ≡ Less → has_move story u ≡ false
+
+-- a refusal of the step of the thread whose turn it is, or want of memory
+abbrev pub StopsDrive : Story → Refusal → Type 0
+StopsDrive story refusal = (refusal ≡ Memory) ⊎ ((t : Thread) × MovesFirst story t × (step_answer story t ≡ Err refusal))
+
+-- At most so many steps are taken, each of the least thread that has a move then: these, to this story. It ends where no more are
+-- wanted or none can move, or at a refusal.
+abbrev pub Drives : ℕ → Story → List StepName → Option Refusal → Story → Type 0
+Drives zero story [] None after = after ≡ story
+Drives zero story [] (Some refusal) after = ⊥
+Drives zero story (name ∷ names) stop after = ⊥
+Drives (suc more) story [] None after = NoneMoves story × (after ≡ story)
+Drives (suc more) story [] (Some refusal) after = StopsDrive story refusal × (after ≡ story)
+Drives (suc more) story (name ∷ names) stop after =
+    (m : Moved) × MovesFirst story name.thread × (step_answer story name.thread ≡ Ok m) × (name ≡ m.name) × Drives more (accepted story (Stepped m.name m.kind)) names stop after
+
+-- what is told of these: the steps, or a refusal that came before any
+abbrev pub drive_reply : List StepName → Option Refusal → List ℕ
+drive_reply [] None = names_reply []
+drive_reply [] (Some refusal) = refusal_reply refusal
+drive_reply (name ∷ names) stop = names_reply (name ∷ names)
+
+pub record AnswersDrive (story : Story) (count : ℕ) (reply : List ℕ) (after : Option Story) : Type 0 where
+  pub names : List StepName
+  pub stop : Option Refusal
+  pub last : Story
+  pub drives : Drives count story names stop last
+  pub told : Tells (drive_reply names stop) (Some last) reply after
 
 -- ---- a line
 
@@ -112,10 +188,13 @@ abbrev pub AnswersOpen : Story → Spoken → List ℕ → Option Story → Type
 AnswersOpen story (spoken.table name schema json) = Tells (refused 22) (Some story)
 AnswersOpen story (spoken.define name json) = AnswersDefine story name (source_text.read json)
 AnswersOpen story (spoken.start exec machine json) = AnswersStart story exec machine json
-AnswersOpen story (spoken.step thread) = AnswersStep story (step_answer story.log thread)
-AnswersOpen story (spoken.undo name) = AnswersUndo story name (undo_answer story.log name)
-AnswersOpen story (spoken.show thread) = AnswersShow story ((world_of story.log).frames thread)
-AnswersOpen story spoken.items = Tells (list_reply []) (Some story)
+AnswersOpen story (spoken.step thread) = AnswersStep story (step_answer story thread)
+AnswersOpen story (spoken.undo name) = AnswersUndo story name (undo_answer story name)
+AnswersOpen story (spoken.plan name) = AnswersPlan story (plan_answer story name)
+AnswersOpen story (spoken.rollback name) = AnswersRollback story name (plan_answer story name)
+AnswersOpen story (spoken.drive count) = AnswersDrive story count
+AnswersOpen story (spoken.show thread) = AnswersShow story ((world_of story).frames thread)
+AnswersOpen story spoken.items = AnswersListing story
 AnswersOpen story spoken.history = Tells (history_reply story) (Some story)
 
 -- before its table is given
@@ -125,6 +204,9 @@ AnswersClosed (spoken.define name json) = Tells (refused 21) None
 AnswersClosed (spoken.start exec machine json) = Tells (refused 21) None
 AnswersClosed (spoken.step thread) = Tells (refused 21) None
 AnswersClosed (spoken.undo name) = Tells (refused 21) None
+AnswersClosed (spoken.plan name) = Tells (refused 21) None
+AnswersClosed (spoken.rollback name) = Tells (refused 21) None
+AnswersClosed (spoken.drive count) = Tells (refused 21) None
 AnswersClosed (spoken.show thread) = Tells (refused 21) None
 AnswersClosed spoken.items = Tells (refused 21) None
 AnswersClosed spoken.history = Tells (refused 21) None

@@ -1,8 +1,7 @@
 pub mod Lines
 pub mod Texts
-pub mod Replies
-pub mod Replying
 pub mod Answers
 pub mod LineLaws
 pub mod Serving
+pub mod Driving
 mod AnswerRows

@@ -1,7 +1,7 @@
 -- Laws over what lines are answered, each the contract of a function of the crate.
 use Rattle.std.specs.Prelude.{◌≡◌, ℕ, Bool, true, List, Option, take, codes}
 use Rattle.asl_fields.specs.Fields.{is_text}
-use Rattle.rollback_book.specs.Story.{Story}
+use Rattle.book_log.specs.Story.{Story}
 use Rattle.operator_line.specs.Answers.{AnswersLine}
 
 -- a reply that begins so tells a refusal

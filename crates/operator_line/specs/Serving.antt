@@ -1,7 +1,7 @@
 -- What serving has done where it ends: with the whole input answered, or before that.
 use Rattle.std.specs.Prelude.{◌≡◌, ℕ, Bool, true, false, List, [], ◌∷◌, ◌++◌, Option, None, Some, Result, Ok, Err}
 use Rattle.std.specs.Io.KnownBytes.{Appends, Keeps}
-use Rattle.rollback_book.specs.Story.{Story}
+use Rattle.book_log.specs.Story.{Story}
 use Rattle.operator_line.specs.Lines.{kept}
 use Rattle.operator_line.specs.Texts.{lines_of, lines_after}
 use Rattle.operator_line.specs.Answers.{AnswersLine, AnswersLines}

@@ -1,11 +1,13 @@
 #![tactic(auto)]
 
 //! The operators' language: lines in, replies out.
+mod driving;
 mod laws;
 mod line;
-mod reply;
 mod serving;
 mod session;
+#[cfg(test)]
+mod row_tests;
 #[cfg(test)]
 mod stream_tests;
 #[cfg(test)]

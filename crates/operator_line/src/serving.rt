@@ -6,7 +6,7 @@ ghost use Rattle.operator_line.specs.Serving.{AnswersRead, ServesLast, ServesLin
 ghost use Rattle.operator_line.specs.Texts.{has_no_feed};
 
 use crate::line::{Line, LineBuffer};
-use crate::reply::Reply;
+use reply_lines::Reply;
 use crate::session::Session;
 use memchr::memchr;
 use std::alloc::{AllocError, Global};

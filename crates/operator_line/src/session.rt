@@ -4,14 +4,15 @@ ghost use Rattle.operator_line.specs.Answers.{AnswersCommand, AnswersLine};
 ghost use Rattle.command_lines.specs.Grammar as grammar;
 ghost use Rattle.command_lines.specs.Grammar.{spoken};
 ghost use Rattle.operator_line.specs.Lines.{bytes_of};
-ghost use Rattle.operator_line.specs.Replies.{json_reply};
-ghost use Rattle.operator_line.specs.Replying.{Writes};
+ghost use Rattle.reply_lines.specs.Replies.{json_reply, item_fault_reply};
+ghost use Rattle.reply_lines.specs.Replying.{Writes};
 
+use crate::driving::drive;
 use crate::line::Line;
-use crate::reply::Reply;
-use attr_values::KeySchema;
+use attr_values::{ItemFault, KeySchema};
 use command_lines::{Command, CommandFault, Execution};
 use json_tree::{Json, JsonFault, Text, read};
+use reply_lines::Reply;
 use rollback_book::{Begin, Book};
 use serde_json::Value;
 use std::alloc::{AllocError, Global};
@@ -36,16 +37,17 @@ pub struct Session {
 }
 
 impl Model for Session {
-    ghost use Rattle.std.specs.Prelude.{Option};
-    ghost use Rattle.rollback_book.specs.Story.{Story};
-    ghost use Rattle.rollback_book.specs.contracts.book.Book as book_row;
+    ghost use Rattle.std.specs.Prelude.{Option, option_map};
     ghost use Rattle.std.specs.Coded.{codes};
+    ghost use Rattle.book_log.specs.Story.{Story};
+    ghost use Rattle.book_log.specs.contracts.begin.Begin as begin_row;
+    ghost use Rattle.book_log.specs.contracts.entry.Entry as entry_row;
 
     ghost Value = { Option Story };
 
-    ghost coded = { Prim.hlevel (codes, book_row.the_row.coded) };
+    ghost coded = { Prim.hlevel (codes, begin_row.the_row.coded, entry_row.the_row.coded) };
 
-    ghost view = { λ s. s.book };
+    ghost view = { λ s. option_map (λ b. b.story) s.book };
 }
 
 impl Session {
@@ -58,7 +60,7 @@ impl Session {
 
     /// The book, once its table was given. Takes no memory.
     pub fn book(&self) -> Option<&Book>
-        ensures { option_map (λ book. book.now) result ≡ self.now }
+        ensures { option_map (λ book. book.now.story) result ≡ self.now }
     {
         self.book.as_ref()
     }
@@ -102,6 +104,9 @@ impl Session {
             } => self.start(&exec, &machine, input, reply),
             Command::Step(thread) => self.step(&thread, reply),
             Command::Undo(step) => self.undo(&step, reply),
+            Command::Plan(step) => self.plan(&step, reply),
+            Command::Rollback(step) => self.rollback(&step, reply),
+            Command::Drive(count) => self.drive(count, reply),
             Command::Show(thread) => self.show(&thread, reply),
             Command::Items => self.items(reply),
             Command::History => self.history(reply),
@@ -138,7 +143,7 @@ impl Session {
         };
         match Book::open(self.alloc, begin) {
             Ok(book) => self.book = Some(book),
-            Err(_) => return reply.refuse_by(BAD_BEGIN, 1),
+            Err(fault) => return refuse_item(fault, reply),
         }
         reply.accept()
     }
@@ -226,6 +231,50 @@ impl Session {
         }
     }
 
+    fn plan(&self, step: &StepName, reply: &mut Reply) -> Result<(), AllocError>
+        requires { string_bytes reply.old.text ≡ [] }
+        ensures ok { OnOk result (AnswersCommand self.now (grammar.plan step.now) (string_bytes reply.new.text) self.now) }
+    {
+        let Some(book) = &self.book else {
+            return reply.refuse(NO_TABLE);
+        };
+        match book.plan_room(self.alloc, step) {
+            Ok(room) => reply.accept_names(room.names()),
+            Err(refusal) => reply.refuse_command(self.alloc, refusal),
+        }
+    }
+
+    /// The reply is written first, since the book can't be changed back where memory for it is refused.
+    fn rollback(&mut self, step: &StepName, reply: &mut Reply) -> Result<(), AllocError>
+        requires { string_bytes reply.old.text ≡ [] }
+        ensures ok { OnOk result (AnswersCommand self.old (grammar.rollback step.now) (string_bytes reply.new.text) self.new) }
+        ensures err { OnErr result (self.new ≡ self.old) }
+    {
+        let Some(book) = &mut self.book else {
+            return reply.refuse(NO_TABLE);
+        };
+        let room = match book.plan_room(self.alloc, step) {
+            Ok(room) => room,
+            Err(refusal) => return reply.refuse_command(self.alloc, refusal),
+        };
+        reply.accept_names(room.names())?;
+        let Ok(_names) = book.rollback(room) else {
+            unreachable!()
+        };
+        Ok(())
+    }
+
+    fn drive(&mut self, count: u32, reply: &mut Reply) -> Result<(), AllocError>
+        requires { string_bytes reply.old.text ≡ [] }
+        ensures ok { OnOk result (AnswersCommand self.old (grammar.drive count) (string_bytes reply.new.text) self.new) }
+        ensures err { OnErr result (self.new ≡ self.old) }
+    {
+        match &mut self.book {
+            Some(book) => drive(self.alloc, book, count, reply),
+            None => reply.refuse(NO_TABLE),
+        }
+    }
+
     fn show(&self, thread: &ThreadName, reply: &mut Reply) -> Result<(), AllocError>
         requires { string_bytes reply.old.text ≡ [] }
         ensures ok { OnOk result (AnswersCommand self.now (grammar.show thread.now) (string_bytes reply.new.text) self.now) }
@@ -269,5 +318,20 @@ fn refuse_json(fault: JsonFault, reply: &mut Reply) -> Result<(), AllocError>
         JsonFault::NotJson => reply.refuse_by(BAD_JSON, 1),
         JsonFault::NotWhole => reply.refuse_by(BAD_JSON, 2),
         JsonFault::Memory => Err(AllocError),
+    }
+}
+
+/// Tells what is wrong with an item of the table's beginning.
+fn refuse_item(fault: ItemFault, reply: &mut Reply) -> Result<(), AllocError>
+    ensures ok { Writes result reply.old reply.new (item_fault_reply fault) }
+    ensures memory { fault ≡ ItemFault.Memory → OnOk result ⊥ }
+{
+    match fault {
+        ItemFault::BadValue => reply.refuse_by(BAD_BEGIN, 1),
+        ItemFault::BadNumber => reply.refuse_by(BAD_BEGIN, 2),
+        ItemFault::NoKey => reply.refuse_by(BAD_BEGIN, 3),
+        ItemFault::KeyType => reply.refuse_by(BAD_BEGIN, 4),
+        ItemFault::EmptyKey => reply.refuse_by(BAD_BEGIN, 5),
+        ItemFault::Memory => Err(AllocError),
     }
 }

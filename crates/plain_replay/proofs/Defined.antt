@@ -1,26 +1,24 @@
--- The machines of a log, entry by entry.
-use Rattle.std.proofs.Common.{◌≡◌, ℕ, true, false, cond, List, [], ◌∷◌, None, Some, refl}
+-- A machine that is put under a name.
+use Rattle.std.proofs.Common.{◌≡◌, Bool, true, false, cond, List, ap, sym, ◌∙◌, Some}
+use Rattle.std.specs.Prelude.{ℕ}
+use Rattle.std.specs.Ordering.{nat_cmp}
+use Rattle.std.specs.Cmp.{Equal-is}
+use Rattle.std.specs.Cmp.Lexicographic.{slice_cmp, same_text, other_text}
+use Rattle.std.specs.BTreeMap.{BTreeMap, UpdatesBy, is_at}
+use Rattle.std.proofs.lemmas.Map.Lookups.{exact_bytes}
+use Rattle.asl_fields.specs.Fields.{is_text}
 use Rattle.asl_machine.specs.Definition.{Definition}
-use Rattle.rollback_book.specs.Story.{machine_of, is_same_name}
-use Rattle.rollback_book.specs.declared.log.Entry.{Entry}
-use Rattle.rollback_book.specs.declared.log.Entry.TheVariants.{Define, Start, Step, Undo}
+use Rattle.trace_theory.proofs.Lists.{by_bool}
+use Rattle.plain_replay.specs.Worlds.{machine_in}
 
-pub defined_first : (name : List ℕ) (e : Entry) (log : List Entry) (d : Definition) → machine_of name (e ∷ []) ≡ Some d → machine_of name (e ∷ log) ≡ Some d
-defined_first name (Define n machine) log d h =
-    elim (is_same_name n name) as (λ b. cond b (Some machine) None ≡ Some d → cond b (Some machine) (machine_of name log) ≡ Some d) [
-      | true ↦ λ k. k
-      | false ↦ λ k. cc
-    ] h
-defined_first name (Start exec machine input) log d h = cc
-defined_first name (Step step kind) log d h = cc
-defined_first name (Undo step) log d h = cc
+at_same : (k q : List ℕ) → is_at (slice_cmp nat_cmp k) q ≡ true → k ≡ q
+at_same k q h = exact_bytes k q ((Equal-is (slice_cmp nat_cmp k q)).0 h)
 
-pub defined_later : (name : List ℕ) (e : Entry) (log : List Entry) → machine_of name (e ∷ []) ≡ None → machine_of name (e ∷ log) ≡ machine_of name log
-defined_later name (Define n machine) log h =
-    elim (is_same_name n name) as (λ b. cond b (Some machine) None ≡ None → cond b (Some machine) (machine_of name log) ≡ machine_of name log) [
-      | true ↦ λ k. cc
-      | false ↦ λ k. refl
-    ] h
-defined_later name (Start exec machine input) log h = refl
-defined_later name (Step step kind) log h = refl
-defined_later name (Undo step) log h = refl
+pub put_under : (m n : BTreeMap (List ℕ) Definition) (key : List ℕ) (machine : Definition) → UpdatesBy (slice_cmp nat_cmp) (slice_cmp nat_cmp key) m n (Some machine)
+    → (q : List ℕ) → machine_in n.entries q ≡ cond (is_text key q) (Some machine) (machine_in m.entries q)
+put_under m n key machine u q =
+    by_bool (is_text key q) _
+    (λ h. let own : machine_in n.entries key ≡ Some machine = u.1 in
+    ap (machine_in n.entries) (sym (same_text key q (sym h))) ∙ own ∙ sym (ap (λ (b : Bool). cond b (Some machine) (machine_in m.entries q)) h))
+    (λ h. let apart : is_at (slice_cmp nat_cmp key) q ≡ false = by_bool (is_at (slice_cmp nat_cmp key) q) _ (λ k. absurd (other_text key q (sym h) (at_same key q k))) (λ k. k) in
+    u.2 q apart ∙ sym (ap (λ (b : Bool). cond b (Some machine) (machine_in m.entries q)) h))

@@ -1,2 +1,3 @@
+pub mod Deeds
 pub mod Steps
 pub mod Worlds

@@ -1,14 +1,16 @@
 #![tactic(auto)]
 
-//! What a log gives, computed plainly and slowly: the list of its steps is filtered, and run from the start. Nothing is
-//! undone, and nothing is kept to undo it.
-mod forward;
-mod history;
+//! What a story gives, computed plainly and slowly: the log's steps are filtered and run from the start over one flat list of
+//! frames. Nothing is undone, and nothing is kept to undo it.
+mod calling;
+mod carrying;
+mod closing;
+mod deeds;
 mod machines;
+mod places;
+mod running;
 mod step;
-#[cfg(test)]
-mod tests;
+mod world;
 
-pub use forward::{Replayed, replay};
-pub use history::remaining;
 pub use step::Step;
+pub use world::World;

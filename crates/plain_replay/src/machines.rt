@@ -1,56 +1,32 @@
-// The machines of a log.
-ghost use Rattle.std.specs.Prelude.{◌≡◌, ◌∷◌, [], option_copied, option_map, option_and_then};
-ghost use Rattle.asl_forward.specs.Turn.{standing};
-ghost use Rattle.rollback_book.specs.Story.{machine_of};
-ghost use Rattle.rollback_book.specs.Move.{ready_state};
+// Machines by their names.
+ghost use Rattle.std.specs.Prelude.{◌≡◌, ℕ, List, Some, OnOk, option_copied, if◌then◌else◌};
+ghost use Rattle.asl_fields.specs.Fields.{is_text};
+ghost use Rattle.plain_replay.specs.Worlds.{machine_in};
 
-use asl_forward::{Frame, Phase, standing};
-use asl_machine::{Machine, SharedMachine, State};
+use asl_machine::SharedMachine;
 use json_tree::Text;
-use rollback_book::Entry;
+use std::alloc::AllocError;
+use std::collections::BTreeMap;
 
-/// The machine that a log defines under a name. Goes through the log.
-pub fn machine_of<'a>(log: &'a [Entry], name: &Text) -> Option<&'a SharedMachine>
-    ensures { option_copied result ≡ machine_of name.now log.now }
+pub type Machines = BTreeMap<Text, SharedMachine>;
+
+/// The machine of a name.
+pub fn machine_of<'a>(machines: &'a Machines, name: &Text) -> Option<&'a SharedMachine>
+    ensures { option_copied result ≡ machine_in machines.now.entries name.now }
 {
-    for entry in log {
-        if let Some(machine) = defined(entry, name) {
-            return Some(machine);
-        }
-    }
-    None
+    machines.get(name)
 }
 
-/// The machine that an entry defines under a name.
-fn defined<'a>(entry: &'a Entry, name: &Text) -> Option<&'a SharedMachine>
-    ensures { option_copied result ≡ machine_of name.now (entry.now ∷ []) }
+/// Puts a machine under a name.
+pub fn define(
+    machines: &mut Machines,
+    name: &Text,
+    machine: &SharedMachine,
+) -> Result<(), AllocError>
+    ensures { OnOk result ((n : List ℕ) → machine_in machines.new.entries n ≡ (if is_text name.now n then Some machine.now else machine_in machines.old.entries n)) }
 {
-    match entry {
-        Entry::Define {
-            name: defined,
-            machine,
-        } => { if defined == name { Some(machine) } else { None } }
-        _ => None,
-    }
-}
-
-/// The state that a frame is ready to run, after its level.
-pub fn ready_state<'a>(log: &'a [Entry], frame: &Frame) -> Option<(&'a Machine, &'a State)>
-    ensures { option_map (λ p. (p.0.now, p.1.now)) result ≡ ready_state (λ name. machine_of name log.now) frame.now frame.now.phase }
-{
-    match frame.phase {
-        Phase::Ready => standing_in(log, frame),
-        _ => None,
-    }
-}
-
-/// Where a frame stands.
-fn standing_in<'a>(log: &'a [Entry], frame: &Frame) -> Option<(&'a Machine, &'a State)>
-    ensures { option_map (λ p. (p.0.now, p.1.now)) result ≡ option_and_then (λ d. standing d frame.now)
-        (machine_of frame.now.level.machine log.now) }
-{
-    match machine_of(log, &frame.level.machine) {
-        Some(shared) => standing(shared.machine(), frame),
-        None => None,
-    }
+    let name = name.copy()?;
+    let machine = machine.share()?;
+    drop(machines.insert(name, machine)?);
+    Ok(())
 }

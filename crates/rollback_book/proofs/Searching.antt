@@ -1,77 +1,154 @@
--- Searches through records are searches through their facts.
-use Rattle.std.proofs.Common.{◌≡◌, ℕ, ◌+◌, ◌-◌, ◌<◌, ◌==◌, take, drop, get_or, Bool, true, false, cond, List, [], ◌∷◌, length, map, refl, ap, sym, ◌∙◌, None, Some, Err, arith, zero, suc}
-use Rattle.std.specs.Prelude.{option_map, slice_get}
-use Rattle.std.specs.List.{find}
-use Rattle.std.proofs.Math.Seq.{drop-cons}
-use Rattle.std.proofs.lemmas.Bool.{eqb-true, eqb-false}
-use Rattle.std.proofs.lemmas.List.{take_rest}
-use Rattle.std.proofs.lemmas.Option.{slice_get_read}
-use Rattle.serde_json.specs.Data.{Data}
+-- Steps that are looked up by their names, and by their places.
+use Rattle.std.proofs.Common.{◌≡◌, ◌<◌, ◌≤◌, arith, ℕ, ◌+◌, ◌-◌, Bool, true, false, cond, List, [], ◌∷◌, drop, length, zero, suc, refl, ap, sym, subst, ◌∙◌, Option, None, Some}
+use Rattle.std.specs.Prelude.{slice_get, position}
+use Rattle.std.specs.List.{find, position_from}
+use Rattle.std.proofs.lemmas.Iterator.Adapters.{position_from-zero}
+use Rattle.std.proofs.lemmas.Option.{same_Some}
 use Rattle.step_names.specs.declared.step.StepName.{StepName}
-use Rattle.rollback_book.specs.Names.{is_same_step}
-use Rattle.rollback_book.specs.Answers.{last_name, last_answer, from_step, IsReadRefusal, IsDefineRefusal}
-use Rattle.rollback_book.specs.Saving.{is_record_of, is_last}
-use Rattle.rollback_book.specs.declared.refusal.Refusal.{Refusal}
-use Rattle.rollback_book.specs.declared.log.Entry.{Entry}
-use Rattle.rollback_book.specs.declared.refusal.Refusal.TheVariants.{NoMachine, MachineTaken, BadMachine, ExecTaken, NoThread, NotReady, NoStep, HasDependents, Full, Memory, NotLast}
-use Rattle.rollback_book.specs.Story.{machine_of}
-use Rattle.rollback_book.specs.declared.step.Fact.{Fact}
-use Rattle.rollback_book.specs.declared.step.StepRecord.{StepRecord}
+use Rattle.trace_theory.proofs.Lists.{by_bool}
+use Rattle.saved_steps.specs.World.{is_same_step}
+use Rattle.saved_steps.specs.declared.fact.Fact.{Fact}
+use Rattle.saved_steps.specs.declared.record.StepRecord.{StepRecord}
+use Rattle.depends.specs.Dependence.{depends_directly}
+use Rattle.depends.specs.Plans.{first_dependent}
+use Rattle.depends.proofs.Searching.{facts}
+use Rattle.book_log.specs.Answers.{from_step}
+use Rattle.book_log.proofs.Standing.{step_same}
 
-abbrev pub facts : List StepRecord → List Fact
-facts rs = map (λ (r : StepRecord). r.fact) rs
+-- ---- places
 
-pub find-facts : (p : Fact → Bool) (rs : List StepRecord) → find p (facts rs) ≡ option_map (λ (r : StepRecord). r.fact) (find (λ (r : StepRecord). p r.fact) rs)
-find-facts p [] = refl
-find-facts p (r ∷ rs) =
-    elim (p r.fact) as (λ b. cond b (Some r.fact) (find p (facts rs)) ≡ option_map (λ (x : StepRecord). x.fact) (cond b (Some r) (find (λ (x : StepRecord). p x.fact) rs))) [
-      | true ↦ refl
-      | false ↦ find-facts p rs
-    ]
+-- the first place at which it holds, of elements that stand from a number on
+pub record FoundAt {A : Type 0} (p : A → Bool) (xs : List A) (from at : ℕ) : Type 0 where
+  pub element : A
+  pub past_start : from ≤ at
+  pub within : at < from + length xs
+  pub there : slice_get xs (at - from) ≡ Some element
+  pub holds : p element ≡ true
+  pub found : find p xs ≡ Some element
 
-last_at : (rs : List StepRecord) (k : ℕ) (r x : StepRecord) → k ≡ length rs → slice_get (r ∷ rs) k ≡ Some x → last_name r.fact (facts rs) ≡ x.fact.name
-last_at [] zero r x e h = let same : r ≡ x = cc in ap (λ (y : StepRecord). y.fact.name) same
-last_at [] (suc k) r x e h = absurd (omega arith)
-last_at (s ∷ rs) zero r x e h = absurd (omega arith)
-last_at (s ∷ rs) (suc k) r x e h = last_at rs k s x (omega arith) h
+module _ {A : Type 0} (p : A → Bool) where
+  at_first : (x : A) (xs : List A) (from at : ℕ) → p x ≡ true → from ≡ at → FoundAt p (x ∷ xs) from at
+  at_first x xs from at k e =
+      let z : at - from ≡ 0 = omega (arith, e) in
+      record { element = x; past_start = omega (arith, e); within = omega (arith, e); there = ap (slice_get (x ∷ xs)) z; holds = k; found = ap (λ (b : Bool). cond b (Some x) (find p xs)) k }
 
-pub last_answered : (name : StepName) (rs : List StepRecord) (k : ℕ) (x : StepRecord) → k + 1 ≡ length rs → slice_get rs k ≡ Some x → last_answer name (facts rs) ≡ Err (NotLast x.fact.name)
-last_answered name [] k x e h = absurd (omega arith)
-last_answered name (r ∷ rs) k x e h = ap (λ (n : StepName). Err (NotLast n)) (last_at rs k r x (omega arith) h)
+  later : (x : A) (xs : List A) (from at : ℕ) → p x ≡ false → FoundAt p xs (from + 1) at → FoundAt p (x ∷ xs) from at
+  later x xs from at k h =
+      let a = h.past_start in
+      let b = h.within in
+      let n : at - from ≡ suc (at - (from + 1)) = omega (arith, a) in
+      record { element = h.element; past_start = omega (arith, a); within = omega (arith, b); there = ap (slice_get (x ∷ xs)) n ∙ h.there; holds = h.holds; found = ap (λ (b : Bool). cond b (Some x) (find p xs)) k ∙ h.found }
 
--- a step of this name that isn't the last has some after it
-pub not_last : (name : StepName) (rs : List StepRecord) (i : ℕ) (r : StepRecord) → i < length rs → r ≡ get_or rs i r → is_same_step name r.fact.name ≡ true → is_last name rs ≡ false → i + 1 < length rs
-not_last name rs i r within at same other =
-    elim (i + 1 == length rs) as (λ b. (i + 1 == length rs) ≡ b → i + 1 < length rs) [
-      | true ↦ λ e.
-          let n : length rs - 1 ≡ i = omega (arith, eqb-true (i + 1) (length rs) e) in
-          let here : is_last name rs ≡ true = ap (λ (k : ℕ). is_record_of name (slice_get rs k)) n ∙ ap (is_record_of name) (slice_get_read rs (length rs) i r refl within at) ∙ same in
-          let clash : true ≡ false = sym here ∙ other in
-          cc
-      | false ↦ λ e. let apart = eqb-false (i + 1) (length rs) e in omega (arith, apart)
-    ] refl
+  pub found_at : (xs : List A) (from at : ℕ) → position_from p from xs ≡ Some at → FoundAt p xs from at
+  found_at [] from at h = cc
+  found_at (x ∷ xs) from at h =
+      by_bool (p x) _ (λ k. at_first x xs from at k (same_Some from at (rw k at h))) (λ k. later x xs from at k (found_at xs (from + 1) at (rw k at h)))
 
-pub from_here : (name : StepName) (rs : List StepRecord) (i : ℕ) (r : StepRecord) → i < length rs → r ≡ get_or rs i r → is_same_step name r.fact.name ≡ true
-    → from_step name (facts (drop i rs)) ≡ Some (r.fact, facts (take (length rs - (i + 1)) (drop (i + 1) rs)))
-from_here name rs i r within at same =
-    let cons : drop i rs ≡ r ∷ drop (suc i) rs = drop-cons rs i r within ∙ ap (λ (x : StepRecord). x ∷ drop (suc i) rs) (sym at) in
-    let next : suc i ≡ i + 1 = omega arith in
-    let rest : drop (suc i) rs ≡ take (length rs - (i + 1)) (drop (i + 1) rs) = ap (λ (k : ℕ). drop k rs) next ∙ sym (take_rest rs (i + 1)) in
-    ap (λ (xs : List StepRecord). from_step name (facts xs)) cons
-    ∙ ap (λ (b : Bool). cond b (Some (r.fact, facts (drop (suc i) rs))) (from_step name (facts (drop (suc i) rs)))) same
-    ∙ ap (λ (xs : List StepRecord). Some (r.fact, facts xs)) rest
+  pub none_found : (xs : List A) (from : ℕ) → position_from p from xs ≡ None → find p xs ≡ None
+  none_found [] from h = refl
+  none_found (x ∷ xs) from h =
+      by_bool (p x) _ (λ k. let e : ◌≡◌ {A = Option ℕ} (Some from) None = rw k at h in cc) (λ k. ap (λ (b : Bool). cond b (Some x) (find p xs)) k ∙ none_found xs (from + 1) (rw k at h))
 
--- ---- refusals of a definition
+-- ---- steps by their names
 
-pub read_is_define : (log : List Entry) (name : List ℕ) (d : Data) (e : Refusal) → machine_of name log ≡ None → IsReadRefusal d e → IsDefineRefusal log name d e
-read_is_define log name d (BadMachine fault) free h = (free, h)
-read_is_define log name d Memory free h = free
-read_is_define log name d MachineTaken free h = absurd h
-read_is_define log name d Full free h = absurd h
-read_is_define log name d NoMachine free h = absurd h
-read_is_define log name d ExecTaken free h = absurd h
-read_is_define log name d NoThread free h = absurd h
-read_is_define log name d (NotReady readiness) free h = absurd h
-read_is_define log name d NoStep free h = absurd h
-read_is_define log name d (HasDependents step) free h = absurd h
-read_is_define log name d (NotLast step) free h = absurd h
+same_either : (a b : StepName) → is_same_step a b ≡ is_same_step b a
+same_either a b =
+    by_bool (is_same_step a b) _ (λ k. subst (λ (x : StepName). is_same_step a x ≡ is_same_step x a) (step_same a b k) refl)
+    (λ k. by_bool (is_same_step b a) _ (λ l. subst (λ (x : StepName). is_same_step x b ≡ is_same_step b x) (step_same b a l) refl) (λ l. k ∙ sym l))
+
+abbrev pub is_named : StepName → Fact → Bool
+is_named name f = is_same_step f.name name
+
+-- the step of a name, at its place
+pub record StepAt (name : StepName) (fs : List Fact) (from at : ℕ) : Type 0 where
+  pub fact : Fact
+  pub past_start : from ≤ at
+  pub within : at < from + length fs
+  pub there : slice_get fs (at - from) ≡ Some fact
+  pub named : fact.name ≡ name
+  pub answer : from_step name fs ≡ Some (fact, drop (suc (at - from)) fs)
+
+step_first : (name : StepName) (f : Fact) (fs : List Fact) (from at : ℕ) → is_named name f ≡ true → from ≡ at → StepAt name (f ∷ fs) from at
+step_first name f fs from at k e =
+    let z : at - from ≡ 0 = omega (arith, e) in
+    let n = sym (same_either f.name name) ∙ k in
+    record {
+      fact = f;
+      past_start = omega (arith, e);
+      within = omega (arith, e);
+      there = ap (slice_get (f ∷ fs)) z;
+      named = step_same f.name name k;
+      answer = ap (λ (b : Bool). cond b (Some (f, fs)) (from_step name fs)) n ∙ ap (λ (i : ℕ). let q : Fact × List Fact = (f, drop (suc i) (f ∷ fs)) in Some q) (sym z);
+    }
+
+step_later : (name : StepName) (f : Fact) (fs : List Fact) (from at : ℕ) → is_named name f ≡ false → StepAt name fs (from + 1) at → StepAt name (f ∷ fs) from at
+step_later name f fs from at k h =
+    let a = h.past_start in
+    let b = h.within in
+    let i : at - from ≡ suc (at - (from + 1)) = omega (arith, a) in
+    let n = sym (same_either f.name name) ∙ k in
+    record {
+      fact = h.fact;
+      past_start = omega (arith, a);
+      within = omega (arith, b);
+      there = ap (slice_get (f ∷ fs)) i ∙ h.there;
+      named = h.named;
+      answer = ap (λ (x : Bool). cond x (Some (f, fs)) (from_step name fs)) n ∙ h.answer ∙ ap (λ (j : ℕ). let q : Fact × List Fact = (h.fact, drop (suc j) (f ∷ fs)) in Some q) (sym i);
+    }
+
+step_from : (name : StepName) (fs : List Fact) (from at : ℕ) → position_from (is_named name) from fs ≡ Some at → StepAt name fs from at
+step_from name [] from at h = cc
+step_from name (f ∷ fs) from at h =
+    by_bool (is_named name f) _ (λ k. step_first name f fs from at k (same_Some from at (rw k at h))) (λ k. step_later name f fs from at k (step_from name fs (from + 1) at (rw k at h)))
+
+no_step_from : (name : StepName) (fs : List Fact) (from : ℕ) → position_from (is_named name) from fs ≡ None → from_step name fs ≡ None
+no_step_from name [] from h = refl
+no_step_from name (f ∷ fs) from h =
+    by_bool (is_named name f) _ (λ k. let e : ◌≡◌ {A = Option ℕ} (Some from) None = rw k at h in cc)
+    (λ k. ap (λ (b : Bool). cond b (Some (f, fs)) (from_step name fs)) (sym (same_either f.name name) ∙ k) ∙ no_step_from name fs (from + 1) (rw k at h))
+
+by_facts : (q : Fact → Bool) (rs : List StepRecord) (from : ℕ) → position_from (λ (r : StepRecord). q r.fact) from rs ≡ position_from q from (facts rs)
+by_facts q [] from = refl
+by_facts q (r ∷ rs) from = ap (λ (o : Option ℕ). cond (q r.fact) (Some from) o) (by_facts q rs (from + 1))
+
+place_is : (name : StepName) (rs : List StepRecord) → position (λ (r : StepRecord). is_same_step r.fact.name name) rs ≡ position_from (is_named name) 0 (facts rs)
+place_is name rs = position_from-zero (λ (r : StepRecord). is_named name r.fact) rs ∙ by_facts (is_named name) rs 0
+
+-- the step of this name among some records
+pub step_at : (name : StepName) (rs : List StepRecord) (at : ℕ) → position (λ (r : StepRecord). is_same_step r.fact.name name) rs ≡ Some at → StepAt name (facts rs) 0 at
+step_at name rs at h = step_from name (facts rs) 0 at (sym (place_is name rs) ∙ h)
+
+pub no_step : (name : StepName) (rs : List StepRecord) → position (λ (r : StepRecord). is_same_step r.fact.name name) rs ≡ None → from_step name (facts rs) ≡ None
+no_step name rs h = no_step_from name (facts rs) 0 (sym (place_is name rs) ∙ h)
+
+-- ---- dependents
+
+abbrev pub behind : List Fact → ℕ → List Fact
+behind fs at = drop (suc at) fs
+
+dependent_is : (fs : List Fact) (at : ℕ) (f : Fact) (o : Option ℕ) → slice_get fs at ≡ Some f → first_dependent fs at ≡ o → position_from (depends_directly f) (suc at) (behind fs at) ≡ o
+dependent_is fs at f o here h =
+    let n : at + 1 ≡ suc at = omega arith in
+    let e = rw here at h in
+    ap (λ (i : ℕ). position_from (depends_directly f) i (drop i fs)) (sym n) ∙ e
+
+dropped_at : {A : Type 0} (n i : ℕ) (xs : List A) → slice_get (drop n xs) i ≡ slice_get xs (n + i)
+dropped_at zero i xs = let e : i ≡ 0 + i = omega arith in ap (slice_get xs) e
+dropped_at (suc n) i [] = refl
+dropped_at (suc n) i (x ∷ xs) = let e : suc (n + i) ≡ suc n + i = omega arith in dropped_at n i xs ∙ ap (slice_get (x ∷ xs)) e
+
+-- the first dependent stands at its place among all
+pub record DependentAt (fs : List Fact) (f : Fact) (at dependent : ℕ) : Type 0 where
+  pub fact : Fact
+  pub there : slice_get fs dependent ≡ Some fact
+  pub found : find (depends_directly f) (behind fs at) ≡ Some fact
+
+pub dependent_at : (fs : List Fact) (at dependent : ℕ) (f : Fact) → slice_get fs at ≡ Some f → first_dependent fs at ≡ Some dependent → DependentAt fs f at dependent
+dependent_at fs at dependent f here h =
+    let g = found_at (depends_directly f) (behind fs at) (suc at) dependent (dependent_is fs at f (Some dependent) here h) in
+    let a = g.past_start in
+    let n : suc at + (dependent - suc at) ≡ dependent = omega (arith, a) in
+    record { fact = g.element; there = ap (slice_get fs) (sym n) ∙ sym (dropped_at (suc at) (dependent - suc at) fs) ∙ g.there; found = g.found }
+
+pub no_dependent_at : (fs : List Fact) (at : ℕ) (f : Fact) → slice_get fs at ≡ Some f → first_dependent fs at ≡ None → find (depends_directly f) (behind fs at) ≡ None
+no_dependent_at fs at f here h = none_found (depends_directly f) (behind fs at) (suc at) (dependent_is fs at f None here h)

@@ -1,10 +1,3 @@
-pub mod Names
-pub mod World
-pub mod Move
-pub mod Dependence
-pub mod Story
-pub mod Saving
-pub mod Taking
-pub mod Answers
-pub mod Legal
-pub mod Laws
+pub mod Book
+pub mod Making
+pub mod Ready

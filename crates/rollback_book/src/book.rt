@@ -1,132 +1,84 @@
-// The book: the executions' frames, and the log of what was accepted.
-ghost use Rattle.std.specs.Prelude.{◌≡◌, ◌+◌, ◌^◌, ◌<◌, ◌≤◌, ◌∷◌, ◌++◌, [], map, length, false, IfOk, IfErr, IsSome, IsTrue, OnOk, OnErr, MatchResult, Some, None, Ok, Err, ◌⊎◌, codes};
-ghost use Rattle.json_tree.specs.Data.{depth};
-ghost use Rattle.json_tree.specs.View.{data_of, list_of};
-ghost use Rattle.serde_json.specs.View.{view};
-ghost use Rattle.asl_machine.specs.Complete.{IsComplete};
-ghost use Rattle.asl_machine.specs.Definition.{Definition};
-ghost use Rattle.rollback_book.specs.Taking.{Takes};
-ghost use Rattle.rollback_book.specs.Names.{name_of, start_name};
-ghost use Rattle.rollback_book.specs.Story.{Story, accepted, base_of, remaining, machine_of, world_of};
-ghost use Rattle.rollback_book.specs.Move.{next_step, ready_state};
-ghost use Rattle.rollback_book.specs.Saving.{run_saving, IsStartOf, IsStepOf};
-ghost use Rattle.rollback_book.specs.Answers.{Gives, IsDefineRefusal, IsReadRefusal, is_full_for_define, start_answer, step_answer, undo_answer};
-ghost use Rattle.rollback_book.specs.Legal.{IsLegal};
+// The book: the history of its remaining steps, and the log of what was accepted.
+ghost use Rattle.std.specs.Prelude.{◌≡◌, ◌^◌, ◌<◌, ◌⊎◌, [], map, length, IfOk, IfErr, IsOk, OnOk, OnErr, MatchResult, Some, None, Ok, Err};
+ghost use Rattle.item_store.specs.Listing.{IsListing, items_left};
+ghost use Rattle.saved_steps.specs.Steps.{name_of};
+ghost use Rattle.step_history.specs.History.{AreRecordsOf};
+ghost use Rattle.book_log.specs.Answers.{undo_answer, plan_answer};
+ghost use Rattle.book_log.specs.Beginning.{table_of};
+ghost use Rattle.book_log.specs.Legal.{IsLegal};
+ghost use Rattle.book_log.specs.Story.{accepted, past_of, remaining, world_of};
+ghost use Rattle.rollback_book.specs.Book.{IsAt, IsFreePlace};
+ghost use Rattle.rollback_book.specs.Making.{IsPlanned, WasPlanned};
 
-use crate::log::{Begin, Entry};
-use crate::making::{MadeDefine, MadeStart, MadeStep, make_define, make_start, make_step};
-use crate::refusal::{BeginFault, Refusal};
-use crate::room::Room;
-use crate::step::{Kind, Moved, Saved, StepRecord};
-use crate::{maps, turn, undoing};
+use crate::lists::{names_at, push_with_room};
+use crate::machines::Machines;
+
+use crate::room::{PlanRoom, Room};
 use asl_forward::Frame;
-use asl_machine::{Machine, MachineFault, SharedMachine, State};
-use json_tree::{Json, Text};
-use serde_json::Value;
+use attr_values::ItemFault;
+use book_log::{Begin, Entry, Refusal, StepNames, first_store};
+use item_store::Items;
+use saved_steps::StepRecord;
 use std::alloc::{AllocError, Global};
 use std::collections::BTreeMap;
 use std::marker::Model;
+use step_history::History;
 use step_names::{StepName, ThreadName};
 
-/// Executions of state machines, and the steps that were taken and not taken back.
+/// Executions of state machines over one table, and the steps that were taken and not taken back.
 ///
-/// Contracts see what the book began with and the log of the commands that it accepted. The remaining steps, and the
-/// frames that these give when they are run from the start, are functions of the log.
+/// Contracts see the story: what the book began with, and the log of the commands that it accepted. The remaining steps, and the
+/// executions and items that these give when they are run from the start, are functions of the story. Beside it stand the room and
+/// the places that commands need, of which only the conditions of `enter` speak.
 #[derive(Drop)]
 pub struct Book {
-    begin: Begin,
-    machines: BTreeMap<Text, SharedMachine>,
-    frames: BTreeMap<ThreadName, Frame>,
-    records: Vec<StepRecord>,
-    log: Vec<Entry>,
+    pub(crate) begin: Begin,
+    pub(crate) machines: Machines,
+    pub(crate) history: History,
+    pub(crate) log: Vec<Entry>,
 }
 
 impl Model for Book {
-    ghost use Rattle.std.specs.Prelude.{vec_capacity};
-    ghost use Rattle.rollback_book.specs.Story.{Story};
-    ghost use Rattle.rollback_book.specs.Saving.{IsTied, held};
-    ghost use Rattle.rollback_book.specs.contracts.log.Begin as begin_row;
-    ghost use Rattle.rollback_book.specs.contracts.log.Entry as entry_row;
+    ghost use Rattle.rollback_book.specs.Book.{Volume, IsTied, volume};
+    ghost use Rattle.asl_machine.specs.TreeCode.{definition_code};
+    ghost use Rattle.book_log.specs.contracts.begin.Begin as begin_row;
+    ghost use Rattle.book_log.specs.contracts.entry.Entry as entry_row;
+    ghost use Rattle.step_history.specs.contracts.history.History as history_row;
     ghost use Rattle.std.specs.Coded.{codes};
 
-    ghost Value = { Story };
+    ghost Value = { Volume };
 
-    ghost coded = { Prim.hlevel (codes, begin_row.the_row.coded, entry_row.the_row.coded) };
+    ghost coded = { Prim.hlevel (codes, begin_row.the_row.coded, entry_row.the_row.coded, history_row.the_row.coded, definition_code) };
 
-    ghost view = { λ b. record { begin = b.begin; log = b.log.items } };
+    ghost view = { λ b. volume b.begin b.machines b.history b.log };
 
-    ghost invariant = { λ b. IsTied b.begin b.log.items (held b.machines b.frames) b.records.items (vec_capacity b.log) };
+    ghost invariant = { λ b. IsTied (volume b.begin b.machines b.history b.log) };
 }
 
 impl Book {
-    /// A book without machines and executions. Takes no memory, and none is asked for until something is accepted.
+    /// A book without machines and executions, over the items of the beginning. Takes memory for each item and its key; a later
+    /// item of a key replaces an earlier one.
     ///
-    /// No item is taken yet: a list that isn't empty is BadValue.
-    pub fn open(alloc: Global, begin: Begin) -> Result<Book, BeginFault>
-        ensures ok { IfOk result (λ book. book ≡ record { begin = begin; log = [] }) }
-        ensures err { IfErr result (λ e. begin.items ≡ [] → ⊥) }
-        ensures bad { OnOk result (begin.items ≡ []) }
+    /// # Errors
+    ///
+    /// The fault of the first item that is none, and `Memory`.
+    pub fn open(alloc: Global, begin: Begin) -> Result<Book, ItemFault>
+        ensures { MatchResult result
+            (λ book. (book.story ≡ record { begin = begin; log = [] }) × IsOk (table_of begin))
+            (λ e. (e ≡ ItemFault.Memory) ⊎ (table_of begin ≡ Err e)) }
     {
-        if !begin.items.is_empty() {
-            return Err(BeginFault::BadValue);
+        match first_store(alloc, &begin) {
+            Ok(items) => Ok(Book {
+                begin,
+                machines: BTreeMap::new(alloc),
+                history: History::new(alloc, items),
+                log: Vec::new(alloc),
+            }),
+            Err(fault) => {
+                drop(begin);
+                Err(fault)
+            }
         }
-        Ok(Book {
-            begin,
-            machines: BTreeMap::new(alloc),
-            frames: BTreeMap::new(alloc),
-            records: Vec::new(alloc),
-            log: Vec::new(alloc),
-        })
-    }
-
-    /// Defines a machine. One that has a Task, a Parallel or a Map isn't taken yet: it is Unsupported(`Type`), after every
-    /// fault of the definition itself. Takes time linear in the definition and logarithmic in the number of machines.
-    pub fn define(&mut self, alloc: Global, name: &Text, definition: &Value) -> Result<(), Refusal>
-        ensures ok { OnOk result ((machine : Definition) × Takes (view definition.now) machine
-            × (self.new ≡ accepted self.old (Entry.Define name.now machine))) }
-        ensures free { OnOk result (machine_of name.now self.old.log ≡ None) }
-        ensures room { OnOk result (is_full_for_define self.old.log ≡ false) }
-        ensures refused { IfErr result (IsDefineRefusal self.old.log name.now (view definition.now)) }
-        ensures err { OnErr result (self.new ≡ self.old) }
-    {
-        self.check_name(name)?;
-        let machine = read_machine(alloc, definition)?;
-        self.check_define_room()?;
-        let made = make_define(alloc, name, machine)?;
-        self.enter_define(made)?;
-        Ok(())
-    }
-
-    /// Starts an execution of a machine, and answers its start's name. Takes time logarithmic in the numbers of machines
-    /// and of threads, and linear in the input, which is kept twice.
-    pub fn start(
-        &mut self,
-        alloc: Global,
-        exec: &ThreadName,
-        machine: &Text,
-        input: Json,
-    ) -> Result<StepName, Refusal>
-        requires execution { exec.now.path ≡ [] }
-        requires shallow { depth (data_of input) ≤ 127 }
-        ensures answer { Gives result (start_answer self.old.log exec.now machine.now) }
-        ensures ok { OnOk result (self.new ≡ accepted self.old (Entry.Start exec.now machine.now input)) }
-        ensures err { OnErr result (self.new ≡ self.old) }
-    {
-        let shared = self.check_start(exec, machine)?;
-        let made = make_start(alloc, exec, machine, shared.machine(), input)?;
-        Ok(self.enter_start(made)?)
-    }
-
-    /// Takes the next step of a thread, and answers its name and kind. Takes time logarithmic in the numbers of machines
-    /// and of threads, and linear in the frame.
-    pub fn step(&mut self, alloc: Global, thread: &ThreadName) -> Result<Moved, Refusal>
-        ensures answer { Gives result (step_answer self.old.log thread.now) }
-        ensures ok { IfOk result (λ m. self.new ≡ accepted self.old (Entry.Step m.name m.kind)) }
-        ensures err { OnErr result (self.new ≡ self.old) }
-    {
-        let (frame, level, state) = self.check_step(thread)?;
-        let made = make_step(alloc, thread, frame, level, state)?;
-        Ok(self.enter_step(thread, made)?)
     }
 
     /// Makes what `undo` of this step needs. Whether there is such a step is not looked at.
@@ -137,232 +89,148 @@ impl Book {
         Ok(Room::new(alloc, step)?)
     }
 
-    /// Takes a step back, and answers its name. Takes no memory; the time is that of a look-up of the thread for the
-    /// last remaining step, and linear in the number of remaining steps for a refusal.
-    pub fn undo(&mut self, room: Room) -> Result<StepName, Refusal>
-        ensures answer { result ≡ undo_answer self.old.log room.step }
-        ensures ok { OnOk result (self.new ≡ accepted self.old (Entry.Undo room.step)) }
-        ensures err { OnErr result (self.new ≡ self.old) }
+    /// Whether a step may be undone; the room comes back where it may. Takes no memory; looks at each remaining step up to the first
+    /// that depends directly on it.
+    pub fn can_undo(&self, room: Room) -> Result<Room, Refusal>
+        ensures { MatchResult result
+            (λ r. (r.step ≡ room.step) × (undo_answer self.now.story room.step ≡ Ok room.step))
+            (λ e. undo_answer self.now.story room.step ≡ Err e) }
     {
-        let Room { step, spare } = room;
-        if !undoing::is_last(&self.records, &step) {
-            return Err(undoing::refusal(&self.records, &step, spare));
-        }
-        Ok(self.take_back(step))
+        let (_, room) = self.free_place(room)?;
+        Ok(room)
     }
 
-    /// The frame of a thread. Takes no memory, and time logarithmic in the number of threads.
+    /// Takes a step back on which no remaining step depends directly, and answers its name. Takes no memory.
+    pub fn undo(&mut self, room: Room) -> Result<StepName, Refusal>
+        ensures answer { result ≡ undo_answer self.old.story room.step }
+        ensures ok { OnOk result (self.new.story ≡ accepted self.old.story (Entry.Undo room.step)) }
+        ensures err { OnErr result (self.new.story ≡ self.old.story) }
+    {
+        let (at, Room { step, spare }) = self.free_place(room)?;
+        let answer = spare.step(&step);
+        self.take_back(at, step);
+        Ok(answer)
+    }
+
+    /// Plans the rollback of a step: it and its consequences, the latest first. Takes memory for their names, twice, and places.
+    pub fn plan_room(&self, alloc: Global, step: &StepName) -> Result<PlanRoom, Refusal>
+        ensures { MatchResult result
+            (λ r. (r.step ≡ step.now) × IsPlanned self.now.story r)
+            (λ e. ((e ≡ Refusal.Memory) × IsOk (plan_answer self.now.story step.now)) ⊎ (plan_answer self.now.story step.now ≡ Err e)) }
+    {
+        let Some(at) = self.history.find(step) else {
+            return Err(Refusal::NoStep);
+        };
+        match self.plan_at(alloc, step, at) {
+            Ok(room) => Ok(room),
+            Err(AllocError) => Err(Refusal::Memory),
+        }
+    }
+
+    /// Takes back a step and its consequences, and no other step, as they were planned, and answers their names, the latest first.
+    /// Takes no memory.
+    ///
+    /// # Errors
+    ///
+    /// `Stale` where commands were accepted since the plan was made.
+    pub fn rollback(&mut self, room: PlanRoom) -> Result<StepNames, Refusal>
+        requires { WasPlanned self.old.story room }
+        ensures ok { IfOk result (λ names. (names ≡ room.names) × (plan_answer self.old.story room.step ≡ Ok names) × (self.new.story ≡ accepted self.old.story (Entry.Rollback room.step names))) }
+        ensures stale { IfErr result (λ e. (e ≡ Refusal.Stale (length self.old.story.log)) × (room.entries < length self.old.story.log)) }
+        ensures err { OnErr result (self.new.story ≡ self.old.story) }
+    {
+        if self.log.len() != room.entries {
+            return Err(Refusal::Stale(self.log.len()));
+        }
+        let PlanRoom {
+            step,
+            names,
+            undone,
+            places,
+            entries: _,
+        } = room;
+        self.history.rollback(&places);
+        push_with_room(&mut self.log, Entry::Rollback { step, undone });
+        Ok(names)
+    }
+
+    /// The frame of a thread. Takes no memory, and time logarithmic in the number of executions.
     pub fn show(&self, thread: &ThreadName) -> Result<&Frame, Refusal>
         ensures { MatchResult result
-            (λ f. (world_of self.now.log).frames thread.now ≡ Some f.now)
-            (λ e. (e ≡ Refusal.NoThread) × ((world_of self.now.log).frames thread.now ≡ None)) }
+            (λ f. (world_of self.now.story).frames thread.now ≡ Some f.now)
+            (λ e. (e ≡ Refusal.NoThread) × ((world_of self.now.story).frames thread.now ≡ None)) }
     {
-        match self.frames.get(thread) {
+        match self.history.frame(thread) {
             Some(frame) => Ok(frame),
             None => Err(Refusal::NoThread),
         }
     }
 
-    /// The items of the table in the order of their keys: none yet. Takes no memory.
-    pub fn items(&self) -> &[Json]
-        ensures { list_of result.now ≡ [] }
+    /// The items of the table in the order of their keys. Takes no memory.
+    pub fn items(&self) -> Items<'_>
+        ensures items { IsListing (world_of self.now.story).items (items_left result) }
+        ensures fits { length (items_left result) < 2 ^ 63 }
     {
-        self.begin.items.as_slice()
+        self.history.items().items()
     }
 
     /// The remaining steps in the order in which they were taken, each with what its undoing gives back. Takes no memory.
     pub fn history(&self) -> &[StepRecord]
-        ensures names { map (λ r. r.fact.name) result.now ≡ map name_of (remaining self.now.log) }
-        ensures saved { run_saving (base_of self.now.log) (remaining self.now.log) ≡ Some (world_of self.now.log, result.now) }
+        ensures names { map (λ r. r.fact.name) result.now ≡ map name_of (remaining self.now.story) }
+        ensures saved { AreRecordsOf self.now.history.world.items result.now (past_of self.now.story) }
     {
-        self.records.as_slice()
+        self.history.records()
     }
 
     /// What the book began with, and the commands that it accepted, each with its reply. Takes no memory.
     pub fn entries(&self) -> (&Begin, &[Entry])
-        ensures begin { result.0.now ≡ self.now.begin }
-        ensures log { result.1.now ≡ self.now.log }
-        ensures legal { IsLegal self.now.log }
+        ensures begin { result.0.now ≡ self.now.story.begin }
+        ensures log { result.1.now ≡ self.now.story.log }
+        ensures legal { IsLegal self.now.story }
     {
         (&self.begin, self.log.as_slice())
     }
 
-    /// Refuses a name under which a machine is defined.
-    fn check_name(&self, name: &Text) -> Result<(), Refusal>
-        ensures free { OnOk result (machine_of name.now self.now.log ≡ None) }
-        ensures taken { IfErr result (λ e. (e ≡ Refusal.MachineTaken) × IsSome (machine_of name.now self.now.log)) }
+    /// The place of a step that may be undone, and its room.
+    fn free_place(&self, room: Room) -> Result<(usize, Room), Refusal>
+        ensures { MatchResult result
+            (λ p. (p.1.step ≡ room.step) × IsFreePlace self.now room.step p.0)
+            (λ e. undo_answer self.now.story room.step ≡ Err e) }
     {
-        if self.machines.contains_key(name) {
-            return Err(Refusal::MachineTaken);
-        }
-        Ok(())
+        let Some(at) = self.history.find(&room.step) else {
+            return Err(Refusal::NoStep);
+        };
+        let Some(dependent) = self.history.first_dependent(at) else {
+            return Ok((at, room));
+        };
+        let Room { step: _, spare } = room;
+        let needing = &self.history.records()[dependent];
+        Err(Refusal::HasDependents(spare.step(&needing.fact.name)))
     }
 
-    /// Refuses a definition for which there is no room.
-    fn check_define_room(&self) -> Result<(), Refusal>
-        ensures room { OnOk result (is_full_for_define self.now.log ≡ false) }
-        ensures full { IfErr result (λ e. (e ≡ Refusal.Full) × IsTrue (is_full_for_define self.now.log)) }
+    /// The plan of the step at a place.
+    fn plan_at(&self, alloc: Global, step: &StepName, at: usize) -> Result<PlanRoom, AllocError>
+        requires { IsAt self.now step.now at }
+        ensures { IfOk result (λ r. (r.step ≡ step.now) × IsPlanned self.now.story r) }
     {
-        if maps::is_full_for_define(self.log.len(), self.records.len()) {
-            return Err(Refusal::Full);
-        }
-        Ok(())
+        let places = self.history.plan(alloc, at)?;
+        let names = names_at(alloc, self.history.records(), places.places())?;
+        let undone = names_at(alloc, self.history.records(), places.places())?;
+        Ok(PlanRoom {
+            step: step.copy()?,
+            names,
+            undone,
+            places,
+            entries: self.log.len(),
+        })
     }
 
-    /// The machine of a start that may be taken.
-    fn check_start(&self, exec: &ThreadName, machine: &Text) -> Result<&SharedMachine, Refusal>
-        ensures answer { MatchResult result
-            (λ _. start_answer self.now.log exec.now machine.now ≡ Ok (start_name exec.now))
-            (λ e. start_answer self.now.log exec.now machine.now ≡ Err e) }
-        ensures machine { IfOk result (λ m. machine_of machine.now self.now.log ≡ Some m.now) }
+    /// Takes back the step at a place.
+    fn take_back(&mut self, at: usize, step: StepName)
+        requires { IsFreePlace self.old step at }
+        ensures { self.new.story ≡ accepted self.old.story (Entry.Undo step) }
     {
-        let Some(shared) = self.machines.get(machine) else {
-            return Err(Refusal::NoMachine);
-        };
-        if self.frames.contains_key(exec) {
-            return Err(Refusal::ExecTaken);
-        }
-        if maps::is_full_for_step(self.log.len(), self.records.len()) {
-            return Err(Refusal::Full);
-        }
-        Ok(shared)
-    }
-
-    /// The frame of a thread that may move, and the state that it is ready to run.
-    fn check_step(&self, thread: &ThreadName) -> Result<(&Frame, &Machine, &State), Refusal>
-        ensures answer { MatchResult result
-            (λ p. step_answer self.now.log thread.now ≡ Ok (record { name = next_step thread.now p.0.now; kind = Kind.Plain }))
-            (λ e. step_answer self.now.log thread.now ≡ Err e) }
-        ensures frame { IfOk result (λ p. (world_of self.now.log).frames thread.now ≡ Some p.0.now) }
-        ensures state { IfOk result (λ p. ready_state (world_of self.now.log).machines p.0.now p.0.now.phase ≡ Some (p.1.now, p.2.now)) }
-        ensures count { IfOk result (λ p. p.0.now.count + 1 < 2 ^ 32) }
-    {
-        let Some(frame) = self.frames.get(thread) else {
-            return Err(Refusal::NoThread);
-        };
-        let Some((level, state)) = maps::ready_state(&self.machines, frame) else {
-            return Err(Refusal::NotReady(turn::readiness_of(&frame.phase)));
-        };
-        if maps::is_full_for_step(self.log.len(), self.records.len()) {
-            return Err(Refusal::Full);
-        }
-        Ok((frame, level, state))
-    }
-
-    /// Enters a definition that may be taken. Only its room can be refused, and then nothing is changed.
-    fn enter_define(&mut self, made: MadeDefine) -> Result<(), AllocError>
-        requires free { machine_of made.name self.old.log ≡ None }
-        requires room { is_full_for_define self.old.log ≡ false }
-        requires complete { IsComplete made.machine }
-        requires entry { made.entry ≡ Entry.Define made.name made.machine }
-        ensures ok { OnOk result (self.new ≡ accepted self.old made.entry) }
-        ensures err { OnErr result (self.new ≡ self.old) }
-    {
-        let Ok(()) = self.log.reserve(self.records.len() + 1) else {
-            drop(made);
-            return Err(AllocError);
-        };
-        let MadeDefine {
-            name,
-            machine,
-            entry,
-        } = made;
-        let Ok(replaced) = self.machines.insert(name, machine) else {
-            drop(entry);
-            return Err(AllocError);
-        };
-        drop(replaced);
-        maps::push_with_room(&mut self.log, entry);
-        Ok(())
-    }
-
-    /// Enters a start that may be taken. Only its room can be refused, and then nothing is changed.
-    fn enter_start(&mut self, made: MadeStart) -> Result<StepName, AllocError>
-        requires accepted { IsStartOf self.old.log made.thread made.frame made.kept made.entry }
-        ensures name { IfOk result (λ n. n ≡ made.name) }
-        ensures ok { OnOk result (self.new ≡ accepted self.old made.entry) }
-        ensures err { OnErr result (self.new ≡ self.old) }
-    {
-        let Ok(()) = maps::reserve_step(&mut self.log, &mut self.records) else {
-            drop(made);
-            return Err(AllocError);
-        };
-        let MadeStart {
-            thread,
-            frame,
-            kept,
-            entry,
-            name,
-        } = made;
-        let Ok(()) = maps::insert_frame(&mut self.frames, thread, frame) else {
-            drop((kept, entry, name));
-            return Err(AllocError);
-        };
-        maps::push_with_room(&mut self.records, kept);
-        maps::push_with_room(&mut self.log, entry);
-        Ok(name)
-    }
-
-    /// Enters a step that may be taken. Only its room can be refused, and then nothing is changed.
-    fn enter_step(&mut self, thread: &ThreadName, made: MadeStep) -> Result<Moved, AllocError>
-        requires accepted { IsStepOf self.old.log thread.now made.frame made.fact made.entry }
-        ensures moved { IfOk result (λ m. m ≡ made.moved) }
-        ensures ok { OnOk result (self.new ≡ accepted self.old made.entry) }
-        ensures err { OnErr result (self.new ≡ self.old) }
-    {
-        let Ok(()) = maps::reserve_step(&mut self.log, &mut self.records) else {
-            drop(made);
-            return Err(AllocError);
-        };
-        let before = maps::replace_frame(&mut self.frames, thread, made.frame);
-        let kept = StepRecord {
-            fact: made.fact,
-            saved: Saved::Framed(before),
-        };
-        maps::push_with_room(&mut self.records, kept);
-        maps::push_with_room(&mut self.log, made.entry);
-        Ok(made.moved)
-    }
-
-    /// Takes back the last remaining step, which has this name.
-    fn take_back(&mut self, step: StepName) -> StepName
-        requires { undo_answer self.old.log step ≡ Ok step }
-        ensures name { result ≡ step }
-        ensures entry { self.new ≡ accepted self.old (Entry.Undo step) }
-    {
-        let StepRecord { fact, saved } = self.records.pop().unwrap();
-        maps::restore(&mut self.frames, &step.thread, saved);
-        maps::push_with_room(&mut self.log, Entry::Undo { step });
-        fact.name
-    }
-}
-
-/// The machine of a definition, unless it has a state that calls the table or has branches.
-fn read_machine(alloc: Global, definition: &Value) -> Result<Machine, Refusal>
-    ensures complete { IfOk result IsComplete }
-    ensures read { IfOk result (Takes (view definition.now)) }
-    ensures refused { IfErr result (IsReadRefusal (view definition.now)) }
-{
-    match Machine::read(alloc, definition) {
-        Ok(machine) => {
-            let _start = machine.start();
-            if machine.runs_alone() {
-                return Ok(machine);
-            }
-            drop(machine);
-            Err(left_out(alloc))
-        }
-        Err(MachineFault::Memory) => Err(Refusal::Memory),
-        Err(fault) => Err(Refusal::BadMachine(fault)),
-    }
-}
-
-/// What a machine is refused for that the book can't run.
-fn left_out(alloc: Global) -> Refusal
-    ensures { (result ≡ Refusal.BadMachine (MachineFault.Unsupported (codes "Type"))) ⊎ (result ≡ Refusal.Memory) }
-{
-    match Text::new(alloc, "Type") {
-        Ok(field) => Refusal::BadMachine(MachineFault::Unsupported(field)),
-        Err(_refused) => Refusal::Memory,
+        self.history.undo(at);
+        push_with_room(&mut self.log, Entry::Undo { step });
     }
 }

@@ -1,11 +1,13 @@
-// What an undoing needs beforehand.
+// What an undoing and a rollback need beforehand.
 ghost use Rattle.std.specs.Prelude.{◌≡◌, IfOk};
 
+use book_log::StepNames;
+use depends::Plan;
 use std::alloc::{AllocError, Global};
 use step_names::{NameRoom, StepName};
 
-/// The name of a step to be undone, and space for the name that a refusal tells. It is spent by the undoing, which then
-/// takes no memory.
+/// The name of a step to be undone, and space for the name that a refusal tells. It is spent by the undoing, which then takes no
+/// memory.
 #[derive(Drop)]
 pub struct Room {
     pub step: StepName,
@@ -20,5 +22,25 @@ impl Room {
         let step = step.copy()?;
         let spare = NameRoom::new(alloc)?;
         Ok(Room { step, spare })
+    }
+}
+
+/// A step to be rolled back, with the names and the places of it and its consequences, the latest first, and the number of the log's
+/// entries at the time. It is spent by the rollback, which then takes no memory.
+#[derive(Drop)]
+pub struct PlanRoom {
+    pub(crate) step: StepName,
+    pub(crate) names: StepNames,
+    pub(crate) undone: StepNames,
+    pub(crate) places: Plan,
+    pub(crate) entries: usize,
+}
+
+impl PlanRoom {
+    /// The names of the step and its consequences, the latest first.
+    pub fn names(&self) -> &[StepName]
+        ensures { result.now ≡ self.now.names }
+    {
+        self.names.names()
     }
 }

@@ -25,7 +25,7 @@ mod tests;
 mod thread;
 mod written;
 
-pub use grammar::{is_name, is_name_byte};
+pub use grammar::{is_name, is_name_byte, read_number};
 pub use laws::{forks_nest, names_in_order, step_spelling, thread_spelling};
 pub use room::NameRoom;
 use std::alloc::{AllocError, AllocFailed};
@@ -33,6 +33,7 @@ use std::error::Error;
 use std::fmt;
 pub use step::{LONGEST_STEP, StepName};
 pub use thread::{LONGEST_THREAD, ThreadName};
+pub use written::{decimal_len, push_decimal};
 
 /// Why there is no such name.
 #[derive(Clone, Copy, Debug, PartialEq, Eq)]

@@ -1,18 +1,18 @@
 use Rattle.std.proofs.Common.{rules, ◌≡◌, ◌++◌, Some, OnOk, map, string_bytes, refl, ap, ◌∙◌}
 use Rattle.std.proofs.lemmas.Result.{on_ok_weaker}
-use Rattle.rollback_book.specs.Story.{remaining}
-use Rattle.rollback_book.specs.declared.step.StepRecord.{StepRecord}
+use Rattle.book_log.specs.Story.{remaining}
+use Rattle.saved_steps.specs.declared.record.StepRecord.{StepRecord}
 use Rattle.step_names.specs.Written.{step_text}
 use Rattle.operator_line.specs.Answers.{history_reply, Tells}
-use Rattle.operator_line.specs.Replies.{list_reply}
+use Rattle.reply_lines.specs.Replies.{list_reply}
 use Rattle.operator_line.proofs.Replied.{texts-named}
 use Rattle.operator_line.proofs.session.Session.history.Goals as goal
 
 pub returns-in-Some : goal.returns-in-Some
 returns-in-Some c =
-    let story = c.in-Some.book in
+    let story = c.in-Some.book.story in
     let opened : c.args.self.now ≡ Some story = search rules in
-    let texts = texts-named c.history.result.now (remaining story.log) c.history.ensures.names in
+    let texts = texts-named c.history.result.now (remaining story) c.history.ensures.names in
     let told : OnOk c.accept_steps.result (Tells (history_reply story) (Some story) (string_bytes c.accept_steps.new.self.text) (Some story)) =
     on_ok_weaker c.accept_steps.result (λ e. (e ∙ ap (λ l. l ++ list_reply (map (λ (r : StepRecord). step_text r.fact.name) c.history.result.now)) c.requires ∙ ap list_reply texts, refl)) c.accept_steps.ensures.ok
     in

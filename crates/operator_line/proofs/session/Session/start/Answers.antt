@@ -3,10 +3,10 @@ use Rattle.std.proofs.lemmas.Result.{on_ok_weaker}
 use Rattle.json_tree.specs.Data.{Data}
 use Rattle.json_tree.specs.Reading.{source_of, read_json}
 use Rattle.json_tree.specs.View.{data_of}
-use Rattle.rollback_book.specs.Answers.{start_answer}
-use Rattle.rollback_book.specs.declared.log.Entry.TheVariants.{Start}
+use Rattle.book_log.specs.Answers.{start_answer}
+use Rattle.book_log.specs.declared.entry.Entry.TheVariants.{Start}
 use Rattle.operator_line.specs.Answers.{AnswersStarted, AnswersStart, AnswersInput, Tells}
-use Rattle.operator_line.specs.Replies.{step_reply, refusal_reply, json_reply}
+use Rattle.reply_lines.specs.Replies.{step_reply, refusal_reply, json_reply}
 use Rattle.operator_line.proofs.Json.{json-read, json-refused}
 use Rattle.operator_line.proofs.Replied.{start-done, start-refused}
 use Rattle.operator_line.proofs.session.Session.start.Goals as goal
@@ -14,7 +14,7 @@ use Rattle.operator_line.proofs.session.Session.start.Goals.{in-Ok-start, in-Err
 
 pub returns-in-Err-clause-ok : goal.returns-in-Err-clause-ok
 returns-in-Err-clause-ok c =
-    let story = c.in-Some.book in
+    let story = c.in-Some.book.story in
     let opened : c.args.self.now ≡ Some story = search rules in
     let same = c.as_bytes.ensures.value in
     let text = string_bytes c.refuse_json.new.reply.text in
@@ -30,20 +30,20 @@ returns-in-Err-clause-ok c =
 
 pub returns-clause-ok : goal.returns-clause-ok
 returns-clause-ok c =
-    let story = c.in-Some.book in
+    let story = c.in-Some.book.story in
     let opened : c.args.self.now ≡ Some story = search rules in
     let exec = c.args.exec.now.thread in
     let machine = c.args.machine.now in
     let input = c.in-Ok.input in
     let entry = Start exec machine input in
     let text = string_bytes c.match-start.reply.text in
-    let after = Some c.start.new.self in
+    let after = Some c.start.new.self.story in
     let empty : string_bytes c.reserve_step.new.self.text ≡ [] = c.reserve_step.ensures.same ∙ c.requires in
     let is_read : read_json c.args.input.now ≡ Some (data_of input) = ap read_json (sym c.as_bytes.ensures.value) ∙ c.in-Ok.ensures.ok in
-    let told : OnOk c.match-start.result (AnswersStarted story entry (start_answer story.log exec machine) text after) = elim c.match-start.branch [
-      | in-Ok-start w ↦ rw (w.result-is, w.reply-is) (start-done story c.start.new.self entry w.in-Ok-start.name (start_answer story.log exec machine) w.accept_step.result _
+    let told : OnOk c.match-start.result (AnswersStarted story entry (start_answer story exec machine) text after) = elim c.match-start.branch [
+      | in-Ok-start w ↦ rw (w.result-is, w.reply-is) (start-done story c.start.new.self.story entry w.in-Ok-start.name (start_answer story exec machine) w.accept_step.result _
           w.in-Ok-start.ensures.answer w.in-Ok-start.ensures.ok (on_ok_weaker w.accept_step.result (λ e. e ∙ ap (λ l. l ++ step_reply w.in-Ok-start.name) empty) w.accept_step.ensures.ok))
-      | in-Err-start w ↦ rw (w.result-is, w.reply-is) (start-refused story c.start.new.self entry w.in-Err-start.refusal (start_answer story.log exec machine) w.refuse_command.result _
+      | in-Err-start w ↦ rw (w.result-is, w.reply-is) (start-refused story c.start.new.self.story entry w.in-Err-start.refusal (start_answer story exec machine) w.refuse_command.result _
           w.in-Err-start.ensures.answer w.in-Err-start.ensures.err w.refuse_command.ensures.memory (on_ok_weaker w.refuse_command.result (λ e. e ∙ ap (λ l. l ++ refusal_reply w.in-Err-start.refusal) empty) w.refuse_command.ensures.ok))
     ] in
     let whole : OnOk c.match-start.result (AnswersStart story exec machine c.args.input.now text after) =

@@ -4,8 +4,8 @@ use Rattle.json_tree.specs.Data.{Data, list, items_of}
 use Rattle.json_tree.specs.Reading.{source_of, read_json}
 use Rattle.json_tree.specs.View.{data_of}
 use Rattle.operator_line.specs.Answers.{AnswersTable, AnswersItems, Tells}
-use Rattle.operator_line.specs.Replies.{refused_by, json_reply}
-use Rattle.operator_line.proofs.Json.{json-read, json-refused, items-refused}
+use Rattle.reply_lines.specs.Replies.{refused_by, json_reply}
+use Rattle.operator_line.proofs.Json.{json-read, json-refused, items-begin, begin-done, begin-refused}
 use Rattle.operator_line.proofs.session.Session.table.Goals as goal
 
 pub returns-in-Err-clause-ok : goal.returns-in-Err-clause-ok
@@ -23,17 +23,3 @@ returns-in-Err-clause-ok c =
     in
     rw closed told
 
-pub returns-in-Err-open-clause-ok : goal.returns-in-Err-open-clause-ok
-returns-in-Err-open-clause-ok c =
-    let closed : c.args.self.now ≡ None = search rules in
-    let text = string_bytes c.refuse_by-in-Err-open.new.self.text in
-    let empty : string_bytes c.reserve_step.new.self.text ≡ [] = c.reserve_step.ensures.same ∙ c.requires in
-    let ds = c.in-Ok-List.items in
-    let is_read : read_json c.args.items.now ≡ Some (list (items_of ds)) = ap read_json (sym c.as_bytes.ensures.value) ∙ c.in-Ok-List.ensures.ok ∙ ap (λ j. Some (data_of j)) c.in-Ok-List.field-0-is in
-    let told : OnOk c.refuse_by-in-Err-open.result (AnswersTable c.args.table c.args.schema c.args.items.now text None) =
-    on_ok_weaker c.refuse_by-in-Err-open.result
-    (λ e. json-read c.args.items.now (list (items_of ds)) (λ t. Tells t None text None) (λ d. AnswersItems c.args.table c.args.schema d text None) is_read
-    (items-refused c.args.table c.args.schema ds text c.in-Err-open.ensures.err (e ∙ ap (λ l. l ++ refused_by 23 1) empty)))
-    c.refuse_by-in-Err-open.ensures.ok
-    in
-    rw closed told

@@ -1,33 +1,41 @@
-use Rattle.std.proofs.Common.{◌≡◌, ◌∙◌, ap, sym, true, false}
+use Rattle.std.proofs.Common.{◌≡◌, ◌∙◌, ap, sym, subst, Ok, Err}
 use Rattle.std.specs.Prelude.{is_some}
-use Rattle.rollback_book.specs.Story.{Story, machine_of}
-use Rattle.rollback_book.specs.Answers.{start_answer, is_full_for_step}
-use Rattle.rollback_book.proofs.Tied.{start_unknown, start_taken, start_full, start_free, full_by, machine_is}
+use Rattle.saved_steps.specs.Held.{frames_of, seen}
+use Rattle.saved_steps.specs.Steps.{start_name}
+use Rattle.book_log.specs.Answers.{start_answer}
+use Rattle.book_log.specs.Story.{world_of}
+use Rattle.book_log.specs.declared.refusal.Refusal.TheVariants.{NoMachine, ExecTaken, Full}
+use Rattle.rollback_book.specs.Book.{Volume, volume}
+use Rattle.rollback_book.proofs.Refusing.{start_unknown, start_taken, start_full, start_free}
+use Rattle.rollback_book.proofs.Tied.{full_by, world_is}
 use Rattle.rollback_book.proofs.book.Book.check_start.Goals as goal
 
 pub returns-in_default-clause-answer : goal.returns-in_default-clause-answer
 returns-in_default-clause-answer c =
-    ap (λ (s : Story). start_answer s.log c.args.exec.now c.args.machine.now) (sym c.self.view_is)
-    ∙ start_unknown _ _ _ _ _ c.self.invariant c.args.exec.now c.args.machine.now (ap is_some (sym c.in_default.ensures.value))
+    subst (λ (b : Volume). start_answer b.story c.args.exec.now c.args.machine.now ≡ Err NoMachine) c.self.view_is
+    (start_unknown _ c.self.invariant c.args.exec.now c.args.machine.now (ap is_some (sym (c.self.invariant.machines c.args.machine.now) ∙ sym c.in_default.ensures)))
 
-pub returns-then-contains_key-clause-answer : goal.returns-then-contains_key-clause-answer
-returns-then-contains_key-clause-answer c =
-    ap (λ (s : Story). start_answer s.log c.args.exec.now c.args.machine.now) (sym c.self.view_is)
-    ∙ start_taken _ _ _ _ _ c.self.invariant c.args.exec.now c.args.machine.now (ap is_some (sym c.in-Some.ensures.value)) (sym c.contains_key.ensures ∙ c.if-contains_key.true)
+pub returns-then-has_frame-clause-answer : goal.returns-then-has_frame-clause-answer
+returns-then-has_frame-clause-answer c =
+    let there = ap (λ (b : Volume). is_some (frames_of b.history.world c.args.exec.now)) c.self.view_is ∙ sym c.has_frame.ensures ∙ c.if-has_frame.true in
+    subst (λ (b : Volume). start_answer b.story c.args.exec.now c.args.machine.now ≡ Err ExecTaken) c.self.view_is
+    (start_taken _ c.self.invariant c.args.exec.now c.args.machine.now (ap is_some (sym (c.self.invariant.machines c.args.machine.now) ∙ sym c.in-Some.ensures)) there)
 
 pub returns-then-is_full_for_step-clause-answer : goal.returns-then-is_full_for_step-clause-answer
 returns-then-is_full_for_step-clause-answer c =
-    let full : is_full_for_step c.self.inside.log.items ≡ true = full_by _ _ _ _ _ c.self.invariant _ _ _ (c.len.ensures ∙ c.self.inside.log.ok.0) (c.len-2.ensures ∙ c.self.inside.records.ok.0) c.is_full_for_step.ensures ∙ c.if-is_full_for_step.true in
-    ap (λ (s : Story). start_answer s.log c.args.exec.now c.args.machine.now) (sym c.self.view_is)
-    ∙ start_full _ _ _ _ _ c.self.invariant c.args.exec.now c.args.machine.now (ap is_some (sym c.in-Some.ensures.value)) (sym c.contains_key.ensures ∙ c.if-contains_key.false) full
+    let b = volume c.self.inside.begin c.self.inside.machines c.self.inside.history c.self.inside.log in
+    let there = ap (λ (b : Volume). is_some (frames_of b.history.world c.args.exec.now)) c.self.view_is ∙ sym c.has_frame.ensures ∙ c.if-has_frame.false in
+    let full = full_by b c.self.invariant c.len.result c.len-2.result c.is_full_for_step.result (c.len.ensures ∙ c.self.inside.log.ok.0) c.len-2.ensures c.is_full_for_step.ensures ∙ c.if-is_full_for_step.true in
+    subst (λ (b : Volume). start_answer b.story c.args.exec.now c.args.machine.now ≡ Err Full) c.self.view_is
+    (start_full _ c.self.invariant c.args.exec.now c.args.machine.now (ap is_some (sym (c.self.invariant.machines c.args.machine.now) ∙ sym c.in-Some.ensures)) there full)
 
 pub returns-clause-answer : goal.returns-clause-answer
 returns-clause-answer c =
-    let free : is_full_for_step c.self.inside.log.items ≡ false = full_by _ _ _ _ _ c.self.invariant _ _ _ (c.len.ensures ∙ c.self.inside.log.ok.0) (c.len-2.ensures ∙ c.self.inside.records.ok.0) c.is_full_for_step.ensures ∙ c.if-is_full_for_step.false in
-    ap (λ (s : Story). start_answer s.log c.args.exec.now c.args.machine.now) (sym c.self.view_is)
-    ∙ start_free _ _ _ _ _ c.self.invariant c.args.exec.now c.args.machine.now (ap is_some (sym c.in-Some.ensures.value)) (sym c.contains_key.ensures ∙ c.if-contains_key.false) free
+    let b = volume c.self.inside.begin c.self.inside.machines c.self.inside.history c.self.inside.log in
+    let there = ap (λ (b : Volume). is_some (frames_of b.history.world c.args.exec.now)) c.self.view_is ∙ sym c.has_frame.ensures ∙ c.if-has_frame.false in
+    let full = full_by b c.self.invariant c.len.result c.len-2.result c.is_full_for_step.result (c.len.ensures ∙ c.self.inside.log.ok.0) c.len-2.ensures c.is_full_for_step.ensures ∙ c.if-is_full_for_step.false in
+    subst (λ (b : Volume). start_answer b.story c.args.exec.now c.args.machine.now ≡ Ok (start_name c.args.exec.now.exec)) c.self.view_is
+    (start_free _ c.self.invariant c.args.exec.now c.args.machine.now (ap is_some (sym (c.self.invariant.machines c.args.machine.now) ∙ sym c.in-Some.ensures)) there full)
 
-pub returns-clause-machine : goal.returns-clause-machine
-returns-clause-machine c =
-    ap (λ (s : Story). machine_of c.args.machine.now s.log) (sym c.self.view_is)
-    ∙ machine_is _ _ _ _ _ c.self.invariant c.args.machine.now ∙ sym c.in-Some.ensures.value
+pub returns-clause-world : goal.returns-clause-world
+returns-clause-world c = subst (λ (b : Volume). world_of b.story ≡ seen b.history.world) c.self.view_is (world_is _ c.self.invariant)

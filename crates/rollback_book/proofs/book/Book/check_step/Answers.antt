@@ -1,45 +1,38 @@
-use Rattle.std.proofs.Common.{◌≡◌, ◌∙◌, ap, sym, true, false, Err}
-use Rattle.rollback_book.specs.Move.{ready_state}
-use Rattle.rollback_book.specs.Story.{Story, world_of}
-use Rattle.rollback_book.specs.World.{World}
-use Rattle.rollback_book.specs.Answers.{step_answer, is_full_for_step}
-use Rattle.rollback_book.specs.declared.refusal.Refusal.TheVariants.{NotReady}
-use Rattle.rollback_book.specs.declared.step.Readiness.{Readiness}
-use Rattle.rollback_book.proofs.Tied.{step_absent, step_stuck, step_full, step_free, full_by, world_is, count_is_small}
+use Rattle.std.proofs.Common.{◌≡◌, ◌∙◌, ap, sym, subst, Err}
+use Rattle.branch_tree.specs.First.{has_move}
+use Rattle.branch_tree.specs.declared.readiness.Readiness.{Readiness}
+use Rattle.book_log.specs.Answers.{step_answer}
+use Rattle.book_log.specs.declared.refusal.Refusal.TheVariants.{NoThread, NotReady, Full}
+use Rattle.rollback_book.specs.Book.{Volume, volume}
+use Rattle.rollback_book.specs.Ready.{IsReadyTo}
+use Rattle.rollback_book.proofs.Moving.{step_absent, step_stuck, step_full, ready_to, machine_known}
+use Rattle.rollback_book.proofs.Tied.{full_by}
 use Rattle.rollback_book.proofs.book.Book.check_step.Goals as goal
 
-pub returns-in_default-clause-answer : goal.returns-in_default-clause-answer
-returns-in_default-clause-answer c =
-    ap (λ (s : Story). step_answer s.log c.args.thread.now) (sym c.self.view_is)
-    ∙ step_absent _ _ _ _ _ c.self.invariant c.args.thread.now (sym c.in_default.ensures.value)
+pub returns-in_default : goal.returns-in_default
+returns-in_default c =
+    subst (λ (b : Volume). step_answer b.story c.args.thread.now ≡ Err NoThread) c.self.view_is (step_absent _ c.self.invariant c.args.thread.now (sym c.in_default.ensures))
 
-pub returns-in_default-ready_state-clause-answer : goal.returns-in_default-ready_state-clause-answer
-returns-in_default-ready_state-clause-answer c =
-    ap (λ (s : Story). step_answer s.log c.args.thread.now) (sym c.self.view_is)
-    ∙ step_stuck _ _ _ _ _ c.self.invariant c.args.thread.now c.in-Some.frame.now (sym c.in-Some.ensures.value) (sym c.in_default-ready_state.ensures)
-    ∙ ap (λ (r : Readiness). Err (NotReady r)) (sym c.readiness_of.ensures)
+pub returns-then-not-has_move : goal.returns-then-not-has_move
+returns-then-not-has_move c =
+    let told = sym (ap has_move c.ready-readiness.ensures) ∙ sym c.has_move.ensures ∙ c.if-not-has_move.true in
+    subst (λ (b : Volume). step_answer b.story c.args.thread.now ≡ Err (NotReady c.ready-readiness.result)) c.self.view_is
+    (step_stuck _ c.self.invariant c.args.thread.now c.in-Some.frame.now (sym c.in-Some.ensures) told ∙ ap (λ (r : Readiness). Err (NotReady r)) (sym c.ready-readiness.ensures))
 
-pub returns-then-is_full_for_step-clause-answer : goal.returns-then-is_full_for_step-clause-answer
-returns-then-is_full_for_step-clause-answer c =
-    let full : is_full_for_step c.self.inside.log.items ≡ true = full_by _ _ _ _ _ c.self.invariant _ _ _ (c.len.ensures ∙ c.self.inside.log.ok.0) (c.len-2.ensures ∙ c.self.inside.records.ok.0) c.is_full_for_step.ensures ∙ c.if-is_full_for_step.true in
-    ap (λ (s : Story). step_answer s.log c.args.thread.now) (sym c.self.view_is)
-    ∙ step_full _ _ _ _ _ c.self.invariant c.args.thread.now c.in-Some.frame.now (c.in-Some-ready_state.level.now, c.in-Some-ready_state.state.now) (sym c.in-Some.ensures.value) (sym c.in-Some-ready_state.ensures) full
+pub returns-then-is_full_for_step : goal.returns-then-is_full_for_step
+returns-then-is_full_for_step c =
+    let b = volume c.self.inside.begin c.self.inside.machines c.self.inside.history c.self.inside.log in
+    let told = sym (ap has_move c.ready-readiness.ensures) ∙ sym c.has_move.ensures ∙ c.if-not-has_move.false in
+    let full = full_by b c.self.invariant c.len.result c.len-2.result c.is_full_for_step.result (c.len.ensures ∙ c.self.inside.log.ok.0) c.len-2.ensures c.is_full_for_step.ensures ∙ c.if-is_full_for_step.true in
+    subst (λ (b : Volume). step_answer b.story c.args.thread.now ≡ Err Full) c.self.view_is (step_full b c.self.invariant c.args.thread.now c.in-Some.frame.now (sym c.in-Some.ensures) told full)
 
-pub returns-clause-answer : goal.returns-clause-answer
-returns-clause-answer c =
-    let free : is_full_for_step c.self.inside.log.items ≡ false = full_by _ _ _ _ _ c.self.invariant _ _ _ (c.len.ensures ∙ c.self.inside.log.ok.0) (c.len-2.ensures ∙ c.self.inside.records.ok.0) c.is_full_for_step.ensures ∙ c.if-is_full_for_step.false in
-    ap (λ (s : Story). step_answer s.log c.args.thread.now) (sym c.self.view_is)
-    ∙ step_free _ _ _ _ _ c.self.invariant c.args.thread.now c.in-Some.frame.now (c.in-Some-ready_state.level.now, c.in-Some-ready_state.state.now) (sym c.in-Some.ensures.value) (sym c.in-Some-ready_state.ensures) free
+pub unreachable-requires : goal.unreachable-requires
+unreachable-requires c = machine_known _ c.self.invariant c.args.thread.now c.in-Some.frame.now (sym c.in-Some.ensures) (sym c.in_default-machine_in.ensures)
 
-pub returns-clause-frame : goal.returns-clause-frame
-returns-clause-frame c =
-    ap (λ (s : Story). (world_of s.log).frames c.args.thread.now) (sym c.self.view_is)
-    ∙ ap (λ (w : World). w.frames c.args.thread.now) (world_is _ _ _ _ _ c.self.invariant) ∙ sym c.in-Some.ensures.value
-
-pub returns-clause-state : goal.returns-clause-state
-returns-clause-state c =
-    ap (λ (s : Story). ready_state (world_of s.log).machines c.in-Some.frame.now c.in-Some.frame.now.phase) (sym c.self.view_is)
-    ∙ ap (λ (w : World). ready_state w.machines c.in-Some.frame.now c.in-Some.frame.now.phase) (world_is _ _ _ _ _ c.self.invariant) ∙ sym c.in-Some-ready_state.ensures
-
-pub returns-clause-count : goal.returns-clause-count
-returns-clause-count c = count_is_small _ _ _ _ _ c.self.invariant c.args.thread.now c.in-Some.frame.now (sym c.in-Some.ensures.value)
+pub returns : goal.returns
+returns c =
+    let b = volume c.self.inside.begin c.self.inside.machines c.self.inside.history c.self.inside.log in
+    let told = sym (ap has_move c.ready-readiness.ensures) ∙ sym c.has_move.ensures ∙ c.if-not-has_move.false in
+    let full = full_by b c.self.invariant c.len.result c.len-2.result c.is_full_for_step.result (c.len.ensures ∙ c.self.inside.log.ok.0) c.len-2.ensures c.is_full_for_step.ensures ∙ c.if-is_full_for_step.false in
+    subst (λ (b : Volume). IsReadyTo b c.args.thread.now c.in-Some-machine_in.machine.now c.in-Some.frame.now) c.self.view_is
+    (ready_to b c.self.invariant c.args.thread.now c.in-Some.frame.now (sym c.in-Some.ensures) c.in-Some-machine_in.machine.now told full (sym c.in-Some-machine_in.ensures))

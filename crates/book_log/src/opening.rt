@@ -1,0 +1,75 @@
+// The items with which a book begins.
+ghost use Rattle.std.specs.Prelude.{◌≡◌, ◌⊎◌, Some, Ok, Err, IfOk, MatchResult};
+ghost use Rattle.json_tree.specs.View.{data_of};
+ghost use Rattle.attr_values.specs.declared.key.Key.{Key};
+ghost use Rattle.item_store.specs.Deciding.{Attributes};
+ghost use Rattle.item_store.specs.Store.{items_of};
+ghost use Rattle.item_store.specs.Table.{with_item};
+ghost use Rattle.book_log.specs.Beginning.{keyed_item, table_of};
+
+use attr_values::{Item, ItemFault, Key, KeyAttribute, KeySchema, key_of, read_item};
+use crate::begin::Begin;
+use item_store::ItemStore;
+use json_tree::Json;
+use std::alloc::{AllocError, Global};
+
+/// The items of a beginning, in a store of its table. Takes memory for each item and its key.
+pub fn first_store(alloc: Global, begin: &Begin) -> Result<ItemStore, ItemFault>
+    ensures items { MatchResult result (λ s. table_of begin.now ≡ Ok (items_of s))
+        (λ e. (e ≡ ItemFault.Memory) ⊎ (table_of begin.now ≡ Err e)) }
+    ensures table { IfOk result (λ s. s.table ≡ begin.now.table) }
+    ensures schema { IfOk result (λ s. s.schema ≡ begin.now.schema) }
+{
+    let schema = copy_schema(&begin.schema)?;
+    let mut store = ItemStore::new(alloc, begin.table.copy()?, schema);
+    for object in begin.items.as_slice() {
+        put(alloc, &mut store, object)?;
+    }
+    Ok(store)
+}
+
+/// Puts the item of an object at its key.
+fn put(alloc: Global, store: &mut ItemStore, object: &Json) -> Result<(), ItemFault>
+    ensures item { MatchResult result
+        (λ _. (e : Key × Attributes) × (keyed_item store.old.schema (data_of object.now) ≡ Ok e) × (items_of store.new ≡ with_item (items_of store.old) e.0 (Some e.1)))
+        (λ f. (f ≡ ItemFault.Memory) ⊎ (keyed_item store.old.schema (data_of object.now) ≡ Err f)) }
+    ensures table { store.new.table ≡ store.old.table }
+    ensures schema { store.new.schema ≡ store.old.schema }
+{
+    let (key, item) = keyed_item(alloc, store.schema(), object)?;
+    let slot = store.slot(key)?;
+    drop(store.swap(slot, Some(item)));
+    Ok(())
+}
+
+/// The item of an object, with its key.
+fn keyed_item(alloc: Global, schema: &KeySchema, object: &Json) -> Result<(Key, Item), ItemFault>
+    ensures { MatchResult result (λ p. keyed_item schema.now (data_of object.now) ≡ Ok p)
+        (λ f. (f ≡ ItemFault.Memory) ⊎ (keyed_item schema.now (data_of object.now) ≡ Err f)) }
+{
+    let item = read_item(alloc, object)?;
+    match key_of(schema, &item) {
+        Ok(key) => Ok((key, item)),
+        Err(fault) => Err(fault),
+    }
+}
+
+fn copy_schema(schema: &KeySchema) -> Result<KeySchema, AllocError>
+    ensures { IfOk result (λ s. s ≡ schema.now) }
+{
+    let partition = copy_attribute(&schema.partition)?;
+    let sort = match &schema.sort {
+        Some(attribute) => Some(copy_attribute(attribute)?),
+        None => None,
+    };
+    Ok(KeySchema { partition, sort })
+}
+
+fn copy_attribute(attribute: &KeyAttribute) -> Result<KeyAttribute, AllocError>
+    ensures { IfOk result (λ a. a ≡ attribute.now) }
+{
+    Ok(KeyAttribute {
+        name: attribute.name.copy()?,
+        kind: attribute.kind,
+    })
+}

@@ -1,3 +1,0 @@
-pub mod Book
-pub mod Making
-pub mod Ready

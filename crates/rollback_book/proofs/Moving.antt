@@ -1,0 +1,196 @@
+-- Which threads of a book have a move, and what their next step does.
+use Rattle.std.proofs.Common.{◌≡◌, ◌<◌, ◌+◌, arith, ◌==◌, eq-eqb, Bool, true, false, cond, List, refl, ap, ap₂, sym, subst, ◌∙◌, Option, None, Some, Result, Ok, Err}
+use Rattle.std.specs.Prelude.{◌&&◌, not, is_some, option_and_then, ◌^◌}
+use Rattle.std.proofs.lemmas.Option.{same_Some}
+use Rattle.asl_forward.specs.declared.frame.Frame.{Frame}
+use Rattle.asl_machine.specs.Definition.{Definition}
+use Rattle.branch_tree.specs.First.{has_move}
+use Rattle.branch_tree.specs.Ready.{readiness_at}
+use Rattle.branch_tree.specs.declared.readiness.Readiness.{Readiness}
+use Rattle.step_names.specs.Thread.{Thread}
+use Rattle.step_names.specs.declared.step.StepName.{StepName}
+use Rattle.saved_steps.specs.Deeds.{Deed, deed, frame_deed, if_numbered, move_deed, next_step}
+use Rattle.saved_steps.specs.First.{IsFirstReady, free}
+use Rattle.saved_steps.specs.Held.{frames_of, paths_of, seen}
+use Rattle.saved_steps.specs.Made.{Suits, deed_of_next, fact_made}
+use Rattle.saved_steps.specs.Steps.{moved}
+use Rattle.saved_steps.specs.World.{Setting, World}
+use Rattle.saved_steps.specs.declared.fact.Fact.{Fact}
+use Rattle.saved_steps.specs.declared.fact.Kind.{Kind}
+use Rattle.saved_steps.specs.declared.made.Made.{Made as MadeStep}
+use Rattle.saved_steps.specs.declared.next.Next.{Next}
+use Rattle.depends.proofs.Turned.{frame_move}
+use Rattle.step_history.specs.History.{Past, IsHistory}
+use Rattle.step_history.specs.Levels.{HasNamesBelow}
+use Rattle.step_history.specs.Moves.{IsMachineOf, IsMoveOf}
+use Rattle.step_history.proofs.Counts.{counted}
+use Rattle.step_history.proofs.Movable.{frames_stand, threads_move}
+use Rattle.book_log.specs.Answers.{step_answer, thread_answer, moved_answer, is_full_for_step}
+use Rattle.book_log.specs.Story.{Story, base_of, past_of, setting_of, world_of}
+use Rattle.book_log.specs.declared.entry.Entry.{Entry}
+use Rattle.book_log.specs.declared.entry.Entry.TheVariants.{Step as Stepped}
+use Rattle.book_log.specs.declared.moved.Moved.{Moved}
+use Rattle.book_log.specs.declared.refusal.Refusal.{Refusal}
+use Rattle.book_log.specs.declared.refusal.Refusal.TheVariants.{NoThread, NotReady, Full}
+use Rattle.rollback_book.specs.Book.{Volume, IsTied, place_in, placed}
+use Rattle.rollback_book.specs.Making.{CanEnter, HasLogRoom}
+use Rattle.rollback_book.specs.Ready.{IsFirstToMove, IsMadeIn, IsNextOf, IsReadyTo, moves_freely}
+use Rattle.rollback_book.specs.declared.making.Made.{Made}
+use Rattle.rollback_book.specs.declared.making.MadeChange.{MadeChange}
+use Rattle.rollback_book.specs.declared.making.MadeChange.TheVariants as made
+use Rattle.rollback_book.proofs.Refusing.{none_there}
+use Rattle.rollback_book.proofs.Tied.{world_is, as_many_records}
+use Rattle.rollback_book.proofs.Whole.{legal_whole}
+
+some_there : {A : Type 0} (o : Option A) → is_some o ≡ true → (x : A) × (o ≡ Some x)
+some_there None h = cc
+some_there (Some x) h = (x, refl)
+
+module _ (b : Volume) (tied : IsTied b) (t : Thread) where
+  abbrev pub readiness_there : Readiness
+  readiness_there = readiness_at (paths_of (frames_of b.history.world) t.exec) t.path
+
+  moves_there : move_deed (setting_of b.story) (world_of b.story) t ≡ move_deed (setting_of b.story) (seen b.history.world) t
+  moves_there = ap (λ (w : World). move_deed (setting_of b.story) w t) (world_is b tied)
+
+  pub moves_where : is_some (move_deed (setting_of b.story) (world_of b.story) t) ≡ has_move readiness_there
+  moves_where =
+      ap is_some moves_there
+      ∙ threads_move (setting_of b.story) (base_of b.story.begin) (past_of b.story) b.history t (legal_whole b.story tied.legal) tied.history
+
+  answer_by : (o : Option Frame) → frames_of b.history.world t ≡ o → step_answer b.story t ≡ thread_answer b.story t o
+  unfolding step_answer
+  answer_by o h = ap (thread_answer b.story t) (ap (λ (w : World). w.frames t) (world_is b tied) ∙ h)
+
+  told_there : readiness_at (paths_of (world_of b.story).frames t.exec) t.path ≡ readiness_there
+  told_there = ap (λ (w : World). readiness_at (paths_of w.frames t.exec) t.path) (world_is b tied)
+
+  pub step_absent : frames_of b.history.world t ≡ None → step_answer b.story t ≡ Err NoThread
+  step_absent h = answer_by None h
+
+  module _ (f : Frame) (there : frames_of b.history.world t ≡ Some f) where
+    by_move : (o : Option Deed) → move_deed (setting_of b.story) (world_of b.story) t ≡ o → step_answer b.story t ≡ moved_answer b.story readiness_there o
+    by_move o h = answer_by (Some f) there ∙ ap₂ (λ (r : Readiness) (x : Option Deed). moved_answer b.story r x) told_there h
+
+    pub step_stuck : has_move readiness_there ≡ false → step_answer b.story t ≡ Err (NotReady readiness_there)
+    step_stuck h = by_move None (none_there (move_deed (setting_of b.story) (world_of b.story) t) (moves_where ∙ h))
+
+    moving : has_move readiness_there ≡ true → (d : Deed) × (move_deed (setting_of b.story) (world_of b.story) t ≡ Some d)
+    moving h = some_there (move_deed (setting_of b.story) (world_of b.story) t) (moves_where ∙ h)
+
+    abbrev or_full : Moved → Bool → Result Moved Refusal
+    or_full m full = cond full (Err Full) (Ok m)
+
+    pub step_full : has_move readiness_there ≡ true → is_full_for_step b.story ≡ true → step_answer b.story t ≡ Err Full
+    step_full h full = let d = moving h in by_move (Some d.0) d.1 ∙ ap (or_full (record { name = d.0.fact.name; kind = d.0.fact.kind })) full
+
+    few_steps : f.count + 1 < 2 ^ 32
+    few_steps =
+        let c = (counted (setting_of b.story) (base_of b.story.begin) (past_of b.story) b.history tied.history t f there).bound in
+        let few = tied.few in
+        let many = as_many_records b tied in
+        omega (arith, c, few, many)
+
+    names_below : HasNamesBelow t f
+    names_below =
+        let p = frames_stand (setting_of b.story) (base_of b.story.begin) (past_of b.story) b.history t f (legal_whole b.story tied.legal) tied.history there in
+        p.below
+
+    pub ready_to : (machine : Definition) → has_move readiness_there ≡ true → is_full_for_step b.story ≡ false → placed (place_in b.places f.level.machine) ≡ Some machine → IsReadyTo b t machine f
+    ready_to machine h free known =
+        let d = moving h in
+        record {
+          frame = there;
+          known = sym (tied.machines f.level.machine) ∙ known;
+          deed = d.0;
+          moves = d.1;
+          few = few_steps;
+          below = names_below;
+          answer = by_move (Some d.0) d.1 ∙ ap (or_full (record { name = d.0.fact.name; kind = d.0.fact.kind })) free;
+        }
+
+    pub machine_known : placed (place_in b.places f.level.machine) ≡ None → ⊥
+    machine_known h =
+        let p = frames_stand (setting_of b.story) (base_of b.story.begin) (past_of b.story) b.history t f (legal_whole b.story tied.legal) tied.history there in
+        let known : is_some ((setting_of b.story).machines f.level.machine) ≡ true = p.known in
+        let gone : is_some ((setting_of b.story).machines f.level.machine) ≡ false = ap is_some (sym (tied.machines f.level.machine) ∙ h) in
+        let clash : true ≡ false = sym known ∙ gone in
+        cc
+
+    -- what the next step does
+    pub next_is : (machine : Definition) (name : StepName) (next : Next) → IsReadyTo b t machine f → name ≡ next_step t f
+        → ((s : Setting) (base : World) (ts : List Past) → IsHistory s base ts b.history → IsMachineOf s (frames_of b.history.world t) machine → IsMoveOf s b.history.world t (Some next)) → IsNextOf b t name next
+    next_is machine name next ready named found =
+        let s = setting_of b.story in
+        let w = seen b.history.world in
+        let own : IsMachineOf s (frames_of b.history.world t) machine = subst (λ (o : Option Frame). IsMachineOf s o machine) (sym there) ready.known in
+        let m = found s (base_of b.story.begin) (past_of b.story) tied.history own in
+        let frame : m.0 ≡ f = same_Some m.0 f (sym m.1 ∙ there) in
+        let suits : Suits b.history.world (next_step t f) next = subst (λ (g : Frame). Suits b.history.world (next_step t g) next) frame m.2 in
+        let same : deed s w (moved (next_step t f)) ≡ deed_of_next b.history.world.items (next_step t f) next =
+        subst (λ (g : Frame). deed s w (moved (next_step t g)) ≡ deed_of_next b.history.world.items (next_step t g) next) frame m.3 in
+        let moves : move_deed s w t ≡ Some ready.deed = sym moves_there ∙ ready.moves in
+        let by_frame : frame_deed s w t f ≡ Some ready.deed = sym (ap (option_and_then (frame_deed s w t)) there) ∙ moves in
+        let told : ready.deed.fact.name ≡ next_step t f = (frame_move s w t f ready.deed by_frame).named in
+        let number : (ready.deed.fact.name.no == (next_step t f).no) ≡ true = eq-eqb ready.deed.fact.name.no (next_step t f).no (ap (λ (n : StepName). n.no) told) in
+        let does : deed s w (moved (next_step t f)) ≡ Some ready.deed =
+        ap (option_and_then (if_numbered (next_step t f).no)) moves ∙ ap (λ (x : Bool). cond x (Some ready.deed) None) number in
+        subst (λ (n : StepName). IsNextOf b t n next) (sym named) (record {
+          thread = refl;
+          suits = suits;
+          deed = ready.deed;
+          does = ap (λ (v : World). deed s v (moved (next_step t f))) (world_is b tied) ∙ does;
+          same = sym same ∙ does;
+          answer = ready.answer ∙ ap (λ (n : StepName). let x : Moved = record { name = n; kind = ready.deed.fact.kind } in Ok x) told;
+        })
+
+    -- a thread that may move has a move
+    pub has_next : (machine : Definition) → IsReadyTo b t machine f
+        → ((s : Setting) (base : World) (ts : List Past) → IsHistory s base ts b.history → IsMachineOf s (frames_of b.history.world t) machine → IsMoveOf s b.history.world t None) → ⊥
+    has_next machine ready found =
+        let s = setting_of b.story in
+        let own : IsMachineOf s (frames_of b.history.world t) machine = subst (λ (o : Option Frame). IsMachineOf s o machine) (sym there) ready.known in
+        let none = found s (base_of b.story.begin) (past_of b.story) tied.history own in
+        let clash : ◌≡◌ {A = Option Deed} None (Some ready.deed) = sym none ∙ sym moves_there ∙ ready.moves in
+        cc
+
+-- what the history finds for a thread, of a machine
+abbrev pub Finds : Volume → Thread → Definition → Option Next → Type 0
+Finds b t machine o = (s : Setting) (base : World) (ts : List Past) → IsHistory s base ts b.history → IsMachineOf s (frames_of b.history.world t) machine → IsMoveOf s b.history.world t o
+
+-- a step for which everything is made
+pub step_ready : (before after : Volume) (t : Thread) (name : StepName) (next : Next) (m : MadeStep) (r : Made) → after.story ≡ before.story → IsNextOf before t name next → IsMadeIn before after name next m
+    → HasLogRoom after → r.entry ≡ Stepped name (fact_made m).kind → r.change ≡ made.Step m → CanEnter after r
+step_ready before after t name next m r same is step room entry change =
+    let d : is.deed ≡ step.deed = same_Some is.deed step.deed (sym is.same ∙ step.is) in
+    let kind : is.deed.fact.kind ≡ (fact_made m).kind = ap (λ (x : Deed). x.fact.kind) d ∙ sym (ap (λ (x : Fact). x.kind) step.made.fact) in
+    let whole : CanEnter after (record { entry = Stepped name (fact_made m).kind; answer = r.answer; change = made.Step m }) = record {
+      accepted = ap₂ (λ (x : Story) (u : Thread). step_answer x u) same is.thread ∙ is.answer ∙ ap (λ (k : Kind). let x : Moved = record { name = name; kind = k } in Ok x) kind;
+      fits = record {
+        deed = step.deed;
+        is = ap (λ (x : Story). deed (setting_of x) (world_of x) (moved name)) same ∙ is.does ∙ ap (λ (x : Deed). Some x) d;
+        made = step.made;
+        ready = step.ready;
+        room = step.room;
+      };
+      room = room;
+    } in
+    subst (λ (x : Made). CanEnter after x) (ap₂ (λ (e : Entry) (c : MadeChange). let x : Made = record { entry = e; answer = r.answer; change = c } in x) (sym entry) (sym change)) whole
+
+-- and it is answered so
+pub step_told : (story : Story) (before after : Volume) (t : Thread) (name : StepName) (next : Next) (m : MadeStep) → before.story ≡ story → IsNextOf before t name next → IsMadeIn before after name next m
+    → step_answer story t ≡ Ok (record { name = name; kind = (fact_made m).kind })
+step_told story before after t name next m same is step =
+    let d : is.deed ≡ step.deed = same_Some is.deed step.deed (sym is.same ∙ step.is) in
+    let kind : is.deed.fact.kind ≡ (fact_made m).kind = ap (λ (x : Deed). x.fact.kind) d ∙ sym (ap (λ (x : Fact). x.kind) step.made.fact) in
+    ap (λ (x : Story). step_answer x t) (sym same) ∙ is.answer ∙ ap (λ (k : Kind). let x : Moved = record { name = name; kind = k } in Ok x) kind
+
+-- ---- the first thread that has a move
+
+module _ (b : Volume) (tied : IsTied b) (passed : Thread → Bool) where
+  freely : (t : Thread) → moves_freely b.story passed t ≡ free (frames_of b.history.world) passed t
+  freely t = ap (λ (x : Bool). x && not (passed t)) (moves_where b tied t)
+
+  pub first_to_move : (found : Option Thread) → IsFirstReady (frames_of b.history.world) passed found → IsFirstToMove b.story passed found
+  first_to_move None h = λ t i. freely t ∙ h t i
+  first_to_move (Some t) h = (h.0, freely t ∙ h.1, λ u i less. freely u ∙ h.2 u i less)

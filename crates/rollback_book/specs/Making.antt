@@ -1,0 +1,110 @@
+-- What is made ready of a command before it is entered.
+use Rattle.std.specs.Prelude.{◌≡◌, ◌+◌, ◌≤◌, ℕ, List, [], ◌++◌, length, slice_get, Some, None, option_map, Result, Ok, Err}
+use Rattle.json_tree.specs.Data.{depth}
+use Rattle.json_tree.specs.View.{data_of}
+use Rattle.serde_json.specs.View.{view}
+use Rattle.asl_machine.specs.Definition.{Definition}
+use Rattle.asl_machine.specs.Profile.{Defines}
+use Rattle.depends.specs.Plans.{plan}
+use Rattle.saved_steps.specs.Deeds as deeds
+use Rattle.saved_steps.specs.Made.{CanApply, IsMadeFor}
+use Rattle.saved_steps.specs.Steps.{Step, started, moved}
+use Rattle.saved_steps.specs.declared.made.Made.{Made as MadeStep}
+use Rattle.step_history.specs.History.{HasRoom}
+use Rattle.step_names.specs.declared.step.StepName.{StepName}
+use Rattle.book_log.specs.Answers.{IsDefineRefusal, start_answer, step_answer, plan_answer}
+use Rattle.book_log.specs.Legal.{IsAccepted}
+use Rattle.book_log.specs.Story.{Story, facts_of, setting_of, world_of}
+use Rattle.book_log.specs.declared.entry.Entry.{Entry}
+use Rattle.book_log.specs.declared.entry.Entry.TheVariants.{Define, Start, Step as Stepped}
+use Rattle.book_log.specs.declared.moved.Moved.{Moved}
+use Rattle.book_log.specs.declared.refusal.Refusal.{Refusal}
+use Rattle.book_log.specs.declared.refusal.Refusal.TheVariants.{Memory}
+use Rattle.rollback_book.specs.Book.{Volume, place_in}
+use Rattle.rollback_book.specs.declared.making.Change.{Change}
+use Rattle.rollback_book.specs.declared.making.Change.TheVariants as change
+use Rattle.rollback_book.specs.declared.making.Entered.{Entered}
+use Rattle.rollback_book.specs.declared.making.Entered.TheVariants as entered
+use Rattle.rollback_book.specs.declared.making.Made.{Made}
+use Rattle.rollback_book.specs.declared.making.MadeChange.{MadeChange}
+use Rattle.rollback_book.specs.declared.making.MadeChange.TheVariants as made
+use Rattle.rollback_book.specs.declared.room.PlanRoom.{PlanRoom}
+
+-- ---- what is answered
+
+-- what is entered for a command, and what its caller is told
+abbrev pub Tells : Made → Entry → Entered → Type 0
+Tells m entry told = (m.entry ≡ entry) × (m.answer ≡ told)
+
+-- where it isn't refused, want of memory may be told
+abbrev pub OrMemory : {T : Type 0} → Result T Refusal → Refusal → Type 0
+OrMemory (Ok x) e = e ≡ Memory
+OrMemory (Err f) e = e ≡ f
+
+abbrev pub AnswersStart : Result StepName Refusal → Entry → Result Made Refusal → Type 0
+AnswersStart answer entry (Ok m) = (name : StepName) × (answer ≡ Ok name) × Tells m entry (entered.Started name)
+AnswersStart answer entry (Err e) = OrMemory answer e
+
+abbrev pub AnswersStep : Result Moved Refusal → Result Made Refusal → Type 0
+AnswersStep answer (Ok m) = (moved : Moved) × (answer ≡ Ok moved) × Tells m (Stepped moved.name moved.kind) (entered.Stepped moved)
+AnswersStep answer (Err e) = OrMemory answer e
+
+-- the command that a change is, with its answer, or why it is refused
+abbrev pub Answers : Story → Change → Result Made Refusal → Type 0
+Answers story (change.Define name d) (Ok m) = (machine : Definition) × Defines (view d.now) machine × Tells m (Define name.now machine) entered.Defined
+Answers story (change.Define name d) (Err e) = IsDefineRefusal story name.now (view d.now) e
+Answers story (change.Start exec machine input) result = AnswersStart (start_answer story exec.now machine.now) (Start exec.now machine.now input) result
+Answers story (change.Step thread) result = AnswersStep (step_answer story thread.now) result
+
+-- a start's execution has no branches, and its input nests at most 127 deep
+abbrev pub IsProper : Change → Type 0
+IsProper (change.Define name d) = Unit {0}
+IsProper (change.Start exec machine input) = (exec.now.path ≡ []) × (depth (data_of input) ≤ 127)
+IsProper (change.Step thread) = Unit {0}
+
+-- ---- what can be entered
+
+-- everything is made for this step, which can be taken
+pub record IsStepFor (b : Volume) (step : Step) (m : MadeStep) : Type 0 where
+  pub deed : deeds.Deed
+  pub is : deeds.deed (setting_of b.story) (world_of b.story) step ≡ Some deed
+  pub made : IsMadeFor m deed
+  pub ready : CanApply b.history.world m
+  pub room : HasRoom b.history
+
+-- a definition has an empty place, and a step can be applied
+abbrev pub Fits : Volume → Entry → MadeChange → Type 0
+Fits b (Define name machine) (made.Define place shared) = (place ≡ name) × (shared ≡ machine) × (place_in b.places name ≡ Some None)
+Fits b (Start exec machine input) (made.Step m) = IsStepFor b (started exec.exec machine input) m
+Fits b (Stepped name kind) (made.Step m) = IsStepFor b (moved name) m
+Fits b _ _ = ⊥
+
+-- there is room for one more entry, and for that of its undoing
+abbrev pub HasLogRoom : Volume → Type 0
+HasLogRoom b = length b.story.log + length b.history.records.items + 2 ≤ b.capacity
+
+-- The command is accepted, everything is made for it, and there is room for its entry and that of its undoing: the book is as it was
+-- left when this was made.
+pub record CanEnter (b : Volume) (m : Made) : Type 0 where
+  pub accepted : IsAccepted b.story m.entry
+  pub fits : Fits b m.entry m.change
+  pub room : HasLogRoom b
+
+-- ---- rollback
+
+-- The names are the step and its consequences after so many entries, the latest first, and the places are theirs.
+pub record IsPlanned (story : Story) (r : PlanRoom) : Type 0 where
+  pub names : plan_answer story r.step ≡ Ok r.names
+  pub kept : r.undone ≡ r.names
+  pub entries : length story.log ≡ r.entries
+  -- the step stands at this place
+  pub at : ℕ
+  pub there : option_map (λ f. f.name) (slice_get (facts_of story) at) ≡ Some r.step
+  pub places : r.places ≡ plan (facts_of story) at
+
+-- The room was planned when the book had its first entries, as many as the room counts.
+pub record WasPlanned (story : Story) (r : PlanRoom) : Type 0 where
+  pub front : List Entry
+  pub later : List Entry
+  pub parts : story.log ≡ front ++ later
+  pub planned : IsPlanned (record { begin = story.begin; log = front }) r

@@ -1,0 +1,65 @@
+-- What is worked out of a command before everything is made for it.
+use Rattle.std.specs.Prelude.{◌≡◌, ◌+◌, ◌<◌, ◌^◌, ◌&&◌, ℕ, List, Bool, not, true, false, Option, None, Some, Ok}
+use Rattle.std.specs.declared.cmp.Ordering.TheVariants.{Less}
+use Rattle.json_tree.specs.declared.tree.Json.{Json}
+use Rattle.asl_forward.specs.declared.frame.Frame.{Frame}
+use Rattle.asl_machine.specs.Definition.{Definition}
+use Rattle.saved_steps.specs.Deeds as deeds
+use Rattle.saved_steps.specs.Held.{frames_of}
+use Rattle.saved_steps.specs.Made.{Suits, CanApply, IsMadeFor, deed_of_next}
+use Rattle.saved_steps.specs.Steps.{started, moved, start_name}
+use Rattle.saved_steps.specs.declared.fact.Kind.TheVariants as kind
+use Rattle.saved_steps.specs.declared.made.Made.{Made as MadeStep}
+use Rattle.saved_steps.specs.declared.next.Next.{Next}
+use Rattle.saved_steps.specs.declared.next.Next.TheVariants.{Begin}
+use Rattle.step_history.specs.History.{HasRoom}
+use Rattle.step_history.specs.Levels.{HasNamesBelow}
+use Rattle.step_names.specs.Order.{thread_cmp}
+use Rattle.step_names.specs.Thread.{Thread, IsThread}
+use Rattle.step_names.specs.declared.step.StepName.{StepName}
+use Rattle.book_log.specs.Answers.{has_move, start_answer, step_answer}
+use Rattle.book_log.specs.Story.{Story, setting_of, world_of}
+use Rattle.rollback_book.specs.Book.{Volume}
+
+-- the execution begins with this frame, and the start is accepted
+pub record IsStartOf (b : Volume) (exec : Thread) (machine : List ℕ) (input : Json) (f : Frame) : Type 0 where
+  pub answer : start_answer b.story exec machine ≡ Ok (start_name exec.exec)
+  pub suits : Suits b.history.world (start_name exec.exec) (Begin f)
+  pub does : deeds.deed (setting_of b.story) (world_of b.story) (started exec.exec machine input) ≡ Some (deeds.deed_of kind.Start (start_name exec.exec) f)
+
+-- the thread's next step has this name and does what this next says, and it is accepted
+pub record IsNextOf (b : Volume) (t : Thread) (name : StepName) (next : Next) : Type 0 where
+  pub thread : name.thread ≡ t
+  pub suits : Suits b.history.world name next
+  pub deed : deeds.Deed
+  pub does : deeds.deed (setting_of b.story) (world_of b.story) (moved name) ≡ Some deed
+  pub same : deed_of_next b.history.world.items name next ≡ Some deed
+  pub answer : step_answer b.story t ≡ Ok (record { name = name; kind = deed.fact.kind })
+
+-- in the second book everything is made for a step that is to be taken in the first
+pub record IsMadeIn (before after : Volume) (name : StepName) (next : Next) (m : MadeStep) : Type 0 where
+  pub deed : deeds.Deed
+  pub is : deed_of_next before.history.world.items name next ≡ Some deed
+  pub made : IsMadeFor m deed
+  pub ready : CanApply after.history.world m
+  pub room : HasRoom after.history
+
+-- the thread has this frame, of this machine, and a move, for which there is room
+pub record IsReadyTo (b : Volume) (t : Thread) (machine : Definition) (f : Frame) : Type 0 where
+  pub frame : frames_of b.history.world t ≡ Some f
+  pub known : (setting_of b.story).machines f.level.machine ≡ Some machine
+  pub deed : deeds.Deed
+  pub moves : deeds.move_deed (setting_of b.story) (world_of b.story) t ≡ Some deed
+  pub few : f.count + 1 < 2 ^ 32
+  pub below : HasNamesBelow t f
+  pub answer : step_answer b.story t ≡ Ok (record { name = deed.fact.name; kind = deed.fact.kind })
+
+-- the thread has a move and is not passed by
+abbrev pub moves_freely : Story → (Thread → Bool) → Thread → Bool
+moves_freely story passed t = has_move story t && not (passed t)
+
+-- Nothing, where each thread that has a move is passed by; or the name of one that isn't, with none before it.
+abbrev pub IsFirstToMove : Story → (Thread → Bool) → Option Thread → Type 0
+IsFirstToMove story passed None = (t : Thread) → IsThread t → moves_freely story passed t ≡ false
+IsFirstToMove story passed (Some t) =
+    IsThread t × (moves_freely story passed t ≡ true) × ((u : Thread) → IsThread u → thread_cmp u t ≡ Less → moves_freely story passed u ≡ false)

@@ -1,0 +1,163 @@
+// Steps of threads: what is next is worked out and made, and then it is entered.
+ghost use Rattle.std.specs.Prelude.{◌≡◌, ◌+◌, ◌<◌, ◌^◌, IfOk, IfErr, MatchResult, OnErr, Err};
+ghost use Rattle.std.specs.BTreeSet.{contains};
+ghost use Rattle.branch_tree.specs.First.{has_move};
+ghost use Rattle.step_names.specs.Order.{thread_cmp};
+ghost use Rattle.saved_steps.specs.Deeds.{next_step};
+ghost use Rattle.saved_steps.specs.Made.{fact_made};
+ghost use Rattle.book_log.specs.Answers.{Gives, step_answer};
+ghost use Rattle.book_log.specs.Story.{accepted};
+ghost use Rattle.rollback_book.specs.Making.{AnswersStep, CanEnter, OrMemory};
+ghost use Rattle.rollback_book.specs.Ready.{IsFirstToMove, IsNextOf, IsReadyTo};
+
+use crate::book::Book;
+use crate::checks::is_full_for_step;
+use crate::machines::machine_in;
+use crate::making::{Entered, Made, MadeChange};
+use asl_forward::Frame;
+use asl_machine::SharedMachine;
+use book_log::{Entry, Moved, Refusal};
+use branch_tree::Readiness;
+use saved_steps::Next;
+use std::alloc::{AllocError, Global};
+use std::collections::BTreeSet;
+use step_names::{StepName, ThreadName};
+
+/// Whether a thread has a move.
+fn has_move(readiness: Readiness) -> bool
+    ensures { result ≡ has_move readiness }
+{
+    matches!(
+        readiness,
+        Readiness::Ready | Readiness::Join | Readiness::Terminate
+    )
+}
+
+/// The name of a thread's next step.
+fn next_name(thread: &ThreadName, frame: &Frame) -> Result<StepName, AllocError>
+    requires { frame.now.count + 1 < 2 ^ 32 }
+    ensures { IfOk result (λ n. n ≡ next_step thread.now frame.now) }
+{
+    let thread = thread.copy()?;
+    Ok(StepName {
+        thread,
+        no: frame.count + 1,
+    })
+}
+
+/// The command that a step is, with everything that is made for it.
+fn step_made(name: StepName, step: saved_steps::Made) -> Result<Made, AllocError>
+    ensures entry { IfOk result (λ m. m.entry ≡ Entry.Step name (fact_made step).kind) }
+    ensures answer { IfOk result (λ m. m.answer ≡ Entered.Stepped (record { name = name; kind = (fact_made step).kind })) }
+    ensures change { IfOk result (λ m. m.change ≡ MadeChange.Step step) }
+{
+    let kind = step.kind();
+    let moved = Moved {
+        name: name.copy()?,
+        kind,
+    };
+    Ok(Made {
+        entry: Entry::Step { name, kind },
+        answer: Entered::Stepped(moved),
+        change: MadeChange::Step(step),
+    })
+}
+
+impl Book {
+    /// Takes the next step of a thread, and answers its name and kind. Takes what the step takes: see `History::next_of` and
+    /// `History::make`.
+    ///
+    /// # Errors
+    ///
+    /// `NoThread`, `NotReady`, `Full` and `Memory`, in this order.
+    pub fn step(&mut self, alloc: Global, thread: &ThreadName) -> Result<Moved, Refusal>
+        ensures answer { Gives result (step_answer self.old.story thread.now) }
+        ensures ok { IfOk result (λ m. self.new.story ≡ accepted self.old.story (Entry.Step m.name m.kind)) }
+        ensures err { OnErr result (self.new.story ≡ self.old.story) }
+    {
+        let made = self.ready_step(alloc, thread)?;
+        let Entered::Stepped(moved) = self.enter(made) else {
+            unreachable!()
+        };
+        Ok(moved)
+    }
+
+    /// Makes everything that the next step of a thread needs.
+    pub(crate) fn ready_step(&mut self, alloc: Global, thread: &ThreadName) -> Result<Made, Refusal>
+        ensures answer { AnswersStep (step_answer self.old.story thread.now) result }
+        ensures ready { IfOk result (λ m. CanEnter self.new m) }
+        ensures story { self.new.story ≡ self.old.story }
+    {
+        let (name, next) = self.next_of(alloc, thread)?;
+        let Ok(step) = self.make_step(alloc, &name, next) else {
+            drop(name);
+            return Err(Refusal::Memory);
+        };
+        match step_made(name, step) {
+            Ok(made) => Ok(made),
+            Err(AllocError) => Err(Refusal::Memory),
+        }
+    }
+
+    /// The least thread outside a set, by the order of names, that has a move. Takes the memory and the time of
+    /// `History::first_ready`: executions that are done or have failed cost a step each and no memory.
+    ///
+    /// # Errors
+    ///
+    /// `Memory`.
+    pub fn first_ready(
+        &self,
+        alloc: Global,
+        outside: &BTreeSet<ThreadName>,
+    ) -> Result<Option<ThreadName>, Refusal>
+        ensures first { IfOk result (IsFirstToMove self.now.story (contains thread_cmp outside.now)) }
+        ensures memory { IfErr result (λ e. e ≡ Refusal.Memory) }
+    {
+        match self.history.first_ready(alloc, outside) {
+            Ok(found) => Ok(found),
+            Err(AllocError) => Err(Refusal::Memory),
+        }
+    }
+
+    /// The name of the next step of a thread, and what it is to do.
+    fn next_of(&self, alloc: Global, thread: &ThreadName) -> Result<(StepName, Next), Refusal>
+        ensures { MatchResult result
+            (λ p. IsNextOf self.now thread.now p.0 p.1)
+            (λ e. OrMemory (step_answer self.now.story thread.now) e) }
+    {
+        let (machine, frame) = self.check_step(thread)?;
+        let Ok(name) = next_name(thread, frame) else {
+            return Err(Refusal::Memory);
+        };
+        match self.history.next_of(alloc, machine, thread) {
+            Ok(Some(next)) => Ok((name, next)),
+            Ok(None) => unreachable!(),
+            Err(AllocError) => {
+                drop(name);
+                Err(Refusal::Memory)
+            }
+        }
+    }
+
+    /// The machine and the frame of a thread that may move.
+    fn check_step(&self, thread: &ThreadName) -> Result<(&SharedMachine, &Frame), Refusal>
+        ensures { MatchResult result
+            (λ p. IsReadyTo self.now thread.now p.0.now p.1.now)
+            (λ e. step_answer self.now.story thread.now ≡ Err e) }
+    {
+        let Some(frame) = self.history.frame(thread) else {
+            return Err(Refusal::NoThread);
+        };
+        let readiness = self.history.ready(thread);
+        if !has_move(readiness) {
+            return Err(Refusal::NotReady(readiness));
+        }
+        if is_full_for_step(self.log.len(), self.history.len()) {
+            return Err(Refusal::Full);
+        }
+        let Some(machine) = machine_in(&self.machines, &frame.level.machine) else {
+            unreachable!()
+        };
+        Ok((machine, frame))
+    }
+}
