@@ -1,3 +1,4 @@
+pub mod Taken
 pub mod Served
 pub mod Replied
 pub mod Json

@@ -44,7 +44,9 @@ fn take_steps(
     ensures text { string_bytes reply.new.text ≡ string_bytes reply.old.text }
     ensures room { has_room_for_lines reply.new.text (string_len lines.new.text) }
 {
-    for _taken in 0..count {
+    let mut left = count;
+    while 0 < left {
+        left -= 1;
         match take_step(alloc, book, lines, reply) {
             Ok(true) => {}
             Ok(false) => return None,

@@ -1,6 +1,7 @@
 // A session: a book, and the commands that are given to it.
-ghost use Rattle.std.specs.Prelude.{◌≡◌, ◌≤◌, [], Some, None, option_map, string_bytes, OnOk, OnErr};
-ghost use Rattle.operator_line.specs.Answers.{AnswersCommand, AnswersLine};
+ghost use Rattle.std.specs.Prelude.{◌≡◌, ◌≤◌, ◌⊎◌, [], Some, None, Err, option_map, string_bytes, IsOk, MatchResult, OnOk, OnErr};
+ghost use Rattle.book_log.specs.Beginning.{table_of};
+ghost use Rattle.operator_line.specs.Answers.{AnswersBeginning, AnswersCommand, AnswersLine};
 ghost use Rattle.command_lines.specs.Grammar as grammar;
 ghost use Rattle.command_lines.specs.Grammar.{spoken};
 ghost use Rattle.operator_line.specs.Lines.{bytes_of};
@@ -127,25 +128,44 @@ impl Session {
         if self.book.is_some() {
             return reply.refuse(TABLE_TAKEN);
         }
-        let items = match read(self.alloc, items.as_bytes()) {
-            Ok(Json::List(items)) => items,
+        match read(self.alloc, items.as_bytes()) {
+            Ok(Json::List(items)) => {
+                let begin = Begin {
+                    table,
+                    schema,
+                    items,
+                };
+                self.begin(begin, reply)
+            }
             Ok(other) => {
                 drop(other);
-                return reply.refuse_by(BAD_BEGIN, 1);
+                reply.refuse_by(BAD_BEGIN, 1)
             }
-            Err(fault) => return refuse_json(fault, reply),
-        };
-        reply.reserve_step()?;
-        let begin = Begin {
-            table,
-            schema,
-            items,
-        };
-        match Book::open(self.alloc, begin) {
-            Ok(book) => self.book = Some(book),
-            Err(fault) => return refuse_item(fault, reply),
+            Err(fault) => refuse_json(fault, reply),
         }
-        reply.accept()
+    }
+
+    fn begin(&mut self, begin: Begin, reply: &mut Reply) -> Result<(), AllocError>
+        requires closed { self.old ≡ None }
+        requires empty { string_bytes reply.old.text ≡ [] }
+        ensures ok { OnOk result (AnswersBeginning begin (string_bytes reply.new.text) self.new) }
+        ensures err { OnErr result (self.new ≡ None) }
+    {
+        reply.reserve_step()?;
+        match self.open(begin) {
+            Ok(()) => reply.accept(),
+            Err(fault) => refuse_item(fault, reply),
+        }
+    }
+
+    fn open(&mut self, begin: Begin) -> Result<(), ItemFault>
+        requires { self.old ≡ None }
+        ensures { MatchResult result
+            (λ _. (self.new ≡ Some (record { begin = begin; log = [] })) × IsOk (table_of begin))
+            (λ e. (self.new ≡ None) × ((e ≡ ItemFault.Memory) ⊎ (table_of begin ≡ Err e))) }
+    {
+        self.book = Some(Book::open(self.alloc, begin)?);
+        Ok(())
     }
 
     fn define(&mut self, name: &Text, definition: &str, reply: &mut Reply) -> Result<(), AllocError>

@@ -1,3 +1,4 @@
+pub mod Threads
 pub mod Searching
 pub mod Tied
 pub mod Free

@@ -1,0 +1,60 @@
+-- Steps that are taken one after another, while some are left to take.
+use Rattle.std.proofs.Common.{◌≡◌, ◌<◌, ◌+◌, ◌-◌, ℕ, zero, suc, List, [], ◌∷◌, ◌++◌, map, length, true, false, Bool, Option, None, Some, Result, Ok, Err, refl, sym, subst, ap, ◌∙◌, arith}
+use Rattle.std.proofs.lemmas.List.{append_assoc, append-nil, length-append, map-append}
+use Rattle.step_names.specs.Written.{step_text}
+use Rattle.step_names.specs.declared.step.StepName.{StepName}
+use Rattle.book_log.specs.Story.{Story}
+use Rattle.book_log.specs.declared.refusal.Refusal.{Refusal}
+use Rattle.reply_lines.specs.Replying.{AreLines}
+use Rattle.reply_lines.specs.declared.lines.Lines.{Lines}
+use Rattle.operator_line.specs.Answers.{Drives, NoneMoves, StopsDrive}
+use Rattle.operator_line.specs.Driving.{Taken, KeepsLines, TakesOne}
+
+-- Whatever is taken from here on, with the steps so far it was taken from the beginning.
+pub record HasTaken (count left : ℕ) (before now : Story) (lines : Lines) : Type 0 where
+  pub names : List StepName
+  pub lines_are : AreLines lines (map step_text names)
+  pub counted : length names + left ≡ count
+  pub goes_on : (rest : List StepName) (stop : Option Refusal) (after : Story) → Drives left now rest stop after → Drives count before (names ++ rest) stop after
+
+pub begins : (count : ℕ) (before : Story) (lines : Lines) → AreLines lines [] → HasTaken count count before before lines
+begins count before lines h = record { names = []; lines_are = h; counted = refl; goes_on = λ rest stop after d. d }
+
+-- one step more
+pub one_more : (count left : ℕ) (before now next : Story) (lines longer : Lines) → 0 < left → HasTaken count left before now lines → TakesOne now next lines longer (Ok true)
+    → HasTaken count (left - 1) before next longer
+one_more count zero before now next lines longer some t one = absurd (omega (arith, some))
+one_more count (suc left) before now next lines longer some t one =
+    let x = one.0.name in
+    record {
+      names = t.names ++ x ∷ [];
+      lines_are = subst (AreLines longer) (sym (map-append step_text t.names (x ∷ []))) (one.5 (map step_text t.names) t.lines_are);
+      counted = omega (arith, length-append t.names (x ∷ []), t.counted);
+      goes_on = λ rest stop after d.
+        subst (λ (l : List StepName). Drives count before l stop after) (sym (append_assoc t.names (x ∷ []) rest))
+        (t.goes_on (x ∷ rest) stop after (one.0, one.1, one.2, refl, subst (λ (s : Story). Drives left s rest stop after) one.3 d));
+    }
+
+ended : (count left : ℕ) (before now : Story) (lines : Lines) (stop : Option Refusal) → HasTaken count left before now lines → Drives left now [] stop now → Taken count before now lines stop
+ended count left before now lines stop t d =
+    record { names = t.names; drives = subst (λ (l : List StepName). Drives count before l stop now) (append-nil t.names) (t.goes_on [] stop now d); lines_are = t.lines_are }
+
+-- as many as were wanted
+pub all_taken : (count left : ℕ) (before now : Story) (lines : Lines) → left ≡ 0 → HasTaken count left before now lines → Taken count before now lines None
+all_taken count zero before now lines none t = ended count zero before now lines None t refl
+all_taken count (suc left) before now lines none t = cc
+
+-- no more, since none can move or a step was refused
+pub none_left : (count left : ℕ) (before now next : Story) (lines same : Lines) → 0 < left → HasTaken count left before now lines → TakesOne now next lines same (Ok false)
+    → Taken count before next same None
+none_left count zero before now next lines same some t one = absurd (omega (arith, some))
+none_left count (suc left) before now next lines same some t one =
+    let kept : HasTaken count (suc left) before now same = record { names = t.names; lines_are = one.2.1 (map step_text t.names) t.lines_are; counted = t.counted; goes_on = t.goes_on } in
+    subst (λ (s : Story). Taken count before s same None) (sym one.1) (ended count (suc left) before now same None kept (one.0, refl))
+
+pub stopped : (count left : ℕ) (before now next : Story) (lines same : Lines) (refusal : Refusal) → 0 < left → HasTaken count left before now lines → TakesOne now next lines same (Err refusal)
+    → Taken count before next same (Some refusal)
+stopped count zero before now next lines same refusal some t one = absurd (omega (arith, some))
+stopped count (suc left) before now next lines same refusal some t one =
+    let kept : HasTaken count (suc left) before now same = record { names = t.names; lines_are = one.2.1 (map step_text t.names) t.lines_are; counted = t.counted; goes_on = t.goes_on } in
+    subst (λ (s : Story). Taken count before s same (Some refusal)) (sym one.1) (ended count (suc left) before now same (Some refusal) kept (one.0, refl))
