@@ -47,7 +47,10 @@ if [ $# -eq 2 ]; then
 fi
 failed=0
 while read -r crate test; do
-    refuse_each "$crate" "tests::$test" || failed=1
+    case $test in
+        *::*) refuse_each "$crate" "$test" || failed=1 ;;
+        *) refuse_each "$crate" "tests::$test" || failed=1 ;;
+    esac
 done <<'TESTS'
 step_names refused_growths_are_told
 json_tree answers_want_of_memory
@@ -59,8 +62,8 @@ saved_steps undoes_forks_and_a_terminate
 saved_steps undoes_a_join
 saved_steps undoes_calls
 depends answers_want_of_memory
-rollback_book refused_growths_change_nothing
-plain_replay refused_growths_are_told
 operator_line first_path_with_a_refused_growth
+operator_line row_tests::rows_with_a_refused_growth
+operator_line row_tests::drive_with_a_refused_growth
 TESTS
 exit $failed

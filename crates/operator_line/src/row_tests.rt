@@ -1,5 +1,8 @@
 // Worked rows of lines and replies: calls, branches, and steps that are taken back.
-use crate::tests::expect;
+use crate::session::Session;
+use crate::tests::{expect, is_told, reply_to};
+use std::alloc::Global;
+use std::process::Abort;
 use std::test::Fail;
 
 const MACHINE_C: &str = r#"define c {"StartAt":"C","States":{"C":{"Type":"Task","Resource":"arn:aws:states:::dynamodb:putItem","Parameters":{"TableName":"items","Item":{"id":{"S":"k"},"v":{"S":"new"}},"ConditionExpression":"attribute_not_exists(id)"},"Retry":[{"ErrorEquals":["States.TaskFailed"],"MaxAttempts":2,"BackoffRate":2.0}],"End":true}}}"#;
@@ -428,4 +431,74 @@ const A_WRONG_BILL: &[(&str, &str)] = &[
 #[test]
 fn a_wrong_bill(rt: HostRuntime) -> Result<(), Fail> {
     expect(&rt, rt.alloc(), A_WRONG_BILL)
+}
+
+/// Rows without `drive`, which takes fewer steps where memory is refused.
+const ROWS_WITHOUT_DRIVE: &[&[(&str, &str)]] = &[
+    ROLLBACK_OF_A_PUT,
+    ROLLBACK_OF_A_GET,
+    PUT_AFTER_GET,
+    RETRY_AND_DELETE,
+    NUMERIC_KEYS,
+    MAP_OVER_NOTHING,
+    TERMINATE,
+    PARALLEL_RETRIED_BY_STEPS,
+    TERMINATE_OVER_GRANDCHILD,
+    MALFORMED_CALLS,
+    RETRIES_USED_UP,
+    MAP_WITH_SELECTOR,
+    UNDO_IN_THE_MIDDLE,
+    UNDO_OF_A_REFUSED_PUT,
+    UNDO_OF_A_GRANDCHILD,
+    ITEMS_AT_THE_BEGINNING,
+    ITEMS_THAT_ARE_NONE,
+];
+
+fn tell_all(rt: &impl Abort, alloc: Global, rows: &[(&str, &str)]) -> Result<(), Fail> {
+    let mut session = Session::new(alloc);
+    for (line, reply) in rows {
+        assert!(rt; is_told(alloc, &mut session, line, reply)?, "at {line}");
+    }
+    Ok(())
+}
+
+/// For tools/refused-growths.sh: the line that it strikes is told `no 11`, or serving ends, and has changed nothing.
+#[test]
+fn rows_with_a_refused_growth(rt: HostRuntime) -> Result<(), Fail> {
+    for rows in ROWS_WITHOUT_DRIVE {
+        tell_all(&rt, rt.alloc(), rows)?;
+    }
+    Ok(())
+}
+
+const BEFORE_A_DRIVE: &[(&str, &str)] = &[
+    ("table items id:S []", "ok\n"),
+    (MACHINE_Q, "ok\n"),
+    ("start e q {}", "ok e#0\n"),
+];
+
+const AFTER_A_DRIVE: &[(&str, &str)] = &[
+    ("history", "ok 6\ne#0\ne#1\ne/1.0#1\ne/1.0#2\ne/1.1#1\ne/1.1#2\n"),
+    ("rollback e#1", "ok 5\ne/1.1#2\ne/1.1#1\ne/1.0#2\ne/1.0#1\ne#1\n"),
+    ("history", "ok 1\ne#0\n"),
+];
+
+/// For tools/refused-growths.sh: a drive that ends early has taken whole steps, and another takes those that are left.
+#[test]
+fn drive_with_a_refused_growth(rt: HostRuntime) -> Result<(), Fail> {
+    let alloc = rt.alloc();
+    let mut session = Session::new(alloc);
+    for (line, reply) in BEFORE_A_DRIVE {
+        assert!(rt; is_told(alloc, &mut session, line, reply)?, "at {line}");
+    }
+    for _ in 0..2 {
+        let _taken = reply_to(alloc, &mut session, "drive 5")?;
+        if session.book().is_some_and(|book| book.history().len() == 6) {
+            break;
+        }
+    }
+    for (line, reply) in AFTER_A_DRIVE {
+        assert!(rt; is_told(alloc, &mut session, line, reply)?, "at {line}");
+    }
+    Ok(())
 }

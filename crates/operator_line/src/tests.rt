@@ -52,7 +52,7 @@ fn with_feed(alloc: Global, line: &str) -> Result<Vec<u8>, AllocError> {
 }
 
 /// The reply to a line that is served alone, none where serving ended for want of memory.
-fn reply_to(
+pub(crate) fn reply_to(
     alloc: Global,
     session: &mut Session,
     line: &str,
@@ -100,7 +100,7 @@ fn first_path(rt: HostRuntime) -> Result<(), Fail> {
 }
 
 /// Whether a line has this reply, perhaps after it was refused once for want of memory.
-fn is_told(
+pub(crate) fn is_told(
     alloc: Global,
     session: &mut Session,
     line: &str,
