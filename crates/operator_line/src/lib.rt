@@ -7,6 +7,8 @@ mod line;
 mod serving;
 mod session;
 #[cfg(test)]
+mod limit_tests;
+#[cfg(test)]
 mod row_tests;
 #[cfg(test)]
 mod stream_tests;
