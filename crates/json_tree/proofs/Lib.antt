@@ -1,6 +1,7 @@
 pub mod Nodes
 pub mod Views
 pub mod Depths
+pub mod Deeper
 pub mod Readings
 pub mod Texts
 pub mod RoundTrip

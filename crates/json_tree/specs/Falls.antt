@@ -14,6 +14,7 @@ use Rattle.json_tree.specs.declared.tree.JsonFields.TheDeep.{deep-Json, deep-Fie
 use Rattle.json_tree.specs.declared.tree.JsonFields.TheInside as fields_inside
 use Rattle.json_tree.specs.declared.tree.JsonList.TheInside as list_inside
 use Rattle.std.specs.declared.alloc.Global.{Global}
+use Rattle.json_tree.specs.declared.told.Told.{Told}
 
 deep_le : (j : Json) → deep-Json j ≤ depth (data_of j)
 deep_le Null = omega arith
@@ -31,16 +32,16 @@ members_fall : (fs : List Field) → most (λ f. deep-Field f) fs ≤ fields_dep
 members_fall [] = omega arith
 members_fall (f ∷ fs) = omega (arith, deep_le f.value, members_fall fs)
 
-list_falls_at : (alloc : Global) (inner : Option (Arc (Vec Json Global) Global)) → deep-JsonList (record { alloc = alloc; inner = inner }) ≤ list_depth (list_of (held inner))
-list_falls_at alloc None = omega arith
-list_falls_at alloc (Some node) = omega (arith, items_fall (arc_value node).items)
+list_falls_at : (alloc : Global) (inner : Option (Arc (Vec Json Global) Global)) (told : Told) → deep-JsonList (record { alloc = alloc; inner = inner; told = told }) ≤ list_depth (list_of (held inner))
+list_falls_at alloc None told = omega arith
+list_falls_at alloc (Some node) told = omega (arith, items_fall (arc_value node).items)
 
 pub list_falls : (a : list_inside.Inside) → deep-JsonList a ≤ list_depth (list_of (held a.inner))
-list_falls a = list_falls_at a.alloc a.inner
+list_falls a = list_falls_at a.alloc a.inner a.told
 
-fields_fall_at : (alloc : Global) (inner : Option (Arc (Vec Field Global) Global)) → deep-JsonFields (record { alloc = alloc; inner = inner }) ≤ fields_depth (fields_of (held inner))
-fields_fall_at alloc None = omega arith
-fields_fall_at alloc (Some node) = omega (arith, members_fall (arc_value node).items)
+fields_fall_at : (alloc : Global) (inner : Option (Arc (Vec Field Global) Global)) (told : Told) → deep-JsonFields (record { alloc = alloc; inner = inner; told = told }) ≤ fields_depth (fields_of (held inner))
+fields_fall_at alloc None told = omega arith
+fields_fall_at alloc (Some node) told = omega (arith, members_fall (arc_value node).items)
 
 pub fields_fall : (a : fields_inside.Inside) → deep-JsonFields a ≤ fields_depth (fields_of (held a.inner))
-fields_fall a = fields_fall_at a.alloc a.inner
+fields_fall a = fields_fall_at a.alloc a.inner a.told

@@ -1,3 +1,4 @@
+pub mod Told
 pub mod Data
 pub mod DataCode
 pub mod View

@@ -4,7 +4,9 @@ ghost use Rattle.json_tree.specs.Fields.{text_cmp, get_field, with_field, withou
 ghost use Rattle.json_tree.specs.Places.{IsAt, IsGapFor};
 ghost use Rattle.json_tree.specs.View.{data_of, fields_of, held};
 
+use crate::nesting::{depth, levels_of_fields};
 use crate::text::Text;
+use crate::told::Told;
 use crate::tree::{ChangeFault, Field, Json, JsonFields};
 use std::alloc::{AllocError, AllocFailed, Global};
 use std::cmp::Ordering;
@@ -19,7 +21,11 @@ impl JsonFields {
     pub fn new(alloc: Global) -> JsonFields
         ensures { result ≡ [] }
     {
-        JsonFields { alloc, inner: None }
+        JsonFields {
+            alloc,
+            inner: None,
+            told: Told::empty(),
+        }
     }
 
     /// The same fields, which are in order, in the memory that they have. Takes memory for a node, unless there is none.
@@ -32,10 +38,12 @@ impl JsonFields {
         if fields.is_empty() {
             return Ok(JsonFields::new(alloc));
         }
+        let told = Told::exactly(levels_of_fields(fields.as_slice()));
         match Arc::new(alloc, fields) {
             Ok(node) => Ok(JsonFields {
                 alloc,
                 inner: Some(node),
+                told,
             }),
             Err(refused) => Err(refused),
         }
@@ -87,6 +95,7 @@ impl JsonFields {
         ensures value { IfOk result (λ j. get_field name.now self.old ≡ Some (data_of j.now)) }
         ensures absent { IfErr result (λ e. (e ≡ ChangeFault.Absent) ↔ (get_field name.now self.old ≡ None)) }
     {
+        self.told = Told::unknown();
         let Some(node) = self.inner.as_mut() else {
             return Err(ChangeFault::Absent);
         };
@@ -112,6 +121,25 @@ impl JsonFields {
         ensures err { OnErr result (self.new ≡ self.old) }
         ensures value_returned { IfErr result (λ e. e.value ≡ (name, value)) }
     {
+        let told = self.told.and(depth(&value));
+        let replaced = self.insert_untold(name, value)?;
+        if replaced.is_none() {
+            self.told = told;
+        }
+        Ok(replaced)
+    }
+
+    fn insert_untold(
+        &mut self,
+        name: Text,
+        value: Json,
+    ) -> Result<Option<Json>, AllocFailed<(Text, Json)>>
+        ensures ok { OnOk result (self.new ≡ with_field name (data_of value) self.old) }
+        ensures replaced { IfOk result (λ r. option_map data_of r ≡ get_field name self.old) }
+        ensures err { OnErr result (self.new ≡ self.old) }
+        ensures value_returned { IfErr result (λ e. e.value ≡ (name, value)) }
+    {
+        self.told = Told::unknown();
         let Some(node) = self.inner.as_mut() else {
             return self.insert_first(name, value);
         };
@@ -135,6 +163,7 @@ impl JsonFields {
         ensures err { OnErr result (self.new ≡ self.old) }
         ensures value_returned { IfErr result (λ e. e.value ≡ (name, value)) }
     {
+        self.told = Told::unknown();
         match one_field(self.alloc, name, value) {
             Ok(node) => {
                 self.inner = Some(node);
@@ -151,6 +180,7 @@ impl JsonFields {
         ensures err { OnErr result (self.new ≡ self.old) }
         ensures present { OnErr result (IsSome (get_field name.now self.old)) }
     {
+        self.told = Told::unknown();
         let Some(node) = self.inner.as_mut() else {
             return Ok(None);
         };
@@ -174,6 +204,7 @@ impl JsonFields {
         Ok(JsonFields {
             alloc: self.alloc,
             inner,
+            told: self.told,
         })
     }
 }

@@ -12,6 +12,7 @@ mod short;
 #[cfg(test)]
 mod tests;
 mod text;
+mod told;
 mod tree;
 mod writing;
 

@@ -2,6 +2,8 @@
 ghost use Rattle.std.specs.Prelude.{◌≡◌, ◌↔◌, ◌++◌, ◌∷◌, [], length, None, Some, option_map, IsTrue, IfOk, IfErr, OnOk, OnErr, slice_get};
 ghost use Rattle.json_tree.specs.View.{data_of, list_of};
 
+use crate::nesting::{depth, levels_of_items};
+use crate::told::Told;
 use crate::tree::{ChangeFault, Json, JsonList};
 use std::alloc::{AllocError, AllocFailed, Global};
 use std::sync::Arc;
@@ -14,7 +16,11 @@ impl JsonList {
     pub fn new(alloc: Global) -> JsonList
         ensures { result ≡ [] }
     {
-        JsonList { alloc, inner: None }
+        JsonList {
+            alloc,
+            inner: None,
+            told: Told::empty(),
+        }
     }
 
     /// The same values, in the memory that they have. Takes memory for a node, unless there is no value; the error has the
@@ -27,10 +33,12 @@ impl JsonList {
         if items.is_empty() {
             return Ok(JsonList::new(alloc));
         }
+        let told = Told::exactly(levels_of_items(items.as_slice()));
         match Arc::new(alloc, items) {
             Ok(node) => Ok(JsonList {
                 alloc,
                 inner: Some(node),
+                told,
             }),
             Err(refused) => Err(refused),
         }
@@ -40,7 +48,11 @@ impl JsonList {
     pub fn into_vec(self) -> Result<Vec<Json>, AllocError>
         ensures { IfOk result (λ v. list_of v.items ≡ self) }
     {
-        let JsonList { alloc, inner } = self;
+        let JsonList {
+            alloc,
+            inner,
+            told: _,
+        } = self;
         match inner {
             Some(node) => Arc::unwrap_or_clone(node),
             None => Ok(Vec::new(alloc)),
@@ -85,6 +97,7 @@ impl JsonList {
         ensures value { IfOk result (λ j. slice_get self.old index ≡ Some (data_of j.now)) }
         ensures absent { IfErr result (λ e. (e ≡ ChangeFault.Absent) ↔ (slice_get self.old index ≡ None)) }
     {
+        self.told = Told::unknown();
         let Some(node) = self.inner.as_mut() else {
             return Err(ChangeFault::Absent);
         };
@@ -104,6 +117,18 @@ impl JsonList {
         ensures err { OnErr result (self.new ≡ self.old) }
         ensures value_returned { IfErr result (λ e. e.value ≡ value) }
     {
+        let told = self.told.and(depth(&value));
+        self.push_untold(value)?;
+        self.told = told;
+        Ok(())
+    }
+
+    fn push_untold(&mut self, value: Json) -> Result<(), AllocFailed<Json>>
+        ensures ok { OnOk result (self.new ≡ self.old ++ data_of value ∷ []) }
+        ensures err { OnErr result (self.new ≡ self.old) }
+        ensures value_returned { IfErr result (λ e. e.value ≡ value) }
+    {
+        self.told = Told::unknown();
         let Some(node) = self.inner.as_mut() else {
             return self.push_first(value);
         };
@@ -126,6 +151,7 @@ impl JsonList {
             return Err(AllocFailed { value });
         };
         empty.push(value)?;
+        self.told = Told::unknown();
         self.inner = Some(node);
         Ok(())
     }
@@ -141,6 +167,7 @@ impl JsonList {
         Ok(JsonList {
             alloc: self.alloc,
             inner,
+            told: self.told,
         })
     }
 }

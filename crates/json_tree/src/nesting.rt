@@ -1,12 +1,12 @@
 // How deep a value nests.
 ghost use Rattle.std.specs.Prelude.{◌≡◌, ◌^◌, ◌-◌, min};
 ghost use Rattle.json_tree.specs.Data.{depth as nesting, list_depth, fields_depth};
-ghost use Rattle.json_tree.specs.View.{data_of};
+ghost use Rattle.json_tree.specs.View.{data_of, list_of, fields_of};
 
 use crate::tree::{Field, Json, JsonFields, JsonList};
 
 /// How deep lists and fields nest: 0 for what is neither, and 4,294,967,295 for that depth and every greater one. Takes no
-/// memory, and looks at each value inside once.
+/// memory. A value that was read or put together is told at once; where values were changed in place, those beside them are looked at.
 #[cycle(depth)]
 pub fn depth(json: &Json) -> u32
     ensures { result ≡ min (nesting (data_of json.now)) (2 ^ 32 - 1) }
@@ -22,6 +22,9 @@ pub fn depth(json: &Json) -> u32
 fn depth_of_list(list: &JsonList) -> u32
     ensures { result ≡ min (list_depth list.now) (2 ^ 32 - 1) }
 {
+    if let Some(levels) = list.told.levels() {
+        return levels;
+    }
     let Some(items) = &list.inner else {
         return 0;
     };
@@ -37,10 +40,35 @@ fn depth_of_list(list: &JsonList) -> u32
 fn depth_of_fields(fields: &JsonFields) -> u32
     ensures { result ≡ min (fields_depth fields.now) (2 ^ 32 - 1) }
 {
+    if let Some(levels) = fields.told.levels() {
+        return levels;
+    }
     let Some(fields) = &fields.inner else {
         return 0;
     };
     let fields: &Vec<Field> = fields;
+    let mut deepest = 0u32;
+    for field in fields {
+        deepest = deepest.max(depth(&field.value));
+    }
+    deepest
+}
+
+/// How deep the deepest of some values nests.
+pub(crate) fn levels_of_items(items: &[Json]) -> u32
+    ensures { result ≡ min (list_depth (list_of items.now)) (2 ^ 32 - 1) }
+{
+    let mut deepest = 0u32;
+    for item in items {
+        deepest = deepest.max(depth(item));
+    }
+    deepest
+}
+
+/// How deep the deepest value of some fields nests.
+pub(crate) fn levels_of_fields(fields: &[Field]) -> u32
+    ensures { result ≡ min (fields_depth (fields_of fields.now)) (2 ^ 32 - 1) }
+{
     let mut deepest = 0u32;
     for field in fields {
         deepest = deepest.max(depth(&field.value));

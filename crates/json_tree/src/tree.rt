@@ -4,6 +4,7 @@ ghost use Rattle.json_tree.specs.Data.{has_room};
 ghost use Rattle.json_tree.specs.View.{data_of};
 
 use crate::text::Text;
+use crate::told::Told;
 use std::alloc::{AllocError, Global};
 use std::marker::Model;
 use std::sync::Arc;
@@ -29,6 +30,7 @@ pub enum Json {
 pub struct JsonList {
     pub(crate) alloc: Global,
     pub(crate) inner: Option<Arc<Vec<Json>>>,
+    pub(crate) told: Told,
 }
 
 impl Model for JsonList {
@@ -43,6 +45,10 @@ impl Model for JsonList {
     ghost use Rattle.json_tree.specs.View.{list_of, held};
 
     ghost view = { λ a. list_of (held a.inner) };
+
+    ghost use Rattle.json_tree.specs.Told.{IsTold};
+
+    ghost invariant = { λ a. IsTold a.told (list_depth (list_of (held a.inner))) };
 
     ghost size = { list_depth };
 
@@ -66,6 +72,7 @@ pub struct Field {
 pub struct JsonFields {
     pub(crate) alloc: Global,
     pub(crate) inner: Option<Arc<Vec<Field>>>,
+    pub(crate) told: Told,
 }
 
 impl Model for JsonFields {
@@ -78,11 +85,12 @@ impl Model for JsonFields {
     ghost coded = { fields_code };
 
     ghost use Rattle.json_tree.specs.Fields.{IsInNameOrder};
+    ghost use Rattle.json_tree.specs.Told.{IsTold};
     ghost use Rattle.json_tree.specs.View.{fields_of, held};
 
     ghost view = { λ a. fields_of (held a.inner) };
 
-    ghost invariant = { λ a. IsInNameOrder (fields_of (held a.inner)) };
+    ghost invariant = { λ a. IsInNameOrder (fields_of (held a.inner)) × IsTold a.told (fields_depth (fields_of (held a.inner))) };
 
     ghost size = { fields_depth };
 

@@ -19,5 +19,5 @@ write_fields-returns-clause-proper t c =
     let view : fields_of items ≡ c.args.fields.now = ap fields_of (c.deref-field-items.ensures.value ∙ ap (λ v. v.items) c.deref-fields.ensures) ∙ ap (λ n. fields_of (held n)) (sym c.in-Some.is) ∙ c.fields.view_is in
     let none : drop l.field-index items ≡ [] = drop_all l.field-index items c.loop-field-test.false in
     let proper = l.invariant.2 (subst (λ fs. MembersAreProper (members_of (fields_of fs))) (sym none) tt) in
-    let sorted = subst IsInNameOrder c.fields.view_is c.fields.invariant in
+    let sorted = subst IsInNameOrder c.fields.view_is c.fields.invariant.0 in
     always c.end_object-2.result (subst (IsStrictlySortedBy text_cmp) (sym (names-members_of c.args.fields.now)) sorted, subst (λ ms. MembersAreProper (members_of ms)) view proper)

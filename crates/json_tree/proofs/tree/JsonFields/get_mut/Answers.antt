@@ -1,4 +1,4 @@
-use Rattle.std.proofs.Common.{◌≡◌, Some, is_ok, refl, sym, ap, ◌∙◌, subst, arith}
+use Rattle.std.proofs.Common.{rules, ◌≡◌, Some, is_ok, refl, sym, ap, ◌∙◌, subst, arith}
 use Rattle.std.specs.Arc.{arc_value}
 use Rattle.json_tree.specs.Fields.{get_field, with_field, IsInNameOrder}
 use Rattle.json_tree.specs.View.{data_of, fields_of, held}
@@ -22,9 +22,9 @@ invariant_of-self-lent c =
     let same : c.as_slice.result.now ≡ items = c.as_slice.ensures.value ∙ ap (λ v. v.items) c.deref.ensures ∙ sym own in
     let at = at_named _ name _ items c.in-Ok.at refl same c.in-Ok.ensures.found in
     let is : fields_of items ≡ fields_of (held c.self.inside.inner) = ap fields_of own ∙ ap (λ n. fields_of (held n)) c.in-Some.ensures.value in
-    let sorted = subst IsInNameOrder (sym is) c.self.invariant in
-    λ w. subst IsInNameOrder
-    (sym (ap (λ v. fields_of v.items) (c.make_mut.follows.holds _ (ap is_ok c.in-Ok-make_mut.is)) ∙ set_there name items c.in-Ok.at c.index_mut.result.now w c.index_mut.ensures.value at)) (order_with name (data_of w) (fields_of items) sorted)
+    let sorted = subst IsInNameOrder (sym is) c.self.invariant.0 in
+    λ w. (subst IsInNameOrder
+    (sym (ap (λ v. fields_of v.items) (c.make_mut.follows.holds _ (ap is_ok c.in-Ok-make_mut.is)) ∙ set_there name items c.in-Ok.at c.index_mut.result.now w c.index_mut.ensures.value at)) (order_with name (data_of w) (fields_of items) sorted), search rules)
 
 pub returns : goal.returns
 returns c =

@@ -1,22 +1,15 @@
-use Rattle.std.proofs.Common.{◌≡◌, sym, ap, ◌∙◌, ◌++◌, ◌∷◌, [], List, is_ok}
-use Rattle.std.proofs.lemmas.List.{map-append}
-use Rattle.std.proofs.lemmas.Result.{on_ok_weaker, on_err_weaker}
-use Rattle.std.specs.Arc.{arc_value}
-use Rattle.json_tree.specs.Data.{Data}
+use Rattle.std.proofs.Common.{◌≡◌, max, sym, ap, ◌∙◌, subst}
+use Rattle.json_tree.specs.Data.{depth, list_depth}
+use Rattle.json_tree.specs.Told.{IsTold}
 use Rattle.json_tree.specs.View.{data_of, list_of, held}
-use Rattle.json_tree.proofs.Nodes.{same_items, grown, not_grown}
+use Rattle.json_tree.proofs.Deeper.{with_last}
 use Rattle.json_tree.proofs.tree.JsonList.push.Goals as goal
 
-pub returns-clause-ok : goal.returns-clause-ok
-returns-clause-ok c =
-    let items = c.in-Ok.items.now.items in
-    let before : list_of items ≡ c.args.self.now = ap list_of (same_items _ _ c.in-Ok.ensures.value) ∙ ap (λ n. list_of (held n)) c.in-Some.ensures.value ∙ c.self.view_is in
-    let after = ap (λ v. list_of v.items) (c.make_mut.follows.holds c.push.new.self (ap is_ok c.in-Ok.is)) in
-    grown c.push.result _ _ _ c.push.ensures.items (λ e. after ∙ ap list_of e ∙ map-append data_of items _ ∙ ap (λ ds. ds ++ data_of c.args.value ∷ []) before)
-
-pub returns-clause-err : goal.returns-clause-err
-returns-clause-err c =
-    let items = c.in-Ok.items.now.items in
-    let before : list_of items ≡ c.args.self.now = ap list_of (same_items _ _ c.in-Ok.ensures.value) ∙ ap (λ n. list_of (held n)) c.in-Some.ensures.value ∙ c.self.view_is in
-    let after = ap (λ v. list_of v.items) (c.make_mut.follows.holds c.push.new.self (ap is_ok c.in-Ok.is)) in
-    not_grown c.push.result _ _ _ c.push.ensures.items (λ e. after ∙ ap list_of e ∙ before)
+pub invariant_of-self : goal.invariant_of-self
+invariant_of-self c =
+    let old = c.args.self.now in
+    let d = data_of c.args.value in
+    let told : IsTold c.and-told.result (max (depth d) (list_depth (list_of (held c.self.inside.inner)))) = c.and-told.ensures (list_depth (list_of (held c.self.inside.inner))) (depth d) c.self.invariant c.depth.ensures in
+    let deep : list_depth (list_of (held c.self-2.inside.inner)) ≡ max (depth d) (list_depth (list_of (held c.self.inside.inner))) =
+    ap list_depth (c.self-2.view_is ∙ c.in_ok-push_untold.ensures.ok) ∙ with_last old d ∙ ap (λ ds. max (depth d) (list_depth ds)) (sym c.self.view_is) in
+    subst (IsTold c.and-told.result) (sym deep) told
