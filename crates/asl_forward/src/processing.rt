@@ -103,7 +103,7 @@ fn pick_held(alloc: Global, path: &Option<RefPath>, json: &Json) -> Result<Json,
     held(picked)
 }
 
-/// The value, if a frame may hold it. Looks at each value inside.
+/// The value, if a frame may hold it. Takes the time of `json_tree::depth`.
 pub fn held(json: Json) -> Result<Json, TurnFault>
     ensures ok { IfOk result (λ j. held (data_of json) ≡ Ok (data_of j)) }
     ensures fault { IfErr result (λ e. Tells e (held (data_of json))) }

@@ -35,7 +35,7 @@ pub fn standing<'a>(machine: &'a Machine, frame: &Frame) -> Option<(&'a Machine,
 /// The next frame that a state of this level gives by itself: the machine in whose `States` object it stands. A Task, a
 /// Parallel and a Map ask or fork first (`prepare`), and fail here. Takes memory for the names that the frame keeps, and
 /// for what the state's paths and templates change and make; what they pick, the raw input and the output share their
-/// values with the frame before. Takes time for each value inside of the output, besides.
+/// values with the frame before. Takes the time of `json_tree::depth` of the output, besides.
 pub fn next_frame(
     alloc: Global,
     level: &Machine,

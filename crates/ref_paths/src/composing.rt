@@ -38,7 +38,7 @@ impl From<AllocError> for PickRefusal {
 /// A copy of what `picking` picks after the value was placed at `placing`, and nothing where it picks nothing. The root
 /// and the value are only lent. That the value can be placed, and that what is picked nests no deeper than `levels`, is
 /// seen before anything deeper than the root or `levels` is made. Goes over both paths by loops, but calls itself once for
-/// each level of the part of the root that is both picked and placed in. Looks at each value inside of what is picked.
+/// each level of the part of the root that is both picked and placed in. Takes the time of `json_tree::depth` of what is picked.
 pub fn pick_placed(
     alloc: Global,
     root: &Json,
