@@ -1,0 +1,244 @@
+// A book whose steps are taken again in another order.
+ghost use Rattle.std.specs.Prelude.{◌≡◌, ◌⊎◌, ◌++◌, ◌∷◌, [], ℕ, ◌≤◌, None, Some, Ok, Err, IfOk, MatchResult, OnOk, option_map};
+ghost use Rattle.saved_steps.specs.Steps.{Step, moved};
+ghost use Rattle.book_log.specs.Answers.{defines, rerun_answer, retold, start_answer, step_named};
+ghost use Rattle.book_log.specs.Legal.{IsAccepted};
+ghost use Rattle.book_log.specs.Story.{accepted, remaining};
+ghost use Rattle.rollback_book.specs.Rerunning.{CanRetake, IsRetaken, MayDefine, last_start};
+
+use crate::book::Book;
+use crate::making::{Entered, Made, MadeChange};
+use asl_machine::SharedMachine;
+use attr_values::{KeyAttribute, KeySchema};
+use book_log::{Begin, Entry, Refusal};
+use json_tree::{Json, Text};
+use std::alloc::{AllocError, Global};
+use step_names::{StepName, ThreadName};
+
+impl Book {
+    /// A new book from the same beginning and the same machines, in which these steps were taken in this order; each start has
+    /// the machine and the input that it has here. Its log has the definitions of this one's, and then an entry for each step.
+    /// Takes what `open` takes, a share of each machine, and what the steps take; for each name it looks through the remaining
+    /// steps, and for a start through the log, from their ends.
+    ///
+    /// # Errors
+    ///
+    /// `NoStep` where a name doesn't remain, isn't the next of its thread at its turn, or has no move then; and `Memory`.
+    pub fn rerun(&self, alloc: Global, steps: &[StepName]) -> Result<Book, Refusal>
+        ensures { MatchResult result
+            (λ b. rerun_answer self.now.story steps.now ≡ Ok b.story)
+            (λ e. (e ≡ Refusal.Memory) ⊎ (rerun_answer self.now.story steps.now ≡ Err e)) }
+    {
+        let mut again = self.without_steps(alloc)?;
+        for name in steps {
+            self.take_again(alloc, &mut again, name)?;
+        }
+        Ok(again)
+    }
+
+    /// A book from the same beginning, with the same machines and no steps.
+    fn without_steps(&self, alloc: Global) -> Result<Book, AllocError>
+        ensures { IfOk result (λ b. b.story ≡ retold self.now.story []) }
+    {
+        let begin = copy_begin(&self.begin)?;
+        let Ok(mut again) = Book::open(alloc, begin) else {
+            return Err(AllocError);
+        };
+        for entry in self.log.as_slice() {
+            again.define_again(alloc, entry)?;
+        }
+        Ok(again)
+    }
+
+    /// Defines the machine of an entry that defines one.
+    fn define_again(&mut self, alloc: Global, entry: &Entry) -> Result<(), AllocError>
+        requires { MayDefine self.old.story entry.now }
+        ensures begin { self.new.story.begin ≡ self.old.story.begin }
+        ensures log { OnOk result (self.new.story.log ≡ self.old.story.log ++ defines (entry.now ∷ [])) }
+    {
+        if let Entry::Define { name, machine } = entry {
+            self.share_machine(name, machine)?;
+        }
+        Ok(())
+    }
+
+    /// Defines a machine of another book.
+    fn share_machine(&mut self, name: &Text, machine: &SharedMachine) -> Result<(), AllocError>
+        requires { IsAccepted self.old.story (Entry.Define name.now machine.now) }
+        ensures begin { self.new.story.begin ≡ self.old.story.begin }
+        ensures story { OnOk result (self.new.story ≡ accepted self.old.story (Entry.Define name.now machine.now)) }
+    {
+        let made = share_define(name, machine)?;
+        if self.make_place(name).is_err() {
+            drop(made);
+            return Err(AllocError);
+        }
+        let _ = self.enter(made);
+        Ok(())
+    }
+
+    /// Takes a remaining step in another book.
+    fn take_again(
+        &self,
+        alloc: Global,
+        again: &mut Book,
+        name: &StepName,
+    ) -> Result<(), Refusal>
+        ensures { MatchResult result
+            (λ _. (step : Step) × (step_named name.now (remaining self.now.story) ≡ Some step) × IsRetaken again.old.story step again.new.story)
+            (λ e. (e ≡ Refusal.Memory) ⊎ ((e ≡ Refusal.NoStep) × ((step : Step) → step_named name.now (remaining self.now.story) ≡ Some step → CanRetake again.old.story step → ⊥))) }
+    {
+        if self.history.find(name).is_none() {
+            return Err(Refusal::NoStep);
+        }
+        if name.no == 0 {
+            return self.start_again(alloc, again, &name.thread);
+        }
+        again.step_to(alloc, name)
+    }
+
+    /// Starts an execution in another book, as it was started here.
+    fn start_again(
+        &self,
+        alloc: Global,
+        again: &mut Book,
+        exec: &ThreadName,
+    ) -> Result<(), Refusal>
+    {
+        let Some((machine, input)) = last_start(self.log.as_slice(), exec) else {
+            unreachable!()
+        };
+        let Ok(input) = input.copy() else {
+            return Err(Refusal::Memory);
+        };
+        match again.start(alloc, exec, machine, input) {
+            Ok(name) => {
+                drop(name);
+                Ok(())
+            }
+            Err(refusal) => Err(or_no_step(refusal)),
+        }
+    }
+
+    /// Takes the next step of a thread, where this is its name.
+    fn step_to(&mut self, alloc: Global, name: &StepName) -> Result<(), Refusal>
+        requires { 1 ≤ name.now.no }
+        ensures { MatchResult result
+            (λ _. IsRetaken self.old.story (moved name.now) self.new.story)
+            (λ e. (e ≡ Refusal.Memory) ⊎ ((e ≡ Refusal.NoStep) × (CanRetake self.old.story (moved name.now) → ⊥))) }
+    {
+        if !self.is_next(name) {
+            return Err(Refusal::NoStep);
+        }
+        match self.step(alloc, &name.thread) {
+            Ok(moved) => {
+                drop(moved);
+                Ok(())
+            }
+            Err(refusal) => Err(or_no_step(refusal)),
+        }
+    }
+
+    /// Whether a thread's next step has this number.
+    fn is_next(&self, name: &StepName) -> bool
+        requires { 1 ≤ name.now.no }
+    {
+        match self.history.frame(&name.thread) {
+            Some(frame) => frame.count == name.no - 1,
+            None => false,
+        }
+    }
+}
+
+/// Want of memory stays; any other refusal is that there is no such step.
+fn or_no_step(refusal: Refusal) -> Refusal
+    ensures { (result ≡ Refusal.Memory) × (refusal ≡ Refusal.Memory) ⊎ (result ≡ Refusal.NoStep) }
+{
+    match refusal {
+        Refusal::Memory => Refusal::Memory,
+        other => {
+            drop(other);
+            Refusal::NoStep
+        }
+    }
+}
+
+/// With what the last start of an execution started it.
+fn last_start<'a>(log: &'a [Entry], exec: &ThreadName) -> Option<(&'a Text, &'a Json)>
+    ensures { option_map (λ p. (p.0.now, p.1.now)) result ≡ last_start exec.now log.now }
+{
+    let mut later = log.len();
+    while 0 < later {
+        let at = later - 1;
+        let found = start_in(&log[at], exec);
+        if found.is_some() {
+            return found;
+        }
+        later = at;
+    }
+    None
+}
+
+/// With what an entry starts an execution.
+fn start_in<'a>(entry: &'a Entry, thread: &ThreadName) -> Option<(&'a Text, &'a Json)>
+    ensures { option_map (λ p. (p.0.now, p.1.now)) result ≡ start_in thread.now entry.now }
+{
+    match entry {
+        Entry::Start {
+            exec,
+            machine,
+            input,
+        } if thread == exec => Some((machine, input)),
+        _ => None,
+    }
+}
+
+/// All that a definition by a machine of another book needs.
+fn share_define(name: &Text, machine: &SharedMachine) -> Result<Made, AllocError>
+    ensures { IfOk result (λ m. m ≡ record { entry = Entry.Define name.now machine.now; answer = Entered.Defined; change = MadeChange.Define name.now machine.now }) }
+{
+    let entry = Entry::Define {
+        name: name.copy()?,
+        machine: machine.share()?,
+    };
+    let change = MadeChange::Define {
+        name: name.copy()?,
+        machine: machine.share()?,
+    };
+    Ok(Made {
+        entry,
+        answer: Entered::Defined,
+        change,
+    })
+}
+
+/// A copy of a beginning, whose items are shared.
+fn copy_begin(begin: &Begin) -> Result<Begin, AllocError>
+    ensures { IfOk result (λ b. b ≡ begin.now) }
+{
+    Ok(Begin {
+        table: begin.table.copy()?,
+        schema: copy_schema(&begin.schema)?,
+        items: begin.items.copy()?,
+    })
+}
+
+fn copy_schema(schema: &KeySchema) -> Result<KeySchema, AllocError>
+    ensures { IfOk result (λ s. s ≡ schema.now) }
+{
+    let partition = copy_attribute(&schema.partition)?;
+    let sort = match &schema.sort {
+        Some(attribute) => Some(copy_attribute(attribute)?),
+        None => None,
+    };
+    Ok(KeySchema { partition, sort })
+}
+
+fn copy_attribute(attribute: &KeyAttribute) -> Result<KeyAttribute, AllocError>
+    ensures { IfOk result (λ a. a ≡ attribute.now) }
+{
+    Ok(KeyAttribute {
+        name: attribute.name.copy()?,
+        kind: attribute.kind,
+    })
+}
