@@ -1,7 +1,7 @@
 -- Steps of a book that are taken again in another.
-use Rattle.std.specs.Prelude.{◌≡◌, ℕ, List, [], ◌∷◌, Option, None, Some, Ok, if◌then◌else◌}
+use Rattle.std.specs.Prelude.{◌≡◌, ◌⊎◌, ℕ, ◌-◌, ◌==◌, Bool, false, List, [], ◌∷◌, Option, None, Some, Result, Ok, Err, if◌then◌else◌}
 use Rattle.json_tree.specs.declared.tree.Json.{Json}
-use Rattle.asl_fields.specs.Fields.{is_text}
+use Rattle.asl_forward.specs.declared.frame.Frame.{Frame}
 use Rattle.saved_steps.specs.Steps.{Step, started, moved, start_name}
 use Rattle.saved_steps.specs.World.{is_same_thread}
 use Rattle.saved_steps.specs.declared.fact.Kind.{Kind}
@@ -10,6 +10,8 @@ use Rattle.step_names.specs.declared.step.StepName.{StepName}
 use Rattle.book_log.specs.Answers.{start_answer, step_answer}
 use Rattle.book_log.specs.Legal.{IsAccepted}
 use Rattle.book_log.specs.Story.{Story, accepted}
+use Rattle.book_log.specs.declared.refusal.Refusal.{Refusal}
+use Rattle.book_log.specs.declared.refusal.Refusal.TheVariants.{NoStep, Memory}
 use Rattle.book_log.specs.declared.entry.Entry.{Entry}
 use Rattle.book_log.specs.declared.entry.Entry.TheVariants.{Define, Start, Step as Stepped, Undo, Rollback}
 
@@ -34,15 +36,27 @@ abbrev pub last_start : Thread → List Entry → Option Origin
 last_start t [] = None
 last_start t (e ∷ log) = or_earlier (last_start t log) (start_in t e)
 
--- the step is the next of its thread, or starts an execution, and is accepted
+-- the step is accepted
 abbrev pub CanRetake : Story → Step → Type 0
 CanRetake story (started exec machine input) = start_answer story (execution exec) machine ≡ Ok (start_name exec)
 CanRetake story (moved name) = (kind : Kind) × (step_answer story name.thread ≡ Ok (record { name = name; kind = kind }))
 
--- the story with this step more
+-- and the story has it more
 abbrev pub IsRetaken : Story → Step → Story → Type 0
-IsRetaken story (started exec machine input) after = (start_answer story (execution exec) machine ≡ Ok (start_name exec)) × (after ≡ accepted story (Start (execution exec) machine input))
-IsRetaken story (moved name) after = (kind : Kind) × (step_answer story name.thread ≡ Ok (record { name = name; kind = kind })) × (after ≡ accepted story (Stepped name kind))
+IsRetaken story (started exec machine input) later = (start_answer story (execution exec) machine ≡ Ok (start_name exec)) × (later ≡ accepted story (Start (execution exec) machine input))
+IsRetaken story (moved name) later = (kind : Kind) × (step_answer story name.thread ≡ Ok (record { name = name; kind = kind })) × (later ≡ accepted story (Stepped name kind))
+
+-- it is taken; or there is none, or it can't be taken, or memory was refused
+abbrev pub Retakes : {T : Type 0} → Story → Option Step → Result T Refusal → Story → Type 0
+Retakes story None (Ok x) later = ⊥
+Retakes story None (Err e) later = (e ≡ Memory) ⊎ (e ≡ NoStep)
+Retakes story (Some step) (Ok x) later = IsRetaken story step later
+Retakes story (Some step) (Err e) later = (e ≡ Memory) ⊎ ((e ≡ NoStep) × (CanRetake story step → ⊥))
+
+-- the next move after this frame has this number
+abbrev pub is_numbered : Option Frame → ℕ → Bool
+is_numbered None number = false
+is_numbered (Some f) number = f.count == number - 1
 
 -- where the entry is a definition, it is accepted
 abbrev pub MayDefine : Story → Entry → Type 0

@@ -64,9 +64,10 @@ fn last_first(alloc: Global, names: &[StepName]) -> Result<Vec<StepName>, AllocE
     ensures { IfOk result (λ copies. copies.items ≡ reverse names.now) }
 {
     let mut copies = Vec::new(alloc);
-    for name in names.iter().rev() {
+    for name in names {
         copies.push(name.copy()?)?;
     }
+    copies.reverse();
     Ok(copies)
 }
 

@@ -1,10 +1,13 @@
 // A book whose steps are taken again in another order.
-ghost use Rattle.std.specs.Prelude.{◌≡◌, ◌⊎◌, ◌++◌, ◌∷◌, [], ℕ, ◌≤◌, None, Some, Ok, Err, IfOk, MatchResult, OnOk, option_map};
-ghost use Rattle.saved_steps.specs.Steps.{Step, moved};
-ghost use Rattle.book_log.specs.Answers.{defines, rerun_answer, retold, start_answer, step_named};
+ghost use Rattle.std.specs.Prelude.{◌≡◌, ◌⊎◌, ◌≤◌, ◌++◌, ◌∷◌, [], Some, Ok, Err, IfOk, IsSome, MatchResult, OnOk, option_map};
+ghost use Rattle.json_tree.specs.Data.{depth};
+ghost use Rattle.json_tree.specs.View.{data_of};
+ghost use Rattle.saved_steps.specs.Held.{frames_of};
+ghost use Rattle.saved_steps.specs.Steps.{started, moved};
+ghost use Rattle.book_log.specs.Answers.{defines, rerun_answer, retold, step_named};
 ghost use Rattle.book_log.specs.Legal.{IsAccepted};
 ghost use Rattle.book_log.specs.Story.{accepted, remaining};
-ghost use Rattle.rollback_book.specs.Rerunning.{CanRetake, IsRetaken, MayDefine, last_start};
+ghost use Rattle.rollback_book.specs.Rerunning.{MayDefine, Retakes, is_numbered, last_start, start_in};
 
 use crate::book::Book;
 use crate::making::{Entered, Made, MadeChange};
@@ -77,41 +80,57 @@ impl Book {
         Ok(())
     }
 
-    /// Takes a remaining step in another book.
+    /// Takes the remaining step of a name in another book.
     fn take_again(
         &self,
         alloc: Global,
         again: &mut Book,
         name: &StepName,
     ) -> Result<(), Refusal>
-        ensures { MatchResult result
-            (λ _. (step : Step) × (step_named name.now (remaining self.now.story) ≡ Some step) × IsRetaken again.old.story step again.new.story)
-            (λ e. (e ≡ Refusal.Memory) ⊎ ((e ≡ Refusal.NoStep) × ((step : Step) → step_named name.now (remaining self.now.story) ≡ Some step → CanRetake again.old.story step → ⊥))) }
+        ensures { Retakes again.old.story (step_named name.now (remaining self.now.story)) result again.new.story }
     {
         if self.history.find(name).is_none() {
             return Err(Refusal::NoStep);
         }
         if name.no == 0 {
-            return self.start_again(alloc, again, &name.thread);
+            return self.start_again(alloc, again, name);
         }
         again.step_to(alloc, name)
     }
 
-    /// Starts an execution in another book, as it was started here.
+    /// Starts an execution in another book as it was started here.
     fn start_again(
         &self,
         alloc: Global,
         again: &mut Book,
-        exec: &ThreadName,
+        name: &StepName,
     ) -> Result<(), Refusal>
+        requires start { name.now.no ≡ 0 }
+        requires remains { IsSome (step_named name.now (remaining self.now.story)) }
+        ensures { Retakes again.old.story (step_named name.now (remaining self.now.story)) result again.new.story }
     {
-        let Some((machine, input)) = last_start(self.log.as_slice(), exec) else {
+        let Some((machine, input)) = last_start(self.log.as_slice(), &name.thread) else {
             unreachable!()
         };
         let Ok(input) = input.copy() else {
             return Err(Refusal::Memory);
         };
-        match again.start(alloc, exec, machine, input) {
+        again.start_with(alloc, &name.thread, machine, input)
+    }
+
+    /// Starts an execution, where it can be started.
+    fn start_with(
+        &mut self,
+        alloc: Global,
+        exec: &ThreadName,
+        machine: &Text,
+        input: Json,
+    ) -> Result<(), Refusal>
+        requires execution { exec.now.path ≡ [] }
+        requires shallow { depth (data_of input) ≤ 127 }
+        ensures { Retakes self.old.story (Some (started exec.now.exec machine.now input)) result self.new.story }
+    {
+        match self.start(alloc, exec, machine, input) {
             Ok(name) => {
                 drop(name);
                 Ok(())
@@ -123,9 +142,7 @@ impl Book {
     /// Takes the next step of a thread, where this is its name.
     fn step_to(&mut self, alloc: Global, name: &StepName) -> Result<(), Refusal>
         requires { 1 ≤ name.now.no }
-        ensures { MatchResult result
-            (λ _. IsRetaken self.old.story (moved name.now) self.new.story)
-            (λ e. (e ≡ Refusal.Memory) ⊎ ((e ≡ Refusal.NoStep) × (CanRetake self.old.story (moved name.now) → ⊥))) }
+        ensures { Retakes self.old.story (Some (moved name.now)) result self.new.story }
     {
         if !self.is_next(name) {
             return Err(Refusal::NoStep);
@@ -139,9 +156,10 @@ impl Book {
         }
     }
 
-    /// Whether a thread's next step has this number.
+    /// Whether the next move of a step's thread would have its number.
     fn is_next(&self, name: &StepName) -> bool
         requires { 1 ≤ name.now.no }
+        ensures { result ≡ is_numbered (frames_of self.now.history.world name.now.thread) name.now.no }
     {
         match self.history.frame(&name.thread) {
             Some(frame) => frame.count == name.no - 1,
@@ -152,7 +170,7 @@ impl Book {
 
 /// Want of memory stays; any other refusal is that there is no such step.
 fn or_no_step(refusal: Refusal) -> Refusal
-    ensures { (result ≡ Refusal.Memory) × (refusal ≡ Refusal.Memory) ⊎ (result ≡ Refusal.NoStep) }
+    ensures { ((refusal ≡ Refusal.Memory) × (result ≡ Refusal.Memory)) ⊎ ((refusal ≡ Refusal.Memory → ⊥) × (result ≡ Refusal.NoStep)) }
 {
     match refusal {
         Refusal::Memory => Refusal::Memory,

@@ -282,13 +282,9 @@ fn spelled(alloc: Global, names: &[StepName]) -> Result<String, AllocError> {
     Ok(text)
 }
 
-/// The names of the remaining steps, and the items in key order.
-fn listed(alloc: Global, book: &Book) -> Result<String, AllocError> {
+/// The items in key order.
+fn items(alloc: Global, book: &Book) -> Result<String, AllocError> {
     let mut text = String::new(alloc);
-    for taken in book.history() {
-        text.push_str(taken.fact.name.write_text(alloc)?.as_str())?;
-        text.push(' ')?;
-    }
     for item in book.items() {
         let json = write_item(alloc, item)?;
         text.push_str(write_text(alloc, &json)?.as_str())?;
@@ -296,12 +292,23 @@ fn listed(alloc: Global, book: &Book) -> Result<String, AllocError> {
     Ok(text)
 }
 
+/// The names of the remaining steps, and the items.
+fn listed(alloc: Global, book: &Book) -> Result<String, AllocError> {
+    let mut text = String::new(alloc);
+    for taken in book.history() {
+        text.push_str(taken.fact.name.write_text(alloc)?.as_str())?;
+        text.push(' ')?;
+    }
+    text.push_str(items(alloc, book)?.as_str())?;
+    Ok(text)
+}
+
 /// Each thread of the rows.
 const THREADS: &[&str] = &["a", "b", "e", "e/1.0", "e/1.1"];
 
-/// The names, the items and the frames.
-fn shown(alloc: Global, book: &Book) -> Result<String, Fail> {
-    let mut text = listed(alloc, book)?;
+/// The items and the frames.
+fn frames(alloc: Global, book: &Book) -> Result<String, Fail> {
+    let mut text = items(alloc, book)?;
     for name in THREADS {
         let thread = ThreadName::read(alloc, name)?;
         if let Ok(frame) = book.show(&thread) {
@@ -309,6 +316,13 @@ fn shown(alloc: Global, book: &Book) -> Result<String, Fail> {
             text.push_str(&frame)?;
         }
     }
+    Ok(text)
+}
+
+/// The names, the items and the frames.
+fn shown(alloc: Global, book: &Book) -> Result<String, Fail> {
+    let mut text = listed(alloc, book)?;
+    text.push_str(frames(alloc, book)?.as_str())?;
     Ok(text)
 }
 
@@ -413,4 +427,210 @@ fn rollback_of_a_put(rt: HostRuntime) -> Result<(), Fail> {
     let alloc = rt.alloc();
     let mut book = book_over(alloc, "[]")?;
     expect(&rt, alloc, &mut book, ROLLBACK_OF_A_PUT)
+}
+
+/// A read that no later write needs is undone in the middle, and taken again stands last.
+const FREE_STEPS: &[Row] = &[
+    (Act::Define("g", GET), "ok"),
+    (Act::Start("a", "g", "{}"), "a#0"),
+    (Act::Start("b", "g", "{}"), "b#0"),
+    (Act::Step("a"), "a#1"),
+    (Act::Step("b"), "b#1"),
+    (Act::Undo("a#1"), "a#1"),
+    (Act::Step("a"), "a#1"),
+    (
+        Act::Rerun(&["b#0", "b#1", "a#0", "a#1"]),
+        r#"b#0 b#1 a#0 a#1 {"id":{"S":"k"},"v":{"S":"old"}}"#,
+    ),
+    (Act::UndoOrder(&["b#1", "b#0", "a#1", "a#0"]), "ok"),
+    (Act::Rerun(&[]), r#"{"id":{"S":"k"},"v":{"S":"old"}}"#),
+];
+
+#[test]
+fn free_steps(rt: HostRuntime) -> Result<(), Fail> {
+    let alloc = rt.alloc();
+    let mut book = book_over(alloc, OLD)?;
+    expect(&rt, alloc, &mut book, FREE_STEPS)
+}
+
+// ---- orders
+
+const FORK_AND_BRANCHES: &[Row] = &[
+    (Act::Define("q", TWO_BRANCHES), "ok"),
+    (Act::Start("e", "q", "{}"), "e#0"),
+    (Act::Advance, "e#1"),
+    (Act::Advance, "e/1.0#1"),
+    (Act::Advance, "e/1.0#2"),
+    (Act::Advance, "e/1.1#1"),
+    (Act::Advance, "e/1.1#2"),
+    (
+        Act::Plan("e#1"),
+        "e/1.1#2 e/1.1#1 e/1.0#2 e/1.0#1 e#1 ",
+    ),
+];
+
+/// Those in which each step is free at its turn.
+const ALLOWED: [&[&str]; 6] = [
+    &["e/1.0#2", "e/1.0#1", "e/1.1#2", "e/1.1#1", "e#1"],
+    &["e/1.0#2", "e/1.1#2", "e/1.0#1", "e/1.1#1", "e#1"],
+    &["e/1.0#2", "e/1.1#2", "e/1.1#1", "e/1.0#1", "e#1"],
+    &["e/1.1#2", "e/1.0#2", "e/1.0#1", "e/1.1#1", "e#1"],
+    &["e/1.1#2", "e/1.0#2", "e/1.1#1", "e/1.0#1", "e#1"],
+    &["e/1.1#2", "e/1.1#1", "e/1.0#2", "e/1.0#1", "e#1"],
+];
+
+/// Those that keep each step behind the ones on which it depends.
+const ARRANGEMENTS: [&[&str]; 6] = [
+    &["e#0", "e#1", "e/1.0#1", "e/1.0#2", "e/1.1#1", "e/1.1#2"],
+    &["e#0", "e#1", "e/1.0#1", "e/1.1#1", "e/1.0#2", "e/1.1#2"],
+    &["e#0", "e#1", "e/1.0#1", "e/1.1#1", "e/1.1#2", "e/1.0#2"],
+    &["e#0", "e#1", "e/1.1#1", "e/1.0#1", "e/1.0#2", "e/1.1#2"],
+    &["e#0", "e#1", "e/1.1#1", "e/1.0#1", "e/1.1#2", "e/1.0#2"],
+    &["e#0", "e#1", "e/1.1#1", "e/1.1#2", "e/1.0#1", "e/1.0#2"],
+];
+
+/// An order is undone whole or not at all.
+const REFUSED_ORDERS: &[Row] = &[
+    (Act::UndoOrder(&["e/1.0#1"]), "needed by e/1.0#2"),
+    (Act::UndoOrder(&["e/1.0#2", "z#1"]), "NoStep"),
+    (Act::UndoOrder(&["e/1.0#2", "e/1.0#2"]), "NoStep"),
+    (Act::UndoOrder(&["e/1.0#2", "e#1"]), "needed by e/1.0#1"),
+    (Act::UndoOrder(&["e/1.0#2", "e/1.0#1", "e#1", "z#1"]), "needed by e/1.1#1"),
+    (Act::UndoOrder(&[]), "ok"),
+];
+
+fn forked(rt: &impl Abort, alloc: Global) -> Result<Book, Fail> {
+    let mut book = book_over(alloc, "[]")?;
+    expect(rt, alloc, &mut book, FORK_AND_BRANCHES)?;
+    Ok(book)
+}
+
+#[test]
+fn six_undo_orders(rt: HostRuntime) -> Result<(), Fail> {
+    let alloc = rt.alloc();
+    let mut begun = book_over(alloc, "[]")?;
+    expect(&rt, alloc, &mut begun, &FORK_AND_BRANCHES[..2])?;
+    let begun = shown(alloc, &begun)?;
+    for order in ALLOWED {
+        let mut book = forked(&rt, alloc)?;
+        expect(&rt, alloc, &mut book, REFUSED_ORDERS)?;
+        expect(&rt, alloc, &mut book, &[(Act::UndoOrder(order), "ok")])?;
+        assert!(rt; shown(alloc, &book)? == begun);
+    }
+    Ok(())
+}
+
+/// Whether the same stands in both books: the items and each frame.
+fn are_alike(alloc: Global, book: &Book, again: &Book) -> Result<bool, Fail> {
+    Ok(frames(alloc, book)? == frames(alloc, again)?)
+}
+
+#[test]
+fn six_arrangements(rt: HostRuntime) -> Result<(), Fail> {
+    let alloc = rt.alloc();
+    let book = forked(&rt, alloc)?;
+    for names in ARRANGEMENTS {
+        let steps = steps_of(alloc, names)?;
+        let again = book.rerun(alloc, steps.as_slice())?;
+        assert!(rt; are_alike(alloc, &book, &again)?);
+        assert!(rt; has_names(alloc, &again, names)?);
+        let (_begin, log) = again.entries();
+        assert_eq!(rt; log.len(), 7);
+    }
+    Ok(())
+}
+
+/// Whether these steps remain, in this order.
+fn has_names(alloc: Global, book: &Book, names: &[&str]) -> Result<bool, Fail> {
+    let mut wanted = String::new(alloc);
+    for name in names {
+        wanted.push_str(name)?;
+        wanted.push(' ')?;
+    }
+    Ok(listed(alloc, book)? == wanted)
+}
+
+#[test]
+fn first_threads(rt: HostRuntime) -> Result<(), Fail> {
+    let alloc = rt.alloc();
+    let mut book = book_over(alloc, "[]")?;
+    expect(&rt, alloc, &mut book, &FORK_AND_BRANCHES[..3])?;
+    let mut passed = BTreeSet::new(alloc);
+    for wanted in ["e/1.0", "e/1.1"] {
+        let Some(first) = book.first_ready(alloc, &passed)? else {
+            return Err("no thread can move".into());
+        };
+        assert!(rt; first.write_text(alloc)?.as_str() == wanted);
+        passed.insert(first)?;
+    }
+    assert!(rt; book.first_ready(alloc, &passed)?.is_none());
+    Ok(())
+}
+
+// ---- room
+
+fn is_started(alloc: Global, book: &mut Book, exec: &str) -> Result<bool, Refusal> {
+    let told = start(alloc, book, exec, "p", "{}")?;
+    Ok(matches!(told, Told::Step(_)))
+}
+
+fn is_full(alloc: Global, book: &mut Book) -> Result<bool, Refusal> {
+    let started = start(alloc, book, "more", "p", "{}")?;
+    let moved = step(alloc, book, &thread_of(alloc, "e0")?)?;
+    Ok(matches!(started, Told::Refused(Refusal::Full))
+        && matches!(moved, Told::Refused(Refusal::Full)))
+}
+
+fn fill(rt: &impl Abort, alloc: Global, book: &mut Book) -> Result<(), Fail> {
+    for i in 0..65536u32 {
+        let exec = format!(in alloc; "e{i}")?;
+        assert!(rt; is_started(alloc, book, &exec)?);
+    }
+    Ok(())
+}
+
+/// 65,536 starts are accepted, one more is refused, and the undoing of the last makes room for it.
+#[test]
+fn full(rt: HostRuntime) -> Result<(), Fail> {
+    let alloc = rt.alloc();
+    let mut book = book_over(alloc, "[]")?;
+    expect(&rt, alloc, &mut book, &[(Act::Define("p", PASS), "ok")])?;
+    fill(&rt, alloc, &mut book)?;
+    assert!(rt; is_full(alloc, &mut book)?);
+    drop(perform(alloc, &mut book, Act::Undo("e65535#0"))?);
+    assert!(rt; is_started(alloc, &mut book, "more")?);
+    assert!(rt; is_full(alloc, &mut book)?);
+    Ok(())
+}
+
+// ---- growths that are refused
+
+const GROWING: &[Row] = &[
+    (Act::Define("q", TWO_BRANCHES), "ok"),
+    (Act::Define("w", PUT), "ok"),
+    (Act::Start("a", "w", r#"{"v":"1"}"#), "a#0"),
+    (Act::Start("e", "q", "{}"), "e#0"),
+    (Act::Step("a"), "a#1"),
+    (Act::Enter("e"), "e#1"),
+    (Act::Advance, "e/1.0#1"),
+    (Act::Step("e/1.1"), "e/1.1#1"),
+    (Act::CanUndo("e/1.0#1"), "e/1.0#1"),
+    (Act::Undo("e/1.1#1"), "e/1.1#1"),
+    (Act::Step("e/1.1"), "e/1.1#1"),
+    (
+        Act::Rerun(&["e#0", "e#1", "a#0", "e/1.1#1"]),
+        "e#0 e#1 a#0 e/1.1#1 ",
+    ),
+    (Act::UndoOrder(&["e/1.0#1", "e#1"]), "needed by e/1.1#1"),
+    (Act::UndoOrder(&["e/1.0#1", "e/1.1#1"]), "ok"),
+    (Act::Rollback("e#0"), "e#1 e#0 "),
+    (Act::Rollback("a#1"), "a#1 "),
+];
+
+/// Whichever growth is refused, its command changes nothing, and is answered when it is given again.
+#[test]
+fn refused_growths_change_nothing(rt: HostRuntime) -> Result<(), Fail> {
+    let alloc = rt.alloc();
+    let mut book = book_over(alloc, "[]")?;
+    expect(&rt, alloc, &mut book, GROWING)
 }
