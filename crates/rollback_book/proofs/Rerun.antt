@@ -27,14 +27,15 @@ use Rattle.book_log.specs.Legal.{GoesOnLegally, IsAccepted, IsLegal}
 use Rattle.book_log.specs.Story.{Story, accepted, base_of, machine_of, remaining, run_of, setting_of, past_of, world_of}
 use Rattle.book_log.specs.declared.begin.Begin.{Begin}
 use Rattle.book_log.specs.declared.entry.Entry.{Entry}
-use Rattle.book_log.specs.declared.entry.Entry.TheVariants.{Start, Step as Stepped}
+use Rattle.book_log.specs.declared.entry.Entry.TheVariants.{Define, Start, Step as Stepped, Undo, Rollback}
 use Rattle.book_log.specs.declared.refusal.Refusal.{Refusal}
-use Rattle.book_log.specs.declared.refusal.Refusal.TheVariants.{NoStep}
+use Rattle.book_log.specs.declared.refusal.Refusal.TheVariants.{NoStep, Memory}
 use Rattle.book_log.proofs.LegalRuns.{of_log, legal_logs_run}
-use Rattle.book_log.proofs.Reruns.{reruns_are_exact, reruns_are_legal}
+use Rattle.book_log.proofs.Counts.{defines-append}
+use Rattle.book_log.proofs.Reruns.{legal_defines, reruns_are_exact, reruns_are_legal}
 use Rattle.book_log.proofs.Standing.{StandsAt, step_same}
 use Rattle.book_log.proofs.Taking.{start_said, step_said}
-use Rattle.rollback_book.specs.Rerunning.{CanRetake, IsRetaken}
+use Rattle.rollback_book.specs.Rerunning.{CanRetake, IsRetaken, MayDefine, Retakes}
 
 -- ---- legal logs, entry by entry
 
@@ -253,3 +254,32 @@ refused_front story front back legal h = by_answer (rerun_answer story (front ++
         let clash = sym h ∙ k.1 in
         cc
     by_answer (Err f) e = e ∙ ap Err ((reruns_are_exact story (front ++ back) legal).refused f e)
+
+-- ---- one name more
+
+module _ (story : Story) (legal : IsLegal story) (front : List StepName) (again : Story) (a : rerun_answer story front ≡ Ok again) (name : StepName) where
+  pub goes_on : {T : Type 0} (x : T) (o : Option Step) (later : Story) → step_named name (remaining story) ≡ o → Retakes again o (Ok x) later → rerun_answer story (front ++ name ∷ []) ≡ Ok later
+  goes_on x None later named r = absurd r
+  goes_on x (Some step) later named r = retaken story legal front again a name step later named r
+
+  refused_here : (back : List StepName) (e : Refusal) → e ≡ NoStep → rerun_answer story (front ++ name ∷ []) ≡ Err NoStep → rerun_answer story (front ++ name ∷ back) ≡ Err e
+  refused_here back e same h =
+      ap (rerun_answer story) (sym (append_assoc front (name ∷ []) back)) ∙ refused_front story (front ++ name ∷ []) back legal h ∙ ap Err (sym same)
+
+  pub ends_here : {T : Type 0} (back : List StepName) (e : Refusal) (o : Option Step) (later : Story) → step_named name (remaining story) ≡ o → Retakes {T = T} again o (Err e) later → (e ≡ Memory) ⊎ (rerun_answer story (front ++ name ∷ back) ≡ Err e)
+  ends_here back e None later named (inl m) = inl m
+  ends_here back e None later named (inr n) = inr (refused_here back e n (none_named story legal front again a name named))
+  ends_here back e (Some step) later named (inl m) = inl m
+  ends_here back e (Some step) later named (inr n) = inr (refused_here back e n.0 (not_retaken story legal front again a name step named n.1))
+
+-- ---- definitions
+
+-- a definition of a legal log is accepted after those before it
+pub may_define : (begin : Begin) (front back : List Entry) (e : Entry) → IsLegal (of_log begin (front ++ e ∷ back)) → MayDefine (of_log begin (defines front)) e
+may_define begin front back (Define name machine) legal =
+    let d = (legal_defines (of_log begin (front ++ Define name machine ∷ back)) legal).legal in
+    legal_entry (of_log begin (defines (front ++ Define name machine ∷ back))) (defines front) (defines back) (Define name machine) d (defines-append front (Define name machine ∷ back))
+may_define begin front back (Start exec machine input) legal = tt
+may_define begin front back (Stepped name kind) legal = tt
+may_define begin front back (Undo name) legal = tt
+may_define begin front back (Rollback name undone) legal = tt

@@ -5,7 +5,7 @@ ghost use Rattle.json_tree.specs.View.{data_of};
 ghost use Rattle.saved_steps.specs.Held.{frames_of};
 ghost use Rattle.saved_steps.specs.Steps.{started, moved};
 ghost use Rattle.book_log.specs.Answers.{defines, rerun_answer, retold, step_named};
-ghost use Rattle.book_log.specs.Legal.{IsAccepted};
+ghost use Rattle.book_log.specs.Legal.{IsAccepted, IsLegal};
 ghost use Rattle.book_log.specs.Story.{accepted, remaining};
 ghost use Rattle.rollback_book.specs.Rerunning.{MayDefine, Retakes, is_numbered, last_start, start_in};
 
@@ -47,29 +47,37 @@ impl Book {
         let Ok(mut again) = Book::open(alloc, begin) else {
             return Err(AllocError);
         };
-        for entry in self.log.as_slice() {
-            again.define_again(alloc, entry)?;
-        }
+        again.define_each(self.log.as_slice())?;
         Ok(again)
     }
 
-    /// Defines the machine of an entry that defines one.
-    fn define_again(&mut self, alloc: Global, entry: &Entry) -> Result<(), AllocError>
-        requires { MayDefine self.old.story entry.now }
-        ensures begin { self.new.story.begin ≡ self.old.story.begin }
-        ensures log { OnOk result (self.new.story.log ≡ self.old.story.log ++ defines (entry.now ∷ [])) }
+    /// Defines the machines of a log.
+    fn define_each(&mut self, log: &[Entry]) -> Result<(), AllocError>
+        requires empty { self.old.story.log ≡ [] }
+        requires legal { IsLegal (record { begin = self.old.story.begin; log = log.now }) }
+        ensures { OnOk result (self.new.story ≡ record { begin = self.old.story.begin; log = defines log.now }) }
     {
-        if let Entry::Define { name, machine } = entry {
-            self.share_machine(name, machine)?;
+        for entry in log {
+            self.define_again(entry)?;
         }
         Ok(())
+    }
+
+    /// Defines the machine of an entry, where it defines one.
+    fn define_again(&mut self, entry: &Entry) -> Result<(), AllocError>
+        requires { MayDefine self.old.story entry.now }
+        ensures { OnOk result (self.new.story ≡ record { begin = self.old.story.begin; log = self.old.story.log ++ defines (entry.now ∷ []) }) }
+    {
+        match entry {
+            Entry::Define { name, machine } => self.share_machine(name, machine),
+            _ => Ok(()),
+        }
     }
 
     /// Defines a machine of another book.
     fn share_machine(&mut self, name: &Text, machine: &SharedMachine) -> Result<(), AllocError>
         requires { IsAccepted self.old.story (Entry.Define name.now machine.now) }
-        ensures begin { self.new.story.begin ≡ self.old.story.begin }
-        ensures story { OnOk result (self.new.story ≡ accepted self.old.story (Entry.Define name.now machine.now)) }
+        ensures { OnOk result (self.new.story ≡ accepted self.old.story (Entry.Define name.now machine.now)) }
     {
         let made = share_define(name, machine)?;
         if self.make_place(name).is_err() {

@@ -574,8 +574,8 @@ fn is_started(alloc: Global, book: &mut Book, exec: &str) -> Result<bool, Refusa
     Ok(matches!(told, Told::Step(_)))
 }
 
-fn is_full(alloc: Global, book: &mut Book) -> Result<bool, Refusal> {
-    let started = start(alloc, book, "more", "p", "{}")?;
+fn is_full(alloc: Global, book: &mut Book, exec: &str) -> Result<bool, Refusal> {
+    let started = start(alloc, book, exec, "p", "{}")?;
     let moved = step(alloc, book, &thread_of(alloc, "e0")?)?;
     Ok(matches!(started, Told::Refused(Refusal::Full))
         && matches!(moved, Told::Refused(Refusal::Full)))
@@ -596,10 +596,10 @@ fn full(rt: HostRuntime) -> Result<(), Fail> {
     let mut book = book_over(alloc, "[]")?;
     expect(&rt, alloc, &mut book, &[(Act::Define("p", PASS), "ok")])?;
     fill(&rt, alloc, &mut book)?;
-    assert!(rt; is_full(alloc, &mut book)?);
+    assert!(rt; is_full(alloc, &mut book, "more")?);
     drop(perform(alloc, &mut book, Act::Undo("e65535#0"))?);
     assert!(rt; is_started(alloc, &mut book, "more")?);
-    assert!(rt; is_full(alloc, &mut book)?);
+    assert!(rt; is_full(alloc, &mut book, "e65535")?);
     Ok(())
 }
 

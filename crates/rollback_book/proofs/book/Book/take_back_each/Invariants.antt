@@ -1,7 +1,7 @@
 use Rattle.std.proofs.Common.{◌≡◌, length}
 use Rattle.std.specs.Prelude.{reverse}
 use Rattle.book_log.specs.Answers.{order_answer}
-use Rattle.rollback_book.proofs.ordering.Book.take_back_each.Given as goal
+use Rattle.rollback_book.proofs.book.Book.take_back_each.Given as goal
 
 -- what is left of the order comes to the same end
 abbrev pub invariant-loop-step : goal.invariant-loop-step
