@@ -1,6 +1,7 @@
 -- What an order of undoings is answered, as the facts of the remaining steps tell it.
 use Rattle.std.proofs.Common.{◌≡◌, ◌<◌, arith, ℕ, Bool, true, false, List, [], ◌∷◌, length, zero, suc, refl, ap, ap₂, sym, subst, ◌∙◌, inl, inr, Option, None, Some, Result, Ok, Err}
 use Rattle.std.specs.Prelude.{◌||◌, slice_get}
+use Rattle.std.specs.List.{find}
 use Rattle.step_names.specs.declared.step.StepName.{StepName}
 use Rattle.trace_theory.specs.Traces.{In, is_among, undone, without}
 use Rattle.trace_theory.proofs.Lists.{by_bool}
@@ -9,20 +10,19 @@ use Rattle.saved_steps.specs.Held.{seen}
 use Rattle.saved_steps.specs.Steps.{name_of}
 use Rattle.saved_steps.specs.World.{Setting, World, is_same_step}
 use Rattle.saved_steps.specs.declared.fact.Fact.{Fact}
+use Rattle.depends.specs.Dependence.{depends_directly}
 use Rattle.depends.specs.Instance.{steps}
 use Rattle.depends.specs.Laws.{facts_of}
 use Rattle.depends.specs.Plans.{first_dependent}
 use Rattle.depends.proofs.Named.{steps_have_names}
 use Rattle.depends.proofs.Searching.{facts}
 use Rattle.step_history.specs.History.{Past}
-use Rattle.book_log.specs.Answers.{from_step, found_answer, once_undone, order_answer, undo_answer}
-use Rattle.book_log.specs.Legal.{IsLegal}
-use Rattle.book_log.specs.Story.{Story, accepted, base_of, past_of, setting_of, world_of}
+use Rattle.book_log.specs.Answers.{free_answer, from_step, found_answer, once_undone, order_answer, undo_answer}
+use Rattle.book_log.specs.Story.{Story, accepted, base_of, past_of, setting_of}
 use Rattle.book_log.specs.declared.begin.Begin.{Begin}
 use Rattle.book_log.specs.declared.entry.Entry.TheVariants.{Undo}
 use Rattle.book_log.specs.declared.refusal.Refusal.{Refusal}
 use Rattle.book_log.proofs.Answered.{once, undo_said}
-use Rattle.book_log.proofs.LegalRuns.{legal_stands}
 use Rattle.book_log.proofs.Standing.{StandsAt, no_frames, past_there, fact_named, stands_undone, step_same}
 use Rattle.rollback_book.specs.Book.{Volume, IsAt, IsFreePlace, IsTied}
 use Rattle.rollback_book.specs.Ordering.{left_by, order_refusal, refused_or}
@@ -118,10 +118,20 @@ order_split : (r : Result StepName Refusal) (rest : Result Story Refusal) (left 
 order_split (Ok n) rest left h = (n, refl, h)
 order_split (Err e) rest left h = cc
 
--- the first of an order is undone, and the others after it
-pub first_undone : (story : Story) → IsLegal story → (name : StepName) (names : List StepName) (left : Story) → order_answer story (name ∷ names) ≡ Ok left
-    → (undo_answer story name ≡ Ok name) × (order_answer (accepted story (Undo name)) names ≡ Ok left)
-first_undone story legal name names left h =
+free_named : (name n : StepName) (o : Option Fact) → free_answer name o ≡ Ok n → name ≡ n
+free_named name n None h = cc
+free_named name n (Some f) h = cc
+
+found_named : (name n : StepName) (o : Option (Fact × List Fact)) → found_answer name o ≡ Ok n → name ≡ n
+found_named name n None h = cc
+found_named name n (Some p) h = free_named name n (find (depends_directly p.0) p.1) h
+
+undo_named : (story : Story) (name n : StepName) → undo_answer story name ≡ Ok n → name ≡ n
+unfolding undo_answer
+undo_named story name n h = found_named name n (from_step name (facts_of (past_of story))) h
+
+-- the first of an order is undone
+pub first_undone : (story : Story) (name : StepName) (names : List StepName) (left : Story) → order_answer story (name ∷ names) ≡ Ok left → undo_answer story name ≡ Ok name
+first_undone story name names left h =
     let k = order_split (undo_answer story name) (order_answer (accepted story (Undo name)) names) left h in
-    let same = (undo_said story (setting_of story) (world_of story) (past_of story) (legal_stands story legal) name k.0 k.1).1 in
-    (k.1 ∙ ap Ok (sym same), k.2)
+    k.1 ∙ ap Ok (sym (undo_named story name k.0 k.1))

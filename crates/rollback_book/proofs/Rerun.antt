@@ -1,5 +1,5 @@
 -- Steps taken again, one after another, are what a rerun answers.
-use Rattle.std.proofs.Common.{◌≡◌, ◌≤◌, ◌-◌, ◌+◌, arith, ℕ, ◌==◌, eq-eqb, Bool, true, false, cond, List, [], ◌∷◌, ◌++◌, map, append_assoc, refl, ap, ap₂, sym, subst, ◌∙◌, inl, inr, Option, None, Some, Result, Ok, Err}
+use Rattle.std.proofs.Common.{◌≡◌, ◌<◌, ◌+◌, arith, ℕ, List, [], ◌∷◌, ◌++◌, drop, get_or, length, map, take, zero, suc, append_assoc, refl, ap, ap₂, sym, subst, ◌∙◌, inl, inr, Option, None, Some, Result, Ok, Err}
 use Rattle.std.specs.Prelude.{◌⊎◌, position, is_some, option_map, option_and_then}
 use Rattle.std.proofs.lemmas.List.{append-nil, map-append}
 use Rattle.std.proofs.lemmas.Option.{same_Some}
@@ -47,6 +47,22 @@ accepted_in (x ∷ log) rest e before h = subst (λ (l : List Entry). IsAccepted
 pub legal_entry : (story : Story) (front back : List Entry) (e : Entry) → IsLegal story → story.log ≡ front ++ e ∷ back → IsAccepted (of_log story.begin front) e
 unfolding IsLegal
 legal_entry story front back e legal parts = accepted_in front back e (of_log story.begin []) (subst (GoesOnLegally (of_log story.begin [])) parts legal.1)
+
+-- ---- places
+
+-- a list around one of its elements
+pub parts_at : {A : Type 0} (xs : List A) (i : ℕ) (x : A) → i < length xs → x ≡ get_or xs i x → xs ≡ take i xs ++ x ∷ drop (suc i) xs
+parts_at [] i x h e = absurd (omega (arith, h))
+parts_at (y ∷ xs) zero x h e = ap (λ z. z ∷ xs) (sym e)
+parts_at (y ∷ xs) (suc i) x h e = ap (λ l. y ∷ l) (parts_at xs i x (omega (arith, h)) e)
+
+-- with one element more
+pub take_next : {A : Type 0} (xs : List A) (i : ℕ) (x : A) → i < length xs → x ≡ get_or xs i x → take (i + 1) xs ≡ take i xs ++ x ∷ []
+take_next [] i x h e = absurd (omega (arith, h))
+take_next (y ∷ xs) zero x h e = ap (λ z. z ∷ []) (sym e)
+take_next (y ∷ xs) (suc i) x h e =
+    let n : suc i + 1 ≡ suc (i + 1) = omega arith in
+    ap (λ k. take k (y ∷ xs)) n ∙ ap (λ l. y ∷ l) (take_next xs i x (omega (arith, h)) e)
 
 -- ---- names
 
@@ -142,8 +158,14 @@ unfolding rerun_answer
 no_answer story names h = ap (λ (x : Option (List Step)). or_no_step (option_map (λ (p : World × List Past). retold story p.1) (option_and_then (run (steps (setting_of story)) (base_of story.begin)) x))) h
 
 -- no steps are taken at first
-pub none_retold : (story : Story) → rerun_answer story [] ≡ Ok (retold story [])
+pub npub begins : (story : Story) → rerun_answer story [] ≡ Ok (of_log story.begin (defines story.log))
+begins story = none_retold story ∙ ap (λ (l : List Entry). Ok (of_log story.begin l)) (append-nil (defines story.log))
+
+one_retold : (story : Story) → rerun_answer story [] ≡ Ok (retold story [])
 none_retold story = answer_by story [] [] (Some (base_of story.begin, [])) refl refl
+
+pub begins : (story : Story) → rerun_answer story [] ≡ Ok (of_log story.begin (defines story.log))
+begins story = none_retold story ∙ ap (λ (l : List Entry). Ok (of_log story.begin l)) (append-nil (defines story.log))
 
 one_retold : (story : Story) (ts : List Past) (t : Past) → retold story (ts ++ t ∷ []) ≡ accepted (retold story ts) (entry_of t)
 one_retold story ts t =

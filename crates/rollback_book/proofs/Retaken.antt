@@ -1,6 +1,7 @@
 -- What a book tells of a step that is taken in it again.
 use Rattle.std.proofs.Common.{◌≡◌, ◌≤◌, ◌+◌, ◌-◌, ◌==◌, arith, ℕ, eq-eqb, Bool, true, false, cond, List, [], ◌∷◌, map, refl, ap, ap₂, sym, subst, ◌∙◌, inl, inr, Option, None, Some, Result, Ok, Err}
 use Rattle.std.specs.Prelude.{◌⊎◌, IsSome, position, is_some, option_and_then}
+use Rattle.std.proofs.lemmas.Bool.{eqb-true}
 use Rattle.std.proofs.lemmas.Option.{same_Some}
 use Rattle.json_tree.specs.Data.{depth}
 use Rattle.json_tree.specs.View.{data_of}
@@ -80,10 +81,6 @@ pub found_some : (b : Volume) (tied : IsTied b) (name : StepName) (o : Option �
 found_some b tied name None h k = cc
 found_some b tied name (Some at) h k = is_there b tied name at (sym h)
 
-pub found_none : (b : Volume) (tied : IsTied b) (name : StepName) (o : Option ℕ) → o ≡ position (λ (r : StepRecord). is_same_step r.fact.name name) b.history.records.items → is_some o ≡ false → step_named name (remaining b.story) ≡ None
-found_none b tied name None h k = not_there b tied name (sym h)
-found_none b tied name (Some at) h k = cc
-
 -- ---- a start that remains
 
 pub record IsStartThere (story : Story) (name : StepName) (step : Step) : Type 0 where
@@ -148,6 +145,10 @@ given_err (Err f) refusal e P h (inr k) use_it = inr (k.1, λ p. none (use_it p)
 
 -- ---- starts
 
+-- an execution's own thread
+pub own_thread : (t : Thread) → t.path ≡ [] → t ≡ execution t.exec
+own_thread t root = ap (λ (p : List (ℕ × ℕ)). let u : Thread = record { exec = t.exec; path = p } in u) root
+
 start_cases : (known there full : Bool) (n m : StepName) → cond known (cond there (Err ExecTaken) (cond full (Err Full) (Ok n))) (Err NoMachine) ≡ Ok m → n ≡ m
 start_cases true true full n m h = cc
 start_cases true false true n m h = cc
@@ -182,31 +183,29 @@ pub step_is_next : (story : Story) (t : Thread) (x : Moved) → step_answer stor
 unfolding step_answer
 step_is_next story t x h = thread_told story t ((world_of story).frames t) x refl h
 
-module _ (b : Volume) (tied : IsTied b) (name : StepName) (least : 1 ≤ name.no) where
-  frame_here : (t : Thread) (f : Frame) → (world_of b.story).frames t ≡ Some f → frames_of b.history.world t ≡ Some f
-  frame_here t f h = ap (λ (w : World). w.frames t) (sym (world_is b tied)) ∙ h
-
+module _ (b : Volume) (name : StepName) where
   -- a move that can be taken has the next number
-  pub retake_next : CanRetake b.story (moved name) → is_numbered (frames_of b.history.world name.thread) name.no ≡ true
-  retake_next can =
+  retake_next : world_of b.story ≡ seen b.history.world → CanRetake b.story (moved name) → is_numbered (frames_of b.history.world name.thread) name.no ≡ true
+  retake_next world can =
       let k = step_is_next b.story name.thread (record { name = name; kind = can.0 }) can.1 in
       let n : name.no ≡ k.0.count + 1 = ap (λ (x : StepName). x.no) k.2 in
-      let there = frame_here name.thread k.0 k.1 in
+      let there : frames_of b.history.world name.thread ≡ Some k.0 = ap (λ (w : World). w.frames name.thread) (sym world) ∙ k.1 in
       ap (λ (o : Option Frame). is_numbered o name.no) there ∙ eq-eqb k.0.count (name.no - 1) (omega (arith, n))
 
-  numbered_by : (o : Option Frame) → is_numbered o name.no ≡ true → (f : Frame) × (o ≡ Some f) × (f.count + 1 ≡ name.no)
-  numbered_by None h = cc
-  numbered_by (Some f) h = (f, refl, let k = eqb_true f.count (name.no - 1) h in omega (arith, k, least))
-    where
-      eqb_true : (m n : ℕ) → (m == n) ≡ true → m ≡ n
-      eqb_true m n e = omega (arith, e)
+  pub no_retake : world_of b.story ≡ seen b.history.world → is_numbered (frames_of b.history.world name.thread) name.no ≡ false → CanRetake b.story (moved name) → ⊥
+  no_retake world other can = let clash = sym (retake_next world can) ∙ other in cc
+
+  numbered_by : 1 ≤ name.no → (o : Option Frame) → is_numbered o name.no ≡ true → (f : Frame) × (o ≡ Some f) × (f.count + 1 ≡ name.no)
+  numbered_by least None h = cc
+  numbered_by least (Some f) h = let k = eqb-true f.count (name.no - 1) h in (f, refl, omega (arith, k, least))
 
   -- where the number is the next, the step of the thread is this one
-  pub next_is : is_numbered (frames_of b.history.world name.thread) name.no ≡ true → (x : Moved) → step_answer b.story name.thread ≡ Ok x → x ≡ record { name = name; kind = x.kind }
-  next_is h x a =
+  pub next_is : 1 ≤ name.no → world_of b.story ≡ seen b.history.world → is_numbered (frames_of b.history.world name.thread) name.no ≡ true → (x : Moved) → step_answer b.story name.thread ≡ Ok x → x ≡ record { name = name; kind = x.kind }
+  next_is least world h x a =
       let k = step_is_next b.story name.thread x a in
-      let n = numbered_by (frames_of b.history.world name.thread) h in
-      let same : k.0 ≡ n.0 = same_Some k.0 n.0 (sym (frame_here name.thread k.0 k.1) ∙ n.1) in
+      let n = numbered_by least (frames_of b.history.world name.thread) h in
+      let there : frames_of b.history.world name.thread ≡ Some k.0 = ap (λ (w : World). w.frames name.thread) (sym world) ∙ k.1 in
+      let same : k.0 ≡ n.0 = same_Some k.0 n.0 (sym there ∙ n.1) in
       let no : k.0.count + 1 ≡ name.no = ap (λ (f : Frame). f.count + 1) same ∙ n.2 in
       ap (λ (m : StepName). let y : Moved = record { name = m; kind = x.kind } in y)
       (k.2 ∙ ap (λ (i : ℕ). let m : StepName = record { thread = name.thread; no = i } in m) no)

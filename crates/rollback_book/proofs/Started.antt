@@ -1,7 +1,8 @@
 -- In a legal log the last start of an execution that remains is the start that remains; and moves are numbered from 1.
-use Rattle.std.proofs.Common.{◌≡◌, ◌≤◌, ◌+◌, arith, ℕ, Bool, true, false, cond, List, [], ◌∷◌, ◌++◌, refl, ap, ap₂, sym, subst, ◌∙◌, inl, inr, Option, None, Some, Ok}
-use Rattle.std.specs.Prelude.{◌&&◌}
-use Rattle.std.proofs.lemmas.Bool.{and_parts}
+use Rattle.std.proofs.Common.{◌≡◌, ◌≤◌, ◌+◌, arith, ℕ, Bool, true, false, cond, List, [], ◌∷◌, ◌++◌, ◌-◌, drop, zero, suc, refl, ap, ap₂, sym, subst, ◌∙◌, inl, inr, Option, None, Some, Ok}
+use Rattle.std.specs.Prelude.{slice_get}
+use Rattle.std.proofs.Math.Seq.{drop-cons}
+use Rattle.std.proofs.lemmas.Option.{slice_get_within, get_or_from_slice_get}
 use Rattle.json_tree.specs.declared.tree.Json.{Json}
 use Rattle.step_names.specs.Thread.{Thread, execution}
 use Rattle.step_names.specs.declared.step.StepName.{StepName}
@@ -48,6 +49,21 @@ or_three (Some x) b c = refl
 last_of_more : (t : Thread) (log : List Entry) (e : Entry) → last_start t (log ++ e ∷ []) ≡ or_earlier (start_in t e) (last_start t log)
 last_of_more t [] e = sym (or_none (start_in t e))
 last_of_more t (x ∷ log) e = ap (λ (o : Option Origin). or_earlier o (start_in t x)) (last_of_more t log e) ∙ or_three (start_in t e) (last_start t log) (start_in t x)
+
+last_drop : (t : Thread) (k : ℕ) (log : List Entry) (o : Origin) → last_start t (drop k log) ≡ Some o → last_start t log ≡ Some o
+last_drop t zero log o h = h
+last_drop t (suc k) [] o h = cc
+last_drop t (suc k) (x ∷ log) o h = ap (λ (e : Option Origin). or_earlier e (start_in t x)) (last_drop t k log o h)
+
+-- an entry after which the execution isn't started again
+pub last_found : (t : Thread) (log : List Entry) (later : ℕ) (e : Entry) (o : Origin) → last_start t (drop later log) ≡ None → 1 ≤ later → slice_get log (later - 1) ≡ Some e → start_in t e ≡ Some o → last_start t log ≡ Some o
+last_found t log later e o none some there starts =
+    let within = slice_get_within log (later - 1) e there in
+    let n : suc (later - 1) ≡ later = omega (arith, some) in
+    let here : drop (later - 1) log ≡ e ∷ drop later log =
+    drop-cons log (later - 1) e within ∙ ap₂ (λ (x : Entry) (k : ℕ). x ∷ drop k log) (get_or_from_slice_get log (later - 1) e e there) n in
+    last_drop t (later - 1) log o
+    (ap (last_start t) here ∙ ap (λ (x : Option Origin). or_earlier x (start_in t e)) none ∙ starts)
 
 -- each start that remains is the last of its execution
 abbrev AreLast : Story → Type 0

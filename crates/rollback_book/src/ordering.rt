@@ -1,5 +1,5 @@
 // Steps taken back one by one in an order, or none of them: the order is looked at whole before anything is changed.
-ghost use Rattle.std.specs.Prelude.{◌≡◌, ◌⊎◌, map, position, reverse, None, Some, Ok, Err, IfOk, MatchResult, OnErr};
+ghost use Rattle.std.specs.Prelude.{◌≡◌, ◌⊎◌, map, position, reverse, None, Some, Ok, Err, IfOk, IfErr, MatchResult, OnOk, OnErr};
 ghost use Rattle.std.specs.List.{find};
 ghost use Rattle.depends.specs.Dependence.{depends_directly};
 ghost use Rattle.saved_steps.specs.World.{is_same_step};
@@ -28,7 +28,19 @@ impl Book {
             (λ e. (e ≡ Refusal.Memory) ⊎ (order_answer self.old.story steps.now ≡ Err e)) }
         ensures err { OnErr result (self.new.story ≡ self.old.story) }
     {
-        look_at_order(alloc, self.history.records(), steps)?;
+        match look_at_order(alloc, self.history.records(), steps) {
+            Ok(()) => self.take_back_in_order(alloc, steps),
+            Err(refusal) => Err(refusal),
+        }
+    }
+
+    /// Takes back steps that can be undone one by one in this order.
+    fn take_back_in_order(&mut self, alloc: Global, steps: &[StepName]) -> Result<(), Refusal>
+        requires { (after : Story) × (order_answer self.old.story steps.now ≡ Ok after) }
+        ensures ok { OnOk result (order_answer self.old.story steps.now ≡ Ok self.new.story) }
+        ensures memory { IfErr result (λ e. e ≡ Refusal.Memory) }
+        ensures err { OnErr result (self.new.story ≡ self.old.story) }
+    {
         let Ok(names) = last_first(alloc, steps) else {
             return Err(Refusal::Memory);
         };
@@ -39,7 +51,7 @@ impl Book {
     /// Takes back the steps of these names, the last of them first.
     fn take_back_each(&mut self, names: Vec<StepName>)
         requires { (after : Story) × (order_answer self.old.story (reverse names.items) ≡ Ok after) }
-        ensures { order_answer self.old.story (reverse names.entry.items) ≡ Ok self.new.story }
+        ensures { order_answer self.old.story (reverse names.items) ≡ Ok self.new.story }
     {
         let mut names = names;
         while let Some(step) = names.pop() {

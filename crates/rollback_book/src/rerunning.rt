@@ -1,16 +1,17 @@
 // A book whose steps are taken again in another order.
-ghost use Rattle.std.specs.Prelude.{◌≡◌, ◌⊎◌, ◌≤◌, ◌++◌, ◌∷◌, [], Some, Ok, Err, IfOk, IsSome, MatchResult, OnOk, option_map};
+ghost use Rattle.std.specs.Prelude.{◌≡◌, ◌⊎◌, ◌≤◌, ◌++◌, ◌∷◌, [], Some, Ok, Err, IfOk, IsSome, MatchResult, OnOk, option_map, option_copied};
 ghost use Rattle.json_tree.specs.Data.{depth};
 ghost use Rattle.json_tree.specs.View.{data_of};
-ghost use Rattle.saved_steps.specs.Held.{frames_of};
+ghost use Rattle.saved_steps.specs.Held.{frames_of, seen};
 ghost use Rattle.saved_steps.specs.Steps.{started, moved};
-ghost use Rattle.book_log.specs.Answers.{defines, rerun_answer, retold, step_named};
+ghost use Rattle.book_log.specs.Answers.{defines, rerun_answer, step_named};
 ghost use Rattle.book_log.specs.Legal.{IsAccepted, IsLegal};
-ghost use Rattle.book_log.specs.Story.{accepted, remaining};
+ghost use Rattle.book_log.specs.Story.{accepted, remaining, world_of};
 ghost use Rattle.rollback_book.specs.Rerunning.{MayDefine, Retakes, is_numbered, last_start, start_in};
 
 use crate::book::Book;
 use crate::making::{Entered, Made, MadeChange};
+use asl_forward::Frame;
 use asl_machine::SharedMachine;
 use attr_values::{KeyAttribute, KeySchema};
 use book_log::{Begin, Entry, Refusal};
@@ -32,23 +33,27 @@ impl Book {
             (λ b. rerun_answer self.now.story steps.now ≡ Ok b.story)
             (λ e. (e ≡ Refusal.Memory) ⊎ (rerun_answer self.now.story steps.now ≡ Err e)) }
     {
-        let mut again = self.without_steps(alloc)?;
+        let mut again = Book::defining(alloc, &self.begin, self.log.as_slice())?;
         for name in steps {
-            self.take_again(alloc, &mut again, name)?;
+            match self.take_again(alloc, &mut again, name) {
+                Ok(()) => {}
+                Err(refusal) => return Err(refusal),
+            }
         }
         Ok(again)
     }
 
-    /// A book from the same beginning, with the same machines and no steps.
-    fn without_steps(&self, alloc: Global) -> Result<Book, AllocError>
-        ensures { IfOk result (λ b. b.story ≡ retold self.now.story []) }
+    /// A book with a copy of a beginning and the machines of a log, and no steps.
+    fn defining(alloc: Global, begin: &Begin, log: &[Entry]) -> Result<Book, AllocError>
+        requires { IsLegal (record { begin = begin.now; log = log.now }) }
+        ensures { IfOk result (λ b. b.story ≡ record { begin = begin.now; log = defines log.now }) }
     {
-        let begin = copy_begin(&self.begin)?;
-        let Ok(mut again) = Book::open(alloc, begin) else {
+        let begin = copy_begin(begin)?;
+        let Ok(mut book) = Book::open(alloc, begin) else {
             return Err(AllocError);
         };
-        again.define_each(self.log.as_slice())?;
-        Ok(again)
+        book.define_each(log)?;
+        Ok(book)
     }
 
     /// Defines the machines of a log.
@@ -97,9 +102,9 @@ impl Book {
     ) -> Result<(), Refusal>
         ensures { Retakes again.old.story (step_named name.now (remaining self.now.story)) result again.new.story }
     {
-        if self.history.find(name).is_none() {
+        let Some(_) = self.history.find(name) else {
             return Err(Refusal::NoStep);
-        }
+        };
         if name.no == 0 {
             return self.start_again(alloc, again, name);
         }
@@ -167,12 +172,21 @@ impl Book {
     /// Whether the next move of a step's thread would have its number.
     fn is_next(&self, name: &StepName) -> bool
         requires { 1 ≤ name.now.no }
-        ensures { result ≡ is_numbered (frames_of self.now.history.world name.now.thread) name.now.no }
+        ensures number { result ≡ is_numbered (frames_of self.now.history.world name.now.thread) name.now.no }
+        ensures world { world_of self.now.story ≡ seen self.now.history.world }
     {
-        match self.history.frame(&name.thread) {
-            Some(frame) => frame.count == name.no - 1,
-            None => false,
-        }
+        is_numbered(self.history.frame(&name.thread), name.no)
+    }
+}
+
+/// Whether the next move after a frame would have this number.
+fn is_numbered(frame: Option<&Frame>, number: u32) -> bool
+    requires { 1 ≤ number }
+    ensures { result ≡ is_numbered (option_copied frame) number }
+{
+    match frame {
+        Some(frame) => frame.count == number - 1,
+        None => false,
     }
 }
 
@@ -196,9 +210,8 @@ fn last_start<'a>(log: &'a [Entry], exec: &ThreadName) -> Option<(&'a Text, &'a 
     let mut later = log.len();
     while 0 < later {
         let at = later - 1;
-        let found = start_in(&log[at], exec);
-        if found.is_some() {
-            return found;
+        if let Some(origin) = start_in(&log[at], exec) {
+            return Some(origin);
         }
         later = at;
     }
