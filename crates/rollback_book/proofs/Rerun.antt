@@ -91,6 +91,9 @@ none_after : (o : Option Step) → option_and_then (λ (s : Step). option_map (�
 none_after None = refl
 none_after (Some s) = refl
 
+named_cons : (ss : List Step) (n : StepName) (names : List StepName) (s : Step) (more : List Step) → step_named n ss ≡ Some s → steps_named ss names ≡ Some more → steps_named ss (n ∷ names) ≡ Some (s ∷ more)
+named_cons ss n names s more h k = rw (h, k) refl
+
 module _ (ss : List Step) (name : StepName) where
   named_then : (front : List StepName) (chosen : List Step) (s : Step) → steps_named ss front ≡ Some chosen → step_named name ss ≡ Some s → steps_named ss (front ++ name ∷ []) ≡ Some (chosen ++ s ∷ [])
   named_then [] chosen s h k =
@@ -99,9 +102,8 @@ module _ (ss : List Step) (name : StepName) where
   named_then (n ∷ front) chosen s h k =
       let a = and_then_some (λ (x : Step). option_map (λ (more : List Step). x ∷ more) (steps_named ss front)) (step_named n ss) chosen h in
       let m = map_some (λ (more : List Step). a.0 ∷ more) (steps_named ss front) chosen a.2 in
-      let first = a.1 in
-      let rest = named_then front m.0 s m.1 k in
-      subst (λ (l : List Step). steps_named ss (n ∷ (front ++ name ∷ [])) ≡ Some (l ++ s ∷ [])) m.2 (rw (first, rest) refl)
+      subst (λ (l : List Step). steps_named ss (n ∷ (front ++ name ∷ [])) ≡ Some (l ++ s ∷ [])) m.2
+      (named_cons ss n (front ++ name ∷ []) a.0 (m.0 ++ s ∷ []) a.1 (named_then front m.0 s m.1 k))
 
   named_not : (front : List StepName) → step_named name ss ≡ None → steps_named ss (front ++ name ∷ []) ≡ None
   named_not [] k = rw k refl
@@ -158,10 +160,7 @@ unfolding rerun_answer
 no_answer story names h = ap (λ (x : Option (List Step)). or_no_step (option_map (λ (p : World × List Past). retold story p.1) (option_and_then (run (steps (setting_of story)) (base_of story.begin)) x))) h
 
 -- no steps are taken at first
-pub npub begins : (story : Story) → rerun_answer story [] ≡ Ok (of_log story.begin (defines story.log))
-begins story = none_retold story ∙ ap (λ (l : List Entry). Ok (of_log story.begin l)) (append-nil (defines story.log))
-
-one_retold : (story : Story) → rerun_answer story [] ≡ Ok (retold story [])
+none_retold : (story : Story) → rerun_answer story [] ≡ Ok (retold story [])
 none_retold story = answer_by story [] [] (Some (base_of story.begin, [])) refl refl
 
 pub begins : (story : Story) → rerun_answer story [] ≡ Ok (of_log story.begin (defines story.log))
@@ -244,9 +243,10 @@ named_split ss (n ∷ front) back chosen h =
     let a = and_then_some (λ (x : Step). option_map (λ (more : List Step). x ∷ more) (steps_named ss (front ++ back))) (step_named n ss) chosen h in
     let m = map_some (λ (more : List Step). a.0 ∷ more) (steps_named ss (front ++ back)) chosen a.2 in
     let r = named_split ss front back m.0 m.1 in
-    let one = a.1 in
-    let two = r.2 in
-    (a.0 ∷ r.0, r.1, rw (one, two) refl, sym m.2 ∙ ap (λ (l : List Step). a.0 ∷ l) r.3)
+    (a.0 ∷ r.0, r.1, named_cons ss n front a.0 r.0 a.1 r.2, sym m.2 ∙ ap (λ (l : List Step). a.0 ∷ l) r.3)
+
+run_cons : (s : Setting) (x : Step) (xs : List Step) (base u w : World) (f : Fact) (us : List Past) → take_step s base x ≡ Some (u, f) → run (steps s) u xs ≡ Some (w, us) → run (steps s) base (x ∷ xs) ≡ Some (w, taken_in base x f ∷ us)
+run_cons s x xs base u w f us h k = rw (h, k) refl
 
 run_split : (s : Setting) (xs ys : List Step) (base v : World) (ts : List Past) → run (steps s) base (xs ++ ys) ≡ Some (v, ts) → (w : World) × (us : List Past) × (run (steps s) base xs ≡ Some (w, us))
 run_split s [] ys base v ts h = (base, [], refl)
@@ -254,9 +254,7 @@ run_split s (x ∷ xs) ys base v ts h =
     let a = and_then_some _ (take_step s base x) (v, ts) h in
     let b = map_some (λ (q : World × List Past). (q.0, taken_in base x a.0.1 ∷ q.1)) (run (steps s) a.0.0 (xs ++ ys)) (v, ts) a.2 in
     let r = run_split s xs ys a.0.0 b.0.0 b.0.1 b.1 in
-    let one = a.1 in
-    let two = r.2 in
-    (r.0, taken_in base x a.0.1 ∷ r.1, rw (one, two) refl)
+    (r.0, taken_in base x a.0.1 ∷ r.1, run_cons s x xs base a.0.0 r.0 a.0.1 r.1 a.1 r.2)
 
 -- the front of an order that is answered is answered
 front_answered : (story : Story) (front back : List StepName) (again : Story) → rerun_answer story (front ++ back) ≡ Ok again → (first : Story) × (rerun_answer story front ≡ Ok first)
@@ -288,11 +286,11 @@ module _ (story : Story) (legal : IsLegal story) (front : List StepName) (again 
   refused_here back e same h =
       ap (rerun_answer story) (sym (append_assoc front (name ∷ []) back)) ∙ refused_front story (front ++ name ∷ []) back legal h ∙ ap Err (sym same)
 
-  pub ends_here : {T : Type 0} (back : List StepName) (e : Refusal) (o : Option Step) (later : Story) → step_named name (remaining story) ≡ o → Retakes {T = T} again o (Err e) later → (e ≡ Memory) ⊎ (rerun_answer story (front ++ name ∷ back) ≡ Err e)
-  ends_here back e None later named (inl m) = inl m
-  ends_here back e None later named (inr n) = inr (refused_here back e n (none_named story legal front again a name named))
-  ends_here back e (Some step) later named (inl m) = inl m
-  ends_here back e (Some step) later named (inr n) = inr (refused_here back e n.0 (not_retaken story legal front again a name step named n.1))
+  pub ends_here : (T : Type 0) (back : List StepName) (e : Refusal) (o : Option Step) (later : Story) → step_named name (remaining story) ≡ o → Retakes {T = T} again o (Err e) later → (e ≡ Memory) ⊎ (rerun_answer story (front ++ name ∷ back) ≡ Err e)
+  ends_here T back e None later named (inl m) = inl m
+  ends_here T back e None later named (inr n) = inr (refused_here back e n (none_named story legal front again a name named))
+  ends_here T back e (Some step) later named (inl m) = inl m
+  ends_here T back e (Some step) later named (inr n) = inr (refused_here back e n.0 (not_retaken story legal front again a name step named n.1))
 
 -- ---- definitions
 

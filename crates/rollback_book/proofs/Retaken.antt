@@ -132,17 +132,6 @@ given_ok (Ok y) x (inl e) = sym e
 given_ok (Ok y) x (inr e) = cc
 given_ok (Err e) x h = cc
 
--- what is refused for another cause than memory isn't accepted
-pub given_err : {T : Type 0} (answer : Result T Refusal) (refusal e : Refusal) (P : Type 0) → Gives (Err refusal) answer → ((refusal ≡ Memory) × (e ≡ Memory)) ⊎ ((refusal ≡ Memory → ⊥) × (e ≡ NoStep)) → (P → (x : T) × (answer ≡ Ok x))
-    → (e ≡ Memory) ⊎ ((e ≡ NoStep) × (P → ⊥))
-given_err answer refusal e P h (inl k) use_it = inl k.1
-given_err (Ok y) refusal e P (inl f) (inr k) use_it = cc
-given_err (Ok y) refusal e P (inr f) (inr k) use_it = let same : refusal ≡ Memory = cc in absurd (k.0 same)
-given_err (Err f) refusal e P h (inr k) use_it = inr (k.1, λ p. none (use_it p).0 (use_it p).1)
-  where
-    none : (x : T) → Err f ≡ Ok x → ⊥
-    none x c = cc
-
 -- ---- starts
 
 -- an execution's own thread

@@ -131,8 +131,8 @@ last_next story (Start x machine input) legal h a = λ exec given origin i.
     execs : (exec given : List ℕ) (origin : Json) → started exec given origin ≡ started x.exec machine input → exec ≡ x.exec
     execs exec given origin e = cc
 
-    same : (exec given : List ℕ) (origin : Json) → started exec given origin ≡ started x.exec machine input → (machine, input) ≡ (given, origin)
-    same exec given origin e = let m : machine ≡ given = cc in let j : input ≡ origin = cc in ap₂ (λ (y : List ℕ) (z : Json). (y, z)) m j
+    same : (exec given : List ℕ) (origin : Json) → started exec given origin ≡ started x.exec machine input → ◌≡◌ {A = Origin} (machine, input) (given, origin)
+    same exec given origin e = let m : machine ≡ given = cc in let j : input ≡ origin = cc in ap₂ (λ (y : List ℕ) (z : Json). let o : Origin = (y, z) in o) m j
 
     own : (exec given : List ℕ) (origin : Json) → started exec given origin ≡ started x.exec machine input → is_same_thread (execution exec) x ≡ true
     own exec given origin e =

@@ -182,7 +182,7 @@ impl Book {
 /// Whether the next move after a frame would have this number.
 fn is_numbered(frame: Option<&Frame>, number: u32) -> bool
     requires { 1 ≤ number }
-    ensures { result ≡ is_numbered (option_copied frame) number }
+    ensures { result ≡ is_numbered (option_copied frame.entry) number }
 {
     match frame {
         Some(frame) => frame.count == number - 1,

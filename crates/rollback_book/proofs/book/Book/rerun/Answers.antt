@@ -15,7 +15,7 @@ defining-requires c = subst (λ (l : List Entry). IsLegal (of_log c.self.inside.
 pub loop-name-init : goal.loop-name-init
 loop-name-init c =
     begins c.args.self.now.story
-    ∙ ap (λ (s : Story). Ok s) (sym (c.in_ok-defining.ensures ∙ ap (λ (l : List Entry). of_log c.self.inside.begin (defines l)) c.as_slice.ensures.value ∙ ap (λ (b : Volume). of_log b.story.begin (defines b.story.log)) c.self.view_is))
+    ∙ ap (λ (s : Story). Ok s) (sym (c.in_ok-again.ensures ∙ ap (λ (l : List Entry). of_log c.self.inside.begin (defines l)) c.as_slice.ensures.value ∙ ap (λ (b : Volume). of_log b.story.begin (defines b.story.log)) c.self.view_is))
 
 pub returns-in-Err : goal.returns-in-Err
 returns-in-Err c =
@@ -25,7 +25,7 @@ returns-in-Err c =
     let i = c.loop-name.name-index in
     let name = c.name-item.result in
     let parts = parts_at steps i name c.loop-name-test.true c.name-item.is in
-    elim (ends_here story legal (take i steps) c.loop-name.again.story c.loop-name.invariant name (drop (suc i) steps) c.in-Err.refusal (step_named name (remaining story)) c.take_again.new.again.story refl c.in-Err.ensures) [
+    elim (ends_here story legal (take i steps) c.loop-name.again.story c.loop-name.invariant name (Unit {0}) (drop (suc i) steps) c.in-Err.refusal (step_named name (remaining story)) c.take_again.new.again.story refl c.in-Err.ensures) [
       inl m ↦ inl m
     | inr h ↦ inr (ap (rerun_answer story) parts ∙ h)
     ]
