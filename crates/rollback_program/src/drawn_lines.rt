@@ -67,13 +67,13 @@ const BAD_MACHINES: &[&str] = &[
     r#"define none {"StartAt":"A","States":{"A":{"Type":"Pass","Next":"A","End":true}}}"#,
 ];
 
-/// Those that never end stand more than once.
+/// Those that fork, and those that never end, stand more than once.
 const MACHINES: &[&str] = &[
-    "p", "w", "g", "d", "c", "l", "h", "m", "q", "t", "r", "u", "k", "l", "m", "q", "r", "u",
-    "none",
+    "p", "w", "g", "d", "c", "h", "k", "none", "l", "l", "m", "m", "q", "q", "q", "t", "t", "r",
+    "r", "u", "u",
 ];
 
-const EXECUTIONS: &[&str] = &["a", "b", "c", "d", "e", "f", "g", "a-b"];
+const EXECUTIONS: &[&str] = &["a", "b", "c", "d", "e", "f", "g", "h", "i", "a-b"];
 
 const INPUTS: &[&str] = &[
     "{}",
@@ -117,7 +117,7 @@ pub(crate) fn first_lines(alloc: Global, dice: &mut Dice) -> Result<Vec<&'static
     }
     lines.push(dice.one_of(TABLES))?;
     for line in GOOD_MACHINES {
-        if dice.below(4) != 0 {
+        if dice.below(8) != 0 {
             lines.push(*line)?;
         }
     }
@@ -207,9 +207,9 @@ pub(crate) fn drawn(alloc: Global, book: Option<&Book>, dice: &mut Dice) -> Resu
         2..7 => start_line(alloc, dice)?,
         7..20 => thread_line(alloc, book, dice, "step")?,
         20..26 => drive_line(alloc, dice)?,
-        26..31 => step_line(alloc, book, dice, "undo")?,
-        31..33 => step_line(alloc, book, dice, "plan")?,
-        33..36 => step_line(alloc, book, dice, "rollback")?,
+        26..32 => step_line(alloc, book, dice, "undo")?,
+        32..34 => step_line(alloc, book, dice, "plan")?,
+        34..36 => step_line(alloc, book, dice, "rollback")?,
         36 => thread_line(alloc, book, dice, "show")?,
         _ => fixed_line(alloc, dice, OTHER_LINES)?,
     })
