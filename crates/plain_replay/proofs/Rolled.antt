@@ -1,8 +1,8 @@
 -- The consequences of a step by their facts are its consequences in a run.
-use Rattle.std.proofs.Common.{◌≡◌, Bool, true, false, cond, List, [], ◌∷◌, ◌++◌, append_assoc, refl, ap, ap₂, sym, ◌∙◌, Option, None, Some}
+use Rattle.std.proofs.Common.{◌≡◌, ◌≤◌, ℕ, Bool, true, false, cond, List, [], ◌∷◌, ◌++◌, length, drop, append_assoc, refl, ap, ap₂, sym, ◌∙◌, Option, None, Some}
 use Rattle.std.specs.Prelude.{not, ◌||◌, fold, filter, map, option_map, unwrap_or}
 use Rattle.std.specs.List.{list_any}
-use Rattle.std.proofs.lemmas.List.{append-nil, map-append}
+use Rattle.std.proofs.lemmas.List.{append-nil, map-append, at_drop_all}
 use Rattle.step_names.specs.declared.step.StepName.{StepName}
 use Rattle.trace_theory.specs.Traces as theory
 use Rattle.trace_theory.specs.Traces.{needs, names_of, after, following, without}
@@ -18,8 +18,11 @@ use Rattle.depends.specs.Instance.{steps, is_one_step}
 use Rattle.depends.specs.Laws.{facts_of}
 use Rattle.depends.proofs.Consequences.{runs_are_seen}
 use Rattle.step_history.specs.History.{Past}
-use Rattle.book_log.specs.Story.{Remainder, setting_in, base_of, run_in, past_in, consequences_in, rolled_back}
+use Rattle.book_log.specs.Legal.{IsLegal}
+use Rattle.book_log.specs.Story.{Story, Remainder, setting_in, base_of, run_in, past_in, consequences_in, rolled_back, after_entry, nothing, remainder, remaining, run_of, world_of}
 use Rattle.book_log.specs.declared.begin.Begin.{Begin}
+use Rattle.book_log.specs.declared.entry.Entry.{Entry}
+use Rattle.book_log.proofs.LegalRuns.{legal_logs_run}
 use Rattle.book_log.proofs.Standing.{taken_named}
 use Rattle.plain_replay.specs.Consequences.{is_needed, is_next, found_after, consequences, is_among}
 use Rattle.plain_replay.specs.Remaining.{others}
@@ -56,27 +59,34 @@ module _ (s : Setting) where
   needed_facts [] t = refl
   needed_facts (x ∷ found) t = ap (λ (b : Bool). depends_directly x.fact t.fact || b) (needed_facts found t)
 
+  first_found : (name : StepName) (f : Fact) (b : Bool) → is_same_step name f.name ≡ b → found_after name [] f ≡ cond b (f ∷ []) []
+  first_found name f b h = ap (λ (x : Bool). cond x (f ∷ []) []) h
+
+  more_found : (name : StepName) (e f : Fact) (found : List Fact) (b : Bool) → is_needed (e ∷ found) f ≡ b → found_after name (e ∷ found) f ≡ cond b (e ∷ found ++ f ∷ []) (e ∷ found)
+  more_found name e f found b h = ap (λ (x : Bool). cond x (e ∷ found ++ f ∷ []) (e ∷ found)) h
+
   found_one : (name : StepName) (ts : List Past) (e : Past) (found : List Past) → facts_of (e ∷ found) ++ facts_of (following (steps s) (e ∷ found) ts) ≡ fold (found_after name) (facts_of (e ∷ found)) (facts_of ts)
   found_one name [] e found = append-nil (facts_of (e ∷ found))
   found_one name (t ∷ ts) e found =
       let same = needed_facts (e ∷ found) t in
       let more : facts_of (e ∷ found ++ t ∷ []) ≡ facts_of (e ∷ found) ++ t.fact ∷ [] = map-append (λ (x : Past). x.fact) (e ∷ found) (t ∷ []) in
+      let onward = ap (λ (l : List Fact). fold (found_after name) l (facts_of ts)) in
       by_bool (list_any (λ x. needs (steps s) x t) (e ∷ found)) _
-      (λ k. let j = sym same ∙ k in
-      rw (k, j)
+      (λ k. rw k
       (sym (append_assoc (facts_of (e ∷ found)) (t.fact ∷ []) (facts_of (following (steps s) (e ∷ found ++ t ∷ []) ts)))
       ∙ ap (λ (l : List Fact). l ++ facts_of (following (steps s) (e ∷ found ++ t ∷ []) ts)) (sym more)
       ∙ found_one name ts e (found ++ t ∷ [])
-      ∙ ap (λ (l : List Fact). fold (found_after name) l (facts_of ts)) more))
-      (λ k. let j = sym same ∙ k in rw (k, j) (found_one name ts e found))
+      ∙ onward (more ∙ sym (more_found name e.fact t.fact (facts_of found) true (sym same ∙ k)))))
+      (λ k. rw k (found_one name ts e found ∙ onward (sym (more_found name e.fact t.fact (facts_of found) false (sym same ∙ k)))))
 
   found_all : (name : StepName) (ts : List Past) → AreNamed ts → facts_of (after (steps s) ts (moved name)) ≡ consequences name (facts_of ts)
   found_all name [] h = refl
   found_all name (t ∷ ts) h =
       let same : is_same_step name t.fact.name ≡ is_same_step name (name_of t.step) = ap (is_same_step name) h.0 in
+      let onward = ap (λ (l : List Fact). fold (found_after name) l (facts_of ts)) in
       by_bool (is_same_step name (name_of t.step)) _
-      (λ k. let j = same ∙ k in rw (k, j) (found_one name ts t []))
-      (λ k. let j = same ∙ k in rw (k, j) (found_all name ts h.1))
+      (λ k. rw k (found_one name ts t [] ∙ onward (sym (first_found name t.fact true (same ∙ k)))))
+      (λ k. rw k (found_all name ts h.1 ∙ onward (sym (first_found name t.fact false (same ∙ k)))))
 
   -- ---- what is left
 
@@ -131,13 +141,28 @@ none_rolled begin r name h =
     let none = none_seen (λ (p : World × List Past). (p.0, facts_of p.1)) (theory.run (steps s) (base_of begin) r.steps) (sym (runs_are_seen s (base_of begin) r.steps) ∙ sym h) in
     sym (rolled_with begin r name [] (past_none begin r none))
 
-only_world : (ns : List Step) (o : Option (World × List Past)) → option_map (λ (p : World × List Fact). (p.0, ns)) (option_map (λ (p : World × List Past). (p.0, facts_of p.1)) o) ≡ option_map (λ (p : World × List Past). (p.0, ns)) o
+only_world : (ns : List Step) (o : Option (World × List Past))
+    → option_map {U = World × List Step} (λ (p : World × List Fact). (p.0, ns)) (option_map {U = World × List Fact} (λ (p : World × List Past). (p.0, facts_of p.1)) o) ≡ option_map {U = World × List Step} (λ (p : World × List Past). (p.0, ns)) o
 only_world ns None = refl
 only_world ns (Some p) = refl
 
--- the world of a run
-pub ran : (begin : Begin) (r : Remainder) (o : Option (World × List Fact)) → o ≡ run (setting_in begin r) (base_of begin) r.steps → option_map (λ (p : World × List Fact). (p.0, r.steps)) o ≡ option_map (λ (p : World × List Past). (p.0, r.steps)) (run_in begin r)
+world_told : (begin : Begin) (r : Remainder) (o : Option (World × List Fact)) → o ≡ run (setting_in begin r) (base_of begin) r.steps
+    → option_map {U = World × List Step} (λ p. (p.0, r.steps)) o ≡ option_map {U = World × List Step} (λ p. (p.0, r.steps)) (run_in begin r)
 unfolding run_in
-ran begin r o h =
+world_told begin r o h =
     let s = setting_in begin r in
-    ap (option_map (λ (p : World × List Fact). (p.0, r.steps))) (h ∙ runs_are_seen s (base_of begin) r.steps) ∙ only_world r.steps (theory.run (steps s) (base_of begin) r.steps)
+    ap (option_map {U = World × List Step} (λ (p : World × List Fact). (p.0, r.steps))) (h ∙ runs_are_seen s (base_of begin) r.steps) ∙ only_world r.steps (theory.run (steps s) (base_of begin) r.steps)
+
+-- ---- of a story
+
+pub all_left : (begin : Begin) (log : List Entry) (r : Remainder) (i : ℕ) → length log ≤ i → fold (after_entry begin) r (drop i log) ≡ fold (after_entry begin) nothing log → r ≡ remainder (record { begin = begin; log = log })
+unfolding remainder
+all_left begin log r i past h = sym (at_drop_all (fold (after_entry begin) r) log i past) ∙ h
+
+-- the world of what remains, and its steps
+pub told_all : (story : Story) (r : Remainder) (o : Option (World × List Fact)) → r ≡ remainder story → o ≡ run (setting_in story.begin r) (base_of story.begin) r.steps
+    → option_map {U = World × List Step} (λ p. (p.0, r.steps)) o ≡ option_map {U = World × List Step} (λ p. (p.0, remaining story)) (run_of story)
+told_all story r o e h = world_told story.begin r o h ∙ ap (λ (x : Remainder). option_map {U = World × List Step} (λ p. (p.0, x.steps)) (run_in story.begin x)) e
+
+pub legal_told : (story : Story) (o : Option (World × List Step)) → o ≡ option_map {U = World × List Step} (λ p. (p.0, remaining story)) (run_of story) → IsLegal story → o ≡ Some (world_of story, remaining story)
+legal_told story o h legal = h ∙ ap (option_map {U = World × List Step} (λ p. (p.0, remaining story))) (legal_logs_run story legal)

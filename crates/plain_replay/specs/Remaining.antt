@@ -8,7 +8,7 @@ use Rattle.book_log.specs.Story.{Remainder}
 use Rattle.plain_replay.specs.Consequences.{is_among}
 use Rattle.plain_replay.specs.Steps.{step_of}
 use Rattle.plain_replay.specs.Worlds.{machine_in, seen}
-use Rattle.plain_replay.specs.declared.remaining.Remains.{Remains}
+use Rattle.plain_replay.specs.declared.remainder.Remains.{Remains}
 use Rattle.plain_replay.specs.declared.replaying.Replayed.{Replayed}
 
 abbrev pub left : Remains → Remainder

@@ -10,7 +10,7 @@ mod consequences;
 mod deeds;
 mod machines;
 mod places;
-mod remaining;
+mod remainder;
 mod replaying;
 mod running;
 mod step;

@@ -6,7 +6,7 @@ ghost use Rattle.book_log.specs.Story.{Story, run_of, world_of};
 ghost use Rattle.plain_replay.specs.Remaining.{told};
 ghost use Rattle.plain_replay.specs.Steps.{step_of};
 
-use crate::remaining::{Remains, left_of};
+use crate::remainder::{Remains, left_of};
 use crate::step::Step;
 use crate::world::World;
 use book_log::{Begin, Entry};
