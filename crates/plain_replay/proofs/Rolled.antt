@@ -65,28 +65,29 @@ module _ (s : Setting) where
   more_found : (name : StepName) (e f : Fact) (found : List Fact) (b : Bool) → is_needed (e ∷ found) f ≡ b → found_after name (e ∷ found) f ≡ cond b (e ∷ found ++ f ∷ []) (e ∷ found)
   more_found name e f found b h = ap (λ (x : Bool). cond x (e ∷ found ++ f ∷ []) (e ∷ found)) h
 
+  onward : (name : StepName) (fs a b : List Fact) → a ≡ b → fold (found_after name) a fs ≡ fold (found_after name) b fs
+  onward name fs a b h = ap (λ (l : List Fact). fold (found_after name) l fs) h
+
   found_one : (name : StepName) (ts : List Past) (e : Past) (found : List Past) → facts_of (e ∷ found) ++ facts_of (following (steps s) (e ∷ found) ts) ≡ fold (found_after name) (facts_of (e ∷ found)) (facts_of ts)
   found_one name [] e found = append-nil (facts_of (e ∷ found))
   found_one name (t ∷ ts) e found =
       let same = needed_facts (e ∷ found) t in
       let more : facts_of (e ∷ found ++ t ∷ []) ≡ facts_of (e ∷ found) ++ t.fact ∷ [] = map-append (λ (x : Past). x.fact) (e ∷ found) (t ∷ []) in
-      let onward = ap (λ (l : List Fact). fold (found_after name) l (facts_of ts)) in
       by_bool (list_any (λ x. needs (steps s) x t) (e ∷ found)) _
       (λ k. rw k
       (sym (append_assoc (facts_of (e ∷ found)) (t.fact ∷ []) (facts_of (following (steps s) (e ∷ found ++ t ∷ []) ts)))
       ∙ ap (λ (l : List Fact). l ++ facts_of (following (steps s) (e ∷ found ++ t ∷ []) ts)) (sym more)
       ∙ found_one name ts e (found ++ t ∷ [])
-      ∙ onward (more ∙ sym (more_found name e.fact t.fact (facts_of found) true (sym same ∙ k)))))
-      (λ k. rw k (found_one name ts e found ∙ onward (sym (more_found name e.fact t.fact (facts_of found) false (sym same ∙ k)))))
+      ∙ onward name (facts_of ts) _ _ (more ∙ sym (more_found name e.fact t.fact (facts_of found) true (sym same ∙ k)))))
+      (λ k. rw k (found_one name ts e found ∙ onward name (facts_of ts) _ _ (sym (more_found name e.fact t.fact (facts_of found) false (sym same ∙ k)))))
 
   found_all : (name : StepName) (ts : List Past) → AreNamed ts → facts_of (after (steps s) ts (moved name)) ≡ consequences name (facts_of ts)
   found_all name [] h = refl
   found_all name (t ∷ ts) h =
       let same : is_same_step name t.fact.name ≡ is_same_step name (name_of t.step) = ap (is_same_step name) h.0 in
-      let onward = ap (λ (l : List Fact). fold (found_after name) l (facts_of ts)) in
       by_bool (is_same_step name (name_of t.step)) _
-      (λ k. rw k (found_one name ts t [] ∙ onward (sym (first_found name t.fact true (same ∙ k)))))
-      (λ k. rw k (found_all name ts h.1 ∙ onward (sym (first_found name t.fact false (same ∙ k)))))
+      (λ k. rw k (found_one name ts t [] ∙ onward name (facts_of ts) _ _ (sym (first_found name t.fact true (same ∙ k)))))
+      (λ k. rw k (found_all name ts h.1 ∙ onward name (facts_of ts) _ _ (sym (first_found name t.fact false (same ∙ k)))))
 
   -- ---- what is left
 
