@@ -86,12 +86,7 @@ impl Remains {
     }
 
     /// Drops a step and its consequences.
-    fn roll_back(
-        &mut self,
-        alloc: Global,
-        begin: &Begin,
-        name: &StepName,
-    ) -> Result<(), AllocError>
+    fn roll_back(&mut self, alloc: Global, begin: &Begin, name: &StepName) -> Result<(), AllocError>
         ensures { OnOk result (left self.new ≡ record { machines = (left self.old).machines; steps = story.rolled_back begin.now (left self.old) name.now }) }
     {
         match self.run(alloc, begin)? {

@@ -31,11 +31,7 @@ pub fn remaining(alloc: Global, begin: &Begin, log: &[Entry]) -> Result<Vec<Step
 
 /// The world that a log gives: the steps that remain of it, run forward from the start. None where these can't be run, as they
 /// can wherever each entry was accepted at its place. Time as of `remaining`.
-pub fn replay(
-    alloc: Global,
-    begin: &Begin,
-    log: &[Entry],
-) -> Result<Option<Replayed>, AllocError>
+pub fn replay(alloc: Global, begin: &Begin, log: &[Entry]) -> Result<Option<Replayed>, AllocError>
     ensures ran { IfOk result (λ r. (let story : Story = record { begin = begin.now; log = log.now } in option_map told r ≡ option_map (λ p. (p.0, model.remaining story)) (run_of story))) }
     ensures legal { IfOk result (λ r. (let story : Story = record { begin = begin.now; log = log.now } in IsLegal story → option_map told r ≡ Some (world_of story, model.remaining story))) }
 {

@@ -143,12 +143,7 @@ fn goes_on(book: &Book, thread: &ThreadName) -> bool {
 }
 
 /// A line about a thread that there was, mostly one that goes on.
-fn thread_line(
-    alloc: Global,
-    book: &Book,
-    dice: &mut Dice,
-    word: &str,
-) -> Result<String, Fail> {
+fn thread_line(alloc: Global, book: &Book, dice: &mut Dice, word: &str) -> Result<String, Fail> {
     let (_begin, log) = book.entries();
     let all = threads(alloc, log)?;
     let mut chosen: Vec<&ThreadName> = Vec::new(alloc);
@@ -192,7 +187,11 @@ fn drive_line(alloc: Global, dice: &mut Dice) -> Result<String, AllocError> {
     Ok(format!(in alloc; "drive {count}")?)
 }
 
-fn fixed_line(alloc: Global, dice: &mut Dice, lines: &[&'static str]) -> Result<String, AllocError> {
+fn fixed_line(
+    alloc: Global,
+    dice: &mut Dice,
+    lines: &[&'static str],
+) -> Result<String, AllocError> {
     String::from_str(alloc, dice.one_of(lines))
 }
 

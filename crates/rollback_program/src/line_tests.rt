@@ -106,9 +106,7 @@ fn is_same_phase(one: &Phase, other: &Phase) -> bool {
         }
         (Phase::Done(output), Phase::Done(other)) => output == other,
         (Phase::Failed(fault), Phase::Failed(other)) => {
-            fault.error == other.error
-                && fault.cause == other.cause
-                && fault.origin == other.origin
+            fault.error == other.error && fault.cause == other.cause && fault.origin == other.origin
         }
         _ => false,
     }
@@ -119,12 +117,14 @@ fn is_same_frame(alloc: Global, one: &Frame, other: &Frame) -> Result<bool, Allo
     let (retries, others) = (&one.retries, &other.retries);
     let used = format!(in alloc; "{retries:?}")?;
     let other_used = format!(in alloc; "{others:?}")?;
-    Ok(used == other_used
-        && one.state == other.state
-        && one.raw == other.raw
-        && one.count == other.count
-        && is_same_level(&one.level, &other.level)
-        && is_same_phase(&one.phase, &other.phase))
+    Ok(
+        used == other_used
+            && one.state == other.state
+            && one.raw == other.raw
+            && one.count == other.count
+            && is_same_level(&one.level, &other.level)
+            && is_same_phase(&one.phase, &other.phase),
+    )
 }
 
 /// The book and the plain world have the same threads, with the same frames.
@@ -267,12 +267,7 @@ fn serve_one(
 }
 
 /// Serves a table, definitions, and then drawn lines.
-fn serve_list(
-    rt: &impl Abort,
-    alloc: Global,
-    seed: u64,
-    tally: &mut Tally,
-) -> Result<(), Fail> {
+fn serve_list(rt: &impl Abort, alloc: Global, seed: u64, tally: &mut Tally) -> Result<(), Fail> {
     let mut session = Session::new(alloc);
     let mut plain = Plain {
         entries: 0,
@@ -302,7 +297,10 @@ fn serve_lists(rt: &impl Abort, alloc: Global, seeds: Range<u64>) -> Result<(), 
         serve_list(rt, alloc, seed, &mut tally)?;
     }
     assert!(rt; tally.accepted >= 100 && tally.refused >= 100, "{tally:?}");
-    assert!(rt; tally.calls >= 20 && tally.forks >= 10 && tally.closes >= 5, "{tally:?}");
+    assert!(rt;
+        tally.calls >= 20 && tally.forks >= 10 && tally.closes >= 5,
+        "{tally:?}"
+    );
     assert!(rt; tally.undos >= 5 && tally.rollbacks >= 5, "{tally:?}");
     assert!(rt; tally.wide_rollbacks >= 1, "{tally:?}");
     Ok(())
