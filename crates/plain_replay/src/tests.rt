@@ -168,10 +168,11 @@ fn is_outcome(alloc: Global, replayed: &Replayed, outcome: &Outcome) -> Result<b
     Ok(steps && looks && items.as_str() == outcome.items)
 }
 
-/// Whether the log, from these items, gives this.
-fn gives(alloc: Global, items: &str, lines: &[Line], outcome: &Outcome) -> Result<bool, Fail> {
-    let begin = begin(alloc, items)?;
-    let log = log(alloc, lines)?;
+/// Whether a row's log gives its outcome.
+fn gives(alloc: Global, row: &Row) -> Result<bool, Fail> {
+    let outcome = &row.outcome;
+    let begin = begin(alloc, row.items)?;
+    let log = log(alloc, row.log)?;
     let left = remaining(alloc, &begin, log.as_slice())?;
     let Some(replayed) = replay(alloc, &begin, log.as_slice())? else {
         return Ok(false);
@@ -244,274 +245,367 @@ struct Row {
     outcome: Outcome,
 }
 
-const ROWS: &[Row] = &[
-    Row {
-        items: "[]",
-        log: &[
-            PASS,
-            Line::Start("a", "p", "{}"),
-            Line::Step("a#1", Kind::Plain),
-        ],
-        outcome: Outcome {
-            steps: &["a#0", "a#1"],
-            looks: &[("a", "done 7")],
-            items: "",
-        },
+const FIRST_PATH: Row = Row {
+    items: "[]",
+    log: &[
+        PASS,
+        Line::Start("a", "p", "{}"),
+        Line::Step("a#1", Kind::Plain),
+    ],
+    outcome: Outcome {
+        steps: &["a#0", "a#1"],
+        looks: &[("a", "done 7")],
+        items: "",
     },
-    Row {
-        items: "[]",
-        log: &[
-            PASS,
-            Line::Start("a", "p", "{}"),
-            Line::Step("a#1", Kind::Plain),
-            Line::Undo("a#1"),
-        ],
-        outcome: Outcome {
-            steps: &["a#0"],
-            looks: &[("a", "ready P 0")],
-            items: "",
-        },
-    },
-    // the later write is a consequence of the earlier one
-    Row {
-        items: "[]",
-        log: &[
-            PUT,
-            Line::Start("a", "w", r#"{"v":"1"}"#),
-            Line::Start("b", "w", r#"{"v":"2"}"#),
-            Line::Step("a#1", Kind::Call),
-            Line::Step("b#1", Kind::Call),
-        ],
-        outcome: Outcome {
-            steps: &["a#0", "b#0", "a#1", "b#1"],
-            looks: &[("a", "done {}"), ("b", "done {}")],
-            items: r#"{"id":{"S":"k"},"v":{"S":"2"}}"#,
-        },
-    },
-    Row {
-        items: "[]",
-        log: &[
-            PUT,
-            Line::Start("a", "w", r#"{"v":"1"}"#),
-            Line::Start("b", "w", r#"{"v":"2"}"#),
-            Line::Step("a#1", Kind::Call),
-            Line::Step("b#1", Kind::Call),
-            Line::Rollback("a#1"),
-        ],
-        outcome: Outcome {
-            steps: &["a#0", "b#0"],
-            looks: &[("a", "ready W 0"), ("b", "ready W 0")],
-            items: "",
-        },
-    },
-    // two reads don't depend on each other
-    Row {
-        items: OLD,
-        log: &[
-            GET,
-            Line::Start("a", "g", "{}"),
-            Line::Start("b", "g", "{}"),
-            Line::Step("a#1", Kind::Call),
-            Line::Step("b#1", Kind::Call),
-            Line::Rollback("a#1"),
-        ],
-        outcome: Outcome {
-            steps: &["a#0", "b#0", "b#1"],
-            looks: &[
-                ("a", "ready G 0"),
-                ("b", r#"done {"Item":{"id":{"S":"k"},"v":{"S":"old"}}}"#),
-            ],
-            items: OLD_ITEM,
-        },
-    },
-    Row {
-        items: OLD,
-        log: &[
-            PUT_ONCE,
-            DELETE,
-            Line::Start("a", "c", "{}"),
-            Line::Start("b", "d", "{}"),
-            Line::Step("a#1", Kind::Call),
-            Line::Step("b#1", Kind::Call),
-            Line::Step("a#2", Kind::Call),
-        ],
-        outcome: Outcome {
-            steps: &["a#0", "b#0", "a#1", "b#1", "a#2"],
-            looks: &[("a", "done {}"), ("b", "done {}")],
-            items: r#"{"id":{"S":"k"},"v":{"S":"new"}}"#,
-        },
-    },
-    Row {
-        items: OLD,
-        log: &[
-            PUT_ONCE,
-            DELETE,
-            Line::Start("a", "c", "{}"),
-            Line::Start("b", "d", "{}"),
-            Line::Step("a#1", Kind::Call),
-            Line::Step("b#1", Kind::Call),
-            Line::Step("a#2", Kind::Call),
-            Line::Rollback("b#1"),
-        ],
-        outcome: Outcome {
-            steps: &["a#0", "b#0", "a#1"],
-            looks: &[("a", "ready C 1"), ("b", "ready D 0")],
-            items: OLD_ITEM,
-        },
-    },
-    Row {
-        items: "[]",
-        log: &[
-            MAP,
-            Line::Start("a", "m", "[]"),
-            Line::Step("a#1", Kind::Fork),
-            Line::Step("a#2", Kind::Join),
-        ],
-        outcome: Outcome {
-            steps: &["a#0", "a#1", "a#2"],
-            looks: &[("a", "done []")],
-            items: "",
-        },
-    },
-    // a branch that goes on is taken out with the others, and comes back with them
-    Row {
-        items: "[]",
-        log: &[
-            THREE,
-            Line::Start("e", "t", "{}"),
-            Line::Step("e#1", Kind::Fork),
-            Line::Step("e/1.1#1", Kind::Plain),
-            Line::Step("e/1.0#1", Kind::Plain),
-            Line::Step("e#2", Kind::Terminate),
-        ],
-        outcome: Outcome {
-            steps: &["e#0", "e#1", "e/1.1#1", "e/1.0#1", "e#2"],
-            looks: &[("e", "failed X y")],
-            items: "",
-        },
-    },
-    Row {
-        items: "[]",
-        log: &[
-            THREE,
-            Line::Start("e", "t", "{}"),
-            Line::Step("e#1", Kind::Fork),
-            Line::Step("e/1.1#1", Kind::Plain),
-            Line::Step("e/1.0#1", Kind::Plain),
-            Line::Step("e#2", Kind::Terminate),
-            Line::Rollback("e/1.0#1"),
-        ],
-        outcome: Outcome {
-            steps: &["e#0", "e#1", "e/1.1#1"],
-            looks: &[
-                ("e", "parked S 1 3"),
-                ("e/1.0", "ready A 0"),
-                ("e/1.1", "failed X y"),
-                ("e/1.2", "ready C 0"),
-            ],
-            items: "",
-        },
-    },
-    Row {
-        items: "[]",
-        log: &[
-            RETRIED,
-            Line::Start("e", "r", "{}"),
-            Line::Step("e#1", Kind::Fork),
-            Line::Step("e/1.0#1", Kind::Plain),
-            Line::Step("e#2", Kind::Terminate),
-            Line::Step("e#3", Kind::Fork),
-            Line::Step("e/3.0#1", Kind::Plain),
-            Line::Step("e#4", Kind::Terminate),
-            Line::Rollback("e#3"),
-        ],
-        outcome: Outcome {
-            steps: &["e#0", "e#1", "e/1.0#1", "e#2"],
-            looks: &[("e", "ready S 2")],
-            items: "",
-        },
-    },
-    Row {
-        items: "[]",
-        log: &[
-            NESTED,
-            Line::Start("e", "u", "{}"),
-            Line::Step("e#1", Kind::Fork),
-            Line::Step("e/1.0#1", Kind::Fork),
-            Line::Step("e/1.1#1", Kind::Plain),
-            Line::Step("e#2", Kind::Terminate),
-            Line::Undo("e#2"),
-        ],
-        outcome: Outcome {
-            steps: &["e#0", "e#1", "e/1.0#1", "e/1.1#1"],
-            looks: &[
-                ("e", "parked S 1 2"),
-                ("e/1.0", "parked I 1 1"),
-                ("e/1.0/1.0", "ready P 0"),
-                ("e/1.1", "failed X "),
-            ],
-            items: "",
-        },
-    },
-    // a step in the middle, of one branch, while those of the other stay
-    Row {
-        items: "[]",
-        log: &[
-            TWO_TIMES_TWO,
-            Line::Start("e", "q", "{}"),
-            Line::Step("e#1", Kind::Fork),
-            Line::Step("e/1.0#1", Kind::Plain),
-            Line::Step("e/1.0#2", Kind::Plain),
-            Line::Step("e/1.1#1", Kind::Plain),
-            Line::Step("e/1.1#2", Kind::Plain),
-            Line::Undo("e/1.0#2"),
-        ],
-        outcome: Outcome {
-            steps: &["e#0", "e#1", "e/1.0#1", "e/1.1#1", "e/1.1#2"],
-            looks: &[
-                ("e", "parked S 1 2"),
-                ("e/1.0", "ready B 1"),
-                ("e/1.1", "done {}"),
-            ],
-            items: "",
-        },
-    },
-    Row {
-        items: "[]",
-        log: &[
-            TWO_TIMES_TWO,
-            Line::Start("e", "q", "{}"),
-            Line::Step("e#1", Kind::Fork),
-            Line::Step("e/1.0#1", Kind::Plain),
-            Line::Step("e/1.0#2", Kind::Plain),
-            Line::Step("e/1.1#1", Kind::Plain),
-            Line::Step("e/1.1#2", Kind::Plain),
-            Line::Rollback("e#1"),
-        ],
-        outcome: Outcome {
-            steps: &["e#0"],
-            looks: &[("e", "ready S 0")],
-            items: "",
-        },
-    },
-    // an item without a key: no beginning is made, and its items are none
-    Row {
-        items: r#"[{"id":{"S":"k"}},{"v":{"S":"k"}}]"#,
-        log: &[PASS, Line::Start("a", "p", "{}")],
-        outcome: Outcome {
-            steps: &["a#0"],
-            looks: &[("a", "ready P 0")],
-            items: "",
-        },
-    },
-];
+};
 
 #[test]
-fn rows_by_hand(rt: HostRuntime) -> Result<(), Fail> {
-    for (number, row) in ROWS.iter().enumerate() {
-        let is_given = gives(rt.alloc(), row.items, row.log, &row.outcome)?;
-        assert!(rt; is_given, "row {number}");
-    }
+fn first_path(rt: HostRuntime) -> Result<(), Fail> {
+    assert!(rt; gives(rt.alloc(), &FIRST_PATH)?);
+    Ok(())
+}
+
+const UNDONE_STEP: Row = Row {
+    items: "[]",
+    log: &[
+        PASS,
+        Line::Start("a", "p", "{}"),
+        Line::Step("a#1", Kind::Plain),
+        Line::Undo("a#1"),
+    ],
+    outcome: Outcome {
+        steps: &["a#0"],
+        looks: &[("a", "ready P 0")],
+        items: "",
+    },
+};
+
+#[test]
+fn undone_step(rt: HostRuntime) -> Result<(), Fail> {
+    assert!(rt; gives(rt.alloc(), &UNDONE_STEP)?);
+    Ok(())
+}
+
+/// The later write is a consequence of the earlier one.
+const TWO_PUTS: Row = Row {
+    items: "[]",
+    log: &[
+        PUT,
+        Line::Start("a", "w", r#"{"v":"1"}"#),
+        Line::Start("b", "w", r#"{"v":"2"}"#),
+        Line::Step("a#1", Kind::Call),
+        Line::Step("b#1", Kind::Call),
+    ],
+    outcome: Outcome {
+        steps: &["a#0", "b#0", "a#1", "b#1"],
+        looks: &[("a", "done {}"), ("b", "done {}")],
+        items: r#"{"id":{"S":"k"},"v":{"S":"2"}}"#,
+    },
+};
+
+#[test]
+fn two_puts(rt: HostRuntime) -> Result<(), Fail> {
+    assert!(rt; gives(rt.alloc(), &TWO_PUTS)?);
+    Ok(())
+}
+
+const ROLLBACK_OF_A_PUT: Row = Row {
+    items: "[]",
+    log: &[
+        PUT,
+        Line::Start("a", "w", r#"{"v":"1"}"#),
+        Line::Start("b", "w", r#"{"v":"2"}"#),
+        Line::Step("a#1", Kind::Call),
+        Line::Step("b#1", Kind::Call),
+        Line::Rollback("a#1"),
+    ],
+    outcome: Outcome {
+        steps: &["a#0", "b#0"],
+        looks: &[("a", "ready W 0"), ("b", "ready W 0")],
+        items: "",
+    },
+};
+
+#[test]
+fn rollback_of_a_put(rt: HostRuntime) -> Result<(), Fail> {
+    assert!(rt; gives(rt.alloc(), &ROLLBACK_OF_A_PUT)?);
+    Ok(())
+}
+
+/// Two reads don't depend on each other.
+const ROLLBACK_OF_A_GET: Row = Row {
+    items: OLD,
+    log: &[
+        GET,
+        Line::Start("a", "g", "{}"),
+        Line::Start("b", "g", "{}"),
+        Line::Step("a#1", Kind::Call),
+        Line::Step("b#1", Kind::Call),
+        Line::Rollback("a#1"),
+    ],
+    outcome: Outcome {
+        steps: &["a#0", "b#0", "b#1"],
+        looks: &[
+            ("a", "ready G 0"),
+            ("b", r#"done {"Item":{"id":{"S":"k"},"v":{"S":"old"}}}"#),
+        ],
+        items: OLD_ITEM,
+    },
+};
+
+#[test]
+fn rollback_of_a_get(rt: HostRuntime) -> Result<(), Fail> {
+    assert!(rt; gives(rt.alloc(), &ROLLBACK_OF_A_GET)?);
+    Ok(())
+}
+
+const RETRY_AND_DELETE: Row = Row {
+    items: OLD,
+    log: &[
+        PUT_ONCE,
+        DELETE,
+        Line::Start("a", "c", "{}"),
+        Line::Start("b", "d", "{}"),
+        Line::Step("a#1", Kind::Call),
+        Line::Step("b#1", Kind::Call),
+        Line::Step("a#2", Kind::Call),
+    ],
+    outcome: Outcome {
+        steps: &["a#0", "b#0", "a#1", "b#1", "a#2"],
+        looks: &[("a", "done {}"), ("b", "done {}")],
+        items: r#"{"id":{"S":"k"},"v":{"S":"new"}}"#,
+    },
+};
+
+#[test]
+fn retry_and_delete(rt: HostRuntime) -> Result<(), Fail> {
+    assert!(rt; gives(rt.alloc(), &RETRY_AND_DELETE)?);
+    Ok(())
+}
+
+const ROLLBACK_OF_A_DELETE: Row = Row {
+    items: OLD,
+    log: &[
+        PUT_ONCE,
+        DELETE,
+        Line::Start("a", "c", "{}"),
+        Line::Start("b", "d", "{}"),
+        Line::Step("a#1", Kind::Call),
+        Line::Step("b#1", Kind::Call),
+        Line::Step("a#2", Kind::Call),
+        Line::Rollback("b#1"),
+    ],
+    outcome: Outcome {
+        steps: &["a#0", "b#0", "a#1"],
+        looks: &[("a", "ready C 1"), ("b", "ready D 0")],
+        items: OLD_ITEM,
+    },
+};
+
+#[test]
+fn rollback_of_a_delete(rt: HostRuntime) -> Result<(), Fail> {
+    assert!(rt; gives(rt.alloc(), &ROLLBACK_OF_A_DELETE)?);
+    Ok(())
+}
+
+const MAP_OVER_NOTHING: Row = Row {
+    items: "[]",
+    log: &[
+        MAP,
+        Line::Start("a", "m", "[]"),
+        Line::Step("a#1", Kind::Fork),
+        Line::Step("a#2", Kind::Join),
+    ],
+    outcome: Outcome {
+        steps: &["a#0", "a#1", "a#2"],
+        looks: &[("a", "done []")],
+        items: "",
+    },
+};
+
+#[test]
+fn map_over_nothing(rt: HostRuntime) -> Result<(), Fail> {
+    assert!(rt; gives(rt.alloc(), &MAP_OVER_NOTHING)?);
+    Ok(())
+}
+
+/// A branch that goes on is taken out with the others, and comes back with them.
+const TERMINATE: Row = Row {
+    items: "[]",
+    log: &[
+        THREE,
+        Line::Start("e", "t", "{}"),
+        Line::Step("e#1", Kind::Fork),
+        Line::Step("e/1.1#1", Kind::Plain),
+        Line::Step("e/1.0#1", Kind::Plain),
+        Line::Step("e#2", Kind::Terminate),
+    ],
+    outcome: Outcome {
+        steps: &["e#0", "e#1", "e/1.1#1", "e/1.0#1", "e#2"],
+        looks: &[("e", "failed X y")],
+        items: "",
+    },
+};
+
+#[test]
+fn terminate(rt: HostRuntime) -> Result<(), Fail> {
+    assert!(rt; gives(rt.alloc(), &TERMINATE)?);
+    Ok(())
+}
+
+const ROLLBACK_BELOW_A_TERMINATE: Row = Row {
+    items: "[]",
+    log: &[
+        THREE,
+        Line::Start("e", "t", "{}"),
+        Line::Step("e#1", Kind::Fork),
+        Line::Step("e/1.1#1", Kind::Plain),
+        Line::Step("e/1.0#1", Kind::Plain),
+        Line::Step("e#2", Kind::Terminate),
+        Line::Rollback("e/1.0#1"),
+    ],
+    outcome: Outcome {
+        steps: &["e#0", "e#1", "e/1.1#1"],
+        looks: &[
+            ("e", "parked S 1 3"),
+            ("e/1.0", "ready A 0"),
+            ("e/1.1", "failed X y"),
+            ("e/1.2", "ready C 0"),
+        ],
+        items: "",
+    },
+};
+
+#[test]
+fn rollback_below_a_terminate(rt: HostRuntime) -> Result<(), Fail> {
+    assert!(rt; gives(rt.alloc(), &ROLLBACK_BELOW_A_TERMINATE)?);
+    Ok(())
+}
+
+const PARALLEL_RETRIED: Row = Row {
+    items: "[]",
+    log: &[
+        RETRIED,
+        Line::Start("e", "r", "{}"),
+        Line::Step("e#1", Kind::Fork),
+        Line::Step("e/1.0#1", Kind::Plain),
+        Line::Step("e#2", Kind::Terminate),
+        Line::Step("e#3", Kind::Fork),
+        Line::Step("e/3.0#1", Kind::Plain),
+        Line::Step("e#4", Kind::Terminate),
+        Line::Rollback("e#3"),
+    ],
+    outcome: Outcome {
+        steps: &["e#0", "e#1", "e/1.0#1", "e#2"],
+        looks: &[("e", "ready S 2")],
+        items: "",
+    },
+};
+
+#[test]
+fn parallel_retried(rt: HostRuntime) -> Result<(), Fail> {
+    assert!(rt; gives(rt.alloc(), &PARALLEL_RETRIED)?);
+    Ok(())
+}
+
+const TERMINATE_OVER_GRANDCHILD: Row = Row {
+    items: "[]",
+    log: &[
+        NESTED,
+        Line::Start("e", "u", "{}"),
+        Line::Step("e#1", Kind::Fork),
+        Line::Step("e/1.0#1", Kind::Fork),
+        Line::Step("e/1.1#1", Kind::Plain),
+        Line::Step("e#2", Kind::Terminate),
+        Line::Undo("e#2"),
+    ],
+    outcome: Outcome {
+        steps: &["e#0", "e#1", "e/1.0#1", "e/1.1#1"],
+        looks: &[
+            ("e", "parked S 1 2"),
+            ("e/1.0", "parked I 1 1"),
+            ("e/1.0/1.0", "ready P 0"),
+            ("e/1.1", "failed X "),
+        ],
+        items: "",
+    },
+};
+
+#[test]
+fn terminate_over_grandchild(rt: HostRuntime) -> Result<(), Fail> {
+    assert!(rt; gives(rt.alloc(), &TERMINATE_OVER_GRANDCHILD)?);
+    Ok(())
+}
+
+/// A step in the middle, of one branch, while those of the other stay.
+const UNDO_IN_THE_MIDDLE: Row = Row {
+    items: "[]",
+    log: &[
+        TWO_TIMES_TWO,
+        Line::Start("e", "q", "{}"),
+        Line::Step("e#1", Kind::Fork),
+        Line::Step("e/1.0#1", Kind::Plain),
+        Line::Step("e/1.0#2", Kind::Plain),
+        Line::Step("e/1.1#1", Kind::Plain),
+        Line::Step("e/1.1#2", Kind::Plain),
+        Line::Undo("e/1.0#2"),
+    ],
+    outcome: Outcome {
+        steps: &["e#0", "e#1", "e/1.0#1", "e/1.1#1", "e/1.1#2"],
+        looks: &[
+            ("e", "parked S 1 2"),
+            ("e/1.0", "ready B 1"),
+            ("e/1.1", "done {}"),
+        ],
+        items: "",
+    },
+};
+
+#[test]
+fn undo_in_the_middle(rt: HostRuntime) -> Result<(), Fail> {
+    assert!(rt; gives(rt.alloc(), &UNDO_IN_THE_MIDDLE)?);
+    Ok(())
+}
+
+const ROLLBACK_OF_A_FORK: Row = Row {
+    items: "[]",
+    log: &[
+        TWO_TIMES_TWO,
+        Line::Start("e", "q", "{}"),
+        Line::Step("e#1", Kind::Fork),
+        Line::Step("e/1.0#1", Kind::Plain),
+        Line::Step("e/1.0#2", Kind::Plain),
+        Line::Step("e/1.1#1", Kind::Plain),
+        Line::Step("e/1.1#2", Kind::Plain),
+        Line::Rollback("e#1"),
+    ],
+    outcome: Outcome {
+        steps: &["e#0"],
+        looks: &[("e", "ready S 0")],
+        items: "",
+    },
+};
+
+#[test]
+fn rollback_of_a_fork(rt: HostRuntime) -> Result<(), Fail> {
+    assert!(rt; gives(rt.alloc(), &ROLLBACK_OF_A_FORK)?);
+    Ok(())
+}
+
+/// An item without a key: no beginning is made, and its items are none.
+const ITEM_WITHOUT_A_KEY: Row = Row {
+    items: r#"[{"id":{"S":"k"}},{"v":{"S":"k"}}]"#,
+    log: &[PASS, Line::Start("a", "p", "{}")],
+    outcome: Outcome {
+        steps: &["a#0"],
+        looks: &[("a", "ready P 0")],
+        items: "",
+    },
+};
+
+#[test]
+fn item_without_a_key(rt: HostRuntime) -> Result<(), Fail> {
+    assert!(rt; gives(rt.alloc(), &ITEM_WITHOUT_A_KEY)?);
     Ok(())
 }
 
