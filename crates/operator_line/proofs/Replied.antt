@@ -17,12 +17,12 @@ use Rattle.saved_steps.specs.declared.record.StepRecord.{StepRecord}
 use Rattle.operator_line.specs.Answers.{AnswersStep, AnswersStarted}
 use Rattle.reply_lines.specs.Replies.{moved_reply, step_reply, refusal_reply}
 
-given-ok : {T : Type 0} → (x : T) (r : Result T Refusal) → Gives (Ok x) r → r ≡ Ok x
+pub given-ok : {T : Type 0} → (x : T) (r : Result T Refusal) → Gives (Ok x) r → r ≡ Ok x
 given-ok x (Ok y) (inl e) = sym e
 given-ok x (Ok y) (inr e) = cc
 given-ok x (Err y) e = cc
 
-given-err : {T : Type 0} → (e : Refusal) (r : Result T Refusal) → Gives (Err e) r → (e ≡ Memory) ⊎ (r ≡ Err e)
+pub given-err : {T : Type 0} → (e : Refusal) (r : Result T Refusal) → Gives (Err e) r → (e ≡ Memory) ⊎ (r ≡ Err e)
 given-err e (Ok y) (inl h) = cc
 given-err e (Ok y) (inr h) = inl cc
 given-err e (Err f) h = inr (sym h)

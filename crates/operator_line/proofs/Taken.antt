@@ -1,5 +1,5 @@
 -- Steps that are taken one after another, while some are left to take.
-use Rattle.std.proofs.Common.{◌≡◌, ◌<◌, ◌+◌, ◌-◌, ℕ, zero, suc, List, [], ◌∷◌, ◌++◌, map, length, true, false, Bool, Option, None, Some, Result, Ok, Err, refl, sym, subst, ap, ◌∙◌, arith}
+use Rattle.std.proofs.Common.{◌≡◌, ◌<◌, ◌+◌, ◌-◌, ℕ, zero, suc, List, [], ◌∷◌, ◌++◌, map, length, true, false, Bool, not, ◌&&◌, Option, None, Some, Result, Ok, Err, refl, sym, subst, ap, ◌∙◌, arith}
 use Rattle.std.proofs.lemmas.List.{append_assoc, append-nil, length-append, map-append}
 use Rattle.step_names.specs.Written.{step_text}
 use Rattle.step_names.specs.declared.step.StepName.{StepName}
@@ -7,7 +7,10 @@ use Rattle.book_log.specs.Story.{Story}
 use Rattle.book_log.specs.declared.refusal.Refusal.{Refusal}
 use Rattle.reply_lines.specs.Replying.{AreLines}
 use Rattle.reply_lines.specs.declared.lines.Lines.{Lines}
-use Rattle.operator_line.specs.Answers.{Drives, NoneMoves, StopsDrive}
+use Rattle.rollback_book.specs.Ready.{IsFirstToMove}
+use Rattle.book_log.specs.Answers.{has_move}
+use Rattle.step_names.specs.Thread.{Thread}
+use Rattle.operator_line.specs.Answers.{Drives, MovesFirst, NoneMoves, StopsDrive}
 use Rattle.operator_line.specs.Driving.{Taken, KeepsLines, TakesOne}
 
 -- Whatever is taken from here on, with the steps so far it was taken from the beginning.
@@ -18,7 +21,10 @@ pub record HasTaken (count left : ℕ) (before now : Story) (lines : Lines) : Ty
   pub goes_on : (rest : List StepName) (stop : Option Refusal) (after : Story) → Drives left now rest stop after → Drives count before (names ++ rest) stop after
 
 pub begins : (count : ℕ) (before : Story) (lines : Lines) → AreLines lines [] → HasTaken count count before before lines
-begins count before lines h = record { names = []; lines_are = h; counted = refl; goes_on = λ rest stop after d. d }
+begins count before lines h = record { names = []; lines_are = h; counted = omega arith; goes_on = λ rest stop after d. d }
+
+one_less : (n : ℕ) → suc n - 1 ≡ n
+one_less n = omega arith
 
 -- one step more
 pub one_more : (count left : ℕ) (before now next : Story) (lines longer : Lines) → 0 < left → HasTaken count left before now lines → TakesOne now next lines longer (Ok true)
@@ -32,7 +38,7 @@ one_more count (suc left) before now next lines longer some t one =
       counted = omega (arith, length-append t.names (x ∷ []), t.counted);
       goes_on = λ rest stop after d.
         subst (λ (l : List StepName). Drives count before l stop after) (sym (append_assoc t.names (x ∷ []) rest))
-        (t.goes_on (x ∷ rest) stop after (one.0, one.1, one.2, refl, subst (λ (s : Story). Drives left s rest stop after) one.3 d));
+        (t.goes_on (x ∷ rest) stop after (one.0, one.1, one.2, refl, subst (λ (s : Story). Drives left s rest stop after) one.3 (subst (λ (n : ℕ). Drives n next rest stop after) (one_less left) d)));
     }
 
 ended : (count left : ℕ) (before now : Story) (lines : Lines) (stop : Option Refusal) → HasTaken count left before now lines → Drives left now [] stop now → Taken count before now lines stop
@@ -58,3 +64,19 @@ stopped count zero before now next lines same refusal some t one = absurd (omega
 stopped count (suc left) before now next lines same refusal some t one =
     let kept : HasTaken count (suc left) before now same = record { names = t.names; lines_are = one.2.1 (map step_text t.names) t.lines_are; counted = t.counted; goes_on = t.goes_on } in
     subst (λ (s : Story). Taken count before s same (Some refusal)) (sym one.1) (ended count (suc left) before now same (Some refusal) kept (one.0, refl))
+
+-- ---- the first thread that can move
+
+freely : (a b : Bool) → b ≡ false → (a && not b) ≡ true → a ≡ true
+freely true b e h = refl
+freely false b e h = cc
+
+stuck : (a b : Bool) → b ≡ false → (a && not b) ≡ false → a ≡ false
+stuck true true e h = cc
+stuck true false e h = cc
+stuck false b e h = refl
+
+-- where none is passed by
+pub first_of_all : (story : Story) (passed : Thread → Bool) (t : Thread) → ((u : Thread) → passed u ≡ false) → IsFirstToMove story passed (Some t) → MovesFirst story t
+first_of_all story passed t none h =
+    record { moves = freely (has_move story t) (passed t) (none t) h.1; least = λ u is less. stuck (has_move story u) (passed u) (none u) (h.2 u is less) }

@@ -289,10 +289,10 @@ impl Session {
         ensures ok { OnOk result (AnswersCommand self.old (grammar.drive count) (string_bytes reply.new.text) self.new) }
         ensures err { OnErr result (self.new ≡ self.old) }
     {
-        match &mut self.book {
-            Some(book) => drive(self.alloc, book, count, reply),
-            None => reply.refuse(NO_TABLE),
-        }
+        let Some(book) = &mut self.book else {
+            return reply.refuse(NO_TABLE);
+        };
+        drive(self.alloc, book, count, reply)
     }
 
     fn show(&self, thread: &ThreadName, reply: &mut Reply) -> Result<(), AllocError>

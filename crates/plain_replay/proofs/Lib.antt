@@ -5,3 +5,4 @@ pub mod Moves
 pub mod Defined
 pub mod Runs
 pub mod Carried
+pub mod Rolled

@@ -22,6 +22,27 @@ pub struct Place {
 }
 
 impl Place {
+    /// The execution's name.
+    pub fn exec(&self) -> &str
+        ensures { result.now ≡ self.now.exec }
+    {
+        self.exec.as_str()
+    }
+
+    /// The branches that lead to the thread, outermost first.
+    pub fn path(&self) -> &[(u32, u32)]
+        ensures { result.now ≡ self.now.path.items }
+    {
+        self.path.as_slice()
+    }
+
+    /// The thread's frame.
+    pub fn frame(&self) -> &Frame
+        ensures { result.now ≡ self.now.frame }
+    {
+        &self.frame
+    }
+
     fn is_at(&self, exec: &str, path: &[(u32, u32)]) -> bool
         ensures { result ≡ is_same_thread (thread_of self.now) (record { exec = exec.now; path = path.now }) }
     {

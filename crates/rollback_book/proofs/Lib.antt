@@ -10,3 +10,8 @@ pub mod Added
 pub mod Places
 pub mod Whole
 pub mod Moving
+pub mod Looking
+pub mod Ordered
+pub mod Rerun
+pub mod Started
+pub mod Retaken

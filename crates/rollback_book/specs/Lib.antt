@@ -1,3 +1,5 @@
 pub mod Book
 pub mod Making
 pub mod Ready
+pub mod Ordering
+pub mod Rerunning

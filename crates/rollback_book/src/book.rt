@@ -226,7 +226,7 @@ impl Book {
     }
 
     /// Takes back the step at a place.
-    fn take_back(&mut self, at: usize, step: StepName)
+    pub(crate) fn take_back(&mut self, at: usize, step: StepName)
         requires { IsFreePlace self.old step at }
         ensures { self.new.story ≡ accepted self.old.story (Entry.Undo step) }
     {

@@ -186,7 +186,7 @@ impl Book {
     }
 
     /// Makes a place for a machine, and room for its entry and that of its undoing.
-    fn make_place(&mut self, name: &Text) -> Result<(), AllocError>
+    pub(crate) fn make_place(&mut self, name: &Text) -> Result<(), AllocError>
         requires { machine_of self.old.story name.now ≡ None }
         ensures place { OnOk result (place_in self.new.places name.now ≡ Some None) }
         ensures room { OnOk result (HasLogRoom self.new) }

@@ -7,6 +7,8 @@ mod entering;
 mod lists;
 mod machines;
 mod making;
+mod ordering;
+mod rerunning;
 mod room;
 mod stepping;
 
@@ -16,3 +18,5 @@ pub use branch_tree::Readiness;
 pub use making::{Change, Entered, Made};
 pub use room::{PlanRoom, Room};
 pub use saved_steps::{Access, Fact, Kind, Saved, StepRecord};
+#[cfg(test)]
+mod tests;

@@ -1,7 +1,7 @@
 -- The program's statuses: 0 where the input ended or help was shown, 2 for wrong words, 4 where something failed.
 use Rattle.std.specs.Prelude.{◌≡◌, ◌⊎◌, ℕ, List, Option, None, Result, Ok, Err, IfSome, string_bytes}
 use Rattle.std.specs.Io.KnownBytes.{Appends, Keeps}
-use Rattle.rollback_book.specs.Story.{Story}
+use Rattle.book_log.specs.Story.{Story}
 use Rattle.operator_line.specs.Serving.{Serves}
 use Rattle.operator_line.specs.declared.serving.ServeFault.{ServeFault}
 use Rattle.rollback_program.specs.declared.mode.Mode.{Mode}

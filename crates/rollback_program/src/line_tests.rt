@@ -1,77 +1,25 @@
 // Lists of lines drawn at random, and the book after each line beside the plain program.
-use asl_forward::Frame;
+use crate::drawn_lines::{Dice, drawn, first_lines};
+use asl_forward::{Frame, Phase};
+use asl_machine::Level;
 use operator_line::{ServeFault, Session, serve};
-use plain_replay::{Step, replay};
-use rollback_book::Book;
+use plain_replay::{Replayed, Step, World, replay};
+use rollback_book::{Book, Entry, Kind};
 use std::alloc::{AllocError, Global};
-use std::collections::BTreeMap;
+use std::collections::BTreeSet;
 use std::io::{Read, Write};
+use std::ops::Range;
 use std::process::Abort;
 use std::test::Fail;
-use step_names::ThreadName;
+use step_names::{NameFault, StepName, ThreadName};
 
-/// Good and bad lines; which are which depends on those before.
-const LINES: &[&str] = &[
-    r#"define p {"StartAt":"P","States":{"P":{"Type":"Pass","Result":7,"End":true}}}"#,
-    r#"define two {"StartAt":"A","States":{"A":{"Type":"Pass","Next":"B"},"B":{"Type":"Succeed"}}}"#,
-    r#"define round {"StartAt":"A","States":{"A":{"Type":"Pass","Next":"A"}}}"#,
-    "define none {}",
-    "define none {",
-    "table items id:S []",
-    "start a p {}",
-    "start b two [1]",
-    "start c round {\"n\":3}",
-    "start d round null",
-    "start d two 1.5",
-    "start e none 5",
-    "start e/1.0 p 5",
-    "step a",
-    "step b",
-    "step b",
-    "step c",
-    "step c",
-    "step d",
-    "step d",
-    "step e",
-    "step  a",
-    "step a/1.0",
-    "undo a#1",
-    "undo a#0",
-    "undo b#1",
-    "undo b#01",
-    "undo c#2",
-    "undo d#1",
-    "show a",
-    "show c",
-    "show e",
-    "items",
-    "history",
-    "leave",
-    "",
-];
+/// The most branches of a fork of the machines that are drawn.
+const MOST_BRANCHES: u32 = 4;
 
-/// The next number of a linear congruential generator (Knuth, The Art of Computer Programming, volume 2, section 3.3.4).
-fn draw(state: &mut u64) -> usize {
-    *state = state
-        .wrapping_mul(6_364_136_223_846_793_005)
-        .wrapping_add(1_442_695_040_888_963_407);
-    (*state >> 33) as usize
-}
+/// How many lines of a list are drawn.
+const LINES: u32 = 80;
 
-/// A line of the table, or, a third of the times, one that undoes the last remaining step.
-fn drawn(alloc: Global, session: &Session, state: &mut u64) -> Result<String, Fail> {
-    let last = session.book().and_then(|book| book.history().last());
-    match last {
-        Some(record) if draw(state) % 3 == 0 => {
-            let name = record.fact.name.write_text(alloc)?;
-            Ok(format!(in alloc; "undo {name}\n")?)
-        }
-        _ => {
-            let line = LINES.get(draw(state) % 36).ok_or("no such line")?;
-            Ok(format!(in alloc; "{line}\n")?)
-        }
-    }
-}
+// ---- serving
 
 /// Serves with no promise: the replies are compared, so the promises of `serve` need not be read where it is called.
 fn run<R: Read, W: Write>(
@@ -93,99 +41,307 @@ fn answer(alloc: Global, session: &mut Session, input: &str) -> Option<Vec<u8>> 
     }
 }
 
-/// The book has the names and the frames of the plain program.
-fn is_plain(rt: &impl Abort, alloc: Global, book: &Book) -> Result<(), Fail> {
-    let (_begin, log) = book.entries();
-    let plain = replay(alloc, log)?.ok_or("a step can't be taken")?;
-    has_steps(rt, book, plain.steps.as_slice());
-    has_frames(rt, alloc, book, &plain.frames)
-}
+// ---- the book beside the plain program
 
-fn has_steps(rt: &impl Abort, book: &Book, steps: &[Step]) {
-    assert_eq!(rt; steps.len(), book.history().len());
-    for (step, record) in steps.iter().zip(book.history()) {
-        assert!(rt; step.is_named(&record.fact.name));
-    }
-}
-
-fn has_frames(
-    rt: &impl Abort,
+fn add_branches(
     alloc: Global,
-    book: &Book,
-    frames: &BTreeMap<ThreadName, Frame>,
-) -> Result<(), Fail> {
-    for thread in ["a", "b", "c", "d", "e"] {
-        let is_same = has_frame(alloc, book, frames, thread)?;
-        assert!(rt; is_same, "{thread} has another frame, or is only in one");
+    threads: &mut BTreeSet<ThreadName>,
+    fork: &StepName,
+) -> Result<(), NameFault> {
+    let thread = fork.thread.write_text(alloc)?;
+    let no = fork.no;
+    for branch in 0..MOST_BRANCHES {
+        let text = format!(in alloc; "{thread}/{no}.{branch}")?;
+        threads.insert(ThreadName::read(alloc, text.as_str())?)?;
     }
     Ok(())
 }
 
-fn has_frame(
-    alloc: Global,
-    book: &Book,
-    frames: &BTreeMap<ThreadName, Frame>,
-    thread: &str,
-) -> Result<bool, Fail> {
-    let thread = ThreadName::read(alloc, thread)?;
-    match (book.show(&thread).ok(), frames.get(&thread)) {
-        (Some(shown), Some(frame)) => Ok(is_same_frame(alloc, shown, frame)?),
-        (None, None) => Ok(true),
-        _ => Ok(false),
+/// Every thread that there ever was: the executions that were started, and the branches of the forks that were taken.
+pub(crate) fn threads(alloc: Global, log: &[Entry]) -> Result<BTreeSet<ThreadName>, NameFault> {
+    let mut threads = BTreeSet::new(alloc);
+    for entry in log {
+        match entry {
+            Entry::Start { exec, .. } => {
+                threads.insert(exec.copy()?)?;
+            }
+            Entry::Step {
+                name,
+                kind: Kind::Fork,
+            } => add_branches(alloc, &mut threads, name)?,
+            _ => (),
+        }
+    }
+    Ok(threads)
+}
+
+fn has_steps(book: &Book, steps: &[Step]) -> bool {
+    if steps.len() != book.history().len() {
+        return false;
+    }
+    for (step, record) in steps.iter().zip(book.history()) {
+        if !step.is_named(&record.fact.name) {
+            return false;
+        }
+    }
+    true
+}
+
+fn is_same_level(one: &Level, other: &Level) -> bool {
+    let (path, other_path) = (one.path.as_slice(), other.path.as_slice());
+    for (step, other_step) in path.iter().zip(other_path) {
+        if step.state != other_step.state || step.branch != other_step.branch {
+            return false;
+        }
+    }
+    one.machine == other.machine && path.len() == other_path.len()
+}
+
+/// No thread waits for more branches than are looked at.
+fn is_same_phase(one: &Phase, other: &Phase) -> bool {
+    match (one, other) {
+        (Phase::Ready, Phase::Ready) => true,
+        (Phase::Parked(branches), Phase::Parked(others)) => {
+            branches == others && *branches <= MOST_BRANCHES
+        }
+        (Phase::Done(output), Phase::Done(other)) => output == other,
+        (Phase::Failed(fault), Phase::Failed(other)) => {
+            fault.error == other.error && fault.cause == other.cause && fault.origin == other.origin
+        }
+        _ => false,
     }
 }
 
-/// Frames can't be compared, but what is written of them can.
+/// Counters of retriers can't be compared, but what is written of them can.
 fn is_same_frame(alloc: Global, one: &Frame, other: &Frame) -> Result<bool, AllocError> {
-    let one = format!(in alloc; "{one:?}")?;
-    let other = format!(in alloc; "{other:?}")?;
-    Ok(one == other)
+    let (retries, others) = (&one.retries, &other.retries);
+    let used = format!(in alloc; "{retries:?}")?;
+    let other_used = format!(in alloc; "{others:?}")?;
+    Ok(
+        used == other_used
+            && one.state == other.state
+            && one.raw == other.raw
+            && one.count == other.count
+            && is_same_level(&one.level, &other.level)
+            && is_same_phase(&one.phase, &other.phase),
+    )
 }
 
-/// Serves a drawn line, compares the book, and answers whether the line was accepted and whether it was refused.
+/// The book and the plain world have the same threads, with the same frames.
+fn has_frames(alloc: Global, book: &Book, log: &[Entry], world: &World) -> Result<bool, Fail> {
+    let mut count = 0usize;
+    for thread in &threads(alloc, log)? {
+        match (book.show(thread).ok(), world.frame(thread)) {
+            (Some(shown), Some(frame)) => {
+                if !is_same_frame(alloc, shown, frame)? {
+                    return Ok(false);
+                }
+                count = count.saturating_add(1);
+            }
+            (None, None) => (),
+            _ => return Ok(false),
+        }
+    }
+    Ok(count == world.places().len())
+}
+
+fn has_items(book: &Book, world: &World) -> bool {
+    for (shown, item) in book.items().zip(world.items().items()) {
+        if shown != item {
+            return false;
+        }
+    }
+    book.items().count() == world.items().items().count()
+}
+
+/// What the plain program gives of a log, and of how many entries.
+#[derive(Drop)]
+struct Plain {
+    entries: usize,
+    replayed: Option<Replayed>,
+}
+
+impl Plain {
+    /// Gives the log of a book, unless that was done: a log only grows.
+    fn follow(&mut self, alloc: Global, book: &Book) -> Result<(), AllocError> {
+        let (begin, log) = book.entries();
+        if self.replayed.is_none() || self.entries != log.len() {
+            self.replayed = replay(alloc, begin, log)?;
+            self.entries = log.len();
+        }
+        Ok(())
+    }
+
+    /// What the book has that isn't given here, none where they are alike.
+    fn difference(&self, alloc: Global, book: &Book) -> Result<Option<&'static str>, Fail> {
+        let Some(Replayed { world, steps }) = &self.replayed else {
+            return Ok(Some("a step that can't be taken"));
+        };
+        let (_begin, log) = book.entries();
+        if !has_steps(book, steps.as_slice()) {
+            return Ok(Some("other steps"));
+        }
+        if !has_frames(alloc, book, log, world)? {
+            return Ok(Some("other frames"));
+        }
+        if !has_items(book, world) {
+            return Ok(Some("other items"));
+        }
+        Ok(None)
+    }
+}
+
+// ---- lists of lines
+
+/// How many lines were accepted and refused, and what the logs hold.
+#[derive(Clone, Copy, Debug)]
+struct Tally {
+    accepted: u32,
+    refused: u32,
+    calls: u32,
+    forks: u32,
+    closes: u32,
+    undos: u32,
+    rollbacks: u32,
+    wide_rollbacks: u32,
+}
+
+const NOTHING: Tally = Tally {
+    accepted: 0,
+    refused: 0,
+    calls: 0,
+    forks: 0,
+    closes: 0,
+    undos: 0,
+    rollbacks: 0,
+    wide_rollbacks: 0,
+};
+
+fn one_more(count: &mut u32) {
+    *count = count.saturating_add(1);
+}
+
+impl Tally {
+    fn add_entry(&mut self, entry: &Entry) {
+        match entry {
+            Entry::Step { kind, .. } => match kind {
+                Kind::Call => one_more(&mut self.calls),
+                Kind::Fork => one_more(&mut self.forks),
+                Kind::Join | Kind::Terminate => one_more(&mut self.closes),
+                Kind::Start | Kind::Plain => (),
+            },
+            Entry::Undo { .. } => one_more(&mut self.undos),
+            Entry::Rollback { undone, .. } => {
+                one_more(&mut self.rollbacks);
+                if undone.names().len() > 2 {
+                    one_more(&mut self.wide_rollbacks);
+                }
+            }
+            Entry::Define { .. } | Entry::Start { .. } => (),
+        }
+    }
+}
+
+/// Serves a line, and compares the book then.
 fn serve_one(
     rt: &impl Abort,
     alloc: Global,
     session: &mut Session,
-    state: &mut u64,
-) -> Result<(bool, bool), Fail> {
-    let line = drawn(alloc, session, state)?;
-    let reply = answer(alloc, session, &line).ok_or("serving ended")?;
+    plain: &mut Plain,
+    tally: &mut Tally,
+    line: &str,
+) -> Result<(), Fail> {
+    let input = format!(in alloc; "{line}\n")?;
+    let reply = answer(alloc, session, input.as_str()).ok_or("serving ended")?;
     if let Some(book) = session.book() {
-        is_plain(rt, alloc, book)?;
+        plain.follow(alloc, book)?;
+        let found = plain.difference(alloc, book)?;
+        assert!(rt; found.is_none(), "{found:?} after {line}");
     }
-    Ok((reply.starts_with(b"ok"), reply.starts_with(b"no ")))
+    if reply.starts_with(b"ok") {
+        one_more(&mut tally.accepted);
+    } else if reply.starts_with(b"no ") {
+        one_more(&mut tally.refused);
+    }
+    Ok(())
 }
 
-/// Serves 400 lines, and answers how many were accepted and how many refused.
-fn serve_400(
-    rt: &impl Abort,
-    alloc: Global,
-    session: &mut Session,
-    seed: u64,
-) -> Result<(u32, u32), Fail> {
-    let mut state = seed;
-    let mut accepted = 0u32;
-    let mut refused = 0u32;
-    for _ in 0..400 {
-        let (is_accepted, is_refused) = serve_one(rt, alloc, session, &mut state)?;
-        accepted = accepted.saturating_add(is_accepted as u32);
-        refused = refused.saturating_add(is_refused as u32);
-    }
-    Ok((accepted, refused))
-}
-
-fn served(rt: &impl Abort, alloc: Global, seed: u64) -> Result<(u32, u32), Fail> {
+/// Serves a table, definitions, and then drawn lines.
+fn serve_list(rt: &impl Abort, alloc: Global, seed: u64, tally: &mut Tally) -> Result<(), Fail> {
     let mut session = Session::new(alloc);
-    serve_400(rt, alloc, &mut session, seed)
+    let mut plain = Plain {
+        entries: 0,
+        replayed: None,
+    };
+    let mut dice = Dice::new(seed);
+    for line in first_lines(alloc, &mut dice)? {
+        serve_one(rt, alloc, &mut session, &mut plain, tally, line)?;
+    }
+    for _ in 0..LINES {
+        let line = drawn(alloc, session.book(), &mut dice)?;
+        serve_one(rt, alloc, &mut session, &mut plain, tally, line.as_str())?;
+    }
+    if let Some(book) = session.book() {
+        let (_begin, log) = book.entries();
+        for entry in log {
+            tally.add_entry(entry);
+        }
+    }
+    Ok(())
+}
+
+/// Serves the lists of some seeds, in which lines of each kind are accepted.
+fn serve_lists(rt: &impl Abort, alloc: Global, seeds: Range<u64>) -> Result<(), Fail> {
+    let mut tally = NOTHING;
+    for seed in seeds {
+        serve_list(rt, alloc, seed, &mut tally)?;
+    }
+    assert!(rt; tally.accepted >= 100 && tally.refused >= 100, "{tally:?}");
+    assert!(rt;
+        tally.calls >= 20 && tally.forks >= 10 && tally.closes >= 5,
+        "{tally:?}"
+    );
+    assert!(rt; tally.undos >= 5 && tally.rollbacks >= 5, "{tally:?}");
+    assert!(rt; tally.wide_rollbacks >= 1, "{tally:?}");
+    Ok(())
 }
 
 #[test]
-fn mixed_lines(rt: HostRuntime) -> Result<(), Fail> {
-    for seed in [1, 2026] {
-        let (accepted, refused) = served(&rt, rt.alloc(), seed)?;
-        assert!(rt; accepted >= 100, "{accepted} were accepted");
-        assert!(rt; refused >= 100, "{refused} were refused");
-    }
-    Ok(())
+fn mixed_lines_one(rt: HostRuntime) -> Result<(), Fail> {
+    serve_lists(&rt, rt.alloc(), 1..6)
+}
+
+#[test]
+fn mixed_lines_two(rt: HostRuntime) -> Result<(), Fail> {
+    serve_lists(&rt, rt.alloc(), 6..11)
+}
+
+#[test]
+fn mixed_lines_three(rt: HostRuntime) -> Result<(), Fail> {
+    serve_lists(&rt, rt.alloc(), 11..16)
+}
+
+#[test]
+fn mixed_lines_four(rt: HostRuntime) -> Result<(), Fail> {
+    serve_lists(&rt, rt.alloc(), 16..21)
+}
+
+#[test]
+fn mixed_lines_five(rt: HostRuntime) -> Result<(), Fail> {
+    serve_lists(&rt, rt.alloc(), 21..26)
+}
+
+#[test]
+fn mixed_lines_six(rt: HostRuntime) -> Result<(), Fail> {
+    serve_lists(&rt, rt.alloc(), 26..31)
+}
+
+#[test]
+fn mixed_lines_seven(rt: HostRuntime) -> Result<(), Fail> {
+    serve_lists(&rt, rt.alloc(), 31..36)
+}
+
+#[test]
+fn mixed_lines_eight(rt: HostRuntime) -> Result<(), Fail> {
+    serve_lists(&rt, rt.alloc(), 36..41)
 }

@@ -1,0 +1,200 @@
+-- What a book tells of a step that is taken in it again.
+use Rattle.std.proofs.Common.{◌≡◌, ◌≤◌, ◌+◌, ◌-◌, ◌==◌, arith, ℕ, eq-eqb, Bool, true, false, cond, List, [], ◌∷◌, map, refl, ap, ap₂, sym, subst, ◌∙◌, inl, inr, Option, None, Some, Result, Ok, Err}
+use Rattle.std.specs.Prelude.{◌⊎◌, IsSome, position, is_some, option_and_then}
+use Rattle.std.proofs.lemmas.Bool.{eqb-true}
+use Rattle.std.proofs.lemmas.Option.{same_Some}
+use Rattle.json_tree.specs.Data.{depth}
+use Rattle.json_tree.specs.View.{data_of}
+use Rattle.json_tree.specs.declared.tree.Json.{Json}
+use Rattle.asl_forward.specs.declared.frame.Frame.{Frame}
+use Rattle.branch_tree.specs.Ready.{readiness_at}
+use Rattle.branch_tree.specs.declared.readiness.Readiness.{Readiness}
+use Rattle.step_names.specs.Thread.{Thread, execution}
+use Rattle.step_names.specs.declared.step.StepName.{StepName}
+use Rattle.trace_theory.specs.Traces.{In, names_of}
+use Rattle.trace_theory.proofs.Lists.{by_bool}
+use Rattle.trace_theory.proofs.Runs.{and_then_some}
+use Rattle.depends.specs.Instance.{steps}
+use Rattle.depends.specs.Laws.{facts_of}
+use Rattle.depends.proofs.Planned.{numbered}
+use Rattle.depends.proofs.Turned.{frame_move}
+use Rattle.depends.proofs.Worlds.{deed_taken}
+use Rattle.saved_steps.specs.Deeds.{Deed, frame_deed, if_numbered, move_deed, next_step}
+use Rattle.saved_steps.specs.Held.{frames_of, paths_of, seen}
+use Rattle.saved_steps.specs.Steps.{Step, started, moved, name_of, start_name}
+use Rattle.saved_steps.specs.World.{Setting, World, is_same_step}
+use Rattle.saved_steps.specs.declared.fact.Fact.{Fact}
+use Rattle.saved_steps.specs.declared.fact.Kind.{Kind}
+use Rattle.saved_steps.specs.declared.record.StepRecord.{StepRecord}
+use Rattle.step_history.specs.History.{Past}
+use Rattle.book_log.specs.Answers.{Gives, from_step, moved_answer, start_answer, step_answer, step_named, thread_answer, is_full_for_step}
+use Rattle.book_log.specs.Legal.{IsLegal}
+use Rattle.book_log.specs.Story.{Story, accepted, machine_of, past_of, remaining, setting_of, world_of}
+use Rattle.book_log.specs.declared.entry.Entry.TheVariants.{Start, Step as Stepped}
+use Rattle.book_log.specs.declared.moved.Moved.{Moved}
+use Rattle.book_log.specs.declared.refusal.Refusal.{Refusal}
+use Rattle.book_log.specs.declared.refusal.Refusal.TheVariants.{NoMachine, ExecTaken, Full, NoStep, Memory}
+use Rattle.book_log.proofs.Counts.{legal_counts}
+use Rattle.book_log.proofs.Standing.{fact_named, names_there}
+use Rattle.book_log.proofs.Taking.{step_said}
+use Rattle.rollback_book.specs.Book.{Volume, IsTied}
+use Rattle.rollback_book.specs.Rerunning.{CanRetake, Retakes, is_numbered, last_start}
+use Rattle.rollback_book.proofs.Rerun.{named_is}
+use Rattle.rollback_book.proofs.Searching.{no_step, step_at}
+use Rattle.rollback_book.proofs.Started.{legal_last, legal_numbered}
+use Rattle.rollback_book.proofs.Tied.{facts_are, stands, world_is}
+
+-- ---- a step that remains
+
+named_alike : (s : Setting) (name : StepName) (ts : List Past) → ((t : Past) → In t ts → t.fact.name ≡ name_of t.step) → is_some (step_named name (names_of (steps s) ts)) ≡ is_some (from_step name (facts_of ts))
+named_alike s name [] named = refl
+named_alike s name (t ∷ ts) named =
+    let own : is_same_step name t.fact.name ≡ is_same_step name (name_of t.step) = ap (is_same_step name) (named t (inl refl)) in
+    let rest = named_alike s name ts (λ x i. named x (inr i)) in
+    by_bool (is_same_step name (name_of t.step)) _
+    (λ k. let j = own ∙ k in rw (k, j) refl)
+    (λ k. let j = own ∙ k in rw (k, j) rest)
+
+module _ (b : Volume) (tied : IsTied b) (name : StepName) where
+  remains_by : is_some (step_named name (remaining b.story)) ≡ is_some (from_step name (facts_of (past_of b.story)))
+  remains_by =
+      ap (λ (l : List Step). is_some (step_named name l)) (sym (names_there b.story (setting_of b.story) (seen b.history.world) (past_of b.story) (stands b tied)))
+      ∙ named_alike (setting_of b.story) name (past_of b.story) (fact_named b.story (setting_of b.story) (seen b.history.world) (past_of b.story) (stands b tied))
+
+  none_by : (o : Option Step) → is_some o ≡ false → o ≡ None
+  none_by None h = refl
+  none_by (Some x) h = cc
+
+  pub not_there : position (λ (r : StepRecord). is_same_step r.fact.name name) b.history.records.items ≡ None → step_named name (remaining b.story) ≡ None
+  not_there h =
+      none_by (step_named name (remaining b.story))
+      (remains_by ∙ ap (λ (fs : List Fact). is_some (from_step name fs)) (sym (facts_are b tied)) ∙ ap is_some (no_step name b.history.records.items h))
+
+  pub is_there : (at : ℕ) → position (λ (r : StepRecord). is_same_step r.fact.name name) b.history.records.items ≡ Some at → is_some (step_named name (remaining b.story)) ≡ true
+  is_there at h = remains_by ∙ ap (λ (fs : List Fact). is_some (from_step name fs)) (sym (facts_are b tied)) ∙ ap is_some (step_at name b.history.records.items at h).answer
+
+some_by : {A : Type 0} (o : Option A) → is_some o ≡ true → (x : A) × (o ≡ Some x)
+some_by None h = cc
+some_by (Some x) h = (x, refl)
+
+pub found_some : (b : Volume) (tied : IsTied b) (name : StepName) (o : Option ℕ) → o ≡ position (λ (r : StepRecord). is_same_step r.fact.name name) b.history.records.items → is_some o ≡ true → is_some (step_named name (remaining b.story)) ≡ true
+found_some b tied name None h k = cc
+found_some b tied name (Some at) h k = is_there b tied name at (sym h)
+
+-- ---- a start that remains
+
+pub record IsStartThere (story : Story) (name : StepName) (step : Step) : Type 0 where
+  pub machine : List ℕ
+  pub input : Json
+  pub is : step ≡ started name.thread.exec machine input
+  pub root : name.thread.path ≡ []
+  pub last : last_start name.thread story.log ≡ Some (machine, input)
+  pub shallow : depth (data_of input) ≤ 127
+
+pub start_there : (story : Story) → IsLegal story → (name : StepName) → name.no ≡ 0 → (step : Step) → step_named name (remaining story) ≡ Some step → IsStartThere story name step
+start_there story legal name zero_no (started exec machine input) named =
+    let k = named_is name (remaining story) (started exec machine input) named in
+    let thread : execution exec ≡ name.thread = ap (λ (n : StepName). n.thread) k.0 in
+    record {
+      machine = machine;
+      input = input;
+      is = ap (λ (t : Thread). started t.exec machine input) thread;
+      root = ap (λ (t : Thread). t.path) (sym thread);
+      last = ap (λ (t : Thread). last_start t story.log) (sym thread) ∙ legal_last story legal exec machine input k.1;
+      shallow = (legal_counts story legal).shallow (started exec machine input) k.1;
+    }
+start_there story legal name zero_no (moved n) named =
+    let k = named_is name (remaining story) (moved n) named in
+    let least = legal_numbered story legal n k.1 in
+    let same = ap (λ (x : StepName). x.no) k.0 in
+    absurd (omega (arith, least, same, zero_no))
+
+pub some_start : (story : Story) → IsLegal story → (name : StepName) → name.no ≡ 0 → is_some (step_named name (remaining story)) ≡ true → (step : Step) × (step_named name (remaining story) ≡ Some step) × IsStartThere story name step
+some_start story legal name zero_no h =
+    let k = some_by (step_named name (remaining story)) h in
+    (k.0, k.1, start_there story legal name zero_no k.0 k.1)
+
+-- a step with another number is a move
+pub move_there : (story : Story) (name : StepName) → 1 ≤ name.no → is_some (step_named name (remaining story)) ≡ true → step_named name (remaining story) ≡ Some (moved name)
+move_there story name least h =
+    let k = some_by (step_named name (remaining story)) h in
+    k.1 ∙ ap (λ (s : Step). Some s) (is_move k.0 (named_is name (remaining story) k.0 k.1).0)
+  where
+    is_move : (s : Step) → name_of s ≡ name → s ≡ moved name
+    is_move (started exec machine input) e = let z = ap (λ (n : StepName). n.no) e in absurd (omega (arith, z, least))
+    is_move (moved n) e = ap moved e
+
+-- ---- what commands answer
+
+-- an answer is given as it is
+pub given_ok : {T : Type 0} (answer : Result T Refusal) (x : T) → Gives (Ok x) answer → answer ≡ Ok x
+given_ok (Ok y) x (inl e) = sym e
+given_ok (Ok y) x (inr e) = cc
+given_ok (Err e) x h = cc
+
+-- ---- starts
+
+-- an execution's own thread
+pub own_thread : (t : Thread) → t.path ≡ [] → t ≡ execution t.exec
+own_thread t root = ap (λ (p : List (ℕ × ℕ)). let u : Thread = record { exec = t.exec; path = p } in u) root
+
+start_cases : (known there full : Bool) (n m : StepName) → cond known (cond there (Err ExecTaken) (cond full (Err Full) (Ok n))) (Err NoMachine) ≡ Ok m → n ≡ m
+start_cases true true full n m h = cc
+start_cases true false true n m h = cc
+start_cases true false false n m h = cc
+start_cases false there full n m h = cc
+
+pub start_named : (story : Story) (exec : Thread) (machine : List ℕ) (name : StepName) → start_answer story exec machine ≡ Ok name → start_answer story exec machine ≡ Ok (start_name exec.exec)
+unfolding start_answer
+start_named story exec machine name h =
+    h ∙ ap Ok (sym (start_cases (is_some (machine_of story machine)) (is_some ((world_of story).frames exec)) (is_full_for_step story) (start_name exec.exec) name h))
+
+-- ---- moves
+
+moved_told : (story : Story) (r : Readiness) (o : Option Deed) (x : Moved) → moved_answer story r o ≡ Ok x → (d : Deed) × (o ≡ Some d) × (d.fact.name ≡ x.name)
+moved_told story r None x h = cc
+moved_told story r (Some d) x h = by_room (is_full_for_step story) h
+  where
+    by_room : (full : Bool) → cond full (Err Full) (Ok (record { name = d.fact.name; kind = d.fact.kind })) ≡ Ok x → (e : Deed) × (Some d ≡ Some e) × (e.fact.name ≡ x.name)
+    by_room true k = cc
+    by_room false k = let f : record { name = d.fact.name; kind = d.fact.kind } ≡ x = cc in (d, refl, ap (λ (y : Moved). y.name) f)
+
+thread_told : (story : Story) (t : Thread) (o : Option Frame) (x : Moved) → (world_of story).frames t ≡ o → thread_answer story t o ≡ Ok x → (f : Frame) × ((world_of story).frames t ≡ Some f) × (x.name ≡ next_step t f)
+thread_told story t None x e h = cc
+thread_told story t (Some f) x e h =
+    let d = moved_told story (readiness_at (paths_of (world_of story).frames t.exec) t.path) (move_deed (setting_of story) (world_of story) t) x h in
+    let g = and_then_some (frame_deed (setting_of story) (world_of story) t) ((world_of story).frames t) d.0 d.1 in
+    let same : f ≡ g.0 = same_Some f g.0 (sym e ∙ g.1) in
+    (f, e, sym d.2 ∙ (frame_move (setting_of story) (world_of story) t g.0 d.0 g.2).named ∙ ap (next_step t) (sym same))
+
+-- a thread's step is the next after its frame
+pub step_is_next : (story : Story) (t : Thread) (x : Moved) → step_answer story t ≡ Ok x → (f : Frame) × ((world_of story).frames t ≡ Some f) × (x.name ≡ next_step t f)
+unfolding step_answer
+step_is_next story t x h = thread_told story t ((world_of story).frames t) x refl h
+
+module _ (b : Volume) (name : StepName) where
+  -- a move that can be taken has the next number
+  retake_next : world_of b.story ≡ seen b.history.world → CanRetake b.story (moved name) → is_numbered (frames_of b.history.world name.thread) name.no ≡ true
+  retake_next world can =
+      let k = step_is_next b.story name.thread (record { name = name; kind = can.0 }) can.1 in
+      let n : name.no ≡ k.0.count + 1 = ap (λ (x : StepName). x.no) k.2 in
+      let there : frames_of b.history.world name.thread ≡ Some k.0 = ap (λ (w : World). w.frames name.thread) (sym world) ∙ k.1 in
+      ap (λ (o : Option Frame). is_numbered o name.no) there ∙ eq-eqb k.0.count (name.no - 1) (omega (arith, n))
+
+  pub no_retake : world_of b.story ≡ seen b.history.world → is_numbered (frames_of b.history.world name.thread) name.no ≡ false → CanRetake b.story (moved name) → ⊥
+  no_retake world other can = let clash = sym (retake_next world can) ∙ other in cc
+
+  numbered_by : 1 ≤ name.no → (o : Option Frame) → is_numbered o name.no ≡ true → (f : Frame) × (o ≡ Some f) × (f.count + 1 ≡ name.no)
+  numbered_by least None h = cc
+  numbered_by least (Some f) h = let k = eqb-true f.count (name.no - 1) h in (f, refl, omega (arith, k, least))
+
+  -- where the number is the next, the step of the thread is this one
+  pub next_is : 1 ≤ name.no → world_of b.story ≡ seen b.history.world → is_numbered (frames_of b.history.world name.thread) name.no ≡ true → (x : Moved) → step_answer b.story name.thread ≡ Ok x → x ≡ record { name = name; kind = x.kind }
+  next_is least world h x a =
+      let k = step_is_next b.story name.thread x a in
+      let n = numbered_by least (frames_of b.history.world name.thread) h in
+      let there : frames_of b.history.world name.thread ≡ Some k.0 = ap (λ (w : World). w.frames name.thread) (sym world) ∙ k.1 in
+      let same : k.0 ≡ n.0 = same_Some k.0 n.0 (sym there ∙ n.1) in
+      let no : k.0.count + 1 ≡ name.no = ap (λ (f : Frame). f.count + 1) same ∙ n.2 in
+      ap (λ (m : StepName). let y : Moved = record { name = m; kind = x.kind } in y)
+      (k.2 ∙ ap (λ (i : ℕ). let m : StepName = record { thread = name.thread; no = i } in m) no)

@@ -1,0 +1,41 @@
+use Rattle.std.proofs.Common.{◌≡◌, ◌∷◌, List, drop, take, suc, refl, ap, sym, subst, ◌∙◌, inl, inr, Ok, Err}
+use Rattle.step_names.specs.declared.step.StepName.{StepName}
+use Rattle.book_log.specs.Answers.{defines, rerun_answer, step_named}
+use Rattle.book_log.specs.Legal.{IsLegal}
+use Rattle.book_log.specs.Story.{Story, remaining}
+use Rattle.book_log.specs.declared.entry.Entry.{Entry}
+use Rattle.book_log.proofs.LegalRuns.{of_log}
+use Rattle.rollback_book.specs.Book.{Volume}
+use Rattle.rollback_book.proofs.Rerun.{begins, ends_here, goes_on, parts_at, take_next}
+use Rattle.rollback_book.proofs.book.Book.rerun.Goals as goal
+
+pub defining-requires : goal.defining-requires
+defining-requires c = subst (λ (l : List Entry). IsLegal (of_log c.self.inside.begin l)) (sym c.as_slice.ensures.value) c.self.invariant.legal
+
+pub loop-name-init : goal.loop-name-init
+loop-name-init c =
+    begins c.args.self.now.story
+    ∙ ap (λ (s : Story). Ok s) (sym (c.in_ok-again.ensures ∙ ap (λ (l : List Entry). of_log c.self.inside.begin (defines l)) c.as_slice.ensures.value ∙ ap (λ (b : Volume). of_log b.story.begin (defines b.story.log)) c.self.view_is))
+
+pub returns-in-Err : goal.returns-in-Err
+returns-in-Err c =
+    let story = c.args.self.now.story in
+    let legal = subst (λ (b : Volume). IsLegal b.story) c.self.view_is c.self.invariant.legal in
+    let steps = c.args.steps.now in
+    let i = c.loop-name.name-index in
+    let name = c.name-item.result in
+    let parts = parts_at steps i name c.loop-name-test.true c.name-item.is in
+    elim (ends_here story legal (take i steps) c.loop-name.again.story c.loop-name.invariant name (Unit {0}) (drop (suc i) steps) c.in-Err.refusal (step_named name (remaining story)) c.take_again.new.again.story refl c.in-Err.ensures) [
+      inl m ↦ inl m
+    | inr h ↦ inr (ap (rerun_answer story) parts ∙ h)
+    ]
+
+pub loop-name-preserved : goal.loop-name-preserved
+loop-name-preserved c =
+    let story = c.args.self.now.story in
+    let legal = subst (λ (b : Volume). IsLegal b.story) c.self.view_is c.self.invariant.legal in
+    let steps = c.args.steps.now in
+    let i = c.loop-name.name-index in
+    let name = c.name-item.result in
+    ap (rerun_answer story) (take_next steps i name c.loop-name-test.true c.name-item.is)
+    ∙ goes_on story legal (take i steps) c.loop-name.again.story c.loop-name.invariant name tt (step_named name (remaining story)) c.take_again.new.again.story refl c.in-Ok.ensures

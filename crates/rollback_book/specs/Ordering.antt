@@ -1,0 +1,27 @@
+-- Steps undone one by one in an order, as their facts tell it.
+use Rattle.std.specs.Prelude.{List, [], ◌∷◌, map, Option, None, Some, Result, Ok, Err, if◌then◌else◌}
+use Rattle.std.specs.Borrow.{Bor}
+use Rattle.saved_steps.specs.World.{is_same_step}
+use Rattle.saved_steps.specs.declared.fact.Fact.{Fact}
+use Rattle.saved_steps.specs.declared.record.StepRecord.{StepRecord}
+use Rattle.step_names.specs.declared.step.StepName.{StepName}
+use Rattle.book_log.specs.Answers.{from_step, found_answer}
+use Rattle.book_log.specs.declared.refusal.Refusal.{Refusal}
+
+-- the facts of records that are left
+abbrev pub facts_left : List (Bor StepRecord) → List Fact
+facts_left rs = map (λ r. r.now.fact) rs
+
+-- the facts but that of the step of a name
+abbrev pub left_by : StepName → List Fact → List Fact
+left_by name [] = []
+left_by name (f ∷ fs) = if is_same_step name f.name then fs else f ∷ left_by name fs
+
+abbrev pub refused_or : Result StepName Refusal → Option Refusal → Option Refusal
+refused_or (Ok name) rest = rest
+refused_or (Err e) rest = Some e
+
+-- why the first name that can't be undone at its turn can't be
+abbrev pub order_refusal : List Fact → List StepName → Option Refusal
+order_refusal fs [] = None
+order_refusal fs (name ∷ names) = refused_or (found_answer name (from_step name fs)) (order_refusal (left_by name fs) names)

@@ -1,0 +1,283 @@
+// A book whose steps are taken again in another order.
+ghost use Rattle.std.specs.Prelude.{◌≡◌, ◌⊎◌, ◌≤◌, ◌++◌, ◌∷◌, [], Some, Ok, Err, IfOk, IsSome, MatchResult, OnOk, option_map, option_copied};
+ghost use Rattle.json_tree.specs.Data.{depth};
+ghost use Rattle.json_tree.specs.View.{data_of};
+ghost use Rattle.saved_steps.specs.Held.{frames_of, seen};
+ghost use Rattle.saved_steps.specs.Steps.{started, moved};
+ghost use Rattle.book_log.specs.Answers.{defines, rerun_answer, step_named};
+ghost use Rattle.book_log.specs.Legal.{IsAccepted, IsLegal};
+ghost use Rattle.book_log.specs.Story.{accepted, remaining, world_of};
+ghost use Rattle.rollback_book.specs.Rerunning.{MayDefine, Retakes, is_numbered, last_start, start_in};
+
+use crate::book::Book;
+use crate::making::{Entered, Made, MadeChange};
+use asl_forward::Frame;
+use asl_machine::SharedMachine;
+use attr_values::{KeyAttribute, KeySchema};
+use book_log::{Begin, Entry, Refusal};
+use json_tree::{Json, Text};
+use std::alloc::{AllocError, Global};
+use step_names::{StepName, ThreadName};
+
+impl Book {
+    /// A new book from the same beginning and the same machines, in which these steps were taken in this order; each start has
+    /// the machine and the input that it has here. Its log has the definitions of this one's, and then an entry for each step.
+    /// Takes what `open` takes, a share of each machine, and what the steps take; for each name it looks through the remaining
+    /// steps, and for a start through the log, from their ends.
+    ///
+    /// # Errors
+    ///
+    /// `NoStep` where a name doesn't remain, isn't the next of its thread at its turn, or has no move then; and `Memory`.
+    pub fn rerun(&self, alloc: Global, steps: &[StepName]) -> Result<Book, Refusal>
+        ensures { MatchResult result
+            (λ b. rerun_answer self.now.story steps.now ≡ Ok b.story)
+            (λ e. (e ≡ Refusal.Memory) ⊎ (rerun_answer self.now.story steps.now ≡ Err e)) }
+    {
+        let mut again = Book::defining(alloc, &self.begin, self.log.as_slice())?;
+        for name in steps {
+            match self.take_again(alloc, &mut again, name) {
+                Ok(()) => {}
+                Err(refusal) => return Err(refusal),
+            }
+        }
+        Ok(again)
+    }
+
+    /// A book with a copy of a beginning and the machines of a log, and no steps.
+    fn defining(alloc: Global, begin: &Begin, log: &[Entry]) -> Result<Book, AllocError>
+        requires { IsLegal (record { begin = begin.now; log = log.now }) }
+        ensures { IfOk result (λ b. b.story ≡ record { begin = begin.now; log = defines log.now }) }
+    {
+        let begin = copy_begin(begin)?;
+        let Ok(mut book) = Book::open(alloc, begin) else {
+            return Err(AllocError);
+        };
+        book.define_each(log)?;
+        Ok(book)
+    }
+
+    /// Defines the machines of a log.
+    fn define_each(&mut self, log: &[Entry]) -> Result<(), AllocError>
+        requires empty { self.old.story.log ≡ [] }
+        requires legal { IsLegal (record { begin = self.old.story.begin; log = log.now }) }
+        ensures { OnOk result (self.new.story ≡ record { begin = self.old.story.begin; log = defines log.now }) }
+    {
+        for entry in log {
+            self.define_again(entry)?;
+        }
+        Ok(())
+    }
+
+    /// Defines the machine of an entry, where it defines one.
+    fn define_again(&mut self, entry: &Entry) -> Result<(), AllocError>
+        requires { MayDefine self.old.story entry.now }
+        ensures { OnOk result (self.new.story ≡ record { begin = self.old.story.begin; log = self.old.story.log ++ defines (entry.now ∷ []) }) }
+    {
+        match entry {
+            Entry::Define { name, machine } => self.share_machine(name, machine),
+            _ => Ok(()),
+        }
+    }
+
+    /// Defines a machine of another book.
+    fn share_machine(&mut self, name: &Text, machine: &SharedMachine) -> Result<(), AllocError>
+        requires { IsAccepted self.old.story (Entry.Define name.now machine.now) }
+        ensures { OnOk result (self.new.story ≡ accepted self.old.story (Entry.Define name.now machine.now)) }
+    {
+        let made = share_define(name, machine)?;
+        if self.make_place(name).is_err() {
+            drop(made);
+            return Err(AllocError);
+        }
+        let _ = self.enter(made);
+        Ok(())
+    }
+
+    /// Takes the remaining step of a name in another book.
+    fn take_again(
+        &self,
+        alloc: Global,
+        again: &mut Book,
+        name: &StepName,
+    ) -> Result<(), Refusal>
+        ensures { Retakes again.old.story (step_named name.now (remaining self.now.story)) result again.new.story }
+    {
+        let Some(_) = self.history.find(name) else {
+            return Err(Refusal::NoStep);
+        };
+        if name.no == 0 {
+            return self.start_again(alloc, again, name);
+        }
+        again.step_to(alloc, name)
+    }
+
+    /// Starts an execution in another book as it was started here.
+    fn start_again(
+        &self,
+        alloc: Global,
+        again: &mut Book,
+        name: &StepName,
+    ) -> Result<(), Refusal>
+        requires start { name.now.no ≡ 0 }
+        requires remains { IsSome (step_named name.now (remaining self.now.story)) }
+        ensures { Retakes again.old.story (step_named name.now (remaining self.now.story)) result again.new.story }
+    {
+        let Some((machine, input)) = last_start(self.log.as_slice(), &name.thread) else {
+            unreachable!()
+        };
+        let Ok(input) = input.copy() else {
+            return Err(Refusal::Memory);
+        };
+        again.start_with(alloc, &name.thread, machine, input)
+    }
+
+    /// Starts an execution, where it can be started.
+    fn start_with(
+        &mut self,
+        alloc: Global,
+        exec: &ThreadName,
+        machine: &Text,
+        input: Json,
+    ) -> Result<(), Refusal>
+        requires execution { exec.now.path ≡ [] }
+        requires shallow { depth (data_of input) ≤ 127 }
+        ensures { Retakes self.old.story (Some (started exec.now.exec machine.now input)) result self.new.story }
+    {
+        match self.start(alloc, exec, machine, input) {
+            Ok(name) => {
+                drop(name);
+                Ok(())
+            }
+            Err(refusal) => Err(or_no_step(refusal)),
+        }
+    }
+
+    /// Takes the next step of a thread, where this is its name.
+    fn step_to(&mut self, alloc: Global, name: &StepName) -> Result<(), Refusal>
+        requires { 1 ≤ name.now.no }
+        ensures { Retakes self.old.story (Some (moved name.now)) result self.new.story }
+    {
+        if !self.is_next(name) {
+            return Err(Refusal::NoStep);
+        }
+        match self.step(alloc, &name.thread) {
+            Ok(moved) => {
+                drop(moved);
+                Ok(())
+            }
+            Err(refusal) => Err(or_no_step(refusal)),
+        }
+    }
+
+    /// Whether the next move of a step's thread would have its number.
+    fn is_next(&self, name: &StepName) -> bool
+        requires { 1 ≤ name.now.no }
+        ensures number { result ≡ is_numbered (frames_of self.now.history.world name.now.thread) name.now.no }
+        ensures world { world_of self.now.story ≡ seen self.now.history.world }
+    {
+        is_numbered(self.history.frame(&name.thread), name.no)
+    }
+}
+
+/// Whether the next move after a frame would have this number.
+fn is_numbered(frame: Option<&Frame>, number: u32) -> bool
+    requires { 1 ≤ number }
+    ensures { result ≡ is_numbered (option_copied frame.entry) number }
+{
+    match frame {
+        Some(frame) => frame.count == number - 1,
+        None => false,
+    }
+}
+
+/// Want of memory stays; any other refusal is that there is no such step.
+fn or_no_step(refusal: Refusal) -> Refusal
+    ensures { ((refusal ≡ Refusal.Memory) × (result ≡ Refusal.Memory)) ⊎ ((refusal ≡ Refusal.Memory → ⊥) × (result ≡ Refusal.NoStep)) }
+{
+    match refusal {
+        Refusal::Memory => Refusal::Memory,
+        other => {
+            drop(other);
+            Refusal::NoStep
+        }
+    }
+}
+
+/// With what the last start of an execution started it.
+fn last_start<'a>(log: &'a [Entry], exec: &ThreadName) -> Option<(&'a Text, &'a Json)>
+    ensures { option_map (λ p. (p.0.now, p.1.now)) result ≡ last_start exec.now log.now }
+{
+    let mut later = log.len();
+    while 0 < later {
+        let at = later - 1;
+        if let Some(origin) = start_in(&log[at], exec) {
+            return Some(origin);
+        }
+        later = at;
+    }
+    None
+}
+
+/// With what an entry starts an execution.
+fn start_in<'a>(entry: &'a Entry, thread: &ThreadName) -> Option<(&'a Text, &'a Json)>
+    ensures { option_map (λ p. (p.0.now, p.1.now)) result ≡ start_in thread.now entry.now }
+{
+    match entry {
+        Entry::Start {
+            exec,
+            machine,
+            input,
+        } if thread == exec => Some((machine, input)),
+        _ => None,
+    }
+}
+
+/// All that a definition by a machine of another book needs.
+fn share_define(name: &Text, machine: &SharedMachine) -> Result<Made, AllocError>
+    ensures { IfOk result (λ m. m ≡ record { entry = Entry.Define name.now machine.now; answer = Entered.Defined; change = MadeChange.Define name.now machine.now }) }
+{
+    let entry = Entry::Define {
+        name: name.copy()?,
+        machine: machine.share()?,
+    };
+    let change = MadeChange::Define {
+        name: name.copy()?,
+        machine: machine.share()?,
+    };
+    Ok(Made {
+        entry,
+        answer: Entered::Defined,
+        change,
+    })
+}
+
+/// A copy of a beginning, whose items are shared.
+fn copy_begin(begin: &Begin) -> Result<Begin, AllocError>
+    ensures { IfOk result (λ b. b ≡ begin.now) }
+{
+    Ok(Begin {
+        table: begin.table.copy()?,
+        schema: copy_schema(&begin.schema)?,
+        items: begin.items.copy()?,
+    })
+}
+
+fn copy_schema(schema: &KeySchema) -> Result<KeySchema, AllocError>
+    ensures { IfOk result (λ s. s ≡ schema.now) }
+{
+    let partition = copy_attribute(&schema.partition)?;
+    let sort = match &schema.sort {
+        Some(attribute) => Some(copy_attribute(attribute)?),
+        None => None,
+    };
+    Ok(KeySchema { partition, sort })
+}
+
+fn copy_attribute(attribute: &KeyAttribute) -> Result<KeyAttribute, AllocError>
+    ensures { IfOk result (λ a. a ≡ attribute.now) }
+{
+    Ok(KeyAttribute {
+        name: attribute.name.copy()?,
+        kind: attribute.kind,
+    })
+}
