@@ -159,6 +159,55 @@ fn nests(rt: HostRuntime) -> Result<(), Fail> {
     Ok(())
 }
 
+fn list_levels(list: &JsonList) -> Result<u32, AllocError> {
+    let json = Json::List(list.copy()?);
+    Ok(depth(&json))
+}
+
+fn fields_levels(fields: &JsonFields) -> Result<u32, AllocError> {
+    let json = Json::Fields(fields.copy()?);
+    Ok(depth(&json))
+}
+
+fn changed_lists_nest(alloc: Global) -> Result<bool, JsonFault> {
+    let mut list = JsonList::new(alloc);
+    list.push(read(alloc, b"[[1]]")?)?;
+    list.push(Json::Null)?;
+    let before = list_levels(&list)?;
+    let is_set = sets_item(&mut list, 0, Json::Null).is_ok();
+    let after = list_levels(&list)?;
+    list.push(read(alloc, b"[]")?)?;
+    Ok(is_set && before == 3 && after == 1 && list_levels(&list)? == 2)
+}
+
+fn put(
+    alloc: Global,
+    fields: &mut JsonFields,
+    name: &str,
+    text: &[u8],
+) -> Result<u32, JsonFault> {
+    let _replaced = fields.insert(Text::new(alloc, name)?, read(alloc, text)?)?;
+    Ok(fields_levels(fields)?)
+}
+
+fn changed_fields_nest(alloc: Global) -> Result<bool, JsonFault> {
+    let mut fields = JsonFields::new(alloc);
+    let first = put(alloc, &mut fields, "a", b"[[1]]")?;
+    let second = put(alloc, &mut fields, "b", b"[]")?;
+    let replaced = put(alloc, &mut fields, "a", b"1")?;
+    let is_removed = fields.remove("b")?.is_some();
+    let left = fields_levels(&fields)?;
+    Ok(is_removed && first == 3 && second == 3 && replaced == 2 && left == 1)
+}
+
+/// What a list and an object keep of how deep they nest follows each change.
+#[test]
+fn nests_after_changes(rt: HostRuntime) -> Result<(), Fail> {
+    assert!(rt; changed_lists_nest(rt.alloc())?);
+    assert!(rt; changed_fields_nest(rt.alloc())?);
+    Ok(())
+}
+
 fn is_written_and_copied(alloc: Global, json: &Json, want: &str) -> Result<bool, AllocError> {
     Ok(write_text(alloc, json)?.as_str() == want && json.copy()? == *json)
 }
