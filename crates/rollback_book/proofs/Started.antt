@@ -119,12 +119,12 @@ last_next story (Define name machine) legal h a =
     kept_last story (Define name machine) (λ t. refl) (λ exec given input i. subst (In (started exec given input)) (steps_next story (Define name machine)) i) h
 last_next story (Start x machine input) legal h a = λ exec given origin i.
     elim (In-split (started exec given origin) (remaining story) (started x.exec machine input ∷ []) (subst (In (started exec given origin)) (steps_next story (Start x machine input)) i)) as (λ _. last_start (execution exec) (story.log ++ Start x machine input ∷ []) ≡ Some (given, origin)) [
-      inl j ↦ last_of_more (execution exec) story.log (Start x machine input)
+      | inl j ↦ last_of_more (execution exec) story.log (Start x machine input)
           ∙ ap (λ (b : Bool). or_earlier (cond b (Some (machine, input)) None) (last_start (execution exec) story.log)) (started_anew story x machine exec given input origin legal a j)
           ∙ h exec given origin j
-    | inr j ↦ elim j as (λ _. last_start (execution exec) (story.log ++ Start x machine input ∷ []) ≡ Some (given, origin)) [
-        inl e ↦ last_of_more (execution exec) story.log (Start x machine input) ∙ ap (λ (b : Bool). or_earlier (cond b (Some (machine, input)) None) (last_start (execution exec) story.log)) (own exec given origin e) ∙ ap (λ (o : Origin). Some o) (same exec given origin e)
-      | inr n ↦ absurd n
+      | inr j ↦ elim j as (λ _. last_start (execution exec) (story.log ++ Start x machine input ∷ []) ≡ Some (given, origin)) [
+        | inl e ↦ last_of_more (execution exec) story.log (Start x machine input) ∙ ap (λ (b : Bool). or_earlier (cond b (Some (machine, input)) None) (last_start (execution exec) story.log)) (own exec given origin e) ∙ ap (λ (o : Origin). Some o) (same exec given origin e)
+        | inr n ↦ absurd n
       ]
     ]
   where

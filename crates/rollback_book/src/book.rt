@@ -12,7 +12,6 @@ ghost use Rattle.rollback_book.specs.Making.{IsPlanned, WasPlanned};
 
 use crate::lists::{names_at, push_with_room};
 use crate::machines::Machines;
-
 use crate::room::{PlanRoom, Room};
 use asl_forward::Frame;
 use attr_values::ItemFault;

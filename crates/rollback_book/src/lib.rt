@@ -18,5 +18,6 @@ pub use branch_tree::Readiness;
 pub use making::{Change, Entered, Made};
 pub use room::{PlanRoom, Room};
 pub use saved_steps::{Access, Fact, Kind, Saved, StepRecord};
+
 #[cfg(test)]
 mod tests;

@@ -84,11 +84,7 @@ fn last_first(alloc: Global, names: &[StepName]) -> Result<Vec<StepName>, AllocE
 }
 
 /// Whether the steps of these names can be undone one by one in this order.
-fn look_at_order(
-    alloc: Global,
-    records: &[StepRecord],
-    steps: &[StepName],
-) -> Result<(), Refusal>
+fn look_at_order(alloc: Global, records: &[StepRecord], steps: &[StepName]) -> Result<(), Refusal>
     ensures { MatchResult result
         (λ _. order_refusal (map (λ r. r.fact) records.now) steps.now ≡ None)
         (λ e. (e ≡ Refusal.Memory) ⊎ (order_refusal (map (λ r. r.fact) records.now) steps.now ≡ Some e)) }

@@ -94,12 +94,7 @@ impl Book {
     }
 
     /// Takes the remaining step of a name in another book.
-    fn take_again(
-        &self,
-        alloc: Global,
-        again: &mut Book,
-        name: &StepName,
-    ) -> Result<(), Refusal>
+    fn take_again(&self, alloc: Global, again: &mut Book, name: &StepName) -> Result<(), Refusal>
         ensures { Retakes again.old.story (step_named name.now (remaining self.now.story)) result again.new.story }
     {
         let Some(_) = self.history.find(name) else {
@@ -112,12 +107,7 @@ impl Book {
     }
 
     /// Starts an execution in another book as it was started here.
-    fn start_again(
-        &self,
-        alloc: Global,
-        again: &mut Book,
-        name: &StepName,
-    ) -> Result<(), Refusal>
+    fn start_again(&self, alloc: Global, again: &mut Book, name: &StepName) -> Result<(), Refusal>
         requires start { name.now.no ≡ 0 }
         requires remains { IsSome (step_named name.now (remaining self.now.story)) }
         ensures { Retakes again.old.story (step_named name.now (remaining self.now.story)) result again.new.story }

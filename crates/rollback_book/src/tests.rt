@@ -402,9 +402,18 @@ const ROLLBACK_OF_A_PUT: &[Row] = &[
     (Act::Start("b", "w", r#"{"v":"2"}"#), "b#0"),
     (Act::Step("a"), "a#1"),
     (Act::Step("b"), "b#1"),
-    (Act::Rerun(&["a#0", "b#0", "a#1", "b#1"]), r#"a#0 b#0 a#1 b#1 {"id":{"S":"k"},"v":{"S":"2"}}"#),
-    (Act::Rerun(&["a#0", "b#0", "a#1"]), r#"a#0 b#0 a#1 {"id":{"S":"k"},"v":{"S":"1"}}"#),
-    (Act::Rerun(&["b#0", "b#1", "a#0", "a#1"]), r#"b#0 b#1 a#0 a#1 {"id":{"S":"k"},"v":{"S":"1"}}"#),
+    (
+        Act::Rerun(&["a#0", "b#0", "a#1", "b#1"]),
+        r#"a#0 b#0 a#1 b#1 {"id":{"S":"k"},"v":{"S":"2"}}"#,
+    ),
+    (
+        Act::Rerun(&["a#0", "b#0", "a#1"]),
+        r#"a#0 b#0 a#1 {"id":{"S":"k"},"v":{"S":"1"}}"#,
+    ),
+    (
+        Act::Rerun(&["b#0", "b#1", "a#0", "a#1"]),
+        r#"b#0 b#1 a#0 a#1 {"id":{"S":"k"},"v":{"S":"1"}}"#,
+    ),
     (Act::Rerun(&[]), ""),
     // not the next of its thread
     (Act::Rerun(&["a#1", "a#0", "b#0"]), "NoStep"),
@@ -463,10 +472,7 @@ const FORK_AND_BRANCHES: &[Row] = &[
     (Act::Advance, "e/1.0#2"),
     (Act::Advance, "e/1.1#1"),
     (Act::Advance, "e/1.1#2"),
-    (
-        Act::Plan("e#1"),
-        "e/1.1#2 e/1.1#1 e/1.0#2 e/1.0#1 e#1 ",
-    ),
+    (Act::Plan("e#1"), "e/1.1#2 e/1.1#1 e/1.0#2 e/1.0#1 e#1 "),
 ];
 
 /// Those in which each step is free at its turn.
@@ -495,7 +501,10 @@ const REFUSED_ORDERS: &[Row] = &[
     (Act::UndoOrder(&["e/1.0#2", "z#1"]), "NoStep"),
     (Act::UndoOrder(&["e/1.0#2", "e/1.0#2"]), "NoStep"),
     (Act::UndoOrder(&["e/1.0#2", "e#1"]), "needed by e/1.0#1"),
-    (Act::UndoOrder(&["e/1.0#2", "e/1.0#1", "e#1", "z#1"]), "needed by e/1.1#1"),
+    (
+        Act::UndoOrder(&["e/1.0#2", "e/1.0#1", "e#1", "z#1"]),
+        "needed by e/1.1#1",
+    ),
     (Act::UndoOrder(&[]), "ok"),
 ];
 
@@ -577,8 +586,10 @@ fn is_started(alloc: Global, book: &mut Book, exec: &str) -> Result<bool, Refusa
 fn is_full(alloc: Global, book: &mut Book, exec: &str) -> Result<bool, Refusal> {
     let started = start(alloc, book, exec, "p", "{}")?;
     let moved = step(alloc, book, &thread_of(alloc, "e0")?)?;
-    Ok(matches!(started, Told::Refused(Refusal::Full))
-        && matches!(moved, Told::Refused(Refusal::Full)))
+    Ok(
+        matches!(started, Told::Refused(Refusal::Full))
+            && matches!(moved, Told::Refused(Refusal::Full)),
+    )
 }
 
 fn fill(rt: &impl Abort, alloc: Global, book: &mut Book) -> Result<(), Fail> {

@@ -26,8 +26,8 @@ returns-in-Err c =
     let name = c.name-item.result in
     let parts = parts_at steps i name c.loop-name-test.true c.name-item.is in
     elim (ends_here story legal (take i steps) c.loop-name.again.story c.loop-name.invariant name (Unit {0}) (drop (suc i) steps) c.in-Err.refusal (step_named name (remaining story)) c.take_again.new.again.story refl c.in-Err.ensures) [
-      inl m ↦ inl m
-    | inr h ↦ inr (ap (rerun_answer story) parts ∙ h)
+      | inl m ↦ inl m
+      | inr h ↦ inr (ap (rerun_answer story) parts ∙ h)
     ]
 
 pub loop-name-preserved : goal.loop-name-preserved

@@ -13,9 +13,9 @@ returns-in-Err-clause-answer c =
     let steps = c.args.steps.now in
     let e = c.in-Err.refusal in
     elim c.in-Err.ensures [
-      inl m ↦ inl m
-    | inr h ↦ inr (subst (λ (b : Volume). order_answer b.story steps ≡ Err e) c.self.view_is
-        (order_answered _ c.self.invariant steps (Some e) (ap (λ (rs : List StepRecord). order_refusal (facts rs) steps) (sym c.records.ensures) ∙ h)))
+      | inl m ↦ inl m
+      | inr h ↦ inr (subst (λ (b : Volume). order_answer b.story steps ≡ Err e) c.self.view_is
+          (order_answered _ c.self.invariant steps (Some e) (ap (λ (rs : List StepRecord). order_refusal (facts rs) steps) (sym c.records.ensures) ∙ h)))
     ]
 
 pub take_back_in_order-requires : goal.take_back_in_order-requires
