@@ -62,6 +62,7 @@ saved_steps undoes_forks_and_a_terminate
 saved_steps undoes_a_join
 saved_steps undoes_calls
 depends answers_want_of_memory
+rollback_book refused_growths_change_nothing
 operator_line first_path_with_a_refused_growth
 operator_line row_tests::rows_with_a_refused_growth
 operator_line row_tests::drive_with_a_refused_growth
