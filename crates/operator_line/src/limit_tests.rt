@@ -7,7 +7,8 @@ use std::test::Fail;
 
 const TABLE: &str = "table items id:S []";
 
-const MACHINE_V: &str = r#"define v {"StartAt":"M","States":{"M":{"Type":"Map","ItemsPath":"$.xs","ItemSelector":{"i.$":"$$.Map.Item.Index","x.$":"$$.Map.Item.Value","k.$":"$.k"},"ItemProcessor":{"StartAt":"P","States":{"P":{"Type":"Pass","End":true}}},"ResultPath":"$.out","OutputPath":"$.out","End":true}}}"#;
+const MACHINE_V: &str =
+    r#"define v {"StartAt":"M","States":{"M":{"Type":"Map","ItemsPath":"$.xs","ItemSelector":{"i.$":"$$.Map.Item.Index","x.$":"$$.Map.Item.Value","k.$":"$.k"},"ItemProcessor":{"StartAt":"P","States":{"P":{"Type":"Pass","End":true}}},"ResultPath":"$.out","OutputPath":"$.out","End":true}}}"#;
 
 /// Fails where a line has another reply.
 fn tell(
@@ -87,7 +88,13 @@ fn tell_long_maps(rt: &impl Abort, alloc: Global, session: &mut Session) -> Resu
     tell(rt, alloc, session, MACHINE_V, "ok\n")?;
     start_over(rt, alloc, session, "a", 4_097)?;
     tell(rt, alloc, session, "step a", "ok a#1 plain\n")?;
-    tell(rt, alloc, session, "show a", "ok failed \"States.Runtime\" \"\"\n")?;
+    tell(
+        rt,
+        alloc,
+        session,
+        "show a",
+        "ok failed \"States.Runtime\" \"\"\n",
+    )?;
     start_over(rt, alloc, session, "b", 4_096)?;
     tell(rt, alloc, session, "step b", "ok b#1 fork\n")?;
     tell(rt, alloc, session, "show b", "ok parked \"M\" 1 4096\n")
