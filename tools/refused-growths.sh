@@ -62,8 +62,25 @@ saved_steps undoes_forks_and_a_terminate
 saved_steps undoes_a_join
 saved_steps undoes_calls
 depends answers_want_of_memory
+rollback_book refused_growths_change_nothing
 operator_line first_path_with_a_refused_growth
-operator_line row_tests::rows_with_a_refused_growth
+operator_line row_tests::refused_rollback_of_a_put
+operator_line row_tests::refused_rollback_of_a_get
+operator_line row_tests::refused_put_after_get
+operator_line row_tests::refused_retry_and_delete
+operator_line row_tests::refused_numeric_keys
+operator_line row_tests::refused_map_over_nothing
+operator_line row_tests::refused_terminate
+operator_line row_tests::refused_parallel_retried_by_steps
+operator_line row_tests::refused_terminate_over_grandchild
+operator_line row_tests::refused_malformed_calls
+operator_line row_tests::refused_retries_used_up
+operator_line row_tests::refused_map_with_selector
+operator_line row_tests::refused_undo_in_the_middle
+operator_line row_tests::refused_undo_of_a_refused_put
+operator_line row_tests::refused_undo_of_a_grandchild
+operator_line row_tests::refused_items_at_the_beginning
+operator_line row_tests::refused_items_that_are_none
 operator_line row_tests::drive_with_a_refused_growth
 TESTS
 exit $failed

@@ -37,8 +37,8 @@ one_more count (suc left) before now next lines longer some t one =
       lines_are = subst (AreLines longer) (sym (map-append step_text t.names (x ∷ []))) (one.5 (map step_text t.names) t.lines_are);
       counted = omega (arith, length-append t.names (x ∷ []), t.counted);
       goes_on = λ rest stop after d.
-        subst (λ (l : List StepName). Drives count before l stop after) (sym (append_assoc t.names (x ∷ []) rest))
-        (t.goes_on (x ∷ rest) stop after (one.0, one.1, one.2, refl, subst (λ (s : Story). Drives left s rest stop after) one.3 (subst (λ (n : ℕ). Drives n next rest stop after) (one_less left) d)));
+          subst (λ (l : List StepName). Drives count before l stop after) (sym (append_assoc t.names (x ∷ []) rest))
+          (t.goes_on (x ∷ rest) stop after (one.0, one.1, one.2, refl, subst (λ (s : Story). Drives left s rest stop after) one.3 (subst (λ (n : ℕ). Drives n next rest stop after) (one_less left) d)));
     }
 
 ended : (count left : ℕ) (before now : Story) (lines : Lines) (stop : Option Refusal) → HasTaken count left before now lines → Drives left now [] stop now → Taken count before now lines stop

@@ -3,13 +3,13 @@
 //! The operators' language: lines in, replies out.
 mod driving;
 mod laws;
-mod line;
-mod serving;
-mod session;
 #[cfg(test)]
 mod limit_tests;
+mod line;
 #[cfg(test)]
 mod row_tests;
+mod serving;
+mod session;
 #[cfg(test)]
 mod stream_tests;
 #[cfg(test)]

@@ -21,7 +21,7 @@ fn run<R: Read, W: Write>(
 
 /// What is written for an input that is read whole, none where serving ends before. The reply to a line of a table fits
 /// in the room that is taken first, so that no growth can be refused once a command is applied.
-pub(crate) fn served(alloc: Global, session: &mut Session, input: &[u8]) -> Option<Vec<u8>> {
+fn served(alloc: Global, session: &mut Session, input: &[u8]) -> Option<Vec<u8>> {
     let mut reader = input;
     let mut writer = Vec::with_capacity(alloc, 64).ok()?;
     match run(alloc, &mut reader, &mut writer, session) {

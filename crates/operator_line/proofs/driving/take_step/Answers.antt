@@ -38,8 +38,7 @@ returns-clause-step c =
     let first : MovesFirst story t = first_of_all story (contains thread_cmp nobody) t (λ u. ap (λ ks. list_any (is_at (thread_cmp u)) ks) c.new-nobody.ensures.empty) h in
     let answer : step_answer story t ≡ Ok m = given-ok m (step_answer story t) c.in_ok-moved.ensures.answer in
     let own : m.name.thread ≡ t = step_thread story t m answer in
-    let keeps : (texts : List (List ℕ)) → AreLines c.args.lines.now texts → AreLines c.reserve_step.new.self texts = λ texts h. record { counted = c.reserve_step.ensures.count ∙ h.counted; written = c.reserve_step.ensures.text ∙ h.written } in
-    (
+    let keeps : (texts : List (List ℕ)) → AreLines c.args.lines.now texts → AreLines c.reserve_step.new.self texts = λ texts h. record { counted = c.reserve_step.ensures.count ∙ h.counted; written = c.reserve_step.ensures.text ∙ h.written } in (
       m,
       subst (MovesFirst story) (sym own) first,
       ap (step_answer story) own ∙ answer,

@@ -5,8 +5,7 @@ use Rattle.operator_line.proofs.driving.take_steps.Goals as goal
 
 pub loop-left-preserved : goal.loop-left-preserved
 loop-left-preserved c =
-    let one = subst (λ (b : Bool). TakesOne c.loop-left.book.story c.take_step.new.book.story c.loop-left.lines c.take_step.new.lines (Ok b)) c.in-Ok-true.field-0-test c.in-Ok-true.ensures.step in
-    (
+    let one = subst (λ (b : Bool). TakesOne c.loop-left.book.story c.take_step.new.book.story c.loop-left.lines c.take_step.new.lines (Ok b)) c.in-Ok-true.field-0-test c.in-Ok-true.ensures.step in (
       one_more c.args.count c.loop-left.left c.args.book.now.story c.loop-left.book.story c.take_step.new.book.story c.loop-left.lines c.take_step.new.lines c.loop-left-test.true c.loop-left.invariant.0 one,
       c.in-Ok-true.ensures.text ∙ c.loop-left.invariant.1,
       c.in-Ok-true.ensures.room,

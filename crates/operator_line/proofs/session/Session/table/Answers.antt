@@ -24,7 +24,6 @@ returns-in-Err-clause-ok c =
     in
     rw closed told
 
-
 pub returns-in-Ok-List-clause-ok : goal.returns-in-Ok-List-clause-ok
 returns-in-Ok-List-clause-ok c =
     let closed : c.args.self.now ≡ None = search rules in
