@@ -180,12 +180,7 @@ fn changed_lists_nest(alloc: Global) -> Result<bool, JsonFault> {
     Ok(is_set && before == 3 && after == 1 && list_levels(&list)? == 2)
 }
 
-fn put(
-    alloc: Global,
-    fields: &mut JsonFields,
-    name: &str,
-    text: &[u8],
-) -> Result<u32, JsonFault> {
+fn put(alloc: Global, fields: &mut JsonFields, name: &str, text: &[u8]) -> Result<u32, JsonFault> {
     let _replaced = fields.insert(Text::new(alloc, name)?, read(alloc, text)?)?;
     Ok(fields_levels(fields)?)
 }

@@ -23,8 +23,11 @@ invariant_of-self-lent c =
     let at = at_named _ name _ items c.in-Ok.at refl same c.in-Ok.ensures.found in
     let is : fields_of items ≡ fields_of (held c.self.inside.inner) = ap fields_of own ∙ ap (λ n. fields_of (held n)) c.in-Some.ensures.value in
     let sorted = subst IsInNameOrder (sym is) c.self.invariant.0 in
-    λ w. (subst IsInNameOrder
-    (sym (ap (λ v. fields_of v.items) (c.make_mut.follows.holds _ (ap is_ok c.in-Ok-make_mut.is)) ∙ set_there name items c.in-Ok.at c.index_mut.result.now w c.index_mut.ensures.value at)) (order_with name (data_of w) (fields_of items) sorted), search rules)
+    λ w. (
+      subst IsInNameOrder
+          (sym (ap (λ v. fields_of v.items) (c.make_mut.follows.holds _ (ap is_ok c.in-Ok-make_mut.is)) ∙ set_there name items c.in-Ok.at c.index_mut.result.now w c.index_mut.ensures.value at)) (order_with name (data_of w) (fields_of items) sorted),
+      search rules,
+    )
 
 pub returns : goal.returns
 returns c =
