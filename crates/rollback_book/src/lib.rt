@@ -11,6 +11,8 @@ mod ordering;
 mod rerunning;
 mod room;
 mod stepping;
+#[cfg(test)]
+mod tests;
 
 pub use book::Book;
 pub use book_log::{Begin, Entry, Moved, Refusal, StepNames};
@@ -18,6 +20,3 @@ pub use branch_tree::Readiness;
 pub use making::{Change, Entered, Made};
 pub use room::{PlanRoom, Room};
 pub use saved_steps::{Access, Fact, Kind, Saved, StepRecord};
-
-#[cfg(test)]
-mod tests;
