@@ -2,6 +2,7 @@
 use Rattle.std.specs.Prelude.{◌≡◌, ℕ, List, [], ◌∷◌, Option, None, Some, IsOk}
 use Rattle.serde_json.specs.Data as source
 use Rattle.serde_json.specs.Read as source_text
+use Rattle.serde_json.specs.View.{view}
 use Rattle.json_tree.specs.Data.{list, items_of}
 use Rattle.json_tree.specs.Reading.{read_json}
 use Rattle.json_tree.specs.View.{data_of}
@@ -17,6 +18,8 @@ use Rattle.book_log.specs.declared.entry.Entry.{Entry}
 use Rattle.book_log.specs.declared.entry.Entry.TheVariants.{Define, Start, Step as Stepped, Undo, Rollback}
 use Rattle.command_lines.specs.Grammar as spoken
 use Rattle.command_lines.specs.Grammar.{command_of}
+use Rattle.rollback_book.specs.declared.making.Change.{Change}
+use Rattle.rollback_book.specs.declared.making.Change.TheVariants as change
 
 -- the line is a table's, with these first items
 pub record IsBeginLine (line : List ℕ) (begin : Begin) : Type 0 where
@@ -45,6 +48,12 @@ IsLineOf line (Start exec machine input) = IsStartLine line exec machine input
 IsLineOf line (Stepped name kind) = command_of line ≡ Some (spoken.step name.thread)
 IsLineOf line (Undo name) = command_of line ≡ Some (spoken.undo name)
 IsLineOf line (Rollback name undone) = command_of line ≡ Some (spoken.rollback name)
+
+-- read as a command, the line is this change
+abbrev pub SaysChange : Change → List ℕ → Type 0
+SaysChange (change.Define name definition) line = (json : List ℕ) × (command_of line ≡ Some (spoken.define name.now json)) × (source_text.read json ≡ Some (view definition.now))
+SaysChange (change.Start exec machine input) line = IsStartLine line exec.now machine.now input
+SaysChange (change.Step thread) line = command_of line ≡ Some (spoken.step thread.now)
 
 -- one line for each entry
 abbrev pub AreEntryLines : List (List ℕ) → List Entry → Type 0

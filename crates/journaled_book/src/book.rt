@@ -1,4 +1,4 @@
-ghost use Rattle.std.specs.Prelude.{◌≡◌, [], None, Some, IsOk, IsSome, IfOk, IfErr, IfSome, OnOk, OnErr, MatchResult, option_map};
+ghost use Rattle.std.specs.Prelude.{◌≡◌, ℕ, List, [], None, Some, IsOk, IsSome, IfOk, IfErr, IfSome, OnOk, OnErr, MatchResult, option_map};
 ghost use Rattle.sqlite.specs.Held.{state};
 ghost use Rattle.sqlite.specs.State.{HasCleanDisk};
 ghost use Rattle.book_log.specs.Beginning.{table_of};
@@ -6,7 +6,7 @@ ghost use Rattle.book_journal.specs.Kept.{lines_in};
 ghost use Rattle.rollback_book.specs.Making.{Answers, IsPlanned, IsProper, WasPlanned};
 ghost use Rattle.journaled_book.specs.Changes.{AnswersRollback, AnswersUndo, Appends, IsRead, IsReady, IsStoreFault, PlansRollback, RefusesBegin};
 ghost use Rattle.journaled_book.specs.Journaled.{IsJournalOf, story_of, with_entry};
-ghost use Rattle.journaled_book.specs.Lines.{IsBeginLine, IsLineOf};
+ghost use Rattle.journaled_book.specs.Lines.{IsBeginLine, IsLineOf, SaysChange};
 ghost use Rattle.journaled_book.specs.Opening.{OpensTo, RefusesOpen};
 
 use crate::changing;
@@ -122,6 +122,7 @@ impl<S: Alter> JournaledBook<S> {
         requires proper { IsProper change }
         ensures answer { IfSome self.old.book (λ b. Answers b.story change.entry result) }
         ensures ready { IfOk result (λ made. IsReady self.new.book made) }
+        ensures line { IfOk result (λ made. (line : List ℕ) → SaysChange change.entry line → IsLineOf line made.entry) }
         ensures story { story_of self.new.book ≡ story_of self.old.book }
         ensures journal { self.new.journal ≡ self.old.journal }
     {

@@ -11,6 +11,8 @@ mod lines;
 mod loading;
 mod parts;
 mod plan;
+#[cfg(test)]
+mod tests;
 
 pub use book::JournaledBook;
 pub use fault::{BeginRefusal, ChangeFault, OpenFault};

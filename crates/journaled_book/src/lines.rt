@@ -169,9 +169,8 @@ fn enter_step(alloc: Global, book: &mut Book, thread: &ThreadName) -> Result<(),
 
 fn enter_change(alloc: Global, book: &mut Book, change: Change<'_>) -> Result<(), LineFault>
     requires { IsProper change }
-    ensures ok { OnOk result ((made : Made) × Answers book.old.story change.entry (Ok made) × IsAccepted book.old.story made.entry
-        × (book.new.story ≡ accepted book.old.story made.entry)) }
-    ensures damaged { result ≡ Err LineFault.Damaged → (refusal : Refusal) × Answers book.old.story change.entry (Err refusal) × (refused_line refusal ≡ LineFault.Damaged) }
+    ensures ok { OnOk result ((line : List ℕ) → SaysChange change.entry line → Adds book.old.story line book.new.story) }
+    ensures damaged { result ≡ Err LineFault.Damaged → (line : List ℕ) → SaysChange change.entry line → IsDamaged (Some book.old.story) line }
 {
     match book.ready_entry(alloc, change) {
         Ok(made) => {
