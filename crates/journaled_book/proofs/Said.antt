@@ -127,12 +127,12 @@ or_memory (Ok y) e x h told is = memory_told e h told
 or_memory (Err f) e x h told is = cc
 
 not_taken : {A : Type 0} (o : Option A) → IsSome o → o ≡ None → ⊥
-not_taken None h is = h
+not_taken None h is = cc
 not_taken (Some x) h is = cc
 
 not_full : (b : Bool) → IsTrue b → b ≡ false → ⊥
 not_full true h is = cc
-not_full false h is = absurd h
+not_full false h is = cc
 
 define_refused : (story : Story) (name : List ℕ) (d : source.Data) (e : Refusal) → IsDefineRefusal story name d e → refused_line e ≡ line_fault.Damaged → (machine : Definition) → Defines d machine
     → machine_of story name ≡ None → is_full_for_define story ≡ false → ⊥

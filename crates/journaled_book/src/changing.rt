@@ -3,6 +3,7 @@ ghost use Rattle.std.specs.Prelude.{◌≡◌, ◌⊎◌, [], None, Some, IsOk, 
 ghost use Rattle.sqlite.specs.Held.{state};
 ghost use Rattle.book_log.specs.Beginning.{table_of};
 ghost use Rattle.book_log.specs.Story.{accepted};
+ghost use Rattle.book_journal.specs.Kept.{IsAtRest};
 ghost use Rattle.rollback_book.specs.Making.{CanEnter, WasPlanned};
 ghost use Rattle.journaled_book.specs.Changes.{AnswersRollback, AnswersUndo, Appends, IsStoreFault, PlansRollback, RefusesBegin};
 ghost use Rattle.journaled_book.specs.Journaled.{story_of};
@@ -23,20 +24,20 @@ pub(crate) fn begin<S: Alter>(
     begin: Begin,
     line: &str,
 ) -> Result<Book, BeginRefusal>
+    requires { IsAtRest (state S.Store journal.old) }
     ensures ok { IfOk result (λ book. (book.story ≡ record { begin = begin; log = [] }) × IsOk (table_of begin)) }
     ensures refused { IfErr result (RefusesBegin begin) }
     ensures journal { Appends (state S.Store journal.old) (state S.Store journal.new) line.now result }
 {
-    match Book::open(alloc, begin) {
-        Ok(book) => match append(journal, line) {
-            Ok(()) => Ok(book),
-            Err(fault) => {
-                drop(book);
-                Err(BeginRefusal::Journal(fault))
-            }
-        },
-        Err(fault) => Err(BeginRefusal::Item(fault)),
-    }
+    let book = match Book::open(alloc, begin) {
+        Ok(book) => book,
+        Err(fault) => return Err(BeginRefusal::Item(fault)),
+    };
+    let Err(fault) = append(journal, line) else {
+        return Ok(book);
+    };
+    drop(book);
+    Err(BeginRefusal::Journal(fault))
 }
 
 pub(crate) fn enter<S: Alter>(
@@ -66,6 +67,7 @@ pub(crate) fn undo<S: Alter>(
     room: Room,
     line: &str,
 ) -> Result<StepName, ChangeFault>
+    requires { IsAtRest (state S.Store journal.old) }
     ensures answer { AnswersUndo book.old.story room.step result }
     ensures ok { OnOk result (book.new.story ≡ accepted book.old.story (Entry.Undo room.step)) }
     ensures err { OnErr result (book.new ≡ book.old) }
@@ -103,7 +105,8 @@ pub(crate) fn rollback<S: Alter>(
     plan: JournaledPlan,
     line: &str,
 ) -> Result<StepNames, ChangeFault>
-    requires { WasPlanned book.old.story plan.room }
+    requires rest { IsAtRest (state S.Store journal.old) }
+    requires planned { WasPlanned book.old.story plan.room }
     ensures answer { AnswersRollback book.old.story plan.room.step plan.room.names plan.entries result }
     ensures ok { OnOk result (book.new.story ≡ accepted book.old.story (Entry.Rollback plan.room.step plan.room.names)) }
     ensures err { OnErr result (book.new ≡ book.old) }

@@ -1,5 +1,5 @@
 // What one line does to a book.
-ghost use Rattle.std.specs.Prelude.{◌≡◌, Err, IfOk, IsOk, OnOk, Some, None};
+ghost use Rattle.std.specs.Prelude.{◌≡◌, ℕ, List, Err, IfOk, IsOk, OnOk, Some, None};
 ghost use Rattle.book_log.specs.Answers.{plan_answer};
 ghost use Rattle.book_log.specs.Beginning.{table_of};
 ghost use Rattle.book_log.specs.Legal.{IsAccepted};
@@ -10,7 +10,7 @@ ghost use Rattle.command_lines.specs.Grammar.{spoken};
 ghost use Rattle.rollback_book.specs.Making.{Answers, IsProper};
 ghost use Rattle.rollback_book.specs.declared.making.Made.{Made};
 ghost use Rattle.journaled_book.specs.Journaled.{story_of};
-ghost use Rattle.journaled_book.specs.Lines.{Adds, Begins, Follows, IsDamaged};
+ghost use Rattle.journaled_book.specs.Lines.{Adds, Begins, Follows, IsDamaged, SaysChange};
 ghost use Rattle.journaled_book.specs.Reading.{AddsBy, BeginsBy, IsDamagedBy, refused_line};
 
 use crate::fault::LineFault;

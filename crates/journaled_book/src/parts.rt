@@ -1,5 +1,5 @@
 // What stands in a line beside its names.
-ghost use Rattle.std.specs.Prelude.{◌≡◌, ◌≤◌, Err, IfOk, IsOk, None, Some};
+ghost use Rattle.std.specs.Prelude.{◌≡◌, ◌≤◌, List, [], Err, IfOk, IsOk, None, Some};
 ghost use Rattle.serde_json.specs.Read as source_text;
 ghost use Rattle.serde_json.specs.View.{view};
 ghost use Rattle.json_tree.specs.Data.{depth, list, items_of};

@@ -26,7 +26,7 @@ pub enum Told {
     Unserved,
 }
 
-fn told(refusal: Refusal) -> Told {
+fn of_refusal(refusal: Refusal) -> Told {
     match refusal {
         Refusal::Memory => Told::Unserved,
         other => {
@@ -36,9 +36,9 @@ fn told(refusal: Refusal) -> Told {
     }
 }
 
-fn told_fault(fault: ChangeFault) -> Told {
+fn of_fault(fault: ChangeFault) -> Told {
     match fault {
-        ChangeFault::Book(refusal) => told(refusal),
+        ChangeFault::Book(refusal) => of_refusal(refusal),
         ChangeFault::Journal(_) => Told::Unserved,
     }
 }
@@ -182,7 +182,7 @@ fn give_change<S: Alter>(
             Ok(_) => Told::Accepted,
             Err(_) => Told::Unserved,
         },
-        Err(refusal) => told(refusal),
+        Err(refusal) => of_refusal(refusal),
     }
 }
 
@@ -200,7 +200,7 @@ fn give_undo<S: Alter>(
     };
     match book.undo(room, line) {
         Ok(_) => Told::Accepted,
-        Err(fault) => told_fault(fault),
+        Err(fault) => of_fault(fault),
     }
 }
 
@@ -215,10 +215,10 @@ fn give_rollback<S: Alter>(
 {
     let plan = match book.plan_room(alloc, step) {
         Ok(plan) => plan,
-        Err(refusal) => return told(refusal),
+        Err(refusal) => return of_refusal(refusal),
     };
     match book.rollback(plan, line) {
         Ok(_) => Told::Accepted,
-        Err(fault) => told_fault(fault),
+        Err(fault) => of_fault(fault),
     }
 }
