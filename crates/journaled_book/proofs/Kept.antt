@@ -1,6 +1,6 @@
 -- What stays true of a journal and its book.
 use Rattle.std.proofs.Common.{◌≡◌, inl, inr, ℕ, ◌≤◌, List, [], ◌∷◌, ◌++◌, Option, None, Some, Result, Ok, Err, IsTrue, OnOk, OnErr, refl, sym, ap, subst, ◌∙◌, arith}
-use Rattle.std.specs.Prelude.{option_map, IsOk}
+use Rattle.std.specs.Prelude.{option_map, IsOk, IfOk}
 use Rattle.sqlite.specs.Effect.{Database}
 use Rattle.sqlite.specs.State.{State, HasCleanDisk, Survives}
 use Rattle.sqlite.specs.Tree.{Trees}
@@ -59,6 +59,22 @@ module _ {T E : Type 0} (old new : State) (line : List ℕ) where
       → Appends old new line result → IsJournalOf new (Some after)
   entered_kept result x story after entry is h says same a =
       subst (λ (s : Story). IsJournalOf new (Some s)) (sym same) (added_kept result x (Some story) (Some (accepted story entry)) is h (λ lines are. more_lines lines story line entry are says) a)
+
+  -- the book was changed, or the append was refused
+  pub changed_kept : (result : Result T E) (before after : Volume) (entry : Entry) → IsJournalOf old (Some before.story) → IsLineOf line entry → OnOk result (after.story ≡ accepted before.story entry) → OnErr result (after ≡ before)
+      → Appends old new line result → IsJournalOf new (Some after.story)
+  changed_kept (Ok x) before after entry h says ok err a = entered_kept (Ok x) x before.story after.story entry refl h says ok a
+  changed_kept (Err e) before after entry h says ok err a = subst (λ (b : Volume). IsJournalOf new (Some b.story)) (sym err) (refused_kept (Err e) e (Some before.story) refl h a)
+
+  pub answered_kept : (result : Result T E) (answer : T) (before after : Volume) (entry : Entry) → IsJournalOf old (Some before.story) → IsLineOf line entry
+      → IfOk result (λ x. (x ≡ answer) × (after.story ≡ accepted before.story entry)) → OnErr result (after ≡ before) → Appends old new line result → IsJournalOf new (Some after.story)
+  answered_kept (Ok x) answer before after entry h says ok err a = entered_kept (Ok x) x before.story after.story entry refl h says ok.1 a
+  answered_kept (Err e) answer before after entry h says ok err a = subst (λ (b : Volume). IsJournalOf new (Some b.story)) (sym err) (refused_kept (Err e) e (Some before.story) refl h a)
+
+  -- the same, with another answer
+  pub retold : {U : Type 0} → (result : Result T E) (x : T) (y : U) → result ≡ Ok x → Appends old new line result → Appends {T = U} {E = E} old new line (Ok y)
+  retold (Ok z) x y is a = record { ok = a.ok; err = λ clean. tt; crash = a.crash; survives = a.survives; at_rest = a.at_rest }
+  retold (Err e) x y is a = cc
 
 -- ---- without an append
 

@@ -1,10 +1,13 @@
 -- What a line says, and what its command comes to.
 use Rattle.std.proofs.Common.{◌≡◌, ℕ, Bool, true, false, List, Option, None, Some, Result, Ok, Err, IsTrue, refl, sym, ap, subst, ◌∙◌}
-use Rattle.std.specs.Prelude.{IsSome}
+use Rattle.std.specs.Prelude.{[], ◌∷◌, IsOk, IsSome, IfOk}
+use Rattle.std.specs.List.{find}
 use Rattle.std.proofs.lemmas.Option.{same_Some}
 use Rattle.serde_json.specs.Data as source
 use Rattle.serde_json.specs.Read as source_text
 use Rattle.serde_json.specs.View.{view}
+use Rattle.attr_values.specs.declared.key.KeySchema.{KeySchema}
+use Rattle.json_tree.specs.Data.{Data, Items, no_items, item, list, items_of}
 use Rattle.json_tree.specs.Reading.{read_json}
 use Rattle.json_tree.specs.View.{data_of}
 use Rattle.json_tree.specs.declared.tree.Json.{Json}
@@ -13,9 +16,13 @@ use Rattle.asl_machine.specs.Profile.{Defines}
 use Rattle.step_names.specs.Thread.{Thread}
 use Rattle.step_names.specs.declared.step.StepName.{StepName}
 use Rattle.saved_steps.specs.declared.fact.Kind.{Kind}
-use Rattle.book_log.specs.Answers.{IsDefineRefusal, is_full_for_define, start_answer, step_answer, undo_answer, plan_answer}
+use Rattle.saved_steps.specs.declared.fact.Fact.{Fact}
+use Rattle.depends.specs.Dependence.{depends_directly}
+use Rattle.book_log.specs.Answers.{free_answer, found_answer, from_step, IsDefineRefusal, is_full_for_define, start_answer, step_answer, undo_answer, plan_answer}
+use Rattle.book_log.specs.Beginning.{table_of}
 use Rattle.book_log.specs.Legal.{IsAccepted}
-use Rattle.book_log.specs.Story.{Story, accepted, machine_of}
+use Rattle.book_log.specs.Story.{Story, accepted, facts_of, machine_of}
+use Rattle.book_log.specs.declared.begin.Begin.{Begin}
 use Rattle.book_log.specs.declared.entry.Entry.{Entry}
 use Rattle.book_log.specs.declared.entry.Entry.TheVariants.{Define, Start, Step as Stepped, Undo, Rollback}
 use Rattle.book_log.specs.declared.moved.Moved.{Moved}
@@ -28,7 +35,7 @@ use Rattle.rollback_book.specs.declared.making.Change.{Change}
 use Rattle.rollback_book.specs.declared.making.Change.TheVariants as change
 use Rattle.rollback_book.specs.declared.making.Made.{Made}
 use Rattle.rollback_book.proofs.Threads.{step_thread}
-use Rattle.journaled_book.specs.Lines.{IsDefineLine, IsStartLine, IsLineOf, SaysChange, Adds, IsDamaged}
+use Rattle.journaled_book.specs.Lines.{IsBeginLine, IsDefineLine, IsStartLine, IsLineOf, SaysChange, Adds, IsDamaged}
 use Rattle.journaled_book.specs.Reading.{refused_line, AddsBy, IsDamagedBy}
 use Rattle.journaled_book.specs.declared.fault.LineFault.{LineFault}
 use Rattle.journaled_book.specs.declared.fault.LineFault.TheVariants as line_fault
@@ -105,6 +112,35 @@ module _ (line : List ℕ) where
     by_rollback name is p (Stepped n kind) h = let e = both (spoken.rollback name) (spoken.step n.thread) is h in cc
     by_rollback name is p (Undo n) h = let e = both (spoken.rollback name) (spoken.undo n) is h in cc
 
+-- ---- the table's line
+
+values_in : Items → List Data
+values_in no_items = []
+values_in (item d ds) = d ∷ values_in ds
+
+values_of : (ds : List Data) → values_in (items_of ds) ≡ ds
+values_of [] = refl
+values_of (d ∷ ds) = ap (λ (es : List Data). d ∷ es) (values_of ds)
+
+one_list : (a b : List Data) → Some (list (items_of a)) ≡ Some (list (items_of b)) → a ≡ b
+one_list a b e = let f : items_of a ≡ items_of b = cc in sym (values_of a) ∙ ap values_in f ∙ values_of b
+
+abbrev beginning : List ℕ → KeySchema → List Data → Begin
+beginning name schema items = record { table = name; schema = schema; items = items }
+
+pub table_refused : (line name : List ℕ) (schema : KeySchema) (json : List ℕ) (items : List Data) → command_of line ≡ Some (spoken.table name schema json) → read_json json ≡ Some (list (items_of items))
+    → ¬ IsOk (table_of (beginning name schema items)) → (begin : Begin) → IsBeginLine line begin → IsOk (table_of begin) → ⊥
+table_refused line name schema json items is read none begin h ok =
+    let e = both line (spoken.table begin.table begin.schema h.json) (spoken.table name schema json) h.is_table is in
+    let named : begin.table ≡ name = cc in
+    let keyed : begin.schema ≡ schema = cc in
+    let text : h.json ≡ json = cc in
+    let listed : begin.items ≡ items = one_list begin.items items (sym h.items ∙ ap read_json text ∙ read) in
+    let same : begin ≡ beginning name schema items =
+    ap (λ (n : List ℕ). beginning n begin.schema begin.items) named ∙ ap (λ (k : KeySchema). beginning name k begin.items) keyed ∙ ap (λ (ds : List Data). beginning name schema ds) listed
+    in
+    none (subst (λ (b : Begin). IsOk (table_of b)) same ok)
+
 -- ---- what is made of a change is its line's entry
 
 pub made_said : (story : Story) (what : Change) (made : Made) (line : List ℕ) → Answers story what (Ok made) → SaysChange what line → IsLineOf line made.entry
@@ -114,8 +150,18 @@ made_said story (change.Start exec machine input) made line h says = subst (IsLi
 made_said story (change.Step thread) made line h says =
     subst (IsLineOf line) (sym h.2.0) (says ∙ ap (λ (t : Thread). Some (spoken.step t)) (sym (step_thread story thread.now h.0 h.1)))
 
-pub made_added : (story : Story) (what : Change) (made : Made) (line : List ℕ) → Answers story what (Ok made) → IsAccepted story made.entry → SaysChange what line → Adds story line (accepted story made.entry)
-made_added story what made line h is_accepted says = record { entry = made.entry; is_line = made_said story what made line h says; is_accepted = is_accepted; after_is = refl }
+pub said_if_ok : (story : Story) (what : Change) (r : Result Made Refusal) → Answers story what r → IfOk r (λ made. (line : List ℕ) → SaysChange what line → IsLineOf line made.entry)
+said_if_ok story what (Ok made) h = λ line says. made_said story what made line h says
+said_if_ok story what (Err e) h = tt
+
+pub made_added : (story between after : Story) (what : Change) (made : Made) → Answers story what (Ok made) → IsAccepted between made.entry → between ≡ story → after ≡ accepted between made.entry
+    → (line : List ℕ) → SaysChange what line → Adds story line after
+made_added story between after what made h is_accepted same is line says = record {
+  entry = made.entry;
+  is_line = made_said story what made line h says;
+  is_accepted = subst (λ (s : Story). IsAccepted s made.entry) same is_accepted;
+  after_is = is ∙ ap (λ (s : Story). accepted s made.entry) same;
+}
 
 -- ---- where a book refuses for another cause than memory, the line is damaged
 
@@ -178,8 +224,27 @@ pub rollback_refused : (story : Story) (name : StepName) (e : Refusal) → plan_
 rollback_refused story name e answer line is =
     by_rollback line (λ entry. IsAccepted story entry → ⊥) name is (λ undone ok. let f : Err e ≡ Ok undone = sym answer ∙ ok in cc)
 
-pub undo_added : (story : Story) (name : StepName) → undo_answer story name ≡ Ok name → AddsBy story (spoken.undo name) (accepted story (Undo name))
-undo_added story name answer line is = record { entry = Undo name; is_line = is; is_accepted = answer; after_is = refl }
+free_itself : (name x : StepName) (o : Option Fact) → free_answer name o ≡ Ok x → x ≡ name
+free_itself name x None e = cc
+free_itself name x (Some dependent) e = cc
+
+found_itself : (name x : StepName) (o : Option (Fact × List Fact)) → found_answer name o ≡ Ok x → x ≡ name
+found_itself name x None e = cc
+found_itself name x (Some p) e = free_itself name x (find (depends_directly p.0) p.1) e
+
+undo_itself : (story : Story) (name x : StepName) → undo_answer story name ≡ Ok x → x ≡ name
+unfolding undo_answer
+undo_itself story name x e = found_itself name x (from_step name (facts_of story)) e
+
+pub undo_added : (story after : Story) (name step x : StepName) → name ≡ step → Ok x ≡ undo_answer story name → after ≡ accepted story (Undo name) → AddsBy story (spoken.undo step) after
+undo_added story after name step x same answer is line says =
+    let taken : undo_answer story name ≡ Ok name = sym answer ∙ ap (λ (y : StepName). Ok y) (undo_itself story name x (sym answer)) in
+    record {
+      entry = Undo step;
+      is_line = says;
+      is_accepted = subst (λ (n : StepName). undo_answer story n ≡ Ok n) same taken;
+      after_is = is ∙ ap (λ (n : StepName). accepted story (Undo n)) same;
+    }
 
 pub rollback_added : (story : Story) (name : StepName) (names : List StepName) → plan_answer story name ≡ Ok names → AddsBy story (spoken.rollback name) (accepted story (Rollback name names))
 rollback_added story name names answer line is = record { entry = Rollback name names; is_line = is; is_accepted = answer; after_is = refl }

@@ -11,7 +11,7 @@ ghost use Rattle.journaled_book.specs.Journaled.{story_of};
 use crate::fault::{BeginRefusal, ChangeFault};
 use crate::plan::JournaledPlan;
 use book_journal::{Journal, JournalFault};
-use book_log::{Begin, Refusal, StepNames};
+use book_log::{Begin, Entry, Refusal, StepNames};
 use rollback_book::{Book, Entered, Made, Room};
 use sqlite::Alter;
 use std::alloc::Global;

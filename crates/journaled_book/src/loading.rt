@@ -1,5 +1,5 @@
 // The book that a journal's lines give.
-ghost use Rattle.std.specs.Prelude.{◌≡◌, Err, IfOk, IfErr, map, string_bytes, MatchResult};
+ghost use Rattle.std.specs.Prelude.{◌≡◌, ℕ, Err, IfOk, IfErr, map, string_bytes};
 ghost use Rattle.sqlite.specs.Held.{state};
 ghost use Rattle.sqlite.specs.State.{HasCleanDisk};
 ghost use Rattle.book_journal.specs.Kept.{lines_in};
@@ -10,7 +10,7 @@ ghost use Rattle.journaled_book.specs.Reading.{fault_at};
 
 use crate::fault::{LineFault, OpenFault};
 use crate::lines::add_line;
-use book_journal::Journal;
+use book_journal::{Journal, JournalFault};
 use rollback_book::Book;
 use sqlite::Alter;
 use std::alloc::Global;
