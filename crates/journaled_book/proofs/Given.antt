@@ -1,7 +1,7 @@
 -- The book that lines give, one line after another.
 use Rattle.std.proofs.Common.{◌≡◌, ℕ, ◌+◌, ◌<◌, List, [], ◌∷◌, ◌++◌, length, map, take, drop, get_or, Option, None, Some, Result, Ok, Err, refl, sym, ap, subst, ◌∙◌, arith}
 use Rattle.std.specs.Prelude.{IsOk}
-use Rattle.std.proofs.lemmas.List.{take_more, drop_more, map-append, take-append-drop}
+use Rattle.std.proofs.lemmas.List.{length-map, length-take-le, take_more, drop_more, map-append, take-append-drop}
 use Rattle.attr_values.specs.declared.fault.ItemFault.{ItemFault}
 use Rattle.item_store.specs.Table.{Table}
 use Rattle.book_log.specs.Beginning.{table_of}
@@ -11,6 +11,10 @@ use Rattle.book_log.specs.declared.begin.Begin.{Begin}
 use Rattle.book_log.specs.declared.entry.Entry.{Entry}
 use Rattle.book_log.proofs.LegalRuns.{accepted_is_legal}
 use Rattle.journaled_book.specs.Lines.{IsBeginLine, IsLineOf, AreEntryLines, AreLinesOf, IsDamaged, Begins, Adds, Follows}
+use Rattle.journaled_book.specs.Reading.{fault_at}
+use Rattle.journaled_book.specs.declared.fault.LineFault.{LineFault}
+use Rattle.journaled_book.specs.declared.fault.LineFault.TheVariants as line_fault
+use Rattle.journaled_book.specs.declared.fault.OpenFault.TheVariants.{Damaged}
 use Rattle.journaled_book.specs.Opening.{IsLegalBook, Give, HasDamageAt}
 
 -- ---- the lines
@@ -50,6 +54,9 @@ more_given lines (Some before) line after h f =
 -- ---- texts, one after another
 
 module _ {T : Type 0} (text : T → List ℕ) (lines : List T) (at : ℕ) (d line : T) (low : at < length lines) (is : get_or lines at d ≡ line) where
+  placed : length (map text (take at lines)) ≡ at
+  placed = length-map (take at lines) text ∙ length-take-le at lines (omega (arith, low))
+
   pub one_more : map text (take (at + 1) lines) ≡ map text (take at lines) ++ text line ∷ []
   one_more = ap (map text) (take_more lines at d low) ∙ map-append text (take at lines) (get_or lines at d ∷ []) ∙ ap (λ (x : T). map text (take at lines) ++ text x ∷ []) is
 
@@ -57,3 +64,25 @@ module _ {T : Type 0} (text : T → List ℕ) (lines : List T) (at : ℕ) (d lin
   parted =
       ap (map text) (sym (take-append-drop at lines)) ∙ map-append text (take at lines) (drop at lines)
       ∙ ap (λ (xs : List T). map text (take at lines) ++ map text xs) (drop_more lines at d low ∙ ap (λ (x : T). x ∷ drop (at + 1) lines) is)
+
+  pub damage_at : (place : ℕ) (story : Option Story) (bytes : List ℕ) → place ≡ at → Give (map text (take at lines)) story → bytes ≡ text line → IsDamaged story bytes → HasDamageAt (map text lines) place
+  damage_at place story bytes here given same damaged = record {
+    front = map text (take at lines);
+    line = text line;
+    later = map text (drop (at + 1) lines);
+    parts = parted;
+    place_is = here ∙ sym placed;
+    story = story;
+    given = given;
+    is_damaged = subst (λ (b : List ℕ). IsDamaged story b) same damaged;
+  }
+
+  pub given_more : (story : Option Story) (after : Story) (bytes : List ℕ) → Give (map text (take at lines)) story → bytes ≡ text line → Follows story bytes after → Give (map text (take (at + 1) lines)) (Some after)
+  given_more story after bytes given same follows =
+      subst (λ (ls : List (List ℕ)). Give ls (Some after)) (sym one_more)
+      (more_given (map text (take at lines)) story (text line) after given (subst (λ (b : List ℕ). Follows story b after) same follows))
+
+-- the fault that is told of a place
+pub told_at : (p place : ℕ) (fault : LineFault) → fault_at p fault ≡ Damaged place → (fault ≡ line_fault.Damaged) × (place ≡ p)
+told_at p place line_fault.Damaged e = let same : place ≡ p = cc in (refl, same)
+told_at p place line_fault.Memory e = cc

@@ -114,7 +114,7 @@ module _ (line : List ℕ) where
 
 -- ---- the table's line
 
-values_in : Items → List Data
+abbrev values_in : Items → List Data
 values_in no_items = []
 values_in (item d ds) = d ∷ values_in ds
 
