@@ -62,5 +62,7 @@ depends answers_want_of_memory
 rollback_book refused_growths_change_nothing
 plain_replay refused_growths_are_told
 operator_line first_path_with_a_refused_growth
+journaled_book a_refused_growth_hands_the_journal_back
+journaled_book a_refused_growth_changes_nothing
 TESTS
 exit $failed

@@ -5,17 +5,17 @@ use Rattle.std.proofs.lemmas.List.{length-map, length-take-le, take_more, drop_m
 use Rattle.attr_values.specs.declared.fault.ItemFault.{ItemFault}
 use Rattle.item_store.specs.Table.{Table}
 use Rattle.book_log.specs.Beginning.{table_of}
-use Rattle.book_log.specs.Legal.{IsLegal, IsAccepted}
+use Rattle.book_log.specs.Legal.{IsLegal}
 use Rattle.book_log.specs.Story.{Story, accepted}
 use Rattle.book_log.specs.declared.begin.Begin.{Begin}
 use Rattle.book_log.specs.declared.entry.Entry.{Entry}
 use Rattle.book_log.proofs.LegalRuns.{accepted_is_legal}
-use Rattle.journaled_book.specs.Lines.{IsBeginLine, IsLineOf, AreEntryLines, AreLinesOf, IsDamaged, Begins, Adds, Follows}
+use Rattle.journaled_book.specs.Lines.{IsBeginLine, IsLineOf, AreEntryLines, AreLinesOf, IsDamaged, Follows}
 use Rattle.journaled_book.specs.Reading.{fault_at}
 use Rattle.journaled_book.specs.declared.fault.LineFault.{LineFault}
 use Rattle.journaled_book.specs.declared.fault.LineFault.TheVariants as line_fault
 use Rattle.journaled_book.specs.declared.fault.OpenFault.TheVariants.{Damaged}
-use Rattle.journaled_book.specs.Opening.{IsLegalBook, Give, HasDamageAt}
+use Rattle.journaled_book.specs.Opening.{Give, HasDamageAt}
 
 -- ---- the lines
 

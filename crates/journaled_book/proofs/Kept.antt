@@ -1,20 +1,19 @@
 -- What stays true of a journal and its book.
-use Rattle.std.proofs.Common.{◌≡◌, inl, inr, ℕ, ◌≤◌, List, [], ◌∷◌, ◌++◌, Option, None, Some, Result, Ok, Err, IsTrue, OnOk, OnErr, refl, sym, ap, subst, ◌∙◌, arith}
-use Rattle.std.specs.Prelude.{option_map, IsOk, IfOk}
+use Rattle.std.proofs.Common.{◌≡◌, inl, ℕ, List, [], ◌∷◌, ◌++◌, Option, None, Some, Result, Ok, Err, IsTrue, OnOk, OnErr, refl, sym, ap, subst, arith}
+use Rattle.std.specs.Prelude.{IfOk}
 use Rattle.sqlite.specs.Effect.{Database}
 use Rattle.sqlite.specs.State.{State, HasCleanDisk, Survives}
 use Rattle.sqlite.specs.Tree.{Trees}
 use Rattle.book_log.specs.Story.{Story, accepted}
 use Rattle.book_log.specs.declared.begin.Begin.{Begin}
 use Rattle.book_log.specs.declared.entry.Entry.{Entry}
-use Rattle.book_journal.specs.Change.{HasTable}
-use Rattle.book_journal.specs.Entries.{entries, AddLines, HoldLines}
-use Rattle.book_journal.specs.Kept.{lines_in, IsAtRest, IsSame, LeavesAllOrNone, MayAdd}
+use Rattle.book_journal.specs.Entries.{entries, HoldLines}
+use Rattle.book_journal.specs.Kept.{lines_in, IsAtRest, IsSame, MayAdd}
 use Rattle.rollback_book.specs.Book.{Volume}
-use Rattle.journaled_book.specs.Changes.{Appends, HasLine, IsRead}
-use Rattle.journaled_book.specs.Journaled.{HasLinesOf, IsJournalOf, story_of, with_entry}
+use Rattle.journaled_book.specs.Changes.{Appends, IsRead}
+use Rattle.journaled_book.specs.Journaled.{HasLinesOf, IsJournalOf}
 use Rattle.journaled_book.specs.Lines.{AreLinesOf, IsBeginLine, IsLineOf}
-use Rattle.journaled_book.specs.Opening.{Give, OpensTo}
+use Rattle.journaled_book.specs.Opening.{OpensTo}
 use Rattle.journaled_book.proofs.Given.{first_line, more_lines}
 
 clean_before : (old new : State) (P : Trees → Type 0) → Survives old new P → HasCleanDisk new → HasCleanDisk old

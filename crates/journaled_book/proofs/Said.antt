@@ -25,7 +25,6 @@ use Rattle.book_log.specs.Story.{Story, accepted, facts_of, machine_of}
 use Rattle.book_log.specs.declared.begin.Begin.{Begin}
 use Rattle.book_log.specs.declared.entry.Entry.{Entry}
 use Rattle.book_log.specs.declared.entry.Entry.TheVariants.{Define, Start, Step as Stepped, Undo, Rollback}
-use Rattle.book_log.specs.declared.moved.Moved.{Moved}
 use Rattle.book_log.specs.declared.refusal.Refusal.{Refusal}
 use Rattle.book_log.specs.declared.refusal.Refusal.TheVariants.{NoMachine, MachineTaken, BadMachine, ExecTaken, NoThread, NotReady, NoStep, HasDependents, Stale, Full, Memory}
 use Rattle.command_lines.specs.Grammar as spoken
@@ -35,9 +34,8 @@ use Rattle.rollback_book.specs.declared.making.Change.{Change}
 use Rattle.rollback_book.specs.declared.making.Change.TheVariants as change
 use Rattle.rollback_book.specs.declared.making.Made.{Made}
 use Rattle.rollback_book.proofs.Threads.{step_thread}
-use Rattle.journaled_book.specs.Lines.{IsBeginLine, IsDefineLine, IsStartLine, IsLineOf, SaysChange, Adds, IsDamaged}
+use Rattle.journaled_book.specs.Lines.{IsBeginLine, IsLineOf, SaysChange, Adds, IsDamaged}
 use Rattle.journaled_book.specs.Reading.{refused_line, AddsBy, IsDamagedBy}
-use Rattle.journaled_book.specs.declared.fault.LineFault.{LineFault}
 use Rattle.journaled_book.specs.declared.fault.LineFault.TheVariants as line_fault
 
 -- ---- which entry a line is

@@ -1,6 +1,5 @@
 -- What the commands of a journaled book do to its journal, and why they are refused.
 use Rattle.std.specs.Prelude.{◌≡◌, ◌⊎◌, ◌<◌, ℕ, List, [], ◌∷◌, ◌++◌, length, Option, None, Some, Result, Ok, Err, IsTrue, IsOk, OnOk, OnErr}
-use Rattle.attr_values.specs.declared.fault.ItemFault.{ItemFault}
 use Rattle.attr_values.specs.declared.fault.ItemFault.TheVariants as item
 use Rattle.sqlite.specs.State.{State, HasCleanDisk, Survives}
 use Rattle.sqlite.specs.declared.error.Error.{Error}

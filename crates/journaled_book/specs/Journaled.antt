@@ -1,9 +1,8 @@
 -- A book and its journal as their contracts see them.
-use Rattle.std.specs.Prelude.{◌≡◌, ℕ, List, Option, None, Some, option_map, IsTrue, refl}
+use Rattle.std.specs.Prelude.{ℕ, List, Option, option_map, IsTrue, refl}
 use Rattle.std.specs.Coded.{Coded, code_by, coded×}
 use Rattle.sqlite.specs.Held.{Held, held_code}
 use Rattle.sqlite.specs.State.{State, HasCleanDisk}
-use Rattle.book_log.specs.Legal.{IsLegal}
 use Rattle.book_log.specs.Story.{Story, accepted}
 use Rattle.book_log.specs.declared.entry.Entry.{Entry}
 use Rattle.book_journal.specs.Entries.{HoldLines}

@@ -1,13 +1,9 @@
 -- Which book the lines of a journal give, and why they give none.
-use Rattle.std.specs.Prelude.{◌≡◌, ℕ, List, [], ◌∷◌, ◌++◌, length, Option, None, Some, Result, Ok, Err}
+use Rattle.std.specs.Prelude.{◌≡◌, ℕ, List, ◌∷◌, ◌++◌, length, Option, None, Some}
 use Rattle.sqlite.specs.Order.{Row}
-use Rattle.sqlite.specs.declared.error.Error.{Error}
 use Rattle.book_log.specs.Legal.{IsLegal}
 use Rattle.book_log.specs.Story.{Story}
-use Rattle.book_log.specs.declared.refusal.Refusal.{Refusal}
-use Rattle.book_log.specs.declared.refusal.Refusal.TheVariants as refusal
 use Rattle.book_journal.specs.Entries.{HoldLines, HaveGap}
-use Rattle.book_journal.specs.Faults.{fault_of}
 use Rattle.book_journal.specs.declared.fault.JournalFault.{JournalFault}
 use Rattle.book_journal.specs.declared.fault.JournalFault.TheVariants as journal_fault
 use Rattle.journaled_book.specs.Lines.{AreLinesOf, IsDamaged}

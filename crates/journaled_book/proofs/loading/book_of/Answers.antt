@@ -1,8 +1,7 @@
-use Rattle.std.proofs.Common.{rules, ◌≡◌, ◌<◌, ◌+◌, ℕ, Err, Some, length, string_bytes, refl, sym, ap, ◌∙◌}
+use Rattle.std.proofs.Common.{rules, ◌≡◌, ◌<◌, ◌+◌, ℕ, Err, length, string_bytes, sym, ap, ◌∙◌}
 use Rattle.journaled_book.specs.Journaled.{story_of}
 use Rattle.journaled_book.specs.Reading.{fault_at}
 use Rattle.journaled_book.specs.declared.fault.LineFault.{LineFault}
-use Rattle.journaled_book.specs.declared.fault.LineFault.TheVariants as line_fault
 use Rattle.journaled_book.specs.declared.fault.OpenFault.TheVariants.{Damaged}
 use Rattle.journaled_book.proofs.Given.{damage_at, given_more, told_at}
 use Rattle.journaled_book.proofs.loading.book_of.Goals as goal

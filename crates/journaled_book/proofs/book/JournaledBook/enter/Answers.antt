@@ -1,4 +1,4 @@
-use Rattle.std.proofs.Common.{Option, Some, subst}
+use Rattle.std.proofs.Common.{Option, subst}
 use Rattle.sqlite.specs.Held.{state}
 use Rattle.rollback_book.specs.Book.{Volume}
 use Rattle.journaled_book.specs.Journaled.{IsJournalOf, story_of}

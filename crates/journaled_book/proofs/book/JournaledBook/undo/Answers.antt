@@ -1,4 +1,4 @@
-use Rattle.std.proofs.Common.{Option, Some, subst}
+use Rattle.std.proofs.Common.{Option, subst}
 use Rattle.sqlite.specs.Held.{state}
 use Rattle.book_log.specs.declared.entry.Entry.TheVariants.{Undo}
 use Rattle.rollback_book.specs.Book.{Volume}
