@@ -113,7 +113,10 @@ pub(crate) fn rollback<S: Alter>(
     ensures journal { Appends (state S.Store journal.old) (state S.Store journal.new) line.now result }
 {
     let entries = book.entries().1.len();
-    let JournaledPlan { room, entries: planned } = plan;
+    let JournaledPlan {
+        room,
+        entries: planned,
+    } = plan;
     if entries != planned {
         drop(room);
         return Err(ChangeFault::Book(Refusal::Stale(entries)));

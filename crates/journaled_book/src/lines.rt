@@ -81,11 +81,14 @@ fn begin_table(
     ensures damaged { result ≡ Err LineFault.Damaged → IsDamagedBy None (grammar.table table schema items.now) }
 {
     match read_items(alloc, items) {
-        Ok(items) => open_book(alloc, Begin {
-            table,
-            schema,
-            items,
-        }),
+        Ok(items) => open_book(
+            alloc,
+            Begin {
+                table,
+                schema,
+                items,
+            },
+        ),
         Err(fault) => {
             drop(table);
             drop(schema);
@@ -136,10 +139,14 @@ fn enter_define(
     ensures damaged { result ≡ Err LineFault.Damaged → IsDamagedBy (Some book.old.story) (grammar.define name.now definition.now) }
 {
     let definition = read_definition(alloc, definition)?;
-    enter_change(alloc, book, Change::Define {
-        name,
-        definition: &definition,
-    })
+    enter_change(
+        alloc,
+        book,
+        Change::Define {
+            name,
+            definition: &definition,
+        },
+    )
 }
 
 fn enter_start(
@@ -153,11 +160,15 @@ fn enter_start(
     ensures damaged { result ≡ Err LineFault.Damaged → IsDamagedBy (Some book.old.story) (grammar.start exec.now.thread machine.now input.now) }
 {
     let input = read_value(alloc, input)?;
-    enter_change(alloc, book, Change::Start {
-        exec: &exec.thread,
-        machine,
-        input,
-    })
+    enter_change(
+        alloc,
+        book,
+        Change::Start {
+            exec: &exec.thread,
+            machine,
+            input,
+        },
+    )
 }
 
 fn enter_step(alloc: Global, book: &mut Book, thread: &ThreadName) -> Result<(), LineFault>

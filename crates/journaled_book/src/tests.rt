@@ -18,7 +18,8 @@ const TABLE: &str = "table items id:S []";
 const MACHINE_P: &str =
     r#"define p {"StartAt":"P","States":{"P":{"Type":"Pass","Result":7,"End":true}}}"#;
 
-const MACHINE_W: &str = r#"define w {"StartAt":"W","States":{"W":{"Type":"Task","Resource":"arn:aws:states:::dynamodb:putItem","Parameters":{"TableName":"items","Item":{"id":{"S":"k"},"v":{"S.$":"$.v"}}},"End":true}}}"#;
+const MACHINE_W: &str =
+    r#"define w {"StartAt":"W","States":{"W":{"Type":"Task","Resource":"arn:aws:states:::dynamodb:putItem","Parameters":{"TableName":"items","Item":{"id":{"S":"k"},"v":{"S.$":"$.v"}}},"End":true}}}"#;
 
 /// Lines, each with whether it is accepted, and what the book shows after the last.
 pub(crate) const ROWS: &[(&str, Told)] = &[
@@ -169,7 +170,17 @@ const DAMAGED: &[(&[&str], usize)] = &[
     (&[TABLE, MACHINE_P, "undo a#1"], 2),
     (&[TABLE, MACHINE_P, "start a p {}", "undo a#1"], 3),
     (&[TABLE, MACHINE_P, "start a p {}", "rollback a#1"], 3),
-    (&[TABLE, MACHINE_P, "start a p {}", "step a", "undo a#0", "step"], 4),
+    (
+        &[
+            TABLE,
+            MACHINE_P,
+            "start a p {}",
+            "step a",
+            "undo a#0",
+            "step",
+        ],
+        4,
+    ),
     (&[TABLE, MACHINE_P, "start a p {}", "step a", "step a"], 4),
     (&[TABLE, MACHINE_P, "start a p {}", "plan a#0"], 3),
     (&[TABLE, MACHINE_P, "start a p {}", "show a"], 3),
@@ -178,14 +189,19 @@ const DAMAGED: &[(&[&str], usize)] = &[
 #[test]
 fn damaged_lines_are_named(rt: HostRuntime) -> Result<(), Fail> {
     for (lines, place) in DAMAGED {
-        assert_eq!(rt; refusal(rt.alloc(), lines), Some((OpenFault::Damaged(*place), true)), "{place}");
+        assert_eq!(rt;
+            refusal(rt.alloc(), lines),
+            Some((OpenFault::Damaged(*place), true)),
+            "{place}"
+        );
     }
     Ok(())
 }
 
 fn gap(alloc: Global) -> Option<OpenFault> {
     let mut conn = Connection::open_in_memory(alloc).ok()?;
-    let sql = "CREATE TABLE entry(no INTEGER PRIMARY KEY, line TEXT NOT NULL) STRICT; INSERT INTO entry VALUES (0, 'table items id:S []'), (2, 'x')";
+    let sql =
+        "CREATE TABLE entry(no INTEGER PRIMARY KEY, line TEXT NOT NULL) STRICT; INSERT INTO entry VALUES (0, 'table items id:S []'), (2, 'x')";
     if conn.execute_batch(sql).is_err() {
         return None;
     }
@@ -197,7 +213,10 @@ fn gap(alloc: Global) -> Option<OpenFault> {
 
 #[test]
 fn a_gap_is_told(rt: HostRuntime) {
-    assert_eq!(rt; gap(rt.alloc()), Some(OpenFault::Journal(JournalFault::Gap(1))));
+    assert_eq!(rt;
+        gap(rt.alloc()),
+        Some(OpenFault::Journal(JournalFault::Gap(1)))
+    );
 }
 
 /// A journal with the lines that are accepted, for a test in which one growth is refused.

@@ -133,10 +133,15 @@ fn give_define<S: Alter>(
     requires line { command_of line.now ≡ Some (grammar.define name.now definition.now) }
 {
     match Value::from_str(alloc, definition) {
-        Ok(definition) => give_change(alloc, book, Change::Define {
-            name,
-            definition: &definition,
-        }, line),
+        Ok(definition) => give_change(
+            alloc,
+            book,
+            Change::Define {
+                name,
+                definition: &definition,
+            },
+            line,
+        ),
         Err(fault) => if fault.is_memory() {
             Told::Unserved
         } else {
@@ -157,11 +162,16 @@ fn give_start<S: Alter>(
     requires line { command_of line.now ≡ Some (grammar.start exec.now.thread machine.now input.now) }
 {
     match read(alloc, input.as_bytes()) {
-        Ok(input) => give_change(alloc, book, Change::Start {
-            exec: &exec.thread,
-            machine,
-            input,
-        }, line),
+        Ok(input) => give_change(
+            alloc,
+            book,
+            Change::Start {
+                exec: &exec.thread,
+                machine,
+                input,
+            },
+            line,
+        ),
         Err(JsonFault::Memory) => Told::Unserved,
         Err(_) => Told::Refused,
     }

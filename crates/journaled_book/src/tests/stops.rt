@@ -81,11 +81,7 @@ fn give_all(alloc: Global, book: &mut JournaledBook<Stopping>) -> Result<Given, 
 }
 
 /// Whether the files, once the machine has come back, have the lines that were accepted, perhaps with the one that was struck.
-fn is_found(
-    alloc: Global,
-    mut left: Files<Fuse<Memory>>,
-    mut given: Given,
-) -> Result<bool, Fail> {
+fn is_found(alloc: Global, mut left: Files<Fuse<Memory>>, mut given: Given) -> Result<bool, Fail> {
     left.log.crash();
     left.db.crash();
     let Ok(mut journal) = on_files(alloc, left) else {

@@ -24,5 +24,5 @@ loop-line-preserved c =
     record {
       place = ap (λ (n : ℕ). n + 1) c.loop-line.invariant.place;
       given = given_more string_bytes lines at c.line-item.result c.line-item.result low (sym c.line-item.is) (story_of c.loop-line.book) c.in-Ok.after.story c.as_str.result.now
-      c.loop-line.invariant.given c.as_str.ensures.value c.in-Ok.ensures.ok;
+          c.loop-line.invariant.given c.as_str.ensures.value c.in-Ok.ensures.ok;
     }
