@@ -7,8 +7,8 @@ ghost use Rattle.item_store.specs.Store.{items_of};
 ghost use Rattle.item_store.specs.Table.{with_item};
 ghost use Rattle.book_log.specs.Beginning.{keyed_item, table_of};
 
-use attr_values::{Item, ItemFault, Key, KeyAttribute, KeySchema, key_of, read_item};
 use crate::begin::Begin;
+use attr_values::{Item, ItemFault, Key, KeyAttribute, KeySchema, key_of, read_item};
 use item_store::ItemStore;
 use json_tree::Json;
 use std::alloc::{AllocError, Global};

@@ -6,9 +6,9 @@ ghost use Rattle.operator_line.specs.Serving.{AnswersRead, ServesLast, ServesLin
 ghost use Rattle.operator_line.specs.Texts.{has_no_feed};
 
 use crate::line::{Line, LineBuffer};
-use reply_lines::Reply;
 use crate::session::Session;
 use memchr::memchr;
+use reply_lines::Reply;
 use std::alloc::{AllocError, Global};
 use std::io::{ErrorKind, Read, Write};
 use thiserror::Error;

@@ -10,6 +10,7 @@ ghost use Rattle.step_names.specs.Written.{step_text};
 ghost use Rattle.reply_lines.specs.Replies.{done_reply, step_reply, moved_reply, kind_text, with_feed, list_reply, names_reply, place_text, fault_text, frame_reply, refused, refused_by, refused_for_step, refused_for_field, machine_reply, readiness_text, refusal_reply};
 ghost use Rattle.reply_lines.specs.Replying.{Writes, AreLines, has_room_for_step, has_room_for_lines};
 
+use crate::lines::Lines;
 use asl_forward::{Fault, Frame, Phase};
 use asl_machine::MachineFault;
 use attr_values::{Item, write_item};
@@ -20,8 +21,6 @@ use json_tree::{Json, Text, write_text};
 use saved_steps::{Kind, StepRecord};
 use std::alloc::{AllocError, Global};
 use step_names::{LONGEST_STEP, StepName, decimal_len, push_decimal};
-
-use crate::lines::Lines;
 
 /// A reply that is being written. It keeps the room of the longest one so far.
 #[derive(Drop)]
@@ -199,11 +198,7 @@ impl Reply {
     }
 
     /// `no` and the refusal of a book.
-    pub fn refuse_command(
-        &mut self,
-        alloc: Global,
-        refusal: Refusal,
-    ) -> Result<(), AllocError>
+    pub fn refuse_command(&mut self, alloc: Global, refusal: Refusal) -> Result<(), AllocError>
         ensures ok { Writes result self.old self.new (refusal_reply refusal) }
         ensures memory { refusal ≡ Refusal.Memory → OnOk result ⊥ }
     {

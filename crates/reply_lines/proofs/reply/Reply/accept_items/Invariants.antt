@@ -8,7 +8,7 @@ use Rattle.reply_lines.proofs.reply.Reply.accept_items.Given as goal
 
 abbrev pub invariant-loop-item : goal.invariant-loop-item
 invariant-loop-item l = record {
-      items : items_left l.fn.items ≡ map (λ i. i.now) l.yielded ++ items_left l.item-iterator;
-      counted : l.count ≡ length l.yielded;
-      written : string_bytes l.lines.text ≡ flat_map with_feed (map (λ i. text_of (item_json i)) (map (λ i. i.now) l.yielded));
-    }
+  items : items_left l.fn.items ≡ map (λ i. i.now) l.yielded ++ items_left l.item-iterator;
+  counted : l.count ≡ length l.yielded;
+  written : string_bytes l.lines.text ≡ flat_map with_feed (map (λ i. text_of (item_json i)) (map (λ i. i.now) l.yielded));
+}
