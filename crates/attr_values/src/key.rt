@@ -30,6 +30,32 @@ pub struct KeySchema {
     pub sort: Option<KeyAttribute>,
 }
 
+impl KeyAttribute {
+    /// The same attribute, in one step. Takes no memory, as its name is shared.
+    pub fn copy(&self) -> Result<KeyAttribute, AllocError>
+        ensures { IfOk result (λ a. a ≡ self.now) }
+    {
+        Ok(KeyAttribute {
+            name: self.name.copy()?,
+            kind: self.kind,
+        })
+    }
+}
+
+impl KeySchema {
+    /// The same schema, in one step. Takes no memory, as its names are shared.
+    pub fn copy(&self) -> Result<KeySchema, AllocError>
+        ensures { IfOk result (λ s. s ≡ self.now) }
+    {
+        let partition = self.partition.copy()?;
+        let sort = match &self.sort {
+            Some(attribute) => Some(attribute.copy()?),
+            None => None,
+        };
+        Ok(KeySchema { partition, sort })
+    }
+}
+
 /// The key of an item. Its order is by the partition and then by the sort attribute: texts by their bytes, numbers by
 /// their order.
 #[derive(Debug, Drop)]

@@ -549,6 +549,17 @@ fn finds_keys(rt: HostRuntime) -> Result<(), Fail> {
     Ok(())
 }
 
+#[test]
+fn copies_schemas(rt: HostRuntime) -> Result<(), Fail> {
+    let alloc = rt.alloc();
+    let one = schema_of_one(alloc, "id", KeyType::N)?;
+    let two = schema_of_two(alloc, ("id", KeyType::S), ("at", KeyType::N))?;
+    assert!(rt; one.copy()? == one);
+    assert!(rt; two.copy()? == two);
+    assert!(rt; two.partition.copy()? == two.partition);
+    Ok(())
+}
+
 fn hash_of(key: &Key) -> u64 {
     let mut state = DefaultHasher::new();
     key.hash(&mut state);

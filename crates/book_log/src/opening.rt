@@ -8,7 +8,7 @@ ghost use Rattle.item_store.specs.Table.{with_item};
 ghost use Rattle.book_log.specs.Beginning.{keyed_item, table_of};
 
 use crate::begin::Begin;
-use attr_values::{Item, ItemFault, Key, KeyAttribute, KeySchema, key_of, read_item};
+use attr_values::{Item, ItemFault, Key, KeySchema, key_of, read_item};
 use item_store::ItemStore;
 use json_tree::Json;
 use std::alloc::{AllocError, Global};
@@ -20,7 +20,7 @@ pub fn first_store(alloc: Global, begin: &Begin) -> Result<ItemStore, ItemFault>
     ensures table { IfOk result (λ s. s.table ≡ begin.now.table) }
     ensures schema { IfOk result (λ s. s.schema ≡ begin.now.schema) }
 {
-    let schema = copy_schema(&begin.schema)?;
+    let schema = begin.schema.copy()?;
     let mut store = ItemStore::new(alloc, begin.table.copy()?, schema);
     for object in begin.items.as_slice() {
         put(alloc, &mut store, object)?;
@@ -52,24 +52,4 @@ fn keyed_item(alloc: Global, schema: &KeySchema, object: &Json) -> Result<(Key, 
         Ok(key) => Ok((key, item)),
         Err(fault) => Err(fault),
     }
-}
-
-fn copy_schema(schema: &KeySchema) -> Result<KeySchema, AllocError>
-    ensures { IfOk result (λ s. s ≡ schema.now) }
-{
-    let partition = copy_attribute(&schema.partition)?;
-    let sort = match &schema.sort {
-        Some(attribute) => Some(copy_attribute(attribute)?),
-        None => None,
-    };
-    Ok(KeySchema { partition, sort })
-}
-
-fn copy_attribute(attribute: &KeyAttribute) -> Result<KeyAttribute, AllocError>
-    ensures { IfOk result (λ a. a ≡ attribute.now) }
-{
-    Ok(KeyAttribute {
-        name: attribute.name.copy()?,
-        kind: attribute.kind,
-    })
 }

@@ -6,7 +6,7 @@ ghost use Rattle.book_log.specs.Story.{base_of};
 ghost use Rattle.plain_replay.specs.Worlds.{seen};
 
 use crate::world::World;
-use attr_values::{ItemFault, KeyAttribute, KeySchema};
+use attr_values::ItemFault;
 use book_log::{Begin, first_store};
 use item_store::ItemStore;
 use std::alloc::{AllocError, Global};
@@ -48,20 +48,7 @@ fn empty_store(alloc: Global, begin: &Begin) -> Result<ItemStore, AllocError>
     ensures table { IfOk result (λ s. s.table ≡ begin.now.table) }
     ensures schema { IfOk result (λ s. s.schema ≡ begin.now.schema) }
 {
-    let partition = copy_attribute(&begin.schema.partition)?;
-    let sort = match &begin.schema.sort {
-        Some(attribute) => Some(copy_attribute(attribute)?),
-        None => None,
-    };
+    let schema = begin.schema.copy()?;
     let table = begin.table.copy()?;
-    Ok(ItemStore::new(alloc, table, KeySchema { partition, sort }))
-}
-
-fn copy_attribute(attribute: &KeyAttribute) -> Result<KeyAttribute, AllocError>
-    ensures { IfOk result (λ a. a ≡ attribute.now) }
-{
-    Ok(KeyAttribute {
-        name: attribute.name.copy()?,
-        kind: attribute.kind,
-    })
+    Ok(ItemStore::new(alloc, table, schema))
 }

@@ -13,7 +13,6 @@ use crate::book::Book;
 use crate::making::{Entered, Made, MadeChange};
 use asl_forward::Frame;
 use asl_machine::SharedMachine;
-use attr_values::{KeyAttribute, KeySchema};
 use book_log::{Begin, Entry, Refusal};
 use json_tree::{Json, Text};
 use std::alloc::{AllocError, Global};
@@ -247,27 +246,7 @@ fn copy_begin(begin: &Begin) -> Result<Begin, AllocError>
 {
     Ok(Begin {
         table: begin.table.copy()?,
-        schema: copy_schema(&begin.schema)?,
+        schema: begin.schema.copy()?,
         items: begin.items.copy()?,
-    })
-}
-
-fn copy_schema(schema: &KeySchema) -> Result<KeySchema, AllocError>
-    ensures { IfOk result (λ s. s ≡ schema.now) }
-{
-    let partition = copy_attribute(&schema.partition)?;
-    let sort = match &schema.sort {
-        Some(attribute) => Some(copy_attribute(attribute)?),
-        None => None,
-    };
-    Ok(KeySchema { partition, sort })
-}
-
-fn copy_attribute(attribute: &KeyAttribute) -> Result<KeyAttribute, AllocError>
-    ensures { IfOk result (λ a. a ≡ attribute.now) }
-{
-    Ok(KeyAttribute {
-        name: attribute.name.copy()?,
-        kind: attribute.kind,
     })
 }

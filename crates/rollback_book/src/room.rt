@@ -43,4 +43,11 @@ impl PlanRoom {
     {
         self.names.names()
     }
+
+    /// How many entries the log had when the plan was made. The plan is stale where it has more or fewer.
+    pub fn entries(&self) -> usize
+        ensures { result ≡ self.now.entries }
+    {
+        self.entries
+    }
 }

@@ -1,0 +1,87 @@
+-- What the commands of a journaled book do to its journal, and why they are refused.
+use Rattle.std.specs.Prelude.{◌≡◌, ◌⊎◌, ◌<◌, ℕ, List, [], ◌∷◌, ◌++◌, length, Option, None, Some, Result, Ok, Err, IsTrue, IsOk, OnOk, OnErr}
+use Rattle.attr_values.specs.declared.fault.ItemFault.TheVariants as item
+use Rattle.sqlite.specs.State.{State, HasCleanDisk, Survives}
+use Rattle.sqlite.specs.declared.error.Error.{Error}
+use Rattle.step_names.specs.declared.step.StepName.{StepName}
+use Rattle.book_log.specs.Answers.{plan_answer, undo_answer}
+use Rattle.book_log.specs.Beginning.{table_of}
+use Rattle.book_log.specs.Story.{Story}
+use Rattle.book_log.specs.declared.begin.Begin.{Begin}
+use Rattle.book_log.specs.declared.refusal.Refusal.{Refusal}
+use Rattle.book_log.specs.declared.refusal.Refusal.TheVariants as refused
+use Rattle.book_journal.specs.Entries.{AddLines, HoldLines}
+use Rattle.book_journal.specs.Faults.{fault_of}
+use Rattle.book_journal.specs.Kept.{lines_in, IsAtRest, IsSame, LeavesAllOrNone, MayAdd}
+use Rattle.book_journal.specs.declared.fault.JournalFault.{JournalFault}
+use Rattle.rollback_book.specs.Book.{Volume}
+use Rattle.rollback_book.specs.Making.{CanEnter, IsPlanned}
+use Rattle.rollback_book.specs.declared.making.Made.{Made}
+use Rattle.rollback_book.specs.declared.room.PlanRoom.{PlanRoom}
+use Rattle.journaled_book.specs.declared.fault.BeginRefusal.{BeginRefusal}
+use Rattle.journaled_book.specs.declared.fault.BeginRefusal.TheVariants as begin_refusal
+use Rattle.journaled_book.specs.declared.fault.ChangeFault.{ChangeFault}
+use Rattle.journaled_book.specs.declared.fault.ChangeFault.TheVariants as change_fault
+
+-- ---- the journal
+
+-- the line stands after those from before; the connection was open, and is
+pub record HasLine (old new : State) (line : List ℕ) : Type 0 where
+  pub was_open : IsTrue old.is_open
+  pub is_open : IsTrue new.is_open
+  pub added : AddLines (lines_in old) (line ∷ []) (lines_in new)
+  pub lines : (before : List (List ℕ)) → HoldLines (lines_in old) before → HoldLines (lines_in new) (before ++ line ∷ [])
+
+-- The line is appended, or the journal is as it was. A crash leaves the lines from before, with this one or without; once the call
+-- has returned, those that the journal has.
+pub record Appends {T E : Type 0} (old new : State) (line : List ℕ) (result : Result T E) : Type 0 where
+  pub ok : HasCleanDisk new → OnOk result (HasLine old new line)
+  pub err : HasCleanDisk new → OnErr result (IsSame old new)
+  pub crash : LeavesAllOrNone old (line ∷ []) new
+  pub survives : Survives old new (MayAdd old (line ∷ []))
+  pub at_rest : IsAtRest new
+
+-- the journal is as it was, and nothing was written
+pub record IsRead (old new : State) : Type 0 where
+  pub same : HasCleanDisk new → IsSame old new
+  pub survives : Survives old new (λ _. ⊥)
+  pub at_rest : IsAtRest new
+
+-- an error of the database, as it is told
+abbrev pub IsStoreFault : JournalFault → Type 0
+IsStoreFault fault = (cause : Error) × (fault ≡ fault_of cause)
+
+-- ---- the book
+
+-- everything is made for this command, and the book is as it was left when this was made
+abbrev pub IsReady : Option Volume → Made → Type 0
+IsReady None m = ⊥
+IsReady (Some b) m = CanEnter b m
+
+-- an item is none, or memory was refused, or the journal refused the line
+abbrev pub RefusesBegin : Begin → BeginRefusal → Type 0
+RefusesBegin begin (begin_refusal.Item fault) = (fault ≡ item.Memory) ⊎ (table_of begin ≡ Err fault)
+RefusesBegin begin (begin_refusal.Journal fault) = IsOk (table_of begin) × IsStoreFault fault
+
+-- the book refuses, or the journal refuses what the book would not
+abbrev pub RefusesUndo : Story → StepName → ChangeFault → Type 0
+RefusesUndo story step (change_fault.Book refusal) = undo_answer story step ≡ Err refusal
+RefusesUndo story step (change_fault.Journal fault) = (undo_answer story step ≡ Ok step) × IsStoreFault fault
+
+abbrev pub AnswersUndo : Story → StepName → Result StepName ChangeFault → Type 0
+AnswersUndo story step (Ok name) = (undo_answer story step ≡ Ok step) × (name ≡ step)
+AnswersUndo story step (Err fault) = RefusesUndo story step fault
+
+-- as a book plans
+abbrev pub PlansRollback : Story → StepName → Result PlanRoom Refusal → Type 0
+PlansRollback story step (Ok plan) = (plan.step ≡ step) × IsPlanned story plan
+PlansRollback story step (Err refusal) = ((refusal ≡ refused.Memory) × IsOk (plan_answer story step)) ⊎ (plan_answer story step ≡ Err refusal)
+
+-- commands were accepted since a plan was made after so many entries; or the journal refuses
+abbrev pub RefusesRollback : Story → StepName → List StepName → ℕ → ChangeFault → Type 0
+RefusesRollback story step names entries (change_fault.Book refusal) = (refusal ≡ refused.Stale (length story.log)) × (entries < length story.log)
+RefusesRollback story step names entries (change_fault.Journal fault) = (plan_answer story step ≡ Ok names) × IsStoreFault fault
+
+abbrev pub AnswersRollback : Story → StepName → List StepName → ℕ → Result (List StepName) ChangeFault → Type 0
+AnswersRollback story step names entries (Ok told) = (told ≡ names) × (plan_answer story step ≡ Ok names)
+AnswersRollback story step names entries (Err fault) = RefusesRollback story step names entries fault

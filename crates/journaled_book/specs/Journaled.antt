@@ -1,0 +1,35 @@
+-- A book and its journal as their contracts see them.
+use Rattle.std.specs.Prelude.{ℕ, List, Option, option_map, IsTrue, refl}
+use Rattle.std.specs.Coded.{Coded, code_by, coded×}
+use Rattle.sqlite.specs.Held.{Held, held_code}
+use Rattle.sqlite.specs.State.{State, HasCleanDisk}
+use Rattle.book_log.specs.Story.{Story, accepted}
+use Rattle.book_log.specs.declared.entry.Entry.{Entry}
+use Rattle.book_journal.specs.Entries.{HoldLines}
+use Rattle.book_journal.specs.Kept.{lines_in, IsAtRest}
+use Rattle.rollback_book.specs.Book.{Volume}
+use Rattle.journaled_book.specs.Lines.{AreLinesOf}
+
+-- the book, none before its table is given, and what the journal's connection holds
+pub record Journaled (S : Type 0) : Type 0 where
+  pub book : Option Volume
+  pub journal : Held S
+
+abbrev pub journaled_code : {S : Type 0} → Coded (Option Volume) → Coded S → Coded (Journaled S)
+journaled_code {S} book store =
+    code_by (Option Volume × Held S) (coded× book (held_code store)) (λ j. (j.book, j.journal)) (λ p. record { book = p.0; journal = p.1 }) (λ _. refl)
+
+abbrev pub story_of : Option Volume → Option Story
+story_of book = option_map (λ b. b.story) book
+
+abbrev pub with_entry : Option Story → Entry → Option Story
+with_entry story entry = option_map (λ s. accepted s entry) story
+
+-- the journal holds lines of this story
+abbrev pub HasLinesOf : State → Option Story → Type 0
+HasLinesOf s story = (lines : List (List ℕ)) × HoldLines (lines_in s) lines × AreLinesOf lines story
+
+-- While the store is open, the journal's lines are those of the book, and a crash leaves them and nothing else.
+pub record IsJournalOf (s : State) (story : Option Story) : Type 0 where
+  pub lines : HasCleanDisk s → IsTrue s.is_open → HasLinesOf s story
+  pub rest : IsAtRest s

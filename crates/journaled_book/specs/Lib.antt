@@ -1,0 +1,5 @@
+pub mod Lines
+pub mod Reading
+pub mod Journaled
+pub mod Changes
+pub mod Opening

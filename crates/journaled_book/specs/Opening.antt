@@ -1,0 +1,47 @@
+-- Which book the lines of a journal give, and why they give none.
+use Rattle.std.specs.Prelude.{◌≡◌, ℕ, List, ◌∷◌, ◌++◌, length, Option, None, Some}
+use Rattle.sqlite.specs.Order.{Row}
+use Rattle.book_log.specs.Legal.{IsLegal}
+use Rattle.book_log.specs.Story.{Story}
+use Rattle.book_journal.specs.Entries.{HoldLines, HaveGap}
+use Rattle.book_journal.specs.declared.fault.JournalFault.{JournalFault}
+use Rattle.book_journal.specs.declared.fault.JournalFault.TheVariants as journal_fault
+use Rattle.journaled_book.specs.Lines.{AreLinesOf, IsDamaged}
+use Rattle.journaled_book.specs.declared.fault.OpenFault.{OpenFault}
+use Rattle.journaled_book.specs.declared.fault.OpenFault.TheVariants.{Damaged, Journal, Memory}
+
+-- each entry of the story was accepted at its place
+abbrev pub IsLegalBook : Option Story → Type 0
+IsLegalBook None = Unit {0}
+IsLegalBook (Some story) = IsLegal story
+
+-- these lines give this book
+pub record Give (lines : List (List ℕ)) (story : Option Story) : Type 0 where
+  pub are_lines : AreLinesOf lines story
+  pub is_legal : IsLegalBook story
+
+-- the line at this place is damaged, and those before it give a book
+pub record HasDamageAt (lines : List (List ℕ)) (place : ℕ) : Type 0 where
+  pub front : List (List ℕ)
+  pub line : List ℕ
+  pub later : List (List ℕ)
+  pub parts : lines ≡ front ++ line ∷ later
+  pub place_is : place ≡ length front
+  pub story : Option Story
+  pub given : Give front story
+  pub is_damaged : IsDamaged story line
+
+-- the entries of the journal are these lines' and ..
+abbrev pub OpensTo : List Row → Option Story → Type 0
+OpensTo rows story = (lines : List (List ℕ)) × HoldLines rows lines × Give lines story
+
+abbrev pub RefusesJournal : List Row → JournalFault → Type 0
+RefusesJournal rows (journal_fault.Gap position) = HaveGap rows position
+RefusesJournal rows (journal_fault.Store cause) = Unit {0}
+RefusesJournal rows journal_fault.Memory = ⊥
+
+-- why a journal with these entries isn't opened; want of memory and an error of the database say nothing of them
+abbrev pub RefusesOpen : List Row → OpenFault → Type 0
+RefusesOpen rows (Damaged place) = (lines : List (List ℕ)) × HoldLines rows lines × HasDamageAt lines place
+RefusesOpen rows (Journal fault) = RefusesJournal rows fault
+RefusesOpen rows Memory = Unit {0}

@@ -1,0 +1,122 @@
+// What is done to a book and its journal together.
+ghost use Rattle.std.specs.Prelude.{◌≡◌, ◌⊎◌, [], None, Some, IsOk, IfOk, IfErr, OnOk, OnErr};
+ghost use Rattle.sqlite.specs.Held.{state};
+ghost use Rattle.book_log.specs.Beginning.{table_of};
+ghost use Rattle.book_log.specs.Story.{accepted};
+ghost use Rattle.book_journal.specs.Kept.{IsAtRest};
+ghost use Rattle.rollback_book.specs.Making.{CanEnter, WasPlanned};
+ghost use Rattle.journaled_book.specs.Changes.{AnswersRollback, AnswersUndo, Appends, IsStoreFault, RefusesBegin};
+ghost use Rattle.journaled_book.specs.Journaled.{story_of};
+
+use crate::fault::{BeginRefusal, ChangeFault};
+use book_journal::{Journal, JournalFault};
+use book_log::{Begin, Entry, Refusal, StepNames};
+use rollback_book::{Book, Entered, Made, PlanRoom, Room};
+use sqlite::Alter;
+use std::alloc::Global;
+use step_names::StepName;
+
+/// Opens a book and appends its line.
+pub(crate) fn begin<S: Alter>(
+    alloc: Global,
+    journal: &mut Journal<S>,
+    begin: Begin,
+    line: &str,
+) -> Result<Book, BeginRefusal>
+    requires { IsAtRest (state S.Store journal.old) }
+    ensures ok { IfOk result (λ book. (book.story ≡ record { begin = begin; log = [] }) × IsOk (table_of begin)) }
+    ensures refused { IfErr result (RefusesBegin begin) }
+    ensures journal { Appends (state S.Store journal.old) (state S.Store journal.new) line.now result }
+{
+    let book = match Book::open(alloc, begin) {
+        Ok(book) => book,
+        Err(fault) => return Err(BeginRefusal::Item(fault)),
+    };
+    let Err(fault) = append(journal, line) else {
+        return Ok(book);
+    };
+    drop(book);
+    Err(BeginRefusal::Journal(fault))
+}
+
+pub(crate) fn enter<S: Alter>(
+    book: &mut Book,
+    journal: &mut Journal<S>,
+    made: Made,
+    line: &str,
+) -> Result<Entered, JournalFault>
+    requires { CanEnter book.old made }
+    ensures ok { IfOk result (λ answer. (answer ≡ made.answer) × (book.new.story ≡ accepted book.old.story made.entry)) }
+    ensures refused { IfErr result IsStoreFault }
+    ensures err { OnErr result (book.new ≡ book.old) }
+    ensures journal { Appends (state S.Store journal.old) (state S.Store journal.new) line.now result }
+{
+    match append(journal, line) {
+        Ok(()) => Ok(book.enter(made)),
+        Err(fault) => {
+            drop(made);
+            Err(fault)
+        }
+    }
+}
+
+pub(crate) fn undo<S: Alter>(
+    book: &mut Book,
+    journal: &mut Journal<S>,
+    room: Room,
+    line: &str,
+) -> Result<StepName, ChangeFault>
+    requires { IsAtRest (state S.Store journal.old) }
+    ensures answer { AnswersUndo book.old.story room.step result }
+    ensures ok { OnOk result (book.new.story ≡ accepted book.old.story (Entry.Undo room.step)) }
+    ensures err { OnErr result (book.new ≡ book.old) }
+    ensures journal { Appends (state S.Store journal.old) (state S.Store journal.new) line.now result }
+{
+    let room = match book.can_undo(room) {
+        Ok(room) => room,
+        Err(refusal) => return Err(ChangeFault::Book(refusal)),
+    };
+    if let Err(fault) = append(journal, line) {
+        drop(room);
+        return Err(ChangeFault::Journal(fault));
+    }
+    let Ok(name) = book.undo(room) else {
+        unreachable!()
+    };
+    Ok(name)
+}
+
+pub(crate) fn rollback<S: Alter>(
+    book: &mut Book,
+    journal: &mut Journal<S>,
+    plan: PlanRoom,
+    line: &str,
+) -> Result<StepNames, ChangeFault>
+    requires rest { IsAtRest (state S.Store journal.old) }
+    requires planned { WasPlanned book.old.story plan }
+    ensures answer { AnswersRollback book.old.story plan.step plan.names plan.entries result }
+    ensures ok { OnOk result (book.new.story ≡ accepted book.old.story (Entry.Rollback plan.step plan.names)) }
+    ensures err { OnErr result (book.new ≡ book.old) }
+    ensures journal { Appends (state S.Store journal.old) (state S.Store journal.new) line.now result }
+{
+    let entries = book.entries().1.len();
+    if entries != plan.entries() {
+        drop(plan);
+        return Err(ChangeFault::Book(Refusal::Stale(entries)));
+    }
+    if let Err(fault) = append(journal, line) {
+        drop(plan);
+        return Err(ChangeFault::Journal(fault));
+    }
+    let Ok(names) = book.rollback(plan) else {
+        unreachable!()
+    };
+    Ok(names)
+}
+
+fn append<S: Alter>(journal: &mut Journal<S>, line: &str) -> Result<(), JournalFault>
+    ensures refused { IfErr result IsStoreFault }
+    ensures journal { Appends (state S.Store journal.old) (state S.Store journal.new) line.now result }
+{
+    journal.append(&[line])
+}

@@ -1,0 +1,59 @@
+// Why a journaled book refuses.
+
+use attr_values::ItemFault;
+use book_journal::JournalFault;
+use book_log::Refusal;
+use command_lines::CommandFault;
+use json_tree::JsonFault;
+
+/// Why a journal gives no book.
+#[derive(Clone, Copy, Debug, PartialEq, Eq)]
+pub enum OpenFault {
+    /// The line of this number isn't what its place needs, or the book refuses its command.
+    Damaged(usize),
+    /// The journal refuses, for another cause than memory.
+    Journal(JournalFault),
+    /// Memory was refused.
+    Memory,
+}
+
+impl From<JournalFault> for OpenFault {
+    ghost use Rattle.std.specs.Prelude.{◌≡◌};
+    ghost use Rattle.journaled_book.specs.Reading.{open_fault_of};
+
+    ghost from_gives = { λ fault e. e ≡ open_fault_of fault };
+
+    fn from(fault: JournalFault) -> OpenFault {
+        match fault {
+            JournalFault::Memory => OpenFault::Memory,
+            fault => OpenFault::Journal(fault),
+        }
+    }
+}
+
+/// Why no book is begun. Each refusal leaves the journal as it was.
+#[derive(Debug, Drop)]
+pub enum BeginRefusal {
+    /// An item is none, or memory was refused.
+    Item(ItemFault),
+    /// The journal refuses the line.
+    Journal(JournalFault),
+}
+
+/// Why a step, or a step and its consequences, aren't taken back. Each refusal leaves book and journal as they were.
+#[derive(Debug, Drop)]
+pub enum ChangeFault {
+    /// The book refuses.
+    Book(Refusal),
+    /// The journal refuses the line.
+    Journal(JournalFault),
+}
+
+/// Why a line gives no book.
+#[derive(Clone, Copy)]
+pub(crate) enum LineFault {
+    /// It isn't what its place needs, or the book refuses its command.
+    Damaged,
+    /// Memory was refused.
+    Memory,
+}

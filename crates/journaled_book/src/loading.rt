@@ -1,0 +1,58 @@
+// The book that a journal's lines give.
+ghost use Rattle.std.specs.Prelude.{◌≡◌, ℕ, Err, IfOk, IfErr, map, string_bytes};
+ghost use Rattle.sqlite.specs.Held.{state};
+ghost use Rattle.sqlite.specs.State.{HasCleanDisk};
+ghost use Rattle.book_journal.specs.Kept.{lines_in};
+ghost use Rattle.journaled_book.specs.Changes.{IsRead};
+ghost use Rattle.journaled_book.specs.Journaled.{story_of};
+ghost use Rattle.journaled_book.specs.Opening.{Give, HasDamageAt, OpensTo, RefusesOpen};
+ghost use Rattle.journaled_book.specs.Reading.{fault_at};
+
+use crate::fault::{LineFault, OpenFault};
+use crate::lines::add_line;
+use book_journal::{Journal, JournalFault};
+use rollback_book::Book;
+use sqlite::Alter;
+use std::alloc::Global;
+
+/// The book of a journal's lines, none where it has none.
+pub(crate) fn load<S: Alter>(
+    alloc: Global,
+    journal: &mut Journal<S>,
+) -> Result<Option<Book>, OpenFault>
+    ensures opened { HasCleanDisk (state S.Store journal.new) → IfOk result (λ book. OpensTo (lines_in (state S.Store journal.old)) (story_of book)) }
+    ensures refused { HasCleanDisk (state S.Store journal.new) → IfErr result (RefusesOpen (lines_in (state S.Store journal.old))) }
+    ensures memory { ¬ (result ≡ Err (OpenFault.Journal JournalFault.Memory)) }
+    ensures journal { IsRead (state S.Store journal.old) (state S.Store journal.new) }
+{
+    let lines = journal.load(alloc)?;
+    book_of(alloc, lines.as_slice())
+}
+
+/// The book of these lines, which are applied one after another.
+fn book_of(alloc: Global, lines: &[String]) -> Result<Option<Book>, OpenFault>
+    ensures ok { IfOk result (λ book. Give (map string_bytes lines.now) (story_of book)) }
+    ensures damaged { (place : ℕ) → result ≡ Err (OpenFault.Damaged place) → HasDamageAt (map string_bytes lines.now) place }
+    ensures named { (fault : JournalFault) → ¬ (result ≡ Err (OpenFault.Journal fault)) }
+{
+    let mut book = None;
+    let mut place = 0;
+    for line in lines {
+        match add_line(alloc, book, line.as_str()) {
+            Ok(after) => book = Some(after),
+            Err(fault) => return Err(fault_at(place, fault)),
+        }
+        place += 1;
+    }
+    Ok(book)
+}
+
+/// How a fault of the line at a place is told.
+fn fault_at(place: usize, fault: LineFault) -> OpenFault
+    ensures { result ≡ fault_at place fault }
+{
+    match fault {
+        LineFault::Damaged => OpenFault::Damaged(place),
+        LineFault::Memory => OpenFault::Memory,
+    }
+}

@@ -1,0 +1,140 @@
+//! A stop at every fifth call of the log or of the database file, while lines are given, and the book that is found afterwards.
+
+use super::driver::{Told, give};
+use super::{MACHINE_P, TABLE, are, load, open_book, opened, shows};
+use crate::JournaledBook;
+use book_journal::Journal;
+use sqlite::{Connection, FileStore, Files, Options};
+use sqlite_disk::{Crash, Disk, Fuse, Memory};
+use std::alloc::Global;
+use std::test::Fail;
+
+const FOREVER: u64 = u64::MAX;
+
+const LINES: &[&str] = &[TABLE, MACHINE_P, "start a p {}", "step a", "undo a#1"];
+
+type Stopping = FileStore<Fuse<Memory>>;
+
+fn on_files(
+    alloc: Global,
+    files: Files<Fuse<Memory>>,
+) -> Result<Journal<Stopping>, Files<Fuse<Memory>>> {
+    if !files.may_be_used() {
+        return Err(files);
+    }
+    match Connection::open_files(alloc, files, Options::new(1)) {
+        Ok(conn) => match opened(conn) {
+            Ok(journal) => Ok(journal),
+            Err(conn) => Err(conn.into_store().close()),
+        },
+        Err((_, left)) => Err(left.into_files()),
+    }
+}
+
+/// An empty file, which stops after so many calls.
+fn stopping(alloc: Global, calls: u64) -> Option<Fuse<Memory>> {
+    let mut file = Memory::new(alloc);
+    file.sync().ok()?;
+    Some(Fuse::new(file, calls))
+}
+
+/// Which of the two files stops, and after how many calls.
+#[derive(Clone, Copy)]
+struct Stop {
+    of_log: bool,
+    calls: u64,
+}
+
+fn files(alloc: Global, stop: Stop) -> Option<Files<Fuse<Memory>>> {
+    Some(Files {
+        log: stopping(alloc, if stop.of_log { stop.calls } else { FOREVER })?,
+        db: stopping(alloc, if stop.of_log { FOREVER } else { stop.calls })?,
+    })
+}
+
+/// The lines that were accepted, and the first that was not.
+#[derive(Drop)]
+struct Given {
+    accepted: Vec<&'static str>,
+    struck: Option<&'static str>,
+}
+
+fn give_all(alloc: Global, book: &mut JournaledBook<Stopping>) -> Result<Given, Fail> {
+    let mut given = Given {
+        accepted: Vec::new(alloc),
+        struck: None,
+    };
+    for line in LINES {
+        let before = shows(alloc, book)?;
+        if give(alloc, book, line) == Told::Accepted {
+            given.accepted.push(*line)?;
+        } else {
+            if shows(alloc, book)?.as_str() != before.as_str() {
+                return Err("changed by a line that was not accepted".into());
+            }
+            if given.struck.is_none() {
+                given.struck = Some(*line);
+            }
+        }
+    }
+    Ok(given)
+}
+
+/// Whether the files, once the machine has come back, have the lines that were accepted, perhaps with the one that was struck.
+fn is_found(alloc: Global, mut left: Files<Fuse<Memory>>, mut given: Given) -> Result<bool, Fail> {
+    left.log.crash();
+    left.db.crash();
+    let Ok(mut journal) = on_files(alloc, left) else {
+        return Err("not opened after a stop".into());
+    };
+    let Some(lines) = load(alloc, &mut journal) else {
+        return Err("not loaded after a stop".into());
+    };
+    if open_book(alloc, journal).is_err() {
+        return Err("no book after a stop".into());
+    }
+    if are(lines.as_slice(), given.accepted.as_slice()) {
+        return Ok(true);
+    }
+    match given.struck {
+        None => Ok(false),
+        Some(line) => {
+            given.accepted.push(line)?;
+            Ok(are(lines.as_slice(), given.accepted.as_slice()))
+        }
+    }
+}
+
+/// Whether all lines were served.
+fn run_to_stop(alloc: Global, stop: Stop) -> Result<bool, Fail> {
+    let Some(files) = files(alloc, stop) else {
+        return Err("no files".into());
+    };
+    let Ok(journal) = on_files(alloc, files) else {
+        return Ok(false);
+    };
+    let Ok(mut book) = open_book(alloc, journal) else {
+        return Ok(false);
+    };
+    let given = give_all(alloc, &mut book)?;
+    let whole = given.struck.is_none();
+    let left = book.into_journal().into_connection().into_store().close();
+    if !is_found(alloc, left, given)? {
+        return Err("other lines after a stop".into());
+    }
+    Ok(whole)
+}
+
+#[test]
+fn a_stop_leaves_what_was_accepted(rt: HostRuntime) -> Result<(), Fail> {
+    let alloc = rt.alloc();
+    for of_log in [true, false] {
+        let mut calls = 0u64;
+        while calls < 1_000 && !run_to_stop(alloc, Stop { of_log, calls })? {
+            calls += 5;
+        }
+        println!(rt; "calls: {calls}")?;
+        assert!(rt; 0 < calls && calls < 1_000);
+    }
+    Ok(())
+}
