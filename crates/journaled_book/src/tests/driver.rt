@@ -57,7 +57,7 @@ fn give_command<S: Alter>(
 ) -> Told
     requires { command_of line.now ≡ Some (spoken command) }
 {
-    match (command, book.book().is_some()) {
+    match (command, book.is_open()) {
         (
             Command::Table {
                 name,
