@@ -1,6 +1,6 @@
 -- JSON of a line, and what is told where it is none.
 use Rattle.std.proofs.Common.{◌≡◌, ℕ, List, [], ◌∷◌, Option, Some, None, OnOk, refl, sym, ap, subst, inl, inr}
-use Rattle.std.specs.Prelude.{Result, Ok, Err, IsOk, IsSome, option_and_then}
+use Rattle.std.specs.Prelude.{◌⊎◌, Result, Ok, Err, IsOk, IsSome, option_and_then}
 use Rattle.std.specs.declared.alloc.AllocError.{AllocError}
 use Rattle.std.proofs.lemmas.Result.{on_ok_weaker}
 use Rattle.serde_json.specs.Data as source
@@ -12,7 +12,13 @@ use Rattle.book_log.specs.Story.{Story}
 use Rattle.attr_values.specs.declared.key.KeySchema.{KeySchema}
 use Rattle.attr_values.specs.declared.fault.ItemFault.{ItemFault}
 use Rattle.item_store.specs.Table.{Table}
+use Rattle.attr_values.specs.declared.fault.ItemFault.TheVariants as item_fault
+use Rattle.book_journal.specs.declared.fault.JournalFault.{JournalFault}
+use Rattle.book_log.specs.Beginning.{table_of}
 use Rattle.book_log.specs.declared.begin.Begin.{Begin}
+use Rattle.journaled_book.specs.Changes.{RefusesBegin}
+use Rattle.journaled_book.specs.declared.fault.BeginRefusal.{BeginRefusal}
+use Rattle.journaled_book.specs.declared.fault.BeginRefusal.TheVariants as not_begun
 use Rattle.operator_line.specs.Answers.{Tells, journal_reply, OfJson, OfSource, OfWhole, values_in, AnswersItems, AnswersBegin, AnswersBeginning}
 use Rattle.reply_lines.specs.Replies.{done_reply, json_reply, item_fault_reply, refused_by}
 
@@ -62,6 +68,15 @@ begin-done begin (Err fault) reply after ok h = cc
 pub begin-unwritten : (begin : Begin) (r : Result Table ItemFault) (reply : List ℕ) (after : Option Story) → IsOk r → (reply ≡ journal_reply) × (after ≡ None) → AnswersBegin begin r reply after
 begin-unwritten begin (Ok items) reply after ok h = inr h
 begin-unwritten begin (Err fault) reply after ok h = cc
+
+-- why it isn't begun, where an item is told, or the journal
+pub begin-item : (begin : Begin) (refusal : BeginRefusal) (fault : ItemFault) → refusal ≡ not_begun.Item fault → RefusesBegin begin refusal → (fault ≡ item_fault.Memory) ⊎ (table_of begin ≡ Err fault)
+begin-item begin (not_begun.Item f) fault e h = let same : f ≡ fault = cc in subst (λ (x : ItemFault). (x ≡ item_fault.Memory) ⊎ (table_of begin ≡ Err x)) same h
+begin-item begin (not_begun.Journal f) fault e h = cc
+
+pub begin-journal : (begin : Begin) (refusal : BeginRefusal) (fault : JournalFault) → refusal ≡ not_begun.Journal fault → RefusesBegin begin refusal → IsOk (table_of begin)
+begin-journal begin (not_begun.Journal f) fault e h = h.0
+begin-journal begin (not_begun.Item f) fault e h = cc
 
 pub begin-refused : (begin : Begin) (r : Result Table ItemFault) (fault : ItemFault) (reply : List ℕ) (after : Option Story) → r ≡ Err fault → (reply ≡ item_fault_reply fault) × (after ≡ None) → AnswersBegin begin r reply after
 begin-refused begin r fault reply after e h = subst (λ (x : Result Table ItemFault). AnswersBegin begin x reply after) (sym e) h

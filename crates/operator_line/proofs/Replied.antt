@@ -1,24 +1,28 @@
 -- What a book answers, as it is told.
 use Rattle.std.proofs.Common.{◌≡◌, ℕ, List, [], ◌∷◌, map, Option, None, Some, Ok, Err, OnOk, inl, inr, refl, sym, ap, ◌∙◌, subst}
-use Rattle.std.specs.Prelude.{Result, IfSome, IsOk}
+use Rattle.std.specs.Prelude.{◌⊎◌, Result, IfSome, IsOk}
+use Rattle.serde_json.specs.Data as source
 use Rattle.std.specs.declared.alloc.AllocError.{AllocError}
 use Rattle.std.proofs.lemmas.Result.{on_ok_weaker}
 use Rattle.step_names.specs.declared.step.StepName.{StepName}
+use Rattle.step_names.specs.Thread.{Thread}
 use Rattle.step_names.specs.Written.{step_text}
 use Rattle.saved_steps.specs.Steps.{Step, name_of}
 use Rattle.saved_steps.specs.declared.record.StepRecord.{StepRecord}
 use Rattle.book_log.specs.Story.{Story, accepted}
+use Rattle.book_log.specs.Answers.{step_answer}
 use Rattle.book_log.specs.declared.entry.Entry.{Entry}
 use Rattle.book_log.specs.declared.entry.Entry.TheVariants.{Step as Stepped}
 use Rattle.book_log.specs.declared.refusal.Refusal.{Refusal}
 use Rattle.book_log.specs.declared.refusal.Refusal.TheVariants.{Memory}
 use Rattle.book_log.specs.declared.moved.Moved.{Moved}
 use Rattle.rollback_book.specs.Book.{Volume}
-use Rattle.journaled_book.specs.Changes.{RefusesChange}
+use Rattle.rollback_book.specs.Making.{OrMemory}
+use Rattle.journaled_book.specs.Changes.{RefusesChange, RefusesDefine as Refuses}
 use Rattle.journaled_book.specs.Journaled.{story_of}
 use Rattle.journaled_book.specs.declared.fault.ChangeFault.{ChangeFault}
 use Rattle.journaled_book.specs.declared.fault.ChangeFault.TheVariants as by
-use Rattle.operator_line.specs.Answers.{Tells, journal_reply, change_reply, AnswersStep, AnswersStarted}
+use Rattle.operator_line.specs.Answers.{Tells, journal_reply, change_reply, AnswersDefine, AnswersStep, AnswersStarted, MovesFirst, StopsDrive}
 use Rattle.reply_lines.specs.Replies.{moved_reply, step_reply, refusal_reply}
 
 -- what holds of a book's story holds of this one
@@ -57,6 +61,23 @@ start-done story after entry name answer r text is a w = subst (λ (x : Result S
 pub start-refused : {U : Type 0} → (story : Story) (after : Option Story) (entry : Entry) (fault : ChangeFault) (answer : Result StepName Refusal) (r : Result U AllocError) (text : List ℕ) → RefusesChange answer fault
     → after ≡ Some story → (fault ≡ by.Book Memory → OnOk r ⊥) → OnOk r (text ≡ change_reply fault) → OnOk r (AnswersStarted story entry answer text after)
 start-refused story after entry fault answer r text = change-refused (AnswersStarted story entry) story (λ e text after h. h) (λ m text after h. inr h) fault answer r text after
+
+-- ---- a definition
+
+pub define-refused : {U : Type 0} → (story : Story) (after : Option Story) (name : List ℕ) (d : source.Data) (fault : ChangeFault) (r : Result U AllocError) (text : List ℕ) → Refuses story name d fault
+    → after ≡ Some story → OnOk r (text ≡ change_reply fault) → OnOk r (AnswersDefine story name (Some d) text after)
+define-refused story after name d (by.Book e) r text h same w = on_ok_weaker r (λ t. inr (record { refusal = e; stands = h; told = (t, same) })) w
+define-refused story after name d (by.Journal f) r text h same w = on_ok_weaker r (λ t. inl (record { machine = h.0; is_one = h.1; told = inr (t, same) })) w
+
+-- ---- several steps
+
+pub stops_drive : (story : Story) (t : Thread) (fault : ChangeFault) → MovesFirst story t → RefusesChange (step_answer story t) fault → StopsDrive story fault
+stops_drive story t (by.Book e) first h = by_answer (step_answer story t) refl h
+  where
+    by_answer : (a : Result Moved Refusal) → step_answer story t ≡ a → OrMemory a e → (e ≡ Memory) ⊎ ((u : Thread) × MovesFirst story u × (step_answer story u ≡ Err e))
+    by_answer (Ok m) is same = inl same
+    by_answer (Err f) is same = inr (t, first, is ∙ ap (λ (x : Refusal). let r : Result Moved Refusal = Err x in r) (sym same))
+stops_drive story t (by.Journal f) first h = (t, first, h.0)
 
 -- ---- a history
 

@@ -1,16 +1,17 @@
 -- Steps that are taken one after another, while some are left to take.
-use Rattle.std.proofs.Common.{◌≡◌, ◌<◌, ◌+◌, ◌-◌, ℕ, zero, suc, List, [], ◌∷◌, ◌++◌, map, length, true, false, Bool, not, ◌&&◌, Option, None, Some, Result, Ok, Err, refl, sym, subst, ap, ◌∙◌, arith}
-use Rattle.std.proofs.lemmas.List.{append_assoc, append-nil, length-append, map-append}
+use Rattle.std.proofs.Common.{◌≡◌, ◌<◌, ◌+◌, ◌-◌, ◌^◌, ℕ, zero, suc, List, [], ◌∷◌, ◌++◌, map, length, true, false, Bool, not, ◌&&◌, Option, None, Some, Result, Ok, Err, refl, sym, subst, ap, ◌∙◌, arith}
+use Rattle.std.proofs.lemmas.List.{append_assoc, append-nil, length-append, length-map, map-append}
 use Rattle.step_names.specs.Written.{step_text}
 use Rattle.step_names.specs.declared.step.StepName.{StepName}
 use Rattle.book_log.specs.Story.{Story}
 use Rattle.journaled_book.specs.declared.fault.ChangeFault.{ChangeFault}
+use Rattle.reply_lines.specs.Replies.{names_reply}
 use Rattle.reply_lines.specs.Replying.{AreLines}
 use Rattle.reply_lines.specs.declared.lines.Lines.{Lines}
 use Rattle.rollback_book.specs.Ready.{IsFirstToMove}
 use Rattle.book_log.specs.Answers.{has_move}
 use Rattle.step_names.specs.Thread.{Thread}
-use Rattle.operator_line.specs.Answers.{Drives, MovesFirst, NoneMoves, StopsDrive}
+use Rattle.operator_line.specs.Answers.{Drives, MovesFirst, NoneMoves, StopsDrive, drive_reply}
 use Rattle.operator_line.specs.Driving.{Taken, KeepsLines, TakesOne}
 
 -- Whatever is taken from here on, with the steps so far it was taken from the beginning.
@@ -83,3 +84,26 @@ first_of_all story passed t none h =
 
 pub none_at_all : (story : Story) (passed : Thread → Bool) → ((u : Thread) → passed u ≡ false) → IsFirstToMove story passed None → NoneMoves story
 none_at_all story passed none h = λ u is. stuck (has_move story u) (passed u) (none u) (h u is)
+
+-- ---- what is told
+
+pub few_lines : (count left : ℕ) (before now : Story) (lines : Lines) → HasTaken count left before now lines → 0 < left → count < 2 ^ 32 → lines.count + 1 < 2 ^ 32
+few_lines count left before now lines t some few = omega (arith, t.lines_are.counted, length-map t.names step_text, t.counted, some, few)
+
+-- where no line is there, and it ended at a refusal, nothing was taken
+pub none_taken : (count : ℕ) (before after : Story) (lines : Lines) (fault : ChangeFault) → Taken count before after lines (Some fault) → lines.count ≡ 0 → after ≡ before
+none_taken count before after lines fault t none = by_names count t.names t.drives (sym t.lines_are.counted ∙ none)
+  where
+    by_names : (n : ℕ) (names : List StepName) → Drives n before names (Some fault) after → length (map step_text names) ≡ 0 → after ≡ before
+    by_names zero [] d e = absurd d
+    by_names (suc n) [] d e = d.1
+    by_names n (x ∷ names) d e = cc
+
+pub drive_done : (names : List StepName) (stop : Option ChangeFault) → stop ≡ None → drive_reply names stop ≡ names_reply names
+drive_done [] None e = refl
+drive_done [] (Some fault) e = cc
+drive_done (x ∷ names) stop e = refl
+
+pub drive_taken : (lines : Lines) (names : List StepName) (stop : Option ChangeFault) → AreLines lines (map step_text names) → (lines.count ≡ 0 → ⊥) → drive_reply names stop ≡ names_reply names
+drive_taken lines [] stop h some = absurd (some h.counted)
+drive_taken lines (x ∷ names) stop h some = refl

@@ -112,12 +112,19 @@ impl<S: Alter> Session<S> {
         ensures empty { bytes_of line.entry ≡ Some [] → OnErr result ⊥ }
     {
         reply.clear();
-        let bytes = match line {
-            Line::Whole([]) => return Ok(()),
-            Line::Whole(bytes) => bytes,
-            Line::TooLong => return reply.refuse(BAD_LINE),
-        };
-        match str::from_utf8(bytes) {
+        match line {
+            Line::Whole([]) => Ok(()),
+            Line::Whole(bytes) => self.answer_bytes(bytes, reply),
+            Line::TooLong => reply.refuse(BAD_LINE),
+        }
+    }
+
+    fn answer_bytes(&mut self, line: &[u8], reply: &mut Reply) -> Result<(), AllocError>
+        requires { string_bytes reply.old.text ≡ [] }
+        ensures ok { OnOk result (AnswersSpoken (told self.old) (command_of line.now) (string_bytes reply.new.text) (told self.new)) }
+        ensures err { OnErr result (told self.new ≡ told self.old) }
+    {
+        match str::from_utf8(line) {
             Ok(text) => self.answer_text(text, reply),
             Err(_) => reply.refuse(BAD_LINE),
         }
@@ -136,7 +143,7 @@ impl<S: Alter> Session<S> {
     }
 
     fn run(&mut self, command: Command<'_>, line: &str, reply: &mut Reply) -> Result<(), AllocError>
-        requires line { command_of line.now ≡ Some (spoken command.entry) }
+        requires line { command_of line.now ≡ Some (spoken command) }
         requires empty { string_bytes reply.old.text ≡ [] }
         ensures ok { OnOk result (AnswersCommand (told self.old) (spoken command.entry) (string_bytes reply.new.text) (told self.new)) }
         ensures err { OnErr result (told self.new ≡ told self.old) }

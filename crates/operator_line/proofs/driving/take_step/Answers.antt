@@ -1,48 +1,56 @@
-use Rattle.std.proofs.Common.{rules, ◌≡◌, ◌+◌, inl, inr, ℕ, List, Bool, false, Some, Ok, Err, refl, sym, ap, ◌∙◌, subst}
-use Rattle.std.specs.BTreeMap.{is_at}
-use Rattle.std.specs.BTreeSet.{contains}
-use Rattle.std.specs.List.{list_any}
+use Rattle.std.proofs.Common.{rules, ◌≡◌, ◌+◌, ℕ, List, Option, Some, Result, Ok, Err, refl, sym, ap, ◌∙◌, subst}
+use Rattle.std.specs.Prelude.{IfOk, IfSome}
 use Rattle.step_names.specs.Order.{thread_cmp}
+use Rattle.step_names.specs.Thread.{Thread}
 use Rattle.book_log.specs.Answers.{step_answer}
+use Rattle.book_log.specs.Story.{Story, accepted}
+use Rattle.book_log.specs.declared.entry.Entry.TheVariants.{Step as Stepped}
 use Rattle.reply_lines.specs.Replying.{AreLines}
 use Rattle.rollback_book.proofs.Threads.{step_thread}
-use Rattle.rollback_book.specs.Ready.{IsFirstToMove}
+use Rattle.journaled_book.specs.Changes.{AnswersChange}
+use Rattle.journaled_book.specs.Journaled.{with_entry}
 use Rattle.operator_line.specs.Answers.{MovesFirst, StopsDrive}
-use Rattle.operator_line.proofs.Replied.{given-ok, given-err}
-use Rattle.operator_line.proofs.Taken.{first_of_all}
+use Rattle.operator_line.specs.Driving.{IsFirst}
+use Rattle.operator_line.proofs.Replied.{in_story, stops_drive}
+use Rattle.operator_line.proofs.Sessions.{some_kept}
 use Rattle.operator_line.proofs.driving.take_step.Goals as goal
 
 pub returns-in_err-moved-clause-step : goal.returns-in_err-moved-clause-step
-returns-in_err-moved-clause-step c =
-    let story = c.args.book.now.story in
+returns-in_err-moved-clause-step g c =
     let t = c.in-Some.thread in
-    let refusal = c.in_err-moved.field-0.0 in
-    let is : c.from_residual-in_err-moved.result ≡ Err refusal = search rules in
-    let nobody = c.new-nobody.result in
-    let h : IsFirstToMove story (contains thread_cmp nobody) (Some t) = search rules in
-    let first : MovesFirst story t = first_of_all story (contains thread_cmp nobody) t (λ u. ap (λ ks. list_any (is_at (thread_cmp u)) ks) c.new-nobody.ensures.empty) h in
-    let stops : StopsDrive story refusal = elim (given-err refusal (step_answer story t) c.in_err-moved.ensures.answer) [
-      | inl memory ↦ inl memory
-      | inr told ↦ inr (t, first, told)
-    ] in
+    let fault = c.in_err-moved.field-0.0 in
+    let is : c.from_residual-in_err-moved.result ≡ Err fault = search rules in
+    let was : c.step.result ≡ Err fault = search rules in
     let keeps : (texts : List (List ℕ)) → AreLines c.args.lines.now texts → AreLines c.reserve_step.new.self texts = λ texts h. record { counted = c.reserve_step.ensures.count ∙ h.counted; written = c.reserve_step.ensures.text ∙ h.written } in
-    rw is (stops, c.in_err-moved.ensures.err, (c.reserve_step.ensures.count, keeps))
+    λ before held.
+    let found : IfOk c.first_ready.result (IsFirst before) = subst (λ (o : Option Story). IfSome o (λ s. IfOk c.first_ready.result (IsFirst s))) held c.first_ready.ensures.first in
+    let first : MovesFirst before t = subst (IsFirst before) c.in-Some.is (subst (λ r. IfOk r (IsFirst before)) c.in_ok-thread.was found) in
+    let answer = subst (AnswersChange (step_answer before t)) was (in_story (λ s. AnswersChange (step_answer s t) c.step.result) c.args.book.now.book before held c.step.ensures.answer) in
+    (before, c.in_err-moved.ensures.err ∙ held, rw is (stops_drive before t fault first answer, refl, (c.reserve_step.ensures.count, keeps)))
+
+pub returns-in_err-moved-clause-open : goal.returns-in_err-moved-clause-open
+returns-in_err-moved-clause-open g c = some_kept c.args.book.now.book c.step.new.self.book c.requires.open c.in_err-moved.ensures.err
 
 pub returns-clause-step : goal.returns-clause-step
-returns-clause-step c =
-    let story = c.args.book.now.story in
+returns-clause-step g c =
     let t = c.in-Some.thread in
     let m = c.in_ok-moved.moved in
-    let nobody = c.new-nobody.result in
-    let h : IsFirstToMove story (contains thread_cmp nobody) (Some t) = search rules in
-    let first : MovesFirst story t = first_of_all story (contains thread_cmp nobody) t (λ u. ap (λ ks. list_any (is_at (thread_cmp u)) ks) c.new-nobody.ensures.empty) h in
-    let answer : step_answer story t ≡ Ok m = given-ok m (step_answer story t) c.in_ok-moved.ensures.answer in
-    let own : m.name.thread ≡ t = step_thread story t m answer in
-    let keeps : (texts : List (List ℕ)) → AreLines c.args.lines.now texts → AreLines c.reserve_step.new.self texts = λ texts h. record { counted = c.reserve_step.ensures.count ∙ h.counted; written = c.reserve_step.ensures.text ∙ h.written } in (
-      m,
-      subst (MovesFirst story) (sym own) first,
-      ap (step_answer story) own ∙ answer,
-      c.in_ok-moved.ensures.ok,
-      c.in-Ok.ensures.count ∙ ap (λ (n : ℕ). n + 1) c.reserve_step.ensures.count,
-      λ texts h. c.in-Ok.ensures.lines texts (keeps texts h),
+    let keeps : (texts : List (List ℕ)) → AreLines c.args.lines.now texts → AreLines c.reserve_step.new.self texts = λ texts h. record { counted = c.reserve_step.ensures.count ∙ h.counted; written = c.reserve_step.ensures.text ∙ h.written } in
+    λ before held.
+    let found : IfOk c.first_ready.result (IsFirst before) = subst (λ (o : Option Story). IfSome o (λ s. IfOk c.first_ready.result (IsFirst s))) held c.first_ready.ensures.first in
+    let first : MovesFirst before t = subst (IsFirst before) c.in-Some.is (subst (λ r. IfOk r (IsFirst before)) c.in_ok-thread.was found) in
+    let answer : step_answer before t ≡ Ok m =
+    subst (AnswersChange (step_answer before t)) c.in_ok-moved.was (in_story (λ s. AnswersChange (step_answer s t) c.step.result) c.args.book.now.book before held c.step.ensures.answer)
+    in
+    let own : m.name.thread ≡ t = step_thread before t m answer in (
+      accepted before (Stepped m.name m.kind),
+      c.in_ok-moved.ensures.ok ∙ ap (λ (o : Option Story). with_entry o (Stepped m.name m.kind)) held,
+      (
+        m,
+        subst (MovesFirst before) (sym own) first,
+        ap (step_answer before) own ∙ answer,
+        refl,
+        c.in-Ok.ensures.count ∙ ap (λ (n : ℕ). n + 1) c.reserve_step.ensures.count,
+        λ texts h. c.in-Ok.ensures.lines texts (keeps texts h),
+      ),
     )
