@@ -2,6 +2,8 @@
 
 //! `rollback`: serves the lines of standard input on standard output.
 #[cfg(test)]
+mod beside;
+#[cfg(test)]
 mod drawn_lines;
 #[cfg(test)]
 mod line_tests;
