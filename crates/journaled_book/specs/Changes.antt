@@ -1,13 +1,18 @@
 -- What the commands of a journaled book do to its journal, and why they are refused.
 use Rattle.std.specs.Prelude.{◌≡◌, ◌⊎◌, ◌<◌, ℕ, List, [], ◌∷◌, ◌++◌, length, Option, None, Some, Result, Ok, Err, IsTrue, IsOk, OnOk, OnErr}
+use Rattle.serde_json.specs.Data as source
+use Rattle.asl_machine.specs.Definition.{Definition}
+use Rattle.asl_machine.specs.Profile.{Defines}
 use Rattle.attr_values.specs.declared.fault.ItemFault.TheVariants as item
 use Rattle.sqlite.specs.State.{State, HasCleanDisk, Survives}
 use Rattle.sqlite.specs.declared.error.Error.{Error}
 use Rattle.step_names.specs.declared.step.StepName.{StepName}
-use Rattle.book_log.specs.Answers.{plan_answer, undo_answer}
+use Rattle.book_log.specs.Answers.{IsDefineRefusal, plan_answer, undo_answer}
 use Rattle.book_log.specs.Beginning.{table_of}
+use Rattle.book_log.specs.Legal.{IsAccepted}
 use Rattle.book_log.specs.Story.{Story}
 use Rattle.book_log.specs.declared.begin.Begin.{Begin}
+use Rattle.book_log.specs.declared.entry.Entry.TheVariants.{Define}
 use Rattle.book_log.specs.declared.refusal.Refusal.{Refusal}
 use Rattle.book_log.specs.declared.refusal.Refusal.TheVariants as refused
 use Rattle.book_journal.specs.Entries.{AddLines, HoldLines}
@@ -15,7 +20,7 @@ use Rattle.book_journal.specs.Faults.{fault_of}
 use Rattle.book_journal.specs.Kept.{lines_in, IsAtRest, IsSame, LeavesAllOrNone, MayAdd}
 use Rattle.book_journal.specs.declared.fault.JournalFault.{JournalFault}
 use Rattle.rollback_book.specs.Book.{Volume}
-use Rattle.rollback_book.specs.Making.{CanEnter, IsPlanned}
+use Rattle.rollback_book.specs.Making.{CanEnter, IsPlanned, OrMemory}
 use Rattle.rollback_book.specs.declared.making.Made.{Made}
 use Rattle.rollback_book.specs.declared.room.PlanRoom.{PlanRoom}
 use Rattle.journaled_book.specs.declared.fault.BeginRefusal.{BeginRefusal}
@@ -62,6 +67,20 @@ IsReady (Some b) m = CanEnter b m
 abbrev pub RefusesBegin : Begin → BeginRefusal → Type 0
 RefusesBegin begin (begin_refusal.Item fault) = (fault ≡ item.Memory) ⊎ (table_of begin ≡ Err fault)
 RefusesBegin begin (begin_refusal.Journal fault) = IsOk (table_of begin) × IsStoreFault fault
+
+-- the book refuses, or it would not but for want of memory; or the journal refuses what the book would not
+abbrev pub RefusesChange : {T : Type 0} → Result T Refusal → ChangeFault → Type 0
+RefusesChange answer (change_fault.Book refusal) = OrMemory answer refusal
+RefusesChange answer (change_fault.Journal fault) = IsOk answer × IsStoreFault fault
+
+abbrev pub AnswersChange : {T : Type 0} → Result T Refusal → Result T ChangeFault → Type 0
+AnswersChange answer (Ok told) = answer ≡ Ok told
+AnswersChange answer (Err fault) = RefusesChange answer fault
+
+-- the book refuses a definition for what stands, or the journal refuses the line of a machine
+abbrev pub RefusesDefine : Story → List ℕ → source.Data → ChangeFault → Type 0
+RefusesDefine story name d (change_fault.Book refusal) = IsDefineRefusal story name d refusal
+RefusesDefine story name d (change_fault.Journal fault) = (machine : Definition) × Defines d machine × IsAccepted story (Define name machine) × IsStoreFault fault
 
 -- the book refuses, or the journal refuses what the book would not
 abbrev pub RefusesUndo : Story → StepName → ChangeFault → Type 0

@@ -49,9 +49,13 @@ IsLineOf line (Stepped name kind) = command_of line ≡ Some (spoken.step name.t
 IsLineOf line (Undo name) = command_of line ≡ Some (spoken.undo name)
 IsLineOf line (Rollback name undone) = command_of line ≡ Some (spoken.rollback name)
 
+-- the line defines what this JSON is under this name
+abbrev pub SaysDefine : List ℕ → source.Data → List ℕ → Type 0
+SaysDefine name d line = (json : List ℕ) × (command_of line ≡ Some (spoken.define name json)) × (source_text.read json ≡ Some d)
+
 -- read as a command, the line is this change
 abbrev pub SaysChange : Change → List ℕ → Type 0
-SaysChange (change.Define name definition) line = (json : List ℕ) × (command_of line ≡ Some (spoken.define name.now json)) × (source_text.read json ≡ Some (view definition.now))
+SaysChange (change.Define name definition) line = SaysDefine name.now (view definition.now) line
 SaysChange (change.Start exec machine input) line = IsStartLine line exec.now machine.now input
 SaysChange (change.Step thread) line = command_of line ≡ Some (spoken.step thread.now)
 

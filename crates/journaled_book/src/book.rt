@@ -116,7 +116,7 @@ impl<S: Alter> JournaledBook<S> {
 
     /// Makes everything that a command needs but its line in the journal, as `Book::ready_entry`. The story and the journal
     /// are the same then.
-    pub fn ready(&mut self, alloc: Global, change: Change<'_>) -> Result<Made, Refusal>
+    pub(crate) fn ready(&mut self, alloc: Global, change: Change<'_>) -> Result<Made, Refusal>
         requires open { IsSome self.old.book }
         requires proper { IsProper change }
         ensures answer { IfSome self.old.book (λ b. Answers b.story change.entry result) }
@@ -137,7 +137,7 @@ impl<S: Alter> JournaledBook<S> {
     /// # Errors
     ///
     /// As the journal refuses the line. Book and journal are as before then.
-    pub fn enter(&mut self, made: Made, line: &str) -> Result<Entered, JournalFault>
+    pub(crate) fn enter(&mut self, made: Made, line: &str) -> Result<Entered, JournalFault>
         requires ready { IsReady self.old.book made }
         requires line { IsLineOf line.now made.entry }
         ensures ok { IfOk result (λ answer. (answer ≡ made.answer) × (story_of self.new.book ≡ with_entry (story_of self.old.book) made.entry)) }

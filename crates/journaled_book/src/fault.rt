@@ -4,7 +4,7 @@ use attr_values::ItemFault;
 use book_journal::JournalFault;
 use book_log::Refusal;
 use command_lines::CommandFault;
-use json_tree::JsonFault;
+use std::alloc::AllocError;
 
 /// Why a journal gives no book.
 #[derive(Clone, Copy, Debug, PartialEq, Eq)]
@@ -47,6 +47,29 @@ pub enum ChangeFault {
     Book(Refusal),
     /// The journal refuses the line.
     Journal(JournalFault),
+}
+
+impl From<AllocError> for ChangeFault {
+    ghost use Rattle.std.specs.Prelude.{◌≡◌};
+    ghost use Rattle.book_log.specs.declared.refusal.Refusal.TheVariants.{Memory};
+    ghost use Rattle.journaled_book.specs.declared.fault.ChangeFault.TheVariants.{Book};
+
+    ghost from_gives = { λ _ e. e ≡ Book Memory };
+
+    fn from(_refused: AllocError) -> ChangeFault {
+        ChangeFault::Book(Refusal::Memory)
+    }
+}
+
+impl From<Refusal> for ChangeFault {
+    ghost use Rattle.std.specs.Prelude.{◌≡◌};
+    ghost use Rattle.journaled_book.specs.declared.fault.ChangeFault.TheVariants.{Book};
+
+    ghost from_gives = { λ refusal e. e ≡ Book refusal };
+
+    fn from(refusal: Refusal) -> ChangeFault {
+        ChangeFault::Book(refusal)
+    }
 }
 
 /// Why a line gives no book.

@@ -6,6 +6,7 @@
 //! can't be refused. So a refused append leaves book and journal as they were.
 mod book;
 mod changing;
+mod commands;
 mod fault;
 mod lines;
 mod loading;
@@ -14,4 +15,5 @@ mod parts;
 mod tests;
 
 pub use book::JournaledBook;
+pub use commands::step_line;
 pub use fault::{BeginRefusal, ChangeFault, OpenFault};

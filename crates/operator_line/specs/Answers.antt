@@ -1,6 +1,6 @@
--- What lines are answered, and what the book is afterwards. Open are want of memory, which is told and changes nothing, where a
--- drive stops early because of it, and which fault of a definition is told, among those that stand.
-use Rattle.std.specs.Prelude.{◌≡◌, ℕ, zero, suc, ◌⊎◌, List, [], ◌∷◌, ◌++◌, map, false, true, Option, None, Some, option_and_then, Result, Ok, Err}
+-- What lines are answered, and what the book is afterwards. Open are want of memory and the journal's refusal of a line, which are
+-- told and change nothing, where a drive stops early because of them, and which fault of a definition is told, among those that stand.
+use Rattle.std.specs.Prelude.{◌≡◌, ℕ, zero, suc, ◌⊎◌, List, [], ◌∷◌, ◌++◌, map, false, true, Option, None, Some, option_and_then, Result, Ok, Err, IsOk}
 use Rattle.std.specs.declared.cmp.Ordering.TheVariants.{Less}
 use Rattle.serde_json.specs.Data as source
 use Rattle.serde_json.specs.Read as source_text
@@ -32,6 +32,8 @@ use Rattle.book_log.specs.declared.entry.Entry.TheVariants.{Define, Start, Step 
 use Rattle.book_log.specs.declared.moved.Moved.{Moved}
 use Rattle.book_log.specs.declared.refusal.Refusal.{Refusal}
 use Rattle.book_log.specs.declared.refusal.Refusal.TheVariants.{Memory}
+use Rattle.journaled_book.specs.declared.fault.ChangeFault.{ChangeFault}
+use Rattle.journaled_book.specs.declared.fault.ChangeFault.TheVariants as by
 use Rattle.command_lines.specs.Grammar as spoken
 use Rattle.command_lines.specs.Grammar.{Spoken, command_of}
 use Rattle.reply_lines.specs.Replies.{done_reply, step_reply, moved_reply, list_reply, names_reply, item_fault_reply, frame_reply, refused, refused_by, refusal_reply, memory_reply}
@@ -39,6 +41,14 @@ use Rattle.reply_lines.specs.Replies.{done_reply, step_reply, moved_reply, list_
 -- this is told, and this is the book then: such is the reply, and the book afterwards
 abbrev pub Tells : List ℕ → Option Story → List ℕ → Option Story → Type 0
 Tells told book reply after = (reply ≡ told) × (after ≡ book)
+
+-- what is told where the journal refuses a line
+abbrev pub journal_reply : List ℕ
+journal_reply = refused 24
+
+-- This is told, and this is the book then; or the journal refuses the line, and the book is the one from before.
+abbrev pub Enters : List ℕ → Option Story → Option Story → List ℕ → Option Story → Type 0
+Enters told book before reply after = Tells told book reply after ⊎ Tells journal_reply before reply after
 
 -- ---- JSON of a line
 
@@ -62,7 +72,7 @@ values_in (item d ds) = d ∷ values_in ds
 
 -- the table begins with its items, or with the first that is none, which is told
 abbrev pub AnswersBegin : Begin → Result Table ItemFault → List ℕ → Option Story → Type 0
-AnswersBegin begin (Ok items) = Tells done_reply (Some (record { begin = begin; log = [] }))
+AnswersBegin begin (Ok items) = Enters done_reply (Some (record { begin = begin; log = [] })) None
 AnswersBegin begin (Err fault) = Tells (item_fault_reply fault) None
 
 abbrev pub AnswersBeginning : Begin → List ℕ → Option Story → Type 0
@@ -85,7 +95,7 @@ AnswersTable name schema json reply after =
 pub record Defines (story : Story) (name : List ℕ) (d : source.Data) (reply : List ℕ) (after : Option Story) : Type 0 where
   pub machine : Definition
   pub is_one : DefinesMachine d machine
-  pub told : Tells done_reply (Some (accepted story (Define name machine))) reply after
+  pub told : Enters done_reply (Some (accepted story (Define name machine))) (Some story) reply after
 
 pub record RefusesDefine (story : Story) (name : List ℕ) (d : source.Data) (reply : List ℕ) (after : Option Story) : Type 0 where
   pub refusal : Refusal
@@ -97,7 +107,7 @@ AnswersDefine story name None reply after = Tells (refused_by 25 1) (Some story)
 AnswersDefine story name (Some d) reply after = Defines story name d reply after ⊎ RefusesDefine story name d reply after
 
 abbrev pub AnswersStarted : Story → Entry → Result StepName Refusal → List ℕ → Option Story → Type 0
-AnswersStarted story entry (Ok name) = Tells (step_reply name) (Some (accepted story entry))
+AnswersStarted story entry (Ok name) = Enters (step_reply name) (Some (accepted story entry)) (Some story)
 AnswersStarted story entry (Err refusal) = Tells (refusal_reply refusal) (Some story)
 
 pub record AnswersInput (story : Story) (exec : Thread) (machine : List ℕ) (d : Data) (reply : List ℕ) (after : Option Story) : Type 0 where
@@ -110,11 +120,11 @@ AnswersStart story exec machine json reply after =
     OfJson json (λ told. Tells told (Some story) reply after) (λ d. AnswersInput story exec machine d reply after)
 
 abbrev pub AnswersStep : Story → Result Moved Refusal → List ℕ → Option Story → Type 0
-AnswersStep story (Ok m) = Tells (moved_reply m) (Some (accepted story (Stepped m.name m.kind)))
+AnswersStep story (Ok m) = Enters (moved_reply m) (Some (accepted story (Stepped m.name m.kind))) (Some story)
 AnswersStep story (Err refusal) = Tells (refusal_reply refusal) (Some story)
 
 abbrev pub AnswersUndo : Story → StepName → Result StepName Refusal → List ℕ → Option Story → Type 0
-AnswersUndo story name (Ok undone) = Tells done_reply (Some (accepted story (Undo name)))
+AnswersUndo story name (Ok undone) = Enters done_reply (Some (accepted story (Undo name))) (Some story)
 AnswersUndo story name (Err refusal) = Tells (refusal_reply refusal) (Some story)
 
 abbrev pub AnswersPlan : Story → Result (List StepName) Refusal → List ℕ → Option Story → Type 0
@@ -122,7 +132,7 @@ AnswersPlan story (Ok names) = Tells (names_reply names) (Some story)
 AnswersPlan story (Err refusal) = Tells (refusal_reply refusal) (Some story)
 
 abbrev pub AnswersRollback : Story → StepName → Result (List StepName) Refusal → List ℕ → Option Story → Type 0
-AnswersRollback story name (Ok names) = Tells (names_reply names) (Some (accepted story (Rollback name names)))
+AnswersRollback story name (Ok names) = Enters (names_reply names) (Some (accepted story (Rollback name names))) (Some story)
 AnswersRollback story name (Err refusal) = Tells (refusal_reply refusal) (Some story)
 
 abbrev pub AnswersShow : Story → Option Frame → List ℕ → Option Story → Type 0
@@ -153,30 +163,36 @@ pub record MovesFirst (story : Story) (t : Thread) : Type 0 where
   pub moves : has_move story t ≡ true
   pub least : (u : Thread) → IsThread u → thread_cmp u t ≡ Less → has_move story u ≡ false
 
--- a refusal of the step of the thread whose turn it is, or want of memory
-abbrev pub StopsDrive : Story → Refusal → Type 0
-StopsDrive story refusal = (refusal ≡ Memory) ⊎ ((t : Thread) × MovesFirst story t × (step_answer story t ≡ Err refusal))
+-- a refusal of the step of the thread whose turn it is, by the book or by the journal, or want of memory
+abbrev pub StopsDrive : Story → ChangeFault → Type 0
+StopsDrive story (by.Book refusal) = (refusal ≡ Memory) ⊎ ((t : Thread) × MovesFirst story t × (step_answer story t ≡ Err refusal))
+StopsDrive story (by.Journal fault) = (t : Thread) × MovesFirst story t × IsOk (step_answer story t)
 
 -- At most so many steps are taken, each of the least thread that has a move then: these, to this story. It ends where no more are
 -- wanted or none can move, or at a refusal.
-abbrev pub Drives : ℕ → Story → List StepName → Option Refusal → Story → Type 0
+abbrev pub Drives : ℕ → Story → List StepName → Option ChangeFault → Story → Type 0
 Drives zero story [] None after = after ≡ story
-Drives zero story [] (Some refusal) after = ⊥
+Drives zero story [] (Some fault) after = ⊥
 Drives zero story (name ∷ names) stop after = ⊥
 Drives (suc more) story [] None after = NoneMoves story × (after ≡ story)
-Drives (suc more) story [] (Some refusal) after = StopsDrive story refusal × (after ≡ story)
+Drives (suc more) story [] (Some fault) after = StopsDrive story fault × (after ≡ story)
 Drives (suc more) story (name ∷ names) stop after =
     (m : Moved) × MovesFirst story name.thread × (step_answer story name.thread ≡ Ok m) × (name ≡ m.name) × Drives more (accepted story (Stepped m.name m.kind)) names stop after
 
+-- what is told of a command that isn't accepted
+abbrev pub change_reply : ChangeFault → List ℕ
+change_reply (by.Book refusal) = refusal_reply refusal
+change_reply (by.Journal fault) = journal_reply
+
 -- what is told of these: the steps, or a refusal that came before any
-abbrev pub drive_reply : List StepName → Option Refusal → List ℕ
+abbrev pub drive_reply : List StepName → Option ChangeFault → List ℕ
 drive_reply [] None = names_reply []
-drive_reply [] (Some refusal) = refusal_reply refusal
+drive_reply [] (Some fault) = change_reply fault
 drive_reply (name ∷ names) stop = names_reply (name ∷ names)
 
 pub record AnswersDrive (story : Story) (count : ℕ) (reply : List ℕ) (after : Option Story) : Type 0 where
   pub names : List StepName
-  pub stop : Option Refusal
+  pub stop : Option ChangeFault
   pub last : Story
   pub drives : Drives count story names stop last
   pub told : Tells (drive_reply names stop) (Some last) reply after

@@ -4,4 +4,5 @@ pub mod Answers
 pub mod LineLaws
 pub mod Serving
 pub mod Driving
+pub mod Sessions
 mod AnswerRows

@@ -1,6 +1,7 @@
 // Rows at the limits: as many branches as a state may have, as many elements as a Map may go over, as many levels as a machine.
 use crate::session::Session;
-use crate::tests::reply_to;
+use crate::tests::{opened, reply_to};
+use sqlite::MemStore;
 use std::alloc::Global;
 use std::process::Abort;
 use std::test::Fail;
@@ -14,7 +15,7 @@ const MACHINE_V: &str =
 fn tell(
     rt: &impl Abort,
     alloc: Global,
-    session: &mut Session,
+    session: &mut Session<MemStore>,
     line: &str,
     reply: &str,
 ) -> Result<(), Fail> {
@@ -40,7 +41,7 @@ fn parallel_of(alloc: Global, count: usize) -> Result<String, Fail> {
 fn tell_branches(
     rt: &impl Abort,
     alloc: Global,
-    session: &mut Session,
+    session: &mut Session<MemStore>,
     count: usize,
     reply: &str,
 ) -> Result<(), Fail> {
@@ -48,7 +49,11 @@ fn tell_branches(
     tell(rt, alloc, session, &line, reply)
 }
 
-fn tell_wide_machines(rt: &impl Abort, alloc: Global, session: &mut Session) -> Result<(), Fail> {
+fn tell_wide_machines(
+    rt: &impl Abort,
+    alloc: Global,
+    session: &mut Session<MemStore>,
+) -> Result<(), Fail> {
     tell(rt, alloc, session, TABLE, "ok\n")?;
     tell_branches(rt, alloc, session, 4_097, "no 3 4 \"Branches\"\n")?;
     tell_branches(rt, alloc, session, 4_096, "ok\n")
@@ -57,8 +62,10 @@ fn tell_wide_machines(rt: &impl Abort, alloc: Global, session: &mut Session) -> 
 #[test]
 fn branches_past_the_limit(rt: HostRuntime) -> Result<(), Fail> {
     let alloc = rt.alloc();
-    let mut session = Session::new(alloc);
-    tell_wide_machines(&rt, alloc, &mut session)
+    match opened(alloc) {
+        Some(mut session) => tell_wide_machines(&rt, alloc, &mut session),
+        None => Err(Fail::from("no journal")),
+    }
 }
 
 /// The start of a Map over so many elements.
@@ -74,7 +81,7 @@ fn map_over(alloc: Global, exec: &str, count: usize) -> Result<String, Fail> {
 fn start_over(
     rt: &impl Abort,
     alloc: Global,
-    session: &mut Session,
+    session: &mut Session<MemStore>,
     exec: &str,
     count: usize,
 ) -> Result<(), Fail> {
@@ -83,7 +90,11 @@ fn start_over(
     tell(rt, alloc, session, &line, &reply)
 }
 
-fn tell_long_maps(rt: &impl Abort, alloc: Global, session: &mut Session) -> Result<(), Fail> {
+fn tell_long_maps(
+    rt: &impl Abort,
+    alloc: Global,
+    session: &mut Session<MemStore>,
+) -> Result<(), Fail> {
     tell(rt, alloc, session, TABLE, "ok\n")?;
     tell(rt, alloc, session, MACHINE_V, "ok\n")?;
     start_over(rt, alloc, session, "a", 4_097)?;
@@ -103,8 +114,10 @@ fn tell_long_maps(rt: &impl Abort, alloc: Global, session: &mut Session) -> Resu
 #[test]
 fn elements_past_the_limit(rt: HostRuntime) -> Result<(), Fail> {
     let alloc = rt.alloc();
-    let mut session = Session::new(alloc);
-    tell_long_maps(&rt, alloc, &mut session)
+    match opened(alloc) {
+        Some(mut session) => tell_long_maps(&rt, alloc, &mut session),
+        None => Err(Fail::from("no journal")),
+    }
 }
 
 /// A definition with so many `States` objects in one another, each the processor of a Map, and a Pass in the innermost.
@@ -123,7 +136,7 @@ fn nested(alloc: Global, levels: usize) -> Result<String, Fail> {
 fn tell_levels(
     rt: &impl Abort,
     alloc: Global,
-    session: &mut Session,
+    session: &mut Session<MemStore>,
     levels: usize,
     reply: &str,
 ) -> Result<(), Fail> {
@@ -131,7 +144,11 @@ fn tell_levels(
     tell(rt, alloc, session, &line, reply)
 }
 
-fn tell_deep_machines(rt: &impl Abort, alloc: Global, session: &mut Session) -> Result<(), Fail> {
+fn tell_deep_machines(
+    rt: &impl Abort,
+    alloc: Global,
+    session: &mut Session<MemStore>,
+) -> Result<(), Fail> {
     tell(rt, alloc, session, TABLE, "ok\n")?;
     tell_levels(rt, alloc, session, 33, "no 3 8\n")?;
     tell_levels(rt, alloc, session, 32, "ok\n")
@@ -140,6 +157,8 @@ fn tell_deep_machines(rt: &impl Abort, alloc: Global, session: &mut Session) -> 
 #[test]
 fn levels_past_the_limit(rt: HostRuntime) -> Result<(), Fail> {
     let alloc = rt.alloc();
-    let mut session = Session::new(alloc);
-    tell_deep_machines(&rt, alloc, &mut session)
+    match opened(alloc) {
+        Some(mut session) => tell_deep_machines(&rt, alloc, &mut session),
+        None => Err(Fail::from("no journal")),
+    }
 }

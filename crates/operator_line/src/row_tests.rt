@@ -1,6 +1,7 @@
 // Worked rows of lines and replies: calls, branches, and steps that are taken back.
 use crate::session::Session;
-use crate::tests::{expect, is_told, reply_to};
+use crate::tests::{expect, opened, reply_to, tell_all, tell_anew};
+use sqlite::MemStore;
 use std::alloc::Global;
 use std::process::Abort;
 use std::test::Fail;
@@ -536,25 +537,8 @@ fn a_wrong_bill(rt: HostRuntime) -> Result<(), Fail> {
     expect(&rt, rt.alloc(), A_WRONG_BILL)
 }
 
-fn tell_all(
-    rt: &impl Abort,
-    alloc: Global,
-    session: &mut Session,
-    rows: &[(&str, &str)],
-) -> Result<(), Fail> {
-    for &(line, reply) in rows {
-        assert!(rt; is_told(alloc, session, line, reply)?, "at {line}");
-    }
-    Ok(())
-}
-
-fn tell_anew(rt: &impl Abort, alloc: Global, rows: &[(&str, &str)]) -> Result<(), Fail> {
-    let mut session = Session::new(alloc);
-    tell_all(rt, alloc, &mut session, rows)
-}
-
 // For tools/refused-growths.sh, a row each, since the rows together are too much for one proof: the line that a refusal strikes is told
-// `no 11`, or serving ends, and has changed nothing. Rows with `drive`, which takes fewer steps then, are left out.
+// `no 11` or `no 24`, or serving ends, and has changed nothing. Rows with `drive`, which takes fewer steps then, are left out.
 
 #[test]
 fn refused_rollback_of_a_put(rt: HostRuntime) -> Result<(), Fail> {
@@ -659,7 +643,11 @@ const AFTER_A_DRIVE: &[(&str, &str)] = &[
     ("history", "ok 1\ne#0\n"),
 ];
 
-fn drive_to_the_end(rt: &impl Abort, alloc: Global, session: &mut Session) -> Result<(), Fail> {
+fn drive_to_the_end(
+    rt: &impl Abort,
+    alloc: Global,
+    session: &mut Session<MemStore>,
+) -> Result<(), Fail> {
     tell_all(rt, alloc, session, BEFORE_A_DRIVE)?;
     for _ in 0..2 {
         if !has_six_steps(session) {
@@ -669,7 +657,7 @@ fn drive_to_the_end(rt: &impl Abort, alloc: Global, session: &mut Session) -> Re
     tell_all(rt, alloc, session, AFTER_A_DRIVE)
 }
 
-fn has_six_steps(session: &Session) -> bool {
+fn has_six_steps(session: &Session<MemStore>) -> bool {
     session.book().is_some_and(|book| book.history().len() == 6)
 }
 
@@ -677,6 +665,8 @@ fn has_six_steps(session: &Session) -> bool {
 #[test]
 fn drive_with_a_refused_growth(rt: HostRuntime) -> Result<(), Fail> {
     let alloc = rt.alloc();
-    let mut session = Session::new(alloc);
-    drive_to_the_end(&rt, alloc, &mut session)
+    match opened(alloc) {
+        Some(mut session) => drive_to_the_end(&rt, alloc, &mut session),
+        None => Err(Fail::from("out of memory")),
+    }
 }

@@ -3,12 +3,14 @@ ghost use Rattle.std.specs.Prelude.{◌≡◌, ◌<◌, ◌≤◌, ℕ, List, �
 ghost use Rattle.std.specs.Io.KnownBytes.{Keeps};
 ghost use Rattle.operator_line.specs.Lines.{grown, ended_line, last_line, bytes_of, kept};
 ghost use Rattle.operator_line.specs.Serving.{AnswersRead, ServesLast, ServesLine, ServesPiece, ServesRead, Serves, WritesReply};
+ghost use Rattle.operator_line.specs.Sessions.{told};
 ghost use Rattle.operator_line.specs.Texts.{has_no_feed};
 
 use crate::line::{Line, LineBuffer};
 use crate::session::Session;
 use memchr::memchr;
 use reply_lines::Reply;
+use sqlite::Alter;
 use std::alloc::{AllocError, Global};
 use std::io::{ErrorKind, Read, Write};
 use thiserror::Error;
@@ -45,16 +47,16 @@ struct Buffers {
 ///
 /// Takes a block of 65,536 bytes and the room of the longest line and of the longest reply. The replies to the lines of
 /// one piece of the input are flushed together.
-pub fn serve<R: Read, W: Write>(
+pub fn serve<R: Read, W: Write, S: Alter>(
     alloc: Global,
     reader: &mut R,
     writer: &mut W,
-    session: &mut Session,
+    session: &mut Session<S>,
 ) -> Result<(), ServeFault>
     ensures answers { IfSome (R.remaining reader.old) (λ input.
-        Serves result input session.old session.new (W.contents writer.old) (W.contents writer.new)) }
+        Serves result input (told session.old) (told session.new) (W.contents writer.old) (W.contents writer.new)) }
     ensures read { result ≡ Err ServeFault.Read → IfSome (R.remaining reader.old) (λ input.
-        AnswersRead input (R.remaining reader.new) session.old session.new (W.contents writer.old) (W.contents writer.new)) }
+        AnswersRead input (R.remaining reader.new) (told session.old) (told session.new) (W.contents writer.old) (W.contents writer.new)) }
     ensures whole { IfSome (R.remaining reader.old) (λ _. OnOk result (R.remaining reader.new ≡ Some [])) }
 {
     let Ok(mut piece) = vec![in alloc; 0u8; PIECE] else {
@@ -73,16 +75,16 @@ pub fn serve<R: Read, W: Write>(
 }
 
 /// Asks the reader once and answers the lines that end in what it gives. Answers whether there may be more.
-fn serve_read<R: Read, W: Write>(
+fn serve_read<R: Read, W: Write, S: Alter>(
     reader: &mut R,
     piece: &mut [u8],
     buffers: &mut Buffers,
     writer: &mut W,
-    session: &mut Session,
+    session: &mut Session<S>,
 ) -> Result<bool, ServeFault>
     requires { 0 < length piece.old }
     ensures { (front : List ℕ) (text : List ℕ) → buffers.old.line ≡ kept front → R.remaining reader.old ≡ Some text
-        → ServesRead result front text (R.remaining reader.new) buffers.new.line session.old session.new (W.contents writer.old) (W.contents writer.new) }
+        → ServesRead result front text (R.remaining reader.new) buffers.new.line (told session.old) (told session.new) (W.contents writer.old) (W.contents writer.new) }
 {
     match reader.read(piece) {
         Ok(0) => Ok(false),
@@ -101,14 +103,14 @@ fn serve_read<R: Read, W: Write>(
 }
 
 /// Answers the lines that end in a piece of the input, and keeps what comes after them.
-fn serve_piece<W: Write>(
+fn serve_piece<W: Write, S: Alter>(
     piece: &[u8],
     buffers: &mut Buffers,
     writer: &mut W,
-    session: &mut Session,
+    session: &mut Session<S>,
 ) -> Result<(), ServeFault>
     ensures { (front : List ℕ) → buffers.old.line ≡ kept front
-        → ServesPiece result front piece.now buffers.new.line session.old session.new (W.contents writer.old) (W.contents writer.new) }
+        → ServesPiece result front piece.now buffers.new.line (told session.old) (told session.new) (W.contents writer.old) (W.contents writer.new) }
 {
     let mut rest = piece;
     let mut has_line = false;
@@ -146,13 +148,13 @@ fn line_len(bytes: &[u8]) -> usize
 }
 
 /// Answers the line that these bytes end, before a line feed.
-fn serve_line<W: Write>(
+fn serve_line<W: Write, S: Alter>(
     front: &[u8],
     buffers: &mut Buffers,
     writer: &mut W,
-    session: &mut Session,
+    session: &mut Session<S>,
 ) -> Result<(), ServeFault>
-    ensures answers { ServesLine result (ended_line (grown front.now buffers.old.line)) session.old session.new (W.contents writer.old) (W.contents writer.new) }
+    ensures answers { ServesLine result (ended_line (grown front.now buffers.old.line)) (told session.old) (told session.new) (W.contents writer.old) (W.contents writer.new) }
     ensures begun { OnOk result (buffers.new.line ≡ Some []) }
 {
     add(&mut buffers.line, front)?;
@@ -162,12 +164,12 @@ fn serve_line<W: Write>(
 }
 
 /// Answers what stands after the last line feed, if anything does.
-fn serve_last<W: Write>(
+fn serve_last<W: Write, S: Alter>(
     buffers: &mut Buffers,
     writer: &mut W,
-    session: &mut Session,
+    session: &mut Session<S>,
 ) -> Result<(), ServeFault>
-    ensures { ServesLast result (last_line buffers.old.line) session.old session.new (W.contents writer.old) (W.contents writer.new) }
+    ensures { ServesLast result (last_line buffers.old.line) (told session.old) (told session.new) (W.contents writer.old) (W.contents writer.new) }
 {
     let Some(last) = buffers.line.last() else {
         return Ok(());
@@ -187,13 +189,13 @@ fn add(line: &mut LineBuffer, bytes: &[u8]) -> Result<(), ServeFault>
 }
 
 /// Answers a line, and writes its reply.
-fn write_answer<W: Write>(
+fn write_answer<W: Write, S: Alter>(
     line: Line<'_>,
     reply: &mut Reply,
     writer: &mut W,
-    session: &mut Session,
+    session: &mut Session<S>,
 ) -> Result<(), ServeFault>
-    ensures answers { ServesLine result (bytes_of line.entry) session.old session.new (W.contents writer.old) (W.contents writer.new) }
+    ensures answers { ServesLine result (bytes_of line.entry) (told session.old) (told session.new) (W.contents writer.old) (W.contents writer.new) }
     ensures no_memory { result ≡ Err ServeFault.Memory → ⊥ }
 {
     match session.answer(line, reply) {

@@ -1,9 +1,17 @@
-// A session: a book, and the commands that are given to it.
-ghost use Rattle.std.specs.Prelude.{◌≡◌, ◌≤◌, ◌⊎◌, [], Some, None, Err, option_map, string_bytes, IsOk, MatchResult, OnOk, OnErr};
-ghost use Rattle.book_log.specs.Beginning.{table_of};
-ghost use Rattle.operator_line.specs.Answers.{AnswersBeginning, AnswersCommand, AnswersLine};
+// A session: a book whose commands stand in a journal, and the commands that are given to it.
+ghost use Rattle.std.specs.Prelude.{◌≡◌, [], Some, None, option_map, string_bytes, IfOk, IfErr, IsSome, MatchResult, OnOk, OnErr};
+ghost use Rattle.sqlite.specs.Held.{state};
+ghost use Rattle.sqlite.specs.State.{HasCleanDisk};
+ghost use Rattle.book_journal.specs.Kept.{lines_in};
+ghost use Rattle.book_journal.specs.declared.fault.JournalFault.TheVariants as journal_fault;
+ghost use Rattle.journaled_book.specs.Changes.{IsRead};
+ghost use Rattle.journaled_book.specs.Journaled.{IsJournalOf, story_of};
+ghost use Rattle.journaled_book.specs.Lines.{IsBeginLine};
+ghost use Rattle.journaled_book.specs.Opening.{OpensTo, RefusesOpen};
+ghost use Rattle.operator_line.specs.Answers.{AnswersBeginning, AnswersCommand, AnswersLine, AnswersSpoken, change_reply};
+ghost use Rattle.operator_line.specs.Sessions.{told};
 ghost use Rattle.command_lines.specs.Grammar as grammar;
-ghost use Rattle.command_lines.specs.Grammar.{spoken};
+ghost use Rattle.command_lines.specs.Grammar.{command_of, spoken};
 ghost use Rattle.operator_line.specs.Lines.{bytes_of};
 ghost use Rattle.reply_lines.specs.Replies.{json_reply, item_fault_reply};
 ghost use Rattle.reply_lines.specs.Replying.{Writes};
@@ -11,11 +19,15 @@ ghost use Rattle.reply_lines.specs.Replying.{Writes};
 use crate::driving::drive;
 use crate::line::Line;
 use attr_values::{ItemFault, KeySchema};
+use book_journal::Journal;
+use book_log::Refusal;
 use command_lines::{Command, CommandFault, Execution};
+use journaled_book::{BeginRefusal, ChangeFault, JournaledBook, OpenFault};
 use json_tree::{Json, JsonFault, Text, read};
 use reply_lines::Reply;
-use rollback_book::{Begin, Book};
+use rollback_book::{Begin, Book, Room};
 use serde_json::Value;
+use sqlite::Alter;
 use std::alloc::{AllocError, Global};
 use std::marker::Model;
 use step_names::{StepName, ThreadName};
@@ -28,49 +40,75 @@ const TABLE_TAKEN: u32 = 22;
 
 const BAD_BEGIN: u32 = 23;
 
+const NO_JOURNAL: u32 = 24;
+
 const BAD_JSON: u32 = 25;
 
-/// The book of one session, none before its table is given. Contracts see the book.
-#[derive(Drop)]
-pub struct Session {
+/// The book of one session, none before its table is given, and the journal of its accepted lines. Contracts see both.
+pub struct Session<S: Alter> {
     alloc: Global,
-    book: Option<Book>,
+    book: JournaledBook<S>,
 }
 
-impl Model for Session {
-    ghost use Rattle.std.specs.Prelude.{Option, option_map};
-    ghost use Rattle.std.specs.Coded.{codes};
-    ghost use Rattle.book_log.specs.Story.{Story};
-    ghost use Rattle.book_log.specs.contracts.begin.Begin as begin_row;
-    ghost use Rattle.book_log.specs.contracts.entry.Entry as entry_row;
+impl<S: Alter> Model for Session<S> {
+    ghost use Rattle.std.specs.Coded.{coded_option};
+    ghost use Rattle.rollback_book.specs.contracts.book.Book as book_row;
+    ghost use Rattle.journaled_book.specs.Journaled.{Journaled, journaled_code};
 
-    ghost Value = { Option Story };
+    ghost Value = { Journaled S };
 
-    ghost coded = { Prim.hlevel (codes, begin_row.the_row.coded, entry_row.the_row.coded) };
+    ghost coded = { journaled_code (coded_option book_row.the_row.coded) S.code };
 
-    ghost view = { λ s. option_map (λ b. b.story) s.book };
+    ghost view = { λ s. s.book };
 }
 
-impl Session {
-    /// A session without a book. Takes no memory.
-    pub fn new(alloc: Global) -> Session
-        ensures { result ≡ None }
+impl<S: Alter + Drop> Drop for Session<S> {
+    fn drop(self) {
+        let Session { alloc: _, book: _ } = self;
+    }
+}
+
+impl<S: Alter> Session<S> {
+    /// The session of a journal's lines, which are applied one after another, without replies. Takes what
+    /// [`JournaledBook::open`] takes.
+    ///
+    /// # Errors
+    ///
+    /// As `JournaledBook::open`; the journal is handed back as it was.
+    pub fn open(alloc: Global, journal: Journal<S>) -> Result<Session<S>, (OpenFault, Journal<S>)>
+        ensures opened { IfOk result (λ s. HasCleanDisk (state S.Store s.journal) → OpensTo (lines_in (state S.Store journal)) (told s)) }
+        ensures refused { IfErr result (λ e. HasCleanDisk (state S.Store e.1) → RefusesOpen (lines_in (state S.Store journal)) e.0) }
+        ensures memory { IfErr result (λ e. ¬ (e.0 ≡ OpenFault.Journal journal_fault.Memory)) }
+        ensures read { MatchResult result (λ s. IsRead (state S.Store journal) (state S.Store s.journal)) (λ e. IsRead (state S.Store journal) (state S.Store e.1)) }
     {
-        Session { alloc, book: None }
+        match JournaledBook::open(alloc, journal) {
+            Ok(book) => Ok(Session { alloc, book }),
+            Err(refused) => Err(refused),
+        }
     }
 
     /// The book, once its table was given. Takes no memory.
     pub fn book(&self) -> Option<&Book>
-        ensures { option_map (λ book. book.now.story) result ≡ self.now }
+        ensures book { option_map (λ book. book.now) result ≡ self.now.book }
+        ensures journal { IsJournalOf (state S.Store self.now.journal) (told self.now) }
     {
-        self.book.as_ref()
+        self.book.book()
+    }
+
+    /// The journal, which holds the lines of the book.
+    pub fn into_journal(self) -> Journal<S>
+        ensures same { result ≡ self.journal }
+        ensures journal { IsJournalOf (state S.Store result) (told self) }
+    {
+        let Session { alloc: _, book } = self;
+        book.into_journal()
     }
 
     /// Gives one line to the book, and writes its reply: none to an empty line. Where memory is refused, nothing has
     /// changed.
     pub(crate) fn answer(&mut self, line: Line<'_>, reply: &mut Reply) -> Result<(), AllocError>
-        ensures ok { OnOk result (AnswersLine self.old (bytes_of line.entry) (string_bytes reply.new.text) self.new) }
-        ensures err { OnErr result (self.new ≡ self.old) }
+        ensures ok { OnOk result (AnswersLine (told self.old) (bytes_of line.entry) (string_bytes reply.new.text) (told self.new)) }
+        ensures err { OnErr result (told self.new ≡ told self.old) }
         ensures empty { bytes_of line.entry ≡ Some [] → OnErr result ⊥ }
     {
         reply.clear();
@@ -79,34 +117,46 @@ impl Session {
             Line::Whole(bytes) => bytes,
             Line::TooLong => return reply.refuse(BAD_LINE),
         };
-        match Command::read(self.alloc, bytes) {
-            Ok(command) => self.run(command, reply),
+        match str::from_utf8(bytes) {
+            Ok(text) => self.answer_text(text, reply),
+            Err(_) => reply.refuse(BAD_LINE),
+        }
+    }
+
+    fn answer_text(&mut self, line: &str, reply: &mut Reply) -> Result<(), AllocError>
+        requires { string_bytes reply.old.text ≡ [] }
+        ensures ok { OnOk result (AnswersSpoken (told self.old) (command_of line.now) (string_bytes reply.new.text) (told self.new)) }
+        ensures err { OnErr result (told self.new ≡ told self.old) }
+    {
+        match Command::read(self.alloc, line.as_bytes()) {
+            Ok(command) => self.run(command, line, reply),
             Err(CommandFault::BadLine) => reply.refuse(BAD_LINE),
             Err(CommandFault::Memory) => Err(AllocError),
         }
     }
 
-    fn run(&mut self, command: Command<'_>, reply: &mut Reply) -> Result<(), AllocError>
-        requires { string_bytes reply.old.text ≡ [] }
-        ensures ok { OnOk result (AnswersCommand self.old (spoken command.entry) (string_bytes reply.new.text) self.new) }
-        ensures err { OnErr result (self.new ≡ self.old) }
+    fn run(&mut self, command: Command<'_>, line: &str, reply: &mut Reply) -> Result<(), AllocError>
+        requires line { command_of line.now ≡ Some (spoken command.entry) }
+        requires empty { string_bytes reply.old.text ≡ [] }
+        ensures ok { OnOk result (AnswersCommand (told self.old) (spoken command.entry) (string_bytes reply.new.text) (told self.new)) }
+        ensures err { OnErr result (told self.new ≡ told self.old) }
     {
         match command {
             Command::Table {
                 name,
                 schema,
                 items,
-            } => self.table(name, schema, items, reply),
-            Command::Define { name, definition } => self.define(&name, definition, reply),
+            } => self.table(name, schema, items, line, reply),
+            Command::Define { name, definition } => self.define(&name, definition, line, reply),
             Command::Start {
                 exec,
                 machine,
                 input,
-            } => self.start(&exec, &machine, input, reply),
-            Command::Step(thread) => self.step(&thread, reply),
-            Command::Undo(step) => self.undo(&step, reply),
+            } => self.start(&exec, &machine, input, line, reply),
+            Command::Step(thread) => self.step(&thread, line, reply),
+            Command::Undo(step) => self.undo(&step, line, reply),
             Command::Plan(step) => self.plan(&step, reply),
-            Command::Rollback(step) => self.rollback(&step, reply),
+            Command::Rollback(step) => self.rollback(&step, line, reply),
             Command::Drive(count) => self.drive(count, reply),
             Command::Show(thread) => self.show(&thread, reply),
             Command::Items => self.items(reply),
@@ -119,13 +169,15 @@ impl Session {
         table: Text,
         schema: KeySchema,
         items: &str,
+        line: &str,
         reply: &mut Reply,
     ) -> Result<(), AllocError>
-        requires { string_bytes reply.old.text ≡ [] }
-        ensures ok { OnOk result (AnswersCommand self.old (grammar.table table schema items.now) (string_bytes reply.new.text) self.new) }
-        ensures err { OnErr result (self.new ≡ self.old) }
+        requires line { command_of line.now ≡ Some (grammar.table table schema items.now) }
+        requires empty { string_bytes reply.old.text ≡ [] }
+        ensures ok { OnOk result (AnswersCommand (told self.old) (grammar.table table schema items.now) (string_bytes reply.new.text) (told self.new)) }
+        ensures err { OnErr result (told self.new ≡ told self.old) }
     {
-        if self.book.is_some() {
+        if self.book.book().is_some() {
             return reply.refuse(TABLE_TAKEN);
         }
         match read(self.alloc, items.as_bytes()) {
@@ -135,7 +187,7 @@ impl Session {
                     schema,
                     items,
                 };
-                self.begin(begin, reply)
+                self.begin(begin, line, reply)
             }
             Ok(other) => {
                 drop(other);
@@ -145,37 +197,36 @@ impl Session {
         }
     }
 
-    fn begin(&mut self, begin: Begin, reply: &mut Reply) -> Result<(), AllocError>
-        requires closed { self.old ≡ None }
+    fn begin(&mut self, begin: Begin, line: &str, reply: &mut Reply) -> Result<(), AllocError>
+        requires closed { self.old.book ≡ None }
+        requires line { IsBeginLine line.now begin }
         requires empty { string_bytes reply.old.text ≡ [] }
-        ensures ok { OnOk result (AnswersBeginning begin (string_bytes reply.new.text) self.new) }
-        ensures err { OnErr result (self.new ≡ None) }
+        ensures ok { OnOk result (AnswersBeginning begin (string_bytes reply.new.text) (told self.new)) }
+        ensures err { OnErr result (told self.new ≡ None) }
     {
         reply.reserve_step()?;
-        match self.open(begin) {
+        match self.book.begin(self.alloc, begin, line) {
             Ok(()) => reply.accept(),
-            Err(fault) => refuse_item(fault, reply),
+            Err(BeginRefusal::Item(fault)) => refuse_item(fault, reply),
+            Err(BeginRefusal::Journal(_)) => reply.refuse(NO_JOURNAL),
         }
     }
 
-    fn open(&mut self, begin: Begin) -> Result<(), ItemFault>
-        requires { self.old ≡ None }
-        ensures { MatchResult result
-            (λ _. (self.new ≡ Some (record { begin = begin; log = [] })) × IsOk (table_of begin))
-            (λ e. (self.new ≡ None) × ((e ≡ ItemFault.Memory) ⊎ (table_of begin ≡ Err e))) }
+    fn define(
+        &mut self,
+        name: &Text,
+        definition: &str,
+        line: &str,
+        reply: &mut Reply,
+    ) -> Result<(), AllocError>
+        requires line { command_of line.now ≡ Some (grammar.define name.now definition.now) }
+        requires empty { string_bytes reply.old.text ≡ [] }
+        ensures ok { OnOk result (AnswersCommand (told self.old) (grammar.define name.now definition.now) (string_bytes reply.new.text) (told self.new)) }
+        ensures err { OnErr result (told self.new ≡ told self.old) }
     {
-        self.book = Some(Book::open(self.alloc, begin)?);
-        Ok(())
-    }
-
-    fn define(&mut self, name: &Text, definition: &str, reply: &mut Reply) -> Result<(), AllocError>
-        requires { string_bytes reply.old.text ≡ [] }
-        ensures ok { OnOk result (AnswersCommand self.old (grammar.define name.now definition.now) (string_bytes reply.new.text) self.new) }
-        ensures err { OnErr result (self.new ≡ self.old) }
-    {
-        let Some(book) = &mut self.book else {
+        if self.book.book().is_none() {
             return reply.refuse(NO_TABLE);
-        };
+        }
         let definition = match Value::from_str(self.alloc, definition) {
             Ok(definition) => definition,
             Err(fault) => {
@@ -186,9 +237,9 @@ impl Session {
             }
         };
         reply.reserve_step()?;
-        match book.define(self.alloc, name, &definition) {
+        match self.book.define(self.alloc, name, &definition, line) {
             Ok(()) => reply.accept(),
-            Err(refusal) => reply.refuse_command(self.alloc, refusal),
+            Err(fault) => refuse_change(self.alloc, fault, reply),
         }
     }
 
@@ -197,65 +248,69 @@ impl Session {
         exec: &Execution,
         machine: &Text,
         input: &str,
+        line: &str,
         reply: &mut Reply,
     ) -> Result<(), AllocError>
-        requires { string_bytes reply.old.text ≡ [] }
-        ensures ok { OnOk result (AnswersCommand self.old (grammar.start exec.now.thread machine.now input.now) (string_bytes reply.new.text) self.new) }
-        ensures err { OnErr result (self.new ≡ self.old) }
+        requires line { command_of line.now ≡ Some (grammar.start exec.now.thread machine.now input.now) }
+        requires empty { string_bytes reply.old.text ≡ [] }
+        ensures ok { OnOk result (AnswersCommand (told self.old) (grammar.start exec.now.thread machine.now input.now) (string_bytes reply.new.text) (told self.new)) }
+        ensures err { OnErr result (told self.new ≡ told self.old) }
     {
-        let Some(book) = &mut self.book else {
+        if self.book.book().is_none() {
             return reply.refuse(NO_TABLE);
-        };
+        }
         let input = match read(self.alloc, input.as_bytes()) {
             Ok(input) => input,
             Err(fault) => return refuse_json(fault, reply),
         };
         reply.reserve_step()?;
-        match book.start(self.alloc, &exec.thread, machine, input) {
+        match self
+            .book
+            .start(self.alloc, &exec.thread, machine, input, line)
+        {
             Ok(name) => reply.accept_step(&name),
-            Err(refusal) => reply.refuse_command(self.alloc, refusal),
+            Err(fault) => refuse_change(self.alloc, fault, reply),
         }
     }
 
-    fn step(&mut self, thread: &ThreadName, reply: &mut Reply) -> Result<(), AllocError>
-        requires { string_bytes reply.old.text ≡ [] }
-        ensures ok { OnOk result (AnswersCommand self.old (grammar.step thread.now) (string_bytes reply.new.text) self.new) }
-        ensures err { OnErr result (self.new ≡ self.old) }
+    fn step(&mut self, thread: &ThreadName, line: &str, reply: &mut Reply) -> Result<(), AllocError>
+        requires line { command_of line.now ≡ Some (grammar.step thread.now) }
+        requires empty { string_bytes reply.old.text ≡ [] }
+        ensures ok { OnOk result (AnswersCommand (told self.old) (grammar.step thread.now) (string_bytes reply.new.text) (told self.new)) }
+        ensures err { OnErr result (told self.new ≡ told self.old) }
     {
-        let Some(book) = &mut self.book else {
+        if self.book.book().is_none() {
             return reply.refuse(NO_TABLE);
-        };
+        }
         reply.reserve_step()?;
-        match book.step(self.alloc, thread) {
+        match self.book.step(self.alloc, thread, line) {
             Ok(moved) => reply.accept_moved(&moved),
-            Err(refusal) => reply.refuse_command(self.alloc, refusal),
+            Err(fault) => refuse_change(self.alloc, fault, reply),
         }
     }
 
-    fn undo(&mut self, step: &StepName, reply: &mut Reply) -> Result<(), AllocError>
-        requires { string_bytes reply.old.text ≡ [] }
-        ensures ok { OnOk result (AnswersCommand self.old (grammar.undo step.now) (string_bytes reply.new.text) self.new) }
-        ensures err { OnErr result (self.new ≡ self.old) }
+    fn undo(&mut self, step: &StepName, line: &str, reply: &mut Reply) -> Result<(), AllocError>
+        requires line { command_of line.now ≡ Some (grammar.undo step.now) }
+        requires empty { string_bytes reply.old.text ≡ [] }
+        ensures ok { OnOk result (AnswersCommand (told self.old) (grammar.undo step.now) (string_bytes reply.new.text) (told self.new)) }
+        ensures err { OnErr result (told self.new ≡ told self.old) }
     {
-        let Some(book) = &mut self.book else {
+        if self.book.book().is_none() {
             return reply.refuse(NO_TABLE);
-        };
+        }
         reply.reserve_step()?;
-        let room = match book.room(self.alloc, step) {
-            Ok(room) => room,
-            Err(_) => return Err(AllocError),
-        };
-        match book.undo(room) {
+        let room = Room::new(self.alloc, step)?;
+        match self.book.undo(room, line) {
             Ok(_step) => reply.accept(),
-            Err(refusal) => reply.refuse_command(self.alloc, refusal),
+            Err(fault) => refuse_change(self.alloc, fault, reply),
         }
     }
 
     fn plan(&self, step: &StepName, reply: &mut Reply) -> Result<(), AllocError>
         requires { string_bytes reply.old.text ≡ [] }
-        ensures ok { OnOk result (AnswersCommand self.now (grammar.plan step.now) (string_bytes reply.new.text) self.now) }
+        ensures ok { OnOk result (AnswersCommand (told self.now) (grammar.plan step.now) (string_bytes reply.new.text) (told self.now)) }
     {
-        let Some(book) = &self.book else {
+        let Some(book) = self.book.book() else {
             return reply.refuse(NO_TABLE);
         };
         match book.plan_room(self.alloc, step) {
@@ -265,41 +320,46 @@ impl Session {
     }
 
     /// The reply is written first, since the book can't be changed back where memory for it is refused.
-    fn rollback(&mut self, step: &StepName, reply: &mut Reply) -> Result<(), AllocError>
-        requires { string_bytes reply.old.text ≡ [] }
-        ensures ok { OnOk result (AnswersCommand self.old (grammar.rollback step.now) (string_bytes reply.new.text) self.new) }
-        ensures err { OnErr result (self.new ≡ self.old) }
+    fn rollback(&mut self, step: &StepName, line: &str, reply: &mut Reply) -> Result<(), AllocError>
+        requires line { command_of line.now ≡ Some (grammar.rollback step.now) }
+        requires empty { string_bytes reply.old.text ≡ [] }
+        ensures ok { OnOk result (AnswersCommand (told self.old) (grammar.rollback step.now) (string_bytes reply.new.text) (told self.new)) }
+        ensures err { OnErr result (told self.new ≡ told self.old) }
     {
-        let Some(book) = &mut self.book else {
+        if self.book.book().is_none() {
             return reply.refuse(NO_TABLE);
-        };
-        let room = match book.plan_room(self.alloc, step) {
+        }
+        let room = match self.book.plan_room(self.alloc, step) {
             Ok(room) => room,
             Err(refusal) => return reply.refuse_command(self.alloc, refusal),
         };
         reply.accept_names(room.names())?;
-        let Ok(_names) = book.rollback(room) else {
-            unreachable!()
-        };
-        Ok(())
+        match self.book.rollback(room, line) {
+            Ok(_names) => Ok(()),
+            Err(ChangeFault::Book(_)) => unreachable!(),
+            Err(ChangeFault::Journal(_)) => {
+                reply.clear();
+                reply.refuse(NO_JOURNAL)
+            }
+        }
     }
 
     fn drive(&mut self, count: u32, reply: &mut Reply) -> Result<(), AllocError>
         requires { string_bytes reply.old.text ≡ [] }
-        ensures ok { OnOk result (AnswersCommand self.old (grammar.drive count) (string_bytes reply.new.text) self.new) }
-        ensures err { OnErr result (self.new ≡ self.old) }
+        ensures ok { OnOk result (AnswersCommand (told self.old) (grammar.drive count) (string_bytes reply.new.text) (told self.new)) }
+        ensures err { OnErr result (told self.new ≡ told self.old) }
     {
-        let Some(book) = &mut self.book else {
+        if self.book.book().is_none() {
             return reply.refuse(NO_TABLE);
-        };
-        drive(self.alloc, book, count, reply)
+        }
+        drive(self.alloc, &mut self.book, count, reply)
     }
 
     fn show(&self, thread: &ThreadName, reply: &mut Reply) -> Result<(), AllocError>
         requires { string_bytes reply.old.text ≡ [] }
-        ensures ok { OnOk result (AnswersCommand self.now (grammar.show thread.now) (string_bytes reply.new.text) self.now) }
+        ensures ok { OnOk result (AnswersCommand (told self.now) (grammar.show thread.now) (string_bytes reply.new.text) (told self.now)) }
     {
-        let Some(book) = &self.book else {
+        let Some(book) = self.book.book() else {
             return reply.refuse(NO_TABLE);
         };
         match book.show(thread) {
@@ -310,9 +370,9 @@ impl Session {
 
     fn items(&self, reply: &mut Reply) -> Result<(), AllocError>
         requires { string_bytes reply.old.text ≡ [] }
-        ensures ok { OnOk result (AnswersCommand self.now grammar.items (string_bytes reply.new.text) self.now) }
+        ensures ok { OnOk result (AnswersCommand (told self.now) grammar.items (string_bytes reply.new.text) (told self.now)) }
     {
-        match &self.book {
+        match self.book.book() {
             Some(book) => reply.accept_items(self.alloc, book.items()),
             None => reply.refuse(NO_TABLE),
         }
@@ -320,12 +380,27 @@ impl Session {
 
     fn history(&self, reply: &mut Reply) -> Result<(), AllocError>
         requires { string_bytes reply.old.text ≡ [] }
-        ensures ok { OnOk result (AnswersCommand self.now grammar.history (string_bytes reply.new.text) self.now) }
+        ensures ok { OnOk result (AnswersCommand (told self.now) grammar.history (string_bytes reply.new.text) (told self.now)) }
     {
-        match &self.book {
+        match self.book.book() {
             Some(book) => reply.accept_steps(book.history()),
             None => reply.refuse(NO_TABLE),
         }
+    }
+}
+
+/// Tells why a command isn't accepted.
+pub(crate) fn refuse_change(
+    alloc: Global,
+    fault: ChangeFault,
+    reply: &mut Reply,
+) -> Result<(), AllocError>
+    ensures ok { Writes result reply.old reply.new (change_reply fault) }
+    ensures memory { fault ≡ ChangeFault.Book Refusal.Memory → OnOk result ⊥ }
+{
+    match fault {
+        ChangeFault::Book(refusal) => reply.refuse_command(alloc, refusal),
+        ChangeFault::Journal(_) => reply.refuse(NO_JOURNAL),
     }
 }
 

@@ -1,9 +1,12 @@
 // Readers and writers that are interrupted, that move one byte a call, and that fail at a flush.
 use crate::serving::{ServeFault, serve};
 use crate::session::Session;
+use crate::tests::opened;
+use sqlite::MemStore;
 use std::alloc::{AllocError, Global};
 use std::io;
 use std::io::{ErrorKind, Read, Write};
+use std::process::Abort;
 use std::test::Fail;
 
 /// A reader that gives a byte a call, and is interrupted before each of them.
@@ -82,15 +85,17 @@ fn run<R: Read, W: Write>(
     alloc: Global,
     reader: &mut R,
     writer: &mut W,
-    session: &mut Session,
+    session: &mut Session<MemStore>,
 ) -> Result<(), ServeFault> {
     serve(alloc, reader, writer, session)
 }
 
 /// How serving this input to a new session ends.
 fn outcome<R: Read>(alloc: Global, reader: &mut R, writer: &mut Counter) -> Result<(), ServeFault> {
-    let mut session = Session::new(alloc);
-    run(alloc, reader, writer, &mut session)
+    match opened(alloc) {
+        Some(mut session) => run(alloc, reader, writer, &mut session),
+        None => Err(ServeFault::Memory),
+    }
 }
 
 /// 400 lines of six bytes, each with a reply of six bytes.
@@ -138,15 +143,21 @@ fn a_last_line_without_its_end_is_flushed(rt: HostRuntime) {
     assert_eq!(rt; writer.flushed, 6);
 }
 
-#[test]
-fn a_flush_that_fails(rt: HostRuntime) {
-    let alloc = rt.alloc();
-    let mut session = Session::new(alloc);
+/// Whether serving ends at a flush that fails, with the commands before it standing.
+fn stands_unflushed(alloc: Global, session: &mut Session<MemStore>) -> bool {
     let mut writer = Counter::new(64, 1, false);
     let mut reader = b"table items id:S []\nitems\n".as_slice();
-    let end = run(alloc, &mut reader, &mut writer, &mut session);
-    assert!(rt; end == Err(ServeFault::Write));
-    assert!(rt; session.book().is_some());
+    let end = run(alloc, &mut reader, &mut writer, session);
+    end == Err(ServeFault::Write) && session.book().is_some()
+}
+
+#[test]
+fn a_flush_that_fails(rt: HostRuntime) -> Result<(), Fail> {
+    match opened(rt.alloc()) {
+        Some(mut session) => assert!(rt; stands_unflushed(rt.alloc(), &mut session)),
+        None => return Err(Fail::from("no journal")),
+    }
+    Ok(())
 }
 
 /// The lines of the first path, and how many entries the log has after each of them.
@@ -165,7 +176,7 @@ const LINES: &[(&str, usize)] = &[
 /// Whether serving this line to a writer that takes nothing ends, with so many entries in the log.
 fn stands_unanswered(
     alloc: Global,
-    session: &mut Session,
+    session: &mut Session<MemStore>,
     line: &'static str,
     entries: usize,
 ) -> bool {
@@ -178,14 +189,24 @@ fn stands_unanswered(
     end == Err(ServeFault::Write) && found == entries
 }
 
-#[test]
-fn a_command_whose_reply_is_not_written_stands(rt: HostRuntime) {
-    let alloc = rt.alloc();
-    let mut session = Session::new(alloc);
+fn stand_unanswered(
+    rt: &impl Abort,
+    alloc: Global,
+    session: &mut Session<MemStore>,
+) -> Result<(), Fail> {
     for &(line, entries) in LINES {
         assert!(rt;
-            stands_unanswered(alloc, &mut session, line, entries),
+            stands_unanswered(alloc, session, line, entries),
             "at {line}"
         );
+    }
+    Ok(())
+}
+
+#[test]
+fn a_command_whose_reply_is_not_written_stands(rt: HostRuntime) -> Result<(), Fail> {
+    match opened(rt.alloc()) {
+        Some(mut session) => stand_unanswered(&rt, rt.alloc(), &mut session),
+        None => Err(Fail::from("no journal")),
     }
 }

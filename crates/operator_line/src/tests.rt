@@ -1,5 +1,7 @@
 use crate::serving::{ServeFault, serve};
 use crate::session::Session;
+use book_journal::Journal;
+use sqlite::{Connection, MemStore};
 use std::alloc::{AllocError, Global};
 use std::io;
 use std::io::{ErrorKind, Read, Write};
@@ -14,14 +16,14 @@ fn run<R: Read, W: Write>(
     alloc: Global,
     reader: &mut R,
     writer: &mut W,
-    session: &mut Session,
+    session: &mut Session<MemStore>,
 ) -> Result<(), ServeFault> {
     serve(alloc, reader, writer, session)
 }
 
 /// What is written for an input that is read whole, none where serving ends before. The reply to a line of a table fits
 /// in the room that is taken first, so that no growth can be refused once a command is applied.
-fn served(alloc: Global, session: &mut Session, input: &[u8]) -> Option<Vec<u8>> {
+fn served(alloc: Global, session: &mut Session<MemStore>, input: &[u8]) -> Option<Vec<u8>> {
     let mut reader = input;
     let mut writer = Vec::with_capacity(alloc, 64).ok()?;
     match run(alloc, &mut reader, &mut writer, session) {
@@ -30,9 +32,18 @@ fn served(alloc: Global, session: &mut Session, input: &[u8]) -> Option<Vec<u8>>
     }
 }
 
+fn in_memory(alloc: Global) -> Option<Journal<MemStore>> {
+    Journal::open(Connection::open_in_memory(alloc).ok()?).ok()
+}
+
+/// A new session, on a journal in memory.
+pub(crate) fn opened(alloc: Global) -> Option<Session<MemStore>> {
+    Session::open(alloc, in_memory(alloc)?).ok()
+}
+
 /// What a new session is served.
 fn replies(alloc: Global, input: &[u8]) -> Option<Vec<u8>> {
-    let mut session = Session::new(alloc);
+    let mut session = opened(alloc)?;
     served(alloc, &mut session, input)
 }
 
@@ -54,7 +65,7 @@ fn with_feed(alloc: Global, line: &str) -> Result<Vec<u8>, AllocError> {
 /// The reply to a line that is served alone, none where serving ended for want of memory.
 pub(crate) fn reply_to(
     alloc: Global,
-    session: &mut Session,
+    session: &mut Session<MemStore>,
     line: &str,
 ) -> Result<Option<Vec<u8>>, AllocError> {
     let input = with_feed(alloc, line)?;
@@ -69,9 +80,20 @@ fn expect_reply(rt: &impl Abort, written: &[u8], reply: &str, line: &str) -> Res
 
 /// Serves each line and compares its reply.
 pub(crate) fn expect(rt: &impl Abort, alloc: Global, rows: &[(&str, &str)]) -> Result<(), Fail> {
-    let mut session = Session::new(alloc);
-    for (line, reply) in rows {
-        match reply_to(alloc, &mut session, line)? {
+    match opened(alloc) {
+        Some(mut session) => expect_each(rt, alloc, &mut session, rows),
+        None => Err(Fail::from("no journal")),
+    }
+}
+
+fn expect_each(
+    rt: &impl Abort,
+    alloc: Global,
+    session: &mut Session<MemStore>,
+    rows: &[(&str, &str)],
+) -> Result<(), Fail> {
+    for &(line, reply) in rows {
+        match reply_to(alloc, session, line)? {
             Some(written) => expect_reply(rt, written.as_slice(), reply, line)?,
             None => expect_reply(rt, b"serving ended", reply, line)?,
         }
@@ -99,15 +121,20 @@ fn first_path(rt: HostRuntime) -> Result<(), Fail> {
     expect(&rt, rt.alloc(), FIRST_ROWS.as_slice())
 }
 
+/// The journal's own growth may be the one that is refused.
+fn is_want_of_memory(told: &[u8]) -> bool {
+    told == b"no 11\n".as_slice() || told == b"no 24\n".as_slice()
+}
+
 /// Whether a line has this reply, perhaps after it was refused once for want of memory.
 pub(crate) fn is_told(
     alloc: Global,
-    session: &mut Session,
+    session: &mut Session<MemStore>,
     line: &str,
     reply: &str,
 ) -> Result<bool, AllocError> {
     if let Some(told) = reply_to(alloc, session, line)? {
-        if told.as_slice() != b"no 11\n".as_slice() {
+        if !is_want_of_memory(told.as_slice()) {
             return Ok(told.as_slice() == reply.as_bytes());
         }
     }
@@ -117,16 +144,30 @@ pub(crate) fn is_told(
     }
 }
 
-/// For tools/refused-growths.sh, which refuses one growth: the line that it strikes is told `no 11`, or serving ends, and
+pub(crate) fn tell_all(
+    rt: &impl Abort,
+    alloc: Global,
+    session: &mut Session<MemStore>,
+    rows: &[(&str, &str)],
+) -> Result<(), Fail> {
+    for &(line, reply) in rows {
+        assert!(rt; is_told(alloc, session, line, reply)?, "at {line}");
+    }
+    Ok(())
+}
+
+pub(crate) fn tell_anew(rt: &impl Abort, alloc: Global, rows: &[(&str, &str)]) -> Result<(), Fail> {
+    match opened(alloc) {
+        Some(mut session) => tell_all(rt, alloc, &mut session, rows),
+        None => Err(Fail::from("out of memory")),
+    }
+}
+
+/// For tools/refused-growths.sh, which refuses one growth: the line that it strikes is told `no 11` or `no 24`, or serving ends, and
 /// has changed nothing, so that the line's reply is its row's when it comes again.
 #[test]
 fn first_path_with_a_refused_growth(rt: HostRuntime) -> Result<(), Fail> {
-    let alloc = rt.alloc();
-    let mut session = Session::new(alloc);
-    for (line, reply) in FIRST_ROWS {
-        assert!(rt; is_told(alloc, &mut session, line, reply)?, "at {line}");
-    }
-    Ok(())
+    tell_anew(&rt, rt.alloc(), FIRST_ROWS.as_slice())
 }
 
 const DEPENDENT_ROWS: [(&str, &str); 12] = [
@@ -455,7 +496,7 @@ fn line_count(text: &[u8]) -> usize {
 /// What is written until a reader that gives a byte a call fails, none where serving ends otherwise.
 fn written_until_failure(
     alloc: Global,
-    session: &mut Session,
+    session: &mut Session<MemStore>,
     rest: &'static [u8],
 ) -> Option<Vec<u8>> {
     let mut reader = Trickle {
@@ -470,10 +511,14 @@ fn written_until_failure(
     }
 }
 
+fn written_by_new(alloc: Global, rest: &'static [u8]) -> Option<Vec<u8>> {
+    let mut session = opened(alloc)?;
+    written_until_failure(alloc, &mut session, rest)
+}
+
 /// Whether each whole line is answered, and nothing else, before the reader fails.
 fn answers_whole_lines(alloc: Global, rest: &'static [u8]) -> bool {
-    let mut session = Session::new(alloc);
-    match written_until_failure(alloc, &mut session, rest) {
+    match written_by_new(alloc, rest) {
         Some(written) => {
             FIRST_REPLIES.starts_with(written.as_slice())
                 && line_count(written.as_slice()) == line_count(rest)
@@ -518,13 +563,19 @@ fn inputs_cut_anywhere(rt: HostRuntime) {
 /// Whether a writer that takes only these replies, a byte a call, takes them all, and serving ends well only where they
 /// are the whole of the first path's.
 fn is_filled(alloc: Global, expected: &'static [u8]) -> bool {
-    let mut session = Session::new(alloc);
+    match opened(alloc) {
+        Some(mut session) => fills(alloc, &mut session, expected),
+        None => false,
+    }
+}
+
+fn fills(alloc: Global, session: &mut Session<MemStore>, expected: &'static [u8]) -> bool {
     let mut reader = FIRST_PATH;
     let mut writer = Narrow {
         expected,
         at_once: 1,
     };
-    let is_ok = run(alloc, &mut reader, &mut writer, &mut session).is_ok();
+    let is_ok = run(alloc, &mut reader, &mut writer, session).is_ok();
     writer.expected.is_empty() && is_ok == (expected.len() == FIRST_REPLIES.len())
 }
 
@@ -536,7 +587,7 @@ fn failing_writers(rt: HostRuntime) {
 }
 
 /// Whether serving ends at a writer that takes nothing.
-fn ends_at_idle_writer(alloc: Global, session: &mut Session) -> bool {
+fn ends_at_idle_writer(alloc: Global, session: &mut Session<MemStore>) -> bool {
     let mut reader = FIRST_PATH;
     let mut writer = Narrow {
         expected: FIRST_REPLIES,
@@ -548,11 +599,15 @@ fn ends_at_idle_writer(alloc: Global, session: &mut Session) -> bool {
     }
 }
 
+/// The command whose reply can't be written stands.
+fn stands_at_idle_writer(alloc: Global) -> bool {
+    match opened(alloc) {
+        Some(mut session) => ends_at_idle_writer(alloc, &mut session) && session.book().is_some(),
+        None => false,
+    }
+}
+
 #[test]
 fn a_writer_that_takes_nothing(rt: HostRuntime) {
-    let alloc = rt.alloc();
-    let mut session = Session::new(alloc);
-    assert!(rt; ends_at_idle_writer(alloc, &mut session));
-    // the command whose reply can't be written stands
-    assert!(rt; session.book().is_some());
+    assert!(rt; stands_at_idle_writer(rt.alloc()));
 }

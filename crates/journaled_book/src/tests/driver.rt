@@ -2,19 +2,17 @@
 ghost use Rattle.std.specs.Prelude.{◌≡◌, Some, None, IsSome};
 ghost use Rattle.command_lines.specs.Grammar as grammar;
 ghost use Rattle.command_lines.specs.Grammar.{spoken, command_of};
-ghost use Rattle.rollback_book.specs.Making.{IsProper};
-ghost use Rattle.journaled_book.specs.Lines.{SaysChange};
 
-use crate::{BeginRefusal, ChangeFault, JournaledBook};
+use crate::{BeginRefusal, ChangeFault, JournaledBook, step_line};
 use attr_values::{ItemFault, KeySchema};
 use book_log::{Begin, Refusal};
 use command_lines::{Command, CommandFault, Execution};
 use json_tree::{Json, JsonFault, Text, read};
-use rollback_book::{Change, Room};
+use rollback_book::Room;
 use serde_json::Value;
 use sqlite::Alter;
 use std::alloc::Global;
-use step_names::StepName;
+use step_names::{StepName, ThreadName};
 
 /// What comes of a line.
 #[derive(Clone, Copy, PartialEq, Eq, Debug)]
@@ -79,9 +77,7 @@ fn give_command<S: Alter>(
             },
             true,
         ) => give_start(alloc, book, &exec, &machine, input, line),
-        (Command::Step(thread), true) => {
-            give_change(alloc, book, Change::Step { thread: &thread }, line)
-        }
+        (Command::Step(thread), true) => give_step(alloc, book, &thread, line),
         (Command::Undo(step), true) => give_undo(alloc, book, &step, line),
         (Command::Rollback(step), true) => give_rollback(alloc, book, &step, line),
         (other, _) => {
@@ -132,21 +128,21 @@ fn give_define<S: Alter>(
     requires open { IsSome book.old.book }
     requires line { command_of line.now ≡ Some (grammar.define name.now definition.now) }
 {
-    match Value::from_str(alloc, definition) {
-        Ok(definition) => give_change(
-            alloc,
-            book,
-            Change::Define {
-                name,
-                definition: &definition,
-            },
-            line,
-        ),
-        Err(fault) => if fault.is_memory() {
-            Told::Unserved
-        } else {
-            Told::Refused
-        },
+    let definition = match Value::from_str(alloc, definition) {
+        Ok(definition) => definition,
+        Err(fault) => return of_source_fault(fault.is_memory()),
+    };
+    match book.define(alloc, name, &definition, line) {
+        Ok(()) => Told::Accepted,
+        Err(fault) => of_fault(fault),
+    }
+}
+
+fn of_source_fault(is_memory: bool) -> Told {
+    if is_memory {
+        Told::Unserved
+    } else {
+        Told::Refused
     }
 }
 
@@ -161,38 +157,35 @@ fn give_start<S: Alter>(
     requires open { IsSome book.old.book }
     requires line { command_of line.now ≡ Some (grammar.start exec.now.thread machine.now input.now) }
 {
-    match read(alloc, input.as_bytes()) {
-        Ok(input) => give_change(
-            alloc,
-            book,
-            Change::Start {
-                exec: &exec.thread,
-                machine,
-                input,
-            },
-            line,
-        ),
-        Err(JsonFault::Memory) => Told::Unserved,
-        Err(_) => Told::Refused,
+    let input = match read(alloc, input.as_bytes()) {
+        Ok(input) => input,
+        Err(JsonFault::Memory) => return Told::Unserved,
+        Err(_) => return Told::Refused,
+    };
+    match book.start(alloc, &exec.thread, machine, input, line) {
+        Ok(_) => Told::Accepted,
+        Err(fault) => of_fault(fault),
     }
 }
 
-fn give_change<S: Alter>(
+/// The step's line is made from its thread, and is the one that was read.
+fn give_step<S: Alter>(
     alloc: Global,
     book: &mut JournaledBook<S>,
-    change: Change<'_>,
+    thread: &ThreadName,
     line: &str,
 ) -> Told
     requires open { IsSome book.old.book }
-    requires proper { IsProper change }
-    requires line { SaysChange change line.now }
 {
-    match book.ready(alloc, change) {
-        Ok(made) => match book.enter(made, line) {
-            Ok(_) => Told::Accepted,
-            Err(_) => Told::Unserved,
-        },
-        Err(refusal) => of_refusal(refusal),
+    let Ok(made) = step_line(alloc, thread) else {
+        return Told::Unserved;
+    };
+    if made.as_str() != line {
+        return Told::Refused;
+    }
+    match book.step(alloc, thread, made.as_str()) {
+        Ok(_) => Told::Accepted,
+        Err(fault) => of_fault(fault),
     }
 }
 

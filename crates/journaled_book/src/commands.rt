@@ -1,0 +1,135 @@
+// The commands of one entry: everything is made, the line is appended, and the command is entered.
+ghost use Rattle.std.specs.Prelude.{◌≡◌, ◌≤◌, List, [], Some, IfOk, IfErr, IfSome, IsSome, OnOk, OnErr, string_bytes};
+ghost use Rattle.sqlite.specs.Held.{state};
+ghost use Rattle.serde_json.specs.View.{view};
+ghost use Rattle.json_tree.specs.Data.{depth};
+ghost use Rattle.json_tree.specs.View.{data_of};
+ghost use Rattle.asl_machine.specs.Definition.{Definition};
+ghost use Rattle.asl_machine.specs.Profile.{Defines};
+ghost use Rattle.book_log.specs.Answers.{start_answer, step_answer};
+ghost use Rattle.command_lines.specs.Grammar as grammar;
+ghost use Rattle.command_lines.specs.Grammar.{command_of};
+ghost use Rattle.journaled_book.specs.Changes.{AnswersChange, Appends, RefusesDefine};
+ghost use Rattle.journaled_book.specs.Journaled.{story_of, with_entry};
+ghost use Rattle.journaled_book.specs.Lines.{IsStartLine, SaysDefine};
+
+use crate::book::JournaledBook;
+use crate::fault::ChangeFault;
+use book_log::{Entry, Moved};
+use command_lines::lines_are_spelled;
+use json_tree::{Json, Text};
+use rollback_book::{Change, Entered};
+use serde_json::Value;
+use sqlite::Alter;
+use std::alloc::{AllocError, Global};
+use step_names::{StepName, ThreadName};
+
+impl<S: Alter> JournaledBook<S> {
+    /// Defines a machine, as `Book::define`, and appends its line before.
+    ///
+    /// # Errors
+    ///
+    /// As the book refuses, before anything is appended; or as the journal refuses the line. The story and the journal are as before then.
+    pub fn define(
+        &mut self,
+        alloc: Global,
+        name: &Text,
+        definition: &Value,
+        line: &str,
+    ) -> Result<(), ChangeFault>
+        requires open { IsSome self.old.book }
+        requires line { SaysDefine name.now (view definition.now) line.now }
+        ensures ok { OnOk result ((machine : Definition) × Defines (view definition.now) machine
+            × (story_of self.new.book ≡ with_entry (story_of self.old.book) (Entry.Define name.now machine))) }
+        ensures refused { IfErr result (λ e. IfSome self.old.book (λ b. RefusesDefine b.story name.now (view definition.now) e)) }
+        ensures err { OnErr result (story_of self.new.book ≡ story_of self.old.book) }
+        ensures journal { Appends (state S.Store self.old.journal) (state S.Store self.new.journal) line.now result }
+    {
+        let made = match self.ready(alloc, Change::Define { name, definition }) {
+            Ok(made) => made,
+            Err(refusal) => return Err(ChangeFault::Book(refusal)),
+        };
+        match self.enter(made, line) {
+            Ok(_) => Ok(()),
+            Err(fault) => Err(ChangeFault::Journal(fault)),
+        }
+    }
+
+    /// Starts an execution of a machine, as `Book::start`, and appends its line before.
+    ///
+    /// # Errors
+    ///
+    /// As the book refuses, before anything is appended; or as the journal refuses the line. The story and the journal are as before then.
+    pub fn start(
+        &mut self,
+        alloc: Global,
+        exec: &ThreadName,
+        machine: &Text,
+        input: Json,
+        line: &str,
+    ) -> Result<StepName, ChangeFault>
+        requires open { IsSome self.old.book }
+        requires execution { exec.now.path ≡ [] }
+        requires shallow { depth (data_of input) ≤ 127 }
+        requires line { IsStartLine line.now exec.now machine.now input }
+        ensures answer { IfSome self.old.book (λ b. AnswersChange (start_answer b.story exec.now machine.now) result) }
+        ensures ok { OnOk result (story_of self.new.book ≡ with_entry (story_of self.old.book) (Entry.Start exec.now machine.now input)) }
+        ensures err { OnErr result (story_of self.new.book ≡ story_of self.old.book) }
+        ensures journal { Appends (state S.Store self.old.journal) (state S.Store self.new.journal) line.now result }
+    {
+        let change = Change::Start {
+            exec,
+            machine,
+            input,
+        };
+        let made = match self.ready(alloc, change) {
+            Ok(made) => made,
+            Err(refusal) => return Err(ChangeFault::Book(refusal)),
+        };
+        match self.enter(made, line) {
+            Ok(Entered::Started(name)) => Ok(name),
+            Ok(_) => unreachable!(),
+            Err(fault) => Err(ChangeFault::Journal(fault)),
+        }
+    }
+
+    /// Takes the step of a thread, as `Book::step`, and appends its line before.
+    ///
+    /// # Errors
+    ///
+    /// As the book refuses, before anything is appended; or as the journal refuses the line. The story and the journal are as before then.
+    pub fn step(
+        &mut self,
+        alloc: Global,
+        thread: &ThreadName,
+        line: &str,
+    ) -> Result<Moved, ChangeFault>
+        requires open { IsSome self.old.book }
+        requires line { command_of line.now ≡ Some (grammar.step thread.now) }
+        ensures answer { IfSome self.old.book (λ b. AnswersChange (step_answer b.story thread.now) result) }
+        ensures ok { IfOk result (λ m. story_of self.new.book ≡ with_entry (story_of self.old.book) (Entry.Step m.name m.kind)) }
+        ensures err { OnErr result (story_of self.new.book ≡ story_of self.old.book) }
+        ensures journal { Appends (state S.Store self.old.journal) (state S.Store self.new.journal) line.now result }
+    {
+        let made = match self.ready(alloc, Change::Step { thread }) {
+            Ok(made) => made,
+            Err(refusal) => return Err(ChangeFault::Book(refusal)),
+        };
+        match self.enter(made, line) {
+            Ok(Entered::Stepped(moved)) => Ok(moved),
+            Ok(_) => unreachable!(),
+            Err(fault) => Err(ChangeFault::Journal(fault)),
+        }
+    }
+}
+
+/// The line under which a thread's step stands in a journal. Takes memory for it.
+pub fn step_line(alloc: Global, thread: &ThreadName) -> Result<String, AllocError>
+    ensures { IfOk result (λ line. command_of (string_bytes line) ≡ Some (grammar.step thread.now)) }
+{
+    lines_are_spelled();
+    let mut line = String::with_capacity(alloc, thread.text_len() + 5)?;
+    line.push_str("step ")?;
+    thread.write_to(&mut line)?;
+    Ok(line)
+}
