@@ -1,8 +1,10 @@
 // Lists of lines drawn at random, and the book after each line beside the plain program.
 use crate::beside::{Plain, log_of};
 use crate::drawn_lines::{Dice, add_first_lines, drawn};
-use operator_line::{ServeFault, Session, serve};
+use book_journal::Journal;
+use operator_line::{ServeFault, Session as AnySession, serve};
 use rollback_book::{Entry, Kind};
+use sqlite::{Connection, MemStore};
 use std::alloc::Global;
 use std::io::{Read, Write};
 use std::ops::Range;
@@ -10,6 +12,8 @@ use std::process::Abort;
 
 /// How many lines of a list are drawn.
 const LINES: u32 = 80;
+
+type Session = AnySession<MemStore>;
 
 // ---- serving
 
@@ -213,11 +217,21 @@ fn serve_in(
     serve_all(rt, alloc, &mut pair, dice, tally);
 }
 
+fn in_memory(alloc: Global) -> Option<Journal<MemStore>> {
+    Journal::open(Connection::open_in_memory(alloc).ok()?).ok()
+}
+
+fn opened(alloc: Global) -> Option<Session> {
+    AnySession::open(alloc, in_memory(alloc)?).ok()
+}
+
 /// Serves a table, definitions, and then drawn lines.
 fn serve_list(rt: &impl Abort, alloc: Global, seed: u64, tally: &mut Tally) {
     let mut dice = Dice::new(seed);
-    let mut session = Session::new(alloc);
-    serve_in(rt, alloc, &mut session, &mut dice, tally);
+    match opened(alloc) {
+        Some(mut session) => serve_in(rt, alloc, &mut session, &mut dice, tally),
+        None => assert!(rt; false, "no session"),
+    }
 }
 
 /// Serves the lists of some seeds, in which lines of each kind are accepted.
