@@ -1,9 +1,11 @@
 // The grammar of lines, by rows.
 use crate::command::{Command, CommandFault};
+use crate::writing::step_line;
 use attr_values::{KeyAttribute, KeyType};
 use std::alloc::{AllocError, Global};
 use std::process::Abort;
 use std::test::Fail;
+use step_names::ThreadName;
 
 /// What a line is read as: the command and its parts with a bar between them, `bad` or `memory`.
 fn told(alloc: Global, line: &[u8]) -> Result<String, AllocError> {
@@ -300,4 +302,14 @@ fn long_names(rt: HostRuntime) -> Result<(), Fail> {
     assert!(rt; is_long_read(alloc, 64, ("show ", ""), ("show|", ""))?);
     assert!(rt; is_long_read(alloc, 255, ("table ", " id:S []"), ("table|", "|id:S||[]"))?);
     expect_too_long(&rt, alloc, TOO_LONG.as_slice())
+}
+
+#[test]
+fn writes_lines_of_steps(rt: HostRuntime) -> Result<(), Fail> {
+    for text in ["a", "order-7/1.0", "e/1.0/12.4095"] {
+        let thread = ThreadName::read(rt.alloc(), text)?;
+        let line = step_line(rt.alloc(), &thread)?;
+        assert_eq!(rt; line.as_str().strip_prefix("step "), Some(text));
+    }
+    Ok(())
 }

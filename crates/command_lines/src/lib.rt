@@ -7,6 +7,8 @@ mod command_tests;
 mod execution;
 mod laws;
 mod words;
+mod writing;
 
 pub use command::{Command, CommandFault, Execution};
 pub use laws::lines_are_spelled;
+pub use writing::step_line;

@@ -1,4 +1,4 @@
-ghost use Rattle.std.specs.Prelude.{◌≡◌, ℕ, List, [], None, Some, IsOk, IsSome, IfOk, IfErr, IfSome, OnOk, OnErr, MatchResult, option_map};
+ghost use Rattle.std.specs.Prelude.{◌≡◌, ℕ, List, [], None, Some, IsOk, IsSome, IfOk, IfErr, IfSome, OnOk, OnErr, MatchResult, is_some, option_map};
 ghost use Rattle.sqlite.specs.Held.{state};
 ghost use Rattle.sqlite.specs.State.{HasCleanDisk};
 ghost use Rattle.book_log.specs.Beginning.{table_of};
@@ -84,6 +84,13 @@ impl<S: Alter> JournaledBook<S> {
         ensures journal { IsJournalOf (state S.Store self.now.journal) (story_of self.now.book) }
     {
         self.book.as_ref()
+    }
+
+    /// Whether the table was given.
+    pub fn is_open(&self) -> bool
+        ensures { result ≡ is_some self.now.book }
+    {
+        self.book.is_some()
     }
 
     /// The journal, which holds the lines of the book.

@@ -1,5 +1,5 @@
 // The commands of one entry: everything is made, the line is appended, and the command is entered.
-ghost use Rattle.std.specs.Prelude.{◌≡◌, ◌≤◌, List, [], Some, IfOk, IfErr, IfSome, IsSome, OnOk, OnErr, string_bytes};
+ghost use Rattle.std.specs.Prelude.{◌≡◌, ◌≤◌, List, [], Some, IfOk, IfErr, IfSome, IsSome, OnOk, OnErr};
 ghost use Rattle.sqlite.specs.Held.{state};
 ghost use Rattle.serde_json.specs.View.{view};
 ghost use Rattle.json_tree.specs.Data.{depth};
@@ -16,12 +16,11 @@ ghost use Rattle.journaled_book.specs.Lines.{IsStartLine, SaysDefine};
 use crate::book::JournaledBook;
 use crate::fault::ChangeFault;
 use book_log::{Entry, Moved};
-use command_lines::lines_are_spelled;
 use json_tree::{Json, Text};
 use rollback_book::{Change, Entered};
 use serde_json::Value;
 use sqlite::Alter;
-use std::alloc::{AllocError, Global};
+use std::alloc::Global;
 use step_names::{StepName, ThreadName};
 
 impl<S: Alter> JournaledBook<S> {
@@ -121,15 +120,4 @@ impl<S: Alter> JournaledBook<S> {
             Err(fault) => Err(ChangeFault::Journal(fault)),
         }
     }
-}
-
-/// The line under which a thread's step stands in a journal. Takes memory for it.
-pub fn step_line(alloc: Global, thread: &ThreadName) -> Result<String, AllocError>
-    ensures { IfOk result (λ line. command_of (string_bytes line) ≡ Some (grammar.step thread.now)) }
-{
-    lines_are_spelled();
-    let mut line = String::with_capacity(alloc, thread.text_len() + 5)?;
-    line.push_str("step ")?;
-    thread.write_to(&mut line)?;
-    Ok(line)
 }

@@ -15,5 +15,4 @@ mod parts;
 mod tests;
 
 pub use book::JournaledBook;
-pub use commands::step_line;
 pub use fault::{BeginRefusal, ChangeFault, OpenFault};

@@ -1,26 +1,30 @@
 // Serves lines: starts executions of one Pass state, takes the step of each, shows each, and undoes the steps from the last
 // to the first, each kind as one input of one session. With a number of executions as its argument it does so with that
 // many, and prints how many lines of each kind were answered in a second, and how much of the time of the starts
-// `json_tree` takes to read their inputs alone. Then the same of a machine of three Pass states, over inputs of two sizes.
+// `json_tree` takes to read their inputs alone. Then the same of a machine of three Pass states, over inputs of two sizes; and a
+// session on a journal in memory, and on a file where one is named, and how long each takes to be opened again.
 #![tactic(auto)]
 
 mod passing;
+mod reopening;
 
 use anyhow::Context;
 use json_tree::{Json, read};
 use operator_line::{Session, serve};
 use passing::time_both;
+use reopening::{session_in_memory, time_journals};
+use sqlite::Alter;
 use std::alloc::Global;
 use std::env;
 use std::rt::Runtime;
 use std::time::{Duration, Instant};
 
-const BEGINNING: &str =
+pub(crate) const BEGINNING: &str =
     "table items id:S []\ndefine p {\"StartAt\":\"P\",\"States\":{\"P\":{\"Type\":\"Pass\",\"Result\":7,\"End\":true}}}\n";
 
 // The lines of one kind, one for each execution.
 
-fn starts(alloc: Global, count: u32) -> anyhow::Result<String> {
+pub(crate) fn starts(alloc: Global, count: u32) -> anyhow::Result<String> {
     let mut lines = String::new(alloc);
     for i in 0..count {
         let line = format!(in alloc; "start e{i} p {{\"n\":{i}}}\n")?;
@@ -29,7 +33,7 @@ fn starts(alloc: Global, count: u32) -> anyhow::Result<String> {
     Ok(lines)
 }
 
-fn steps(alloc: Global, count: u32) -> anyhow::Result<String> {
+pub(crate) fn steps(alloc: Global, count: u32) -> anyhow::Result<String> {
     let mut lines = String::new(alloc);
     for i in 0..count {
         let line = format!(in alloc; "step e{i}\n")?;
@@ -91,9 +95,9 @@ impl Timed {
 }
 
 /// Whether the lines were served to their end.
-pub(crate) fn serve_lines(
+pub(crate) fn serve_lines<S: Alter>(
     alloc: Global,
-    session: &mut Session,
+    session: &mut Session<S>,
     lines: &str,
     replies: &mut Vec<u8>,
 ) -> bool {
@@ -101,10 +105,10 @@ pub(crate) fn serve_lines(
     serve(alloc, &mut reader, replies, session).is_ok()
 }
 
-pub(crate) fn time_lines(
+pub(crate) fn time_lines<S: Alter>(
     rt: &impl Runtime,
     alloc: Global,
-    session: &mut Session,
+    session: &mut Session<S>,
     lines: &str,
 ) -> anyhow::Result<Timed> {
     let mut replies = Vec::new(alloc);
@@ -126,40 +130,40 @@ fn time_reading(rt: &impl Runtime, alloc: Global, texts: &[String]) -> anyhow::R
     Ok(Timed { count, took })
 }
 
-fn time_starts(
+fn time_starts<S: Alter>(
     rt: &impl Runtime,
     alloc: Global,
-    session: &mut Session,
+    session: &mut Session<S>,
     count: u32,
 ) -> anyhow::Result<Timed> {
     let lines = starts(alloc, count)?;
     time_lines(rt, alloc, session, &lines)
 }
 
-fn time_steps(
+fn time_steps<S: Alter>(
     rt: &impl Runtime,
     alloc: Global,
-    session: &mut Session,
+    session: &mut Session<S>,
     count: u32,
 ) -> anyhow::Result<Timed> {
     let lines = steps(alloc, count)?;
     time_lines(rt, alloc, session, &lines)
 }
 
-fn time_shows(
+fn time_shows<S: Alter>(
     rt: &impl Runtime,
     alloc: Global,
-    session: &mut Session,
+    session: &mut Session<S>,
     count: u32,
 ) -> anyhow::Result<Timed> {
     let lines = shows(alloc, count)?;
     time_lines(rt, alloc, session, &lines)
 }
 
-fn time_undos(
+fn time_undos<S: Alter>(
     rt: &impl Runtime,
     alloc: Global,
-    session: &mut Session,
+    session: &mut Session<S>,
     count: u32,
 ) -> anyhow::Result<Timed> {
     let lines = undos(alloc, count)?;
@@ -180,10 +184,10 @@ struct Times {
     json: Timed,
 }
 
-fn time_session(
+fn time_session<S: Alter>(
     rt: &impl Runtime,
     alloc: Global,
-    session: &mut Session,
+    session: &mut Session<S>,
     count: u32,
 ) -> anyhow::Result<Times> {
     let _table = serve_lines(alloc, session, BEGINNING, &mut Vec::new(alloc));
@@ -202,7 +206,7 @@ fn time_session(
 }
 
 fn time_all(rt: &impl Runtime, alloc: Global, count: u32) -> anyhow::Result<Times> {
-    let mut session = Session::new(alloc);
+    let mut session = session_in_memory(alloc)?;
     time_session(rt, alloc, &mut session, count)
 }
 
@@ -243,6 +247,7 @@ fn main(rt: HostRuntime) -> anyhow::Result<()> {
     time_both(&rt, alloc, 20, false)?;
     if let Some(word) = env::args(&rt)?.nth(1) {
         time_again(&rt, alloc, &word)?;
+        time_journals(&rt, &word, env::args(&rt)?.nth(2))?;
     }
     Ok(())
 }

@@ -1,6 +1,8 @@
 // A machine of three Pass states, which pass their input on, over inputs of 8 kB and over empty ones.
+use crate::reopening::session_in_memory;
 use crate::{Timed, serve_lines, time_lines};
 use operator_line::Session;
+use sqlite::Alter;
 use std::alloc::Global;
 use std::rt::Runtime;
 
@@ -60,19 +62,19 @@ struct Passed {
     undo: Timed,
 }
 
-fn time_made(
+fn time_made<S: Alter>(
     rt: &impl Runtime,
     alloc: Global,
-    session: &mut Session,
+    session: &mut Session<S>,
     lines: anyhow::Result<String>,
 ) -> anyhow::Result<Timed> {
     time_lines(rt, alloc, session, &lines?)
 }
 
-fn time_session(
+fn time_session<S: Alter>(
     rt: &impl Runtime,
     alloc: Global,
-    session: &mut Session,
+    session: &mut Session<S>,
     input: &str,
     count: u32,
 ) -> anyhow::Result<Passed> {
@@ -84,7 +86,7 @@ fn time_session(
 }
 
 fn time_input(rt: &impl Runtime, alloc: Global, input: &str, count: u32) -> anyhow::Result<Passed> {
-    let mut session = Session::new(alloc);
+    let mut session = session_in_memory(alloc)?;
     time_session(rt, alloc, &mut session, input, count)
 }
 

@@ -1,5 +1,5 @@
 -- JSON of a line, and what is told where it is none.
-use Rattle.std.proofs.Common.{◌≡◌, ℕ, List, [], ◌∷◌, Option, Some, None, OnOk, refl, sym, ap, subst}
+use Rattle.std.proofs.Common.{◌≡◌, ℕ, List, [], ◌∷◌, Option, Some, None, OnOk, refl, sym, ap, subst, inl, inr}
 use Rattle.std.specs.Prelude.{Result, Ok, Err, IsOk, IsSome, option_and_then}
 use Rattle.std.specs.declared.alloc.AllocError.{AllocError}
 use Rattle.std.proofs.lemmas.Result.{on_ok_weaker}
@@ -13,7 +13,7 @@ use Rattle.attr_values.specs.declared.key.KeySchema.{KeySchema}
 use Rattle.attr_values.specs.declared.fault.ItemFault.{ItemFault}
 use Rattle.item_store.specs.Table.{Table}
 use Rattle.book_log.specs.declared.begin.Begin.{Begin}
-use Rattle.operator_line.specs.Answers.{Tells, OfJson, OfSource, OfWhole, values_in, AnswersItems, AnswersBegin, AnswersBeginning}
+use Rattle.operator_line.specs.Answers.{Tells, journal_reply, OfJson, OfSource, OfWhole, values_in, AnswersItems, AnswersBegin, AnswersBeginning}
 use Rattle.reply_lines.specs.Replies.{done_reply, json_reply, item_fault_reply, refused_by}
 
 of_whole : (w : Option Data) (d : Data) (Refused : List ℕ → Type 0) (Read : Data → Type 0) → w ≡ Some d → Read d → OfWhole w Refused Read
@@ -56,8 +56,12 @@ items-begin name schema ds reply after h =
     subst (λ (es : List Data). AnswersBeginning (record { table = name; schema = schema; items = es }) reply after) (sym (values_of ds)) h
 
 pub begin-done : (begin : Begin) (r : Result Table ItemFault) (reply : List ℕ) (after : Option Story) → IsOk r → (reply ≡ done_reply) × (after ≡ Some (record { begin = begin; log = [] })) → AnswersBegin begin r reply after
-begin-done begin (Ok items) reply after ok h = h
+begin-done begin (Ok items) reply after ok h = inl h
 begin-done begin (Err fault) reply after ok h = cc
+
+pub begin-unwritten : (begin : Begin) (r : Result Table ItemFault) (reply : List ℕ) (after : Option Story) → IsOk r → (reply ≡ journal_reply) × (after ≡ None) → AnswersBegin begin r reply after
+begin-unwritten begin (Ok items) reply after ok h = inr h
+begin-unwritten begin (Err fault) reply after ok h = cc
 
 pub begin-refused : (begin : Begin) (r : Result Table ItemFault) (fault : ItemFault) (reply : List ℕ) (after : Option Story) → r ≡ Err fault → (reply ≡ item_fault_reply fault) × (after ≡ None) → AnswersBegin begin r reply after
 begin-refused begin r fault reply after e h = subst (λ (x : Result Table ItemFault). AnswersBegin begin x reply after) (sym e) h

@@ -1,6 +1,7 @@
 pub mod Taken
 pub mod Served
 pub mod Replied
+pub mod Sessions
 pub mod Json
 pub mod Feeds
 pub mod Refused

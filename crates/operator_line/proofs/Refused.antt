@@ -17,9 +17,10 @@ use Rattle.attr_values.specs.declared.key.KeySchema.{KeySchema}
 use Rattle.item_store.specs.Table.{Table}
 use Rattle.book_log.specs.declared.refusal.Refusal.{Refusal}
 use Rattle.book_log.specs.declared.moved.Moved.{Moved}
+use Rattle.journaled_book.specs.declared.fault.ChangeFault.{ChangeFault}
 use Rattle.command_lines.specs.Grammar as spoken
 use Rattle.command_lines.specs.Grammar.{Spoken, command_of}
-use Rattle.operator_line.specs.Answers.{Tells, OfWhole, OfSource, AnswersBegin, AnswersItems, AnswersDefine, AnswersStarted, AnswersStep, AnswersUndo, AnswersPlan, AnswersRollback, Drives, drive_reply, AnswersDrive, AnswersShow, AnswersOpen, AnswersClosed, AnswersSpoken, AnswersText, AnswersLine}
+use Rattle.operator_line.specs.Answers.{Tells, Enters, OfWhole, OfSource, AnswersBegin, AnswersItems, AnswersDefine, AnswersStarted, AnswersStep, AnswersUndo, AnswersPlan, AnswersRollback, Drives, drive_reply, AnswersDrive, AnswersShow, AnswersOpen, AnswersClosed, AnswersSpoken, AnswersText, AnswersLine}
 use Rattle.operator_line.specs.LineLaws.{is_refusal}
 
 -- what changes nothing where it is refused
@@ -29,6 +30,11 @@ Unchanging Answer before = (reply : List ℕ) (after : Option Story) → Answer 
 -- what tells no refusal
 accepts : (told : List ℕ) (book before : Option Story) → is_refusal told ≡ false → Unchanging (Tells told book) before
 accepts told book before ok reply after h refused = absurd (true≢false (sym refused ∙ ap is_refusal h.0 ∙ ok))
+
+-- what tells none where it is entered, or the journal's
+enters : (told : List ℕ) (book before : Option Story) → is_refusal told ≡ false → Unchanging (Enters told book before) before
+enters told book before ok reply after (inl h) refused = accepts told book before ok reply after h refused
+enters told book before ok reply after (inr h) refused = h.1
 
 keeps : (told : List ℕ) (before : Option Story) → Unchanging (Tells told before) before
 keeps told before reply after h refused = h.1
@@ -46,7 +52,7 @@ of_source None Refused Read before r h = r _
 of_source (Some d) Refused Read before r h = of_whole (whole_of d) Refused Read before r h
 
 begin_keeps : (begin : Begin) (r : Result Table ItemFault) → Unchanging (AnswersBegin begin r) None
-begin_keeps begin (Ok items) = accepts _ _ _ refl
+begin_keeps begin (Ok items) = enters _ _ _ refl
 begin_keeps begin (Err fault) = keeps _ _
 
 items_keep : (name : List ℕ) (schema : KeySchema) (d : Data) → Unchanging (AnswersItems name schema d) None
@@ -59,19 +65,19 @@ items_keep name schema (fields ms) = keeps _ _
 
 define_keeps : (story : Story) (name : List ℕ) (d : Option source.Data) → Unchanging (AnswersDefine story name d) (Some story)
 define_keeps story name None reply after h refused = h.1
-define_keeps story name (Some d) reply after (inl h) refused = accepts _ _ _ refl reply after h.told refused
+define_keeps story name (Some d) reply after (inl h) refused = enters _ _ _ refl reply after h.told refused
 define_keeps story name (Some d) reply after (inr h) refused = keeps _ _ reply after h.told refused
 
 started_keeps : (story : Story) (entry : Entry) (answer : Result StepName Refusal) → Unchanging (AnswersStarted story entry answer) (Some story)
-started_keeps story entry (Ok name) = accepts _ _ _ refl
+started_keeps story entry (Ok name) = enters _ _ _ refl
 started_keeps story entry (Err refusal) = keeps _ _
 
 step_keeps : (story : Story) (answer : Result Moved Refusal) → Unchanging (AnswersStep story answer) (Some story)
-step_keeps story (Ok m) = accepts _ _ _ refl
+step_keeps story (Ok m) = enters _ _ _ refl
 step_keeps story (Err refusal) = keeps _ _
 
 undo_keeps : (story : Story) (name : StepName) (answer : Result StepName Refusal) → Unchanging (AnswersUndo story name answer) (Some story)
-undo_keeps story name (Ok undone) = accepts _ _ _ refl
+undo_keeps story name (Ok undone) = enters _ _ _ refl
 undo_keeps story name (Err refusal) = keeps _ _
 
 plan_keeps : (story : Story) (answer : Result (List StepName) Refusal) → Unchanging (AnswersPlan story answer) (Some story)
@@ -79,14 +85,14 @@ plan_keeps story (Ok names) = accepts _ _ _ refl
 plan_keeps story (Err refusal) = keeps _ _
 
 rollback_keeps : (story : Story) (name : StepName) (answer : Result (List StepName) Refusal) → Unchanging (AnswersRollback story name answer) (Some story)
-rollback_keeps story name (Ok names) = accepts _ _ _ refl
+rollback_keeps story name (Ok names) = enters _ _ _ refl
 rollback_keeps story name (Err refusal) = keeps _ _
 
-drive_told : (story last : Story) (count : ℕ) (names : List StepName) (stop : Option Refusal) → Drives count story names stop last
+drive_told : (story last : Story) (count : ℕ) (names : List StepName) (stop : Option ChangeFault) → Drives count story names stop last
     → Unchanging (Tells (drive_reply names stop) (Some last)) (Some story)
 drive_told story last count [] None d = accepts _ _ _ refl
-drive_told story last zero [] (Some refusal) d = absurd d
-drive_told story last (suc count) [] (Some refusal) d = λ reply after h refused. h.1 ∙ ap Some d.1
+drive_told story last zero [] (Some fault) d = absurd d
+drive_told story last (suc count) [] (Some fault) d = λ reply after h refused. h.1 ∙ ap Some d.1
 drive_told story last count (name ∷ names) stop d = accepts _ _ _ refl
 
 drive_keeps : (story : Story) (count : ℕ) → Unchanging (AnswersDrive story count) (Some story)

@@ -1,55 +1,64 @@
 -- What a book answers, as it is told.
-use Rattle.std.proofs.Common.{◌≡◌, ℕ, List, [], ◌∷◌, map, Some, Ok, Err, OnOk, ◌⊎◌, inl, inr, refl, sym, ap, ◌∙◌, subst}
-use Rattle.std.specs.Prelude.{Result}
+use Rattle.std.proofs.Common.{◌≡◌, ℕ, List, [], ◌∷◌, map, Option, None, Some, Ok, Err, OnOk, inl, inr, refl, sym, ap, ◌∙◌, subst}
+use Rattle.std.specs.Prelude.{Result, IfSome, IsOk}
 use Rattle.std.specs.declared.alloc.AllocError.{AllocError}
 use Rattle.std.proofs.lemmas.Result.{on_ok_weaker}
 use Rattle.step_names.specs.declared.step.StepName.{StepName}
 use Rattle.step_names.specs.Written.{step_text}
 use Rattle.saved_steps.specs.Steps.{Step, name_of}
+use Rattle.saved_steps.specs.declared.record.StepRecord.{StepRecord}
 use Rattle.book_log.specs.Story.{Story, accepted}
-use Rattle.book_log.specs.Answers.{Gives}
 use Rattle.book_log.specs.declared.entry.Entry.{Entry}
 use Rattle.book_log.specs.declared.entry.Entry.TheVariants.{Step as Stepped}
 use Rattle.book_log.specs.declared.refusal.Refusal.{Refusal}
 use Rattle.book_log.specs.declared.refusal.Refusal.TheVariants.{Memory}
 use Rattle.book_log.specs.declared.moved.Moved.{Moved}
-use Rattle.saved_steps.specs.declared.record.StepRecord.{StepRecord}
-use Rattle.operator_line.specs.Answers.{AnswersStep, AnswersStarted}
+use Rattle.rollback_book.specs.Book.{Volume}
+use Rattle.journaled_book.specs.Changes.{RefusesChange}
+use Rattle.journaled_book.specs.Journaled.{story_of}
+use Rattle.journaled_book.specs.declared.fault.ChangeFault.{ChangeFault}
+use Rattle.journaled_book.specs.declared.fault.ChangeFault.TheVariants as by
+use Rattle.operator_line.specs.Answers.{Tells, journal_reply, change_reply, AnswersStep, AnswersStarted}
 use Rattle.reply_lines.specs.Replies.{moved_reply, step_reply, refusal_reply}
 
-pub given-ok : {T : Type 0} → (x : T) (r : Result T Refusal) → Gives (Ok x) r → r ≡ Ok x
-given-ok x (Ok y) (inl e) = sym e
-given-ok x (Ok y) (inr e) = cc
-given-ok x (Err y) e = cc
+-- what holds of a book's story holds of this one
+pub in_story : (P : Story → Type 0) (book : Option Volume) (story : Story) → story_of book ≡ Some story → IfSome book (λ b. P b.story) → P story
+in_story P None story is h = cc
+in_story P (Some b) story is h = let same : b.story ≡ story = cc in subst P same h
 
-pub given-err : {T : Type 0} → (e : Refusal) (r : Result T Refusal) → Gives (Err e) r → (e ≡ Memory) ⊎ (r ≡ Err e)
-given-err e (Ok y) (inl h) = cc
-given-err e (Ok y) (inr h) = inl cc
-given-err e (Err f) h = inr (sym h)
+-- ---- a command that isn't accepted
 
-pub step-done : {U : Type 0} → (story after : Story) (m : Moved) (answer : Result Moved Refusal) (r : Result U AllocError) (text : List ℕ) → Gives (Ok m) answer
-    → after ≡ accepted story (Stepped m.name m.kind) → OnOk r (text ≡ moved_reply m) → OnOk r (AnswersStep story answer text (Some after))
-step-done story after m answer r text g a w =
-    subst (λ (x : Result Moved Refusal). OnOk r (AnswersStep story x text (Some after))) (sym (given-ok m answer g)) (on_ok_weaker r (λ e. (e, ap Some a)) w)
+module _ {T : Type 0} (Answer : Result T Refusal → List ℕ → Option Story → Type 0) (story : Story)
+    (by-book : (e : Refusal) (text : List ℕ) (after : Option Story) → Tells (refusal_reply e) (Some story) text after → Answer (Err e) text after)
+    (by-journal : (x : T) (text : List ℕ) (after : Option Story) → Tells journal_reply (Some story) text after → Answer (Ok x) text after) where
+  change-refused : {U : Type 0} → (fault : ChangeFault) (answer : Result T Refusal) (r : Result U AllocError) (text : List ℕ) (after : Option Story) → RefusesChange answer fault
+      → after ≡ Some story → (fault ≡ by.Book Memory → OnOk r ⊥) → OnOk r (text ≡ change_reply fault) → OnOk r (Answer answer text after)
+  change-refused (by.Book e) (Ok x) r text after h same memory w = on_ok_weaker r (λ b. absurd b) (memory (ap (λ f. by.Book f) h))
+  change-refused (by.Book e) (Err f) r text after h same memory w = subst (λ (x : Refusal). OnOk r (Answer (Err x) text after)) h (on_ok_weaker r (λ t. by-book e text after (t, same)) w)
+  change-refused (by.Journal f) (Ok x) r text after h same memory w = on_ok_weaker r (λ t. by-journal x text after (t, same)) w
+  change-refused (by.Journal f) (Err e) r text after h same memory w = cc
 
-pub step-refused : {U : Type 0} → (story after : Story) (e : Refusal) (answer : Result Moved Refusal) (r : Result U AllocError) (text : List ℕ) → Gives (Err e) answer
-    → after ≡ story → (e ≡ Memory → OnOk r ⊥) → OnOk r (text ≡ refusal_reply e) → OnOk r (AnswersStep story answer text (Some after))
-step-refused story after e answer r text g a n w = elim (given-err e answer g) [
-  | inl memory ↦ on_ok_weaker r (λ b. absurd b) (n memory)
-  | inr is ↦ subst (λ (x : Result Moved Refusal). OnOk r (AnswersStep story x text (Some after))) (sym is) (on_ok_weaker r (λ h. (h, ap Some a)) w)
-]
+-- ---- a step
 
-pub start-done : {U : Type 0} → (story after : Story) (entry : Entry) (name : StepName) (answer : Result StepName Refusal) (r : Result U AllocError) (text : List ℕ) → Gives (Ok name) answer
-    → after ≡ accepted story entry → OnOk r (text ≡ step_reply name) → OnOk r (AnswersStarted story entry answer text (Some after))
-start-done story after entry name answer r text g a w =
-    subst (λ (x : Result StepName Refusal). OnOk r (AnswersStarted story entry x text (Some after))) (sym (given-ok name answer g)) (on_ok_weaker r (λ e. (e, ap Some a)) w)
+pub step-done : {U : Type 0} → (story : Story) (after : Option Story) (m : Moved) (answer : Result Moved Refusal) (r : Result U AllocError) (text : List ℕ) → answer ≡ Ok m
+    → after ≡ Some (accepted story (Stepped m.name m.kind)) → OnOk r (text ≡ moved_reply m) → OnOk r (AnswersStep story answer text after)
+step-done story after m answer r text is a w = subst (λ (x : Result Moved Refusal). OnOk r (AnswersStep story x text after)) (sym is) (on_ok_weaker r (λ e. inl (e, a)) w)
 
-pub start-refused : {U : Type 0} → (story after : Story) (entry : Entry) (e : Refusal) (answer : Result StepName Refusal) (r : Result U AllocError) (text : List ℕ) → Gives (Err e) answer
-    → after ≡ story → (e ≡ Memory → OnOk r ⊥) → OnOk r (text ≡ refusal_reply e) → OnOk r (AnswersStarted story entry answer text (Some after))
-start-refused story after entry e answer r text g a n w = elim (given-err e answer g) [
-  | inl memory ↦ on_ok_weaker r (λ b. absurd b) (n memory)
-  | inr is ↦ subst (λ (x : Result StepName Refusal). OnOk r (AnswersStarted story entry x text (Some after))) (sym is) (on_ok_weaker r (λ h. (h, ap Some a)) w)
-]
+pub step-refused : {U : Type 0} → (story : Story) (after : Option Story) (fault : ChangeFault) (answer : Result Moved Refusal) (r : Result U AllocError) (text : List ℕ) → RefusesChange answer fault
+    → after ≡ Some story → (fault ≡ by.Book Memory → OnOk r ⊥) → OnOk r (text ≡ change_reply fault) → OnOk r (AnswersStep story answer text after)
+step-refused story after fault answer r text = change-refused (AnswersStep story) story (λ e text after h. h) (λ m text after h. inr h) fault answer r text after
+
+-- ---- a start
+
+pub start-done : {U : Type 0} → (story : Story) (after : Option Story) (entry : Entry) (name : StepName) (answer : Result StepName Refusal) (r : Result U AllocError) (text : List ℕ) → answer ≡ Ok name
+    → after ≡ Some (accepted story entry) → OnOk r (text ≡ step_reply name) → OnOk r (AnswersStarted story entry answer text after)
+start-done story after entry name answer r text is a w = subst (λ (x : Result StepName Refusal). OnOk r (AnswersStarted story entry x text after)) (sym is) (on_ok_weaker r (λ e. inl (e, a)) w)
+
+pub start-refused : {U : Type 0} → (story : Story) (after : Option Story) (entry : Entry) (fault : ChangeFault) (answer : Result StepName Refusal) (r : Result U AllocError) (text : List ℕ) → RefusesChange answer fault
+    → after ≡ Some story → (fault ≡ by.Book Memory → OnOk r ⊥) → OnOk r (text ≡ change_reply fault) → OnOk r (AnswersStarted story entry answer text after)
+start-refused story after entry fault answer r text = change-refused (AnswersStarted story entry) story (λ e text after h. h) (λ m text after h. inr h) fault answer r text after
+
+-- ---- a history
 
 texts-mapped : {A : Type 0} → (f : A → StepName) (xs : List A) → map (λ (x : A). step_text (f x)) xs ≡ map step_text (map f xs)
 texts-mapped f [] = refl

@@ -4,7 +4,7 @@ use Rattle.std.proofs.lemmas.List.{append_assoc, append-nil, length-append, map-
 use Rattle.step_names.specs.Written.{step_text}
 use Rattle.step_names.specs.declared.step.StepName.{StepName}
 use Rattle.book_log.specs.Story.{Story}
-use Rattle.book_log.specs.declared.refusal.Refusal.{Refusal}
+use Rattle.journaled_book.specs.declared.fault.ChangeFault.{ChangeFault}
 use Rattle.reply_lines.specs.Replying.{AreLines}
 use Rattle.reply_lines.specs.declared.lines.Lines.{Lines}
 use Rattle.rollback_book.specs.Ready.{IsFirstToMove}
@@ -18,7 +18,7 @@ pub record HasTaken (count left : ℕ) (before now : Story) (lines : Lines) : Ty
   pub names : List StepName
   pub lines_are : AreLines lines (map step_text names)
   pub counted : length names + left ≡ count
-  pub goes_on : (rest : List StepName) (stop : Option Refusal) (after : Story) → Drives left now rest stop after → Drives count before (names ++ rest) stop after
+  pub goes_on : (rest : List StepName) (stop : Option ChangeFault) (after : Story) → Drives left now rest stop after → Drives count before (names ++ rest) stop after
 
 pub begins : (count : ℕ) (before : Story) (lines : Lines) → AreLines lines [] → HasTaken count count before before lines
 begins count before lines h = record { names = []; lines_are = h; counted = omega arith; goes_on = λ rest stop after d. d }
@@ -41,7 +41,7 @@ one_more count (suc left) before now next lines longer some t one =
           (t.goes_on (x ∷ rest) stop after (one.0, one.1, one.2, refl, subst (λ (s : Story). Drives left s rest stop after) one.3 (subst (λ (n : ℕ). Drives n next rest stop after) (one_less left) d)));
     }
 
-ended : (count left : ℕ) (before now : Story) (lines : Lines) (stop : Option Refusal) → HasTaken count left before now lines → Drives left now [] stop now → Taken count before now lines stop
+ended : (count left : ℕ) (before now : Story) (lines : Lines) (stop : Option ChangeFault) → HasTaken count left before now lines → Drives left now [] stop now → Taken count before now lines stop
 ended count left before now lines stop t d =
     record { names = t.names; drives = subst (λ (l : List StepName). Drives count before l stop now) (append-nil t.names) (t.goes_on [] stop now d); lines_are = t.lines_are }
 
@@ -58,12 +58,12 @@ none_left count (suc left) before now next lines same some t one =
     let kept : HasTaken count (suc left) before now same = record { names = t.names; lines_are = one.2.1 (map step_text t.names) t.lines_are; counted = t.counted; goes_on = t.goes_on } in
     subst (λ (s : Story). Taken count before s same None) (sym one.1) (ended count (suc left) before now same None kept (one.0, refl))
 
-pub stopped : (count left : ℕ) (before now next : Story) (lines same : Lines) (refusal : Refusal) → 0 < left → HasTaken count left before now lines → TakesOne now next lines same (Err refusal)
-    → Taken count before next same (Some refusal)
-stopped count zero before now next lines same refusal some t one = absurd (omega (arith, some))
-stopped count (suc left) before now next lines same refusal some t one =
+pub stopped : (count left : ℕ) (before now next : Story) (lines same : Lines) (fault : ChangeFault) → 0 < left → HasTaken count left before now lines → TakesOne now next lines same (Err fault)
+    → Taken count before next same (Some fault)
+stopped count zero before now next lines same fault some t one = absurd (omega (arith, some))
+stopped count (suc left) before now next lines same fault some t one =
     let kept : HasTaken count (suc left) before now same = record { names = t.names; lines_are = one.2.1 (map step_text t.names) t.lines_are; counted = t.counted; goes_on = t.goes_on } in
-    subst (λ (s : Story). Taken count before s same (Some refusal)) (sym one.1) (ended count (suc left) before now same (Some refusal) kept (one.0, refl))
+    subst (λ (s : Story). Taken count before s same (Some fault)) (sym one.1) (ended count (suc left) before now same (Some fault) kept (one.0, refl))
 
 -- ---- the first thread that can move
 
@@ -80,3 +80,6 @@ stuck false b e h = refl
 pub first_of_all : (story : Story) (passed : Thread → Bool) (t : Thread) → ((u : Thread) → passed u ≡ false) → IsFirstToMove story passed (Some t) → MovesFirst story t
 first_of_all story passed t none h =
     record { moves = freely (has_move story t) (passed t) (none t) h.1; least = λ u is less. stuck (has_move story u) (passed u) (none u) (h.2 u is less) }
+
+pub none_at_all : (story : Story) (passed : Thread → Bool) → ((u : Thread) → passed u ≡ false) → IsFirstToMove story passed None → NoneMoves story
+none_at_all story passed none h = λ u is. stuck (has_move story u) (passed u) (none u) (h u is)

@@ -9,6 +9,7 @@ use Rattle.branch_tree.specs.declared.readiness.Readiness.TheVariants.{Done}
 use Rattle.asl_fields.specs.declared.fault.MachineFault.TheVariants.{Missing}
 use Rattle.book_log.specs.declared.refusal.Refusal.TheVariants.{BadMachine}
 use Rattle.reply_lines.specs.Replies.{step_reply, moved_reply, list_reply, refused, refused_by, refusal_reply}
+use Rattle.operator_line.specs.Answers.{journal_reply}
 use Rattle.operator_line.specs.Texts.{lines_of}
 
 -- the n-th step of the execution `a`
@@ -50,6 +51,10 @@ no_command = refl
 not_whole : refused_by 25 2 ≡ codes "no 25 2\n"
 unfolding digits
 not_whole = refl
+
+no_journal : journal_reply ≡ codes "no 24\n"
+unfolding digits
+no_journal = refl
 
 no_thread : refusal_reply NoThread ≡ codes "no 5\n"
 unfolding digits

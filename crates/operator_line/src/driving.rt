@@ -7,7 +7,8 @@ ghost use Rattle.reply_lines.specs.Replying.{AreLines, has_room_for_lines};
 
 use crate::session::refuse_change;
 use book_log::Refusal;
-use journaled_book::{ChangeFault, JournaledBook, step_line};
+use command_lines::step_line;
+use journaled_book::{ChangeFault, JournaledBook};
 use reply_lines::{Lines, Reply};
 use sqlite::Alter;
 use std::alloc::{AllocError, Global};

@@ -2,6 +2,8 @@
 
 //! The operators' language: lines in, replies out.
 mod driving;
+#[cfg(test)]
+mod journal_tests;
 mod laws;
 #[cfg(test)]
 mod limit_tests;

@@ -177,7 +177,7 @@ impl<S: Alter> Session<S> {
         ensures ok { OnOk result (AnswersCommand (told self.old) (grammar.table table schema items.now) (string_bytes reply.new.text) (told self.new)) }
         ensures err { OnErr result (told self.new ≡ told self.old) }
     {
-        if self.book.book().is_some() {
+        if self.book.is_open() {
             return reply.refuse(TABLE_TAKEN);
         }
         match read(self.alloc, items.as_bytes()) {
@@ -224,7 +224,7 @@ impl<S: Alter> Session<S> {
         ensures ok { OnOk result (AnswersCommand (told self.old) (grammar.define name.now definition.now) (string_bytes reply.new.text) (told self.new)) }
         ensures err { OnErr result (told self.new ≡ told self.old) }
     {
-        if self.book.book().is_none() {
+        if !self.book.is_open() {
             return reply.refuse(NO_TABLE);
         }
         let definition = match Value::from_str(self.alloc, definition) {
@@ -256,7 +256,7 @@ impl<S: Alter> Session<S> {
         ensures ok { OnOk result (AnswersCommand (told self.old) (grammar.start exec.now.thread machine.now input.now) (string_bytes reply.new.text) (told self.new)) }
         ensures err { OnErr result (told self.new ≡ told self.old) }
     {
-        if self.book.book().is_none() {
+        if !self.book.is_open() {
             return reply.refuse(NO_TABLE);
         }
         let input = match read(self.alloc, input.as_bytes()) {
@@ -279,7 +279,7 @@ impl<S: Alter> Session<S> {
         ensures ok { OnOk result (AnswersCommand (told self.old) (grammar.step thread.now) (string_bytes reply.new.text) (told self.new)) }
         ensures err { OnErr result (told self.new ≡ told self.old) }
     {
-        if self.book.book().is_none() {
+        if !self.book.is_open() {
             return reply.refuse(NO_TABLE);
         }
         reply.reserve_step()?;
@@ -295,7 +295,7 @@ impl<S: Alter> Session<S> {
         ensures ok { OnOk result (AnswersCommand (told self.old) (grammar.undo step.now) (string_bytes reply.new.text) (told self.new)) }
         ensures err { OnErr result (told self.new ≡ told self.old) }
     {
-        if self.book.book().is_none() {
+        if !self.book.is_open() {
             return reply.refuse(NO_TABLE);
         }
         reply.reserve_step()?;
@@ -326,7 +326,7 @@ impl<S: Alter> Session<S> {
         ensures ok { OnOk result (AnswersCommand (told self.old) (grammar.rollback step.now) (string_bytes reply.new.text) (told self.new)) }
         ensures err { OnErr result (told self.new ≡ told self.old) }
     {
-        if self.book.book().is_none() {
+        if !self.book.is_open() {
             return reply.refuse(NO_TABLE);
         }
         let room = match self.book.plan_room(self.alloc, step) {
@@ -349,7 +349,7 @@ impl<S: Alter> Session<S> {
         ensures ok { OnOk result (AnswersCommand (told self.old) (grammar.drive count) (string_bytes reply.new.text) (told self.new)) }
         ensures err { OnErr result (told self.new ≡ told self.old) }
     {
-        if self.book.book().is_none() {
+        if !self.book.is_open() {
             return reply.refuse(NO_TABLE);
         }
         drive(self.alloc, &mut self.book, count, reply)

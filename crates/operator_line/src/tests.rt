@@ -1,7 +1,7 @@
 use crate::serving::{ServeFault, serve};
 use crate::session::Session;
 use book_journal::Journal;
-use sqlite::{Connection, MemStore};
+use sqlite::{Alter, Connection, MemStore};
 use std::alloc::{AllocError, Global};
 use std::io;
 use std::io::{ErrorKind, Read, Write};
@@ -12,18 +12,18 @@ const MACHINE_P: &str =
     r#"define p {"StartAt":"P","States":{"P":{"Type":"Pass","Result":7,"End":true}}}"#;
 
 /// Serves with no promise: tests compare what is written, so the promises of `serve` need not be read at each call.
-fn run<R: Read, W: Write>(
+fn run<R: Read, W: Write, S: Alter>(
     alloc: Global,
     reader: &mut R,
     writer: &mut W,
-    session: &mut Session<MemStore>,
+    session: &mut Session<S>,
 ) -> Result<(), ServeFault> {
     serve(alloc, reader, writer, session)
 }
 
 /// What is written for an input that is read whole, none where serving ends before. The reply to a line of a table fits
 /// in the room that is taken first, so that no growth can be refused once a command is applied.
-fn served(alloc: Global, session: &mut Session<MemStore>, input: &[u8]) -> Option<Vec<u8>> {
+fn served<S: Alter>(alloc: Global, session: &mut Session<S>, input: &[u8]) -> Option<Vec<u8>> {
     let mut reader = input;
     let mut writer = Vec::with_capacity(alloc, 64).ok()?;
     match run(alloc, &mut reader, &mut writer, session) {
@@ -63,9 +63,9 @@ fn with_feed(alloc: Global, line: &str) -> Result<Vec<u8>, AllocError> {
 }
 
 /// The reply to a line that is served alone, none where serving ended for want of memory.
-pub(crate) fn reply_to(
+pub(crate) fn reply_to<S: Alter>(
     alloc: Global,
-    session: &mut Session<MemStore>,
+    session: &mut Session<S>,
     line: &str,
 ) -> Result<Option<Vec<u8>>, AllocError> {
     let input = with_feed(alloc, line)?;

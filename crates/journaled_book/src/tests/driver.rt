@@ -3,10 +3,10 @@ ghost use Rattle.std.specs.Prelude.{◌≡◌, Some, None, IsSome};
 ghost use Rattle.command_lines.specs.Grammar as grammar;
 ghost use Rattle.command_lines.specs.Grammar.{spoken, command_of};
 
-use crate::{BeginRefusal, ChangeFault, JournaledBook, step_line};
+use crate::{BeginRefusal, ChangeFault, JournaledBook};
 use attr_values::{ItemFault, KeySchema};
 use book_log::{Begin, Refusal};
-use command_lines::{Command, CommandFault, Execution};
+use command_lines::{Command, CommandFault, Execution, step_line};
 use json_tree::{Json, JsonFault, Text, read};
 use rollback_book::Room;
 use serde_json::Value;
@@ -57,7 +57,7 @@ fn give_command<S: Alter>(
 ) -> Told
     requires { command_of line.now ≡ Some (spoken command) }
 {
-    match (command, book.book().is_some()) {
+    match (command, book.is_open()) {
         (
             Command::Table {
                 name,
