@@ -1,3 +1,4 @@
 pub mod Said
 pub mod Given
 pub mod Kept
+pub mod Entering

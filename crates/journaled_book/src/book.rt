@@ -2,7 +2,7 @@ ghost use Rattle.std.specs.Prelude.{◌≡◌, ℕ, List, [], None, Some, IsOk, 
 ghost use Rattle.sqlite.specs.Held.{state};
 ghost use Rattle.sqlite.specs.State.{HasCleanDisk};
 ghost use Rattle.book_log.specs.Beginning.{table_of};
-ghost use Rattle.book_journal.specs.Kept.{lines_in};
+ghost use Rattle.book_journal.specs.Kept.{lines_in, IsAtRest};
 ghost use Rattle.rollback_book.specs.Making.{Answers, IsPlanned, IsProper, WasPlanned};
 ghost use Rattle.journaled_book.specs.Changes.{AnswersRollback, AnswersUndo, Appends, IsRead, IsReady, IsStoreFault, PlansRollback, RefusesBegin};
 ghost use Rattle.journaled_book.specs.Journaled.{IsJournalOf, story_of, with_entry};
@@ -131,6 +131,7 @@ impl<S: Alter> JournaledBook<S> {
         ensures line { IfOk result (λ made. (line : List ℕ) → SaysChange change.entry line → IsLineOf line made.entry) }
         ensures story { story_of self.new.book ≡ story_of self.old.book }
         ensures journal { self.new.journal ≡ self.old.journal }
+        ensures rest { IsAtRest (state S.Store self.new.journal) }
     {
         let Some(book) = &mut self.book else {
             unreachable!()
