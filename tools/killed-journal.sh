@@ -17,6 +17,8 @@ if [ ! -x "$program" ]; then
 fi
 folder=$(mktemp -d)
 trap 'rm -rf "$folder"' EXIT
+# A command that is given to a process that is gone fails, and doesn't end this script.
+trap '' PIPE
 
 # Three machines, and then starts, steps, undoings and rollbacks of forty executions, some of which are refused.
 make_commands() {
