@@ -1,1 +1,3 @@
+pub mod Words
+pub mod Faults
 pub mod Status

@@ -1,10 +1,10 @@
 // Lines drawn at random, of every kind: what they name is drawn from the book.
-use crate::line_tests::threads;
+use crate::beside::{add_threads, frame_of, log_of, records_of};
 use asl_forward::Phase;
 use rollback_book::Book;
 use std::alloc::{AllocError, Global};
-use std::test::Fail;
-use step_names::ThreadName;
+use std::collections::BTreeSet;
+use step_names::{NameFault, StepName, ThreadName};
 
 // ---- drawing
 
@@ -108,9 +108,11 @@ const OTHER_LINES: &[&str] = &[
     "",
 ];
 
-/// A table, perhaps refused ones before, and most of the definitions.
-pub(crate) fn first_lines(alloc: Global, dice: &mut Dice) -> Result<Vec<&'static str>, AllocError> {
-    let mut lines = Vec::new(alloc);
+/// Adds a table, perhaps refused ones before, and most of the definitions.
+pub(crate) fn add_first_lines(
+    lines: &mut Vec<&'static str>,
+    dice: &mut Dice,
+) -> Result<(), AllocError> {
     if dice.below(3) == 0 {
         lines.push("start a p {}")?;
         lines.push("table items id:S [{}]")?;
@@ -121,7 +123,7 @@ pub(crate) fn first_lines(alloc: Global, dice: &mut Dice) -> Result<Vec<&'static
             lines.push(*line)?;
         }
     }
-    Ok(lines)
+    Ok(())
 }
 
 fn start_line(alloc: Global, dice: &mut Dice) -> Result<String, AllocError> {
@@ -133,34 +135,110 @@ fn start_line(alloc: Global, dice: &mut Dice) -> Result<String, AllocError> {
 
 /// Whether a thread may have a move.
 fn goes_on(book: &Book, thread: &ThreadName) -> bool {
-    match book.show(thread) {
-        Ok(frame) => match &frame.phase {
+    match frame_of(book, thread) {
+        Some(frame) => match &frame.phase {
             Phase::Ready | Phase::Parked(_) => true,
             Phase::Done(_) | Phase::Failed(_) => false,
         },
-        Err(_) => false,
+        None => false,
     }
 }
 
-/// A line about a thread that there was, mostly one that goes on.
-fn thread_line(alloc: Global, book: &Book, dice: &mut Dice, word: &str) -> Result<String, Fail> {
-    let (_begin, log) = book.entries();
-    let all = threads(alloc, log)?;
-    let mut chosen: Vec<&ThreadName> = Vec::new(alloc);
-    let takes_any = dice.below(8) == 0;
-    for thread in &all {
-        if takes_any || goes_on(book, thread) {
-            chosen.push(thread)?;
+/// Which of the threads a line may be about: each, or those that go on.
+#[derive(Clone, Copy)]
+enum Which {
+    All,
+    GoingOn,
+}
+
+fn is_of(which: Which, book: &Book, thread: &ThreadName) -> bool {
+    match which {
+        Which::All => true,
+        Which::GoingOn => goes_on(book, thread),
+    }
+}
+
+fn count_of(which: Which, book: &Book, threads: &BTreeSet<ThreadName>) -> usize {
+    let mut count = 0usize;
+    for thread in threads {
+        if is_of(which, book, thread) {
+            count = count.saturating_add(1);
         }
     }
-    let place = dice.below(chosen.len());
-    match chosen.get(place) {
-        Some(thread) => {
-            let thread = thread.write_text(alloc)?;
-            Ok(format!(in alloc; "{word} {thread}")?)
+    count
+}
+
+/// The thread at this place of those.
+fn thread_at<'a>(
+    which: Which,
+    book: &Book,
+    threads: &'a BTreeSet<ThreadName>,
+    place: usize,
+) -> Option<&'a ThreadName> {
+    let mut before = 0usize;
+    for thread in threads {
+        if is_of(which, book, thread) {
+            if before == place {
+                return Some(thread);
+            }
+            before = before.saturating_add(1);
         }
-        None => Ok(format!(in alloc; "{word} a")?),
     }
+    None
+}
+
+/// A thread that there was, mostly one that goes on.
+fn one_thread<'a>(
+    book: &Book,
+    threads: &'a BTreeSet<ThreadName>,
+    dice: &mut Dice,
+) -> Option<&'a ThreadName> {
+    let which = if dice.below(8) == 0 {
+        Which::All
+    } else {
+        Which::GoingOn
+    };
+    let place = dice.below(count_of(which, book, threads));
+    thread_at(which, book, threads, place)
+}
+
+fn line_of(alloc: Global, word: &str, name: &str) -> Result<String, AllocError> {
+    Ok(format!(in alloc; "{word} {name}")?)
+}
+
+fn line_of_thread(alloc: Global, word: &str, thread: &ThreadName) -> Result<String, AllocError> {
+    let name = thread.write_text(alloc)?;
+    line_of(alloc, word, name.as_str())
+}
+
+fn line_of_step(alloc: Global, word: &str, step: &StepName) -> Result<String, AllocError> {
+    let name = step.write_text(alloc)?;
+    line_of(alloc, word, name.as_str())
+}
+
+fn line_of_one(
+    alloc: Global,
+    book: &Book,
+    threads: &mut BTreeSet<ThreadName>,
+    dice: &mut Dice,
+    word: &str,
+) -> Result<String, NameFault> {
+    add_threads(alloc, threads, log_of(book))?;
+    Ok(match one_thread(book, threads, dice) {
+        Some(thread) => line_of_thread(alloc, word, thread)?,
+        None => line_of(alloc, word, "a")?,
+    })
+}
+
+/// A line about a thread that there was.
+fn thread_line(
+    alloc: Global,
+    book: &Book,
+    dice: &mut Dice,
+    word: &str,
+) -> Result<String, NameFault> {
+    let mut threads = BTreeSet::new(alloc);
+    line_of_one(alloc, book, &mut threads, dice, word)
 }
 
 /// A line about a step that remains: half of the times one of the last.
@@ -170,15 +248,12 @@ fn step_line(
     dice: &mut Dice,
     word: &str,
 ) -> Result<String, AllocError> {
-    let records = book.history();
+    let records = records_of(book);
     let late = if dice.below(2) == 0 { 8 } else { records.len() };
     let back = dice.below(late.min(records.len()));
     match records.iter().rev().nth(back) {
-        Some(record) => {
-            let name = record.fact.name.write_text(alloc)?;
-            Ok(format!(in alloc; "{word} {name}")?)
-        }
-        None => Ok(format!(in alloc; "{word} a#0")?),
+        Some(record) => line_of_step(alloc, word, &record.fact.name),
+        None => line_of(alloc, word, "a#0"),
     }
 }
 
@@ -195,11 +270,7 @@ fn fixed_line(
     String::from_str(alloc, dice.one_of(lines))
 }
 
-/// A line of any kind. Before there is a book, one that needs none to be drawn.
-pub(crate) fn drawn(alloc: Global, book: Option<&Book>, dice: &mut Dice) -> Result<String, Fail> {
-    let Some(book) = book else {
-        return Ok(fixed_line(alloc, dice, OTHER_LINES)?);
-    };
+fn drawn_of(alloc: Global, book: &Book, dice: &mut Dice) -> Result<String, NameFault> {
     Ok(match dice.below(40) {
         0 => fixed_line(alloc, dice, GOOD_MACHINES)?,
         1 => fixed_line(alloc, dice, BAD_MACHINES)?,
@@ -212,4 +283,16 @@ pub(crate) fn drawn(alloc: Global, book: Option<&Book>, dice: &mut Dice) -> Resu
         36 => thread_line(alloc, book, dice, "show")?,
         _ => fixed_line(alloc, dice, OTHER_LINES)?,
     })
+}
+
+/// A line of any kind. Before there is a book, one that needs none to be drawn.
+pub(crate) fn drawn(
+    alloc: Global,
+    book: Option<&Book>,
+    dice: &mut Dice,
+) -> Result<String, NameFault> {
+    match book {
+        Some(book) => drawn_of(alloc, book, dice),
+        None => Ok(fixed_line(alloc, dice, OTHER_LINES)?),
+    }
 }

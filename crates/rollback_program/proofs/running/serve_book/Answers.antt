@@ -1,0 +1,7 @@
+use Rattle.std.proofs.Common.{Err, ap}
+use Rattle.operator_line.specs.Sessions.{told}
+use Rattle.rollback_program.proofs.running.serve_book.Goals as goal
+
+pub returns-in-Err : goal.returns-in-Err
+returns-in-Err g c =
+    record { end = Err c.in-Err.fault; after = told c.serve.new.session; answers = c.in-Err.ensures.answers; told = ap Err c.of_serve.ensures }
