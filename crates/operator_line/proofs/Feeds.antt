@@ -1,7 +1,6 @@
 -- Before the first line feed there is none.
-use Rattle.std.proofs.Common.{◌≡◌, ◌<◌, ◌≤◌, ℕ, zero, suc, Bool, true, false, List, [], length, take, refl, sym, ap, subst, ◌+◌, ◌∙◌, arith, slice_index}
-use Rattle.std.specs.Prelude.{not, ◌==◌, get_or, ◌&&◌}
-use Rattle.std.specs.List.{list_all}
+use Rattle.std.proofs.Common.{◌≡◌, ◌≤◌, ℕ, zero, suc, true, List, length, take, refl, ap, subst, ◌+◌, ◌∙◌, arith, slice_index}
+use Rattle.std.specs.Prelude.{not, ◌==◌, ◌&&◌}
 use Rattle.std.proofs.lemmas.Bool.{false_from_ne_true}
 use Rattle.std.proofs.lemmas.List.Folds.{list_all_more}
 use Rattle.memchr.specs.Find.{Nowhere, Passes, is_byte}

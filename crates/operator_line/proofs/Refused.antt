@@ -1,7 +1,7 @@
 -- A line that is refused leaves the book as it was: each answer that changes it begins with `ok`.
-use Rattle.std.proofs.Common.{◌≡◌, ℕ, zero, suc, Bool, true, false, List, [], ◌∷◌, ◌++◌, Option, None, Some, refl, sym, ap, ◌∙◌, inl, inr}
+use Rattle.std.proofs.Common.{◌≡◌, ℕ, zero, suc, true, false, List, [], ◌∷◌, Option, None, Some, refl, sym, ap, ◌∙◌, inl, inr}
 use Rattle.std.proofs.lemmas.Bool.{true≢false}
-use Rattle.std.specs.Prelude.{◌⊎◌, option_and_then, Result, Ok, Err}
+use Rattle.std.specs.Prelude.{option_and_then, Result, Ok, Err}
 use Rattle.serde_json.specs.Data as source
 use Rattle.serde_json.specs.Read as source_text
 use Rattle.json_tree.specs.Data.{Data, null, boolean, whole, text, list, fields}

@@ -1,5 +1,5 @@
 -- Steps that are taken one after another, while some are left to take.
-use Rattle.std.proofs.Common.{◌≡◌, ◌<◌, ◌+◌, ◌-◌, ◌^◌, ℕ, zero, suc, List, [], ◌∷◌, ◌++◌, map, length, true, false, Bool, not, ◌&&◌, Option, None, Some, Result, Ok, Err, refl, sym, subst, ap, ◌∙◌, arith}
+use Rattle.std.proofs.Common.{◌≡◌, ◌<◌, ◌+◌, ◌-◌, ◌^◌, ℕ, zero, suc, List, [], ◌∷◌, ◌++◌, map, length, true, false, Bool, not, ◌&&◌, Option, None, Some, Ok, Err, refl, sym, subst, ◌∙◌, arith}
 use Rattle.std.proofs.lemmas.List.{append_assoc, append-nil, length-append, length-map, map-append}
 use Rattle.step_names.specs.Written.{step_text}
 use Rattle.step_names.specs.declared.step.StepName.{StepName}
@@ -11,8 +11,8 @@ use Rattle.reply_lines.specs.declared.lines.Lines.{Lines}
 use Rattle.rollback_book.specs.Ready.{IsFirstToMove}
 use Rattle.book_log.specs.Answers.{has_move}
 use Rattle.step_names.specs.Thread.{Thread}
-use Rattle.operator_line.specs.Answers.{Drives, MovesFirst, NoneMoves, StopsDrive, drive_reply}
-use Rattle.operator_line.specs.Driving.{Taken, KeepsLines, TakesOne}
+use Rattle.operator_line.specs.Answers.{Drives, MovesFirst, NoneMoves, drive_reply}
+use Rattle.operator_line.specs.Driving.{Taken, TakesOne}
 
 -- Whatever is taken from here on, with the steps so far it was taken from the beginning.
 pub record HasTaken (count left : ℕ) (before now : Story) (lines : Lines) : Type 0 where

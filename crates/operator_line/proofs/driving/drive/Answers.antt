@@ -1,10 +1,10 @@
-use Rattle.std.proofs.Common.{◌≡◌, ◌++◌, List, [], ℕ, map, Option, None, Some, OnOk, string_bytes, refl, sym, ap, ◌∙◌}
+use Rattle.std.proofs.Common.{◌≡◌, ◌++◌, List, [], ℕ, map, Some, OnOk, string_bytes, sym, ap, ◌∙◌}
 use Rattle.std.proofs.lemmas.Result.{on_ok_weaker}
 use Rattle.step_names.specs.Written.{step_text}
 use Rattle.book_log.specs.Story.{Story}
 use Rattle.operator_line.specs.Answers.{AnswersDrive, drive_reply}
 use Rattle.operator_line.specs.Sessions.{told}
-use Rattle.reply_lines.specs.Replies.{list_reply, names_reply}
+use Rattle.reply_lines.specs.Replies.{names_reply}
 use Rattle.operator_line.proofs.Sessions.{some_story, if_story, on_err-from}
 use Rattle.operator_line.proofs.Taken.{none_taken, drive_done, drive_taken}
 use Rattle.operator_line.proofs.driving.drive.Goals as goal

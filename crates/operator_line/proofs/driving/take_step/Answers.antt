@@ -1,7 +1,5 @@
-use Rattle.std.proofs.Common.{rules, ◌≡◌, ◌+◌, ℕ, List, Option, Some, Result, Ok, Err, refl, sym, ap, ◌∙◌, subst}
+use Rattle.std.proofs.Common.{rules, ◌≡◌, ◌+◌, ℕ, List, Option, Ok, Err, refl, sym, ap, ◌∙◌, subst}
 use Rattle.std.specs.Prelude.{IfOk, IfSome}
-use Rattle.step_names.specs.Order.{thread_cmp}
-use Rattle.step_names.specs.Thread.{Thread}
 use Rattle.book_log.specs.Answers.{step_answer}
 use Rattle.book_log.specs.Story.{Story, accepted}
 use Rattle.book_log.specs.declared.entry.Entry.TheVariants.{Step as Stepped}
@@ -9,7 +7,7 @@ use Rattle.reply_lines.specs.Replying.{AreLines}
 use Rattle.rollback_book.proofs.Threads.{step_thread}
 use Rattle.journaled_book.specs.Changes.{AnswersChange}
 use Rattle.journaled_book.specs.Journaled.{with_entry}
-use Rattle.operator_line.specs.Answers.{MovesFirst, StopsDrive}
+use Rattle.operator_line.specs.Answers.{MovesFirst}
 use Rattle.operator_line.specs.Driving.{IsFirst}
 use Rattle.operator_line.proofs.Replied.{in_story, stops_drive}
 use Rattle.operator_line.proofs.Sessions.{some_kept}

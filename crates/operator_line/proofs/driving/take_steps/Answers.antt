@@ -1,4 +1,4 @@
-use Rattle.std.proofs.Common.{arith, ◌≡◌, Bool, Ok, ◌∙◌, subst}
+use Rattle.std.proofs.Common.{arith, Bool, Ok, ◌∙◌, subst}
 use Rattle.operator_line.specs.Driving.{TakesOneOf}
 use Rattle.operator_line.specs.Sessions.{told}
 use Rattle.operator_line.proofs.Sessions.{some_story}

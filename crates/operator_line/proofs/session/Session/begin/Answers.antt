@@ -1,4 +1,4 @@
-use Rattle.std.proofs.Common.{◌≡◌, [], ◌++◌, inl, inr, OnOk, string_bytes, ap, ◌∙◌}
+use Rattle.std.proofs.Common.{◌≡◌, [], ◌++◌, inl, inr, string_bytes, ap, ◌∙◌}
 use Rattle.std.proofs.lemmas.Result.{on_ok_weaker}
 use Rattle.book_log.specs.Beginning.{table_of}
 use Rattle.journaled_book.specs.Journaled.{story_of}
