@@ -46,7 +46,7 @@ fn asked_in(alloc: Global, all: &[String], file: &str) -> Option<Asked> {
 }
 
 /// What these words after the program's name are read as, where they name this file or none.
-fn asked(alloc: Global, words: &[&str], file: &str) -> Option<Asked> {
+fn read_as(alloc: Global, words: &[&str], file: &str) -> Option<Asked> {
     let mut all = Vec::new(alloc);
     let is_whole = push(alloc, &mut all, &["rollback"]).is_ok()
         && push(alloc, &mut all, words).is_ok();
@@ -79,7 +79,7 @@ const ROWS: &[(&[&str], Asked, &str)] = &[
 #[test]
 fn words_are_read(rt: HostRuntime) {
     for &(words, want, file) in ROWS {
-        assert_eq!(rt; asked(rt.alloc(), words, file), Some(want), "{words:?}");
+        assert_eq!(rt; read_as(rt.alloc(), words, file), Some(want), "{words:?}");
     }
 }
 
