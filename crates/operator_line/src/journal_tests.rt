@@ -72,6 +72,9 @@ fn stopping(alloc: Global, calls: u64) -> Option<Fuse<Memory>> {
 }
 
 fn journal_on(alloc: Global, files: Files<Fuse<Memory>>) -> Option<Journal<Stopping>> {
+    if !files.may_be_used() {
+        return None;
+    }
     let conn = Connection::open_files(alloc, files, Options::new(1)).ok()?;
     Journal::open(conn).ok()
 }
@@ -132,7 +135,7 @@ fn rows_to_stop(
     session: &mut Session<Stopping>,
 ) -> Result<usize, Fail> {
     let mut before = NO_BOOK;
-    let mut count = 0;
+    let mut count = 0usize;
     for row in ROWS {
         match told(alloc, session, row.line, row.reply)? {
             Answer::Reply => tell_history(rt, alloc, session, row.history, row.line)?,
@@ -143,7 +146,7 @@ fn rows_to_stop(
             Answer::Other => return Err(Fail::from("another reply")),
         }
         before = row.history;
-        count += 1;
+        count = count.saturating_add(1);
     }
     Ok(count)
 }
@@ -156,21 +159,28 @@ fn rows_within(rt: &impl Abort, alloc: Global, calls: u64) -> Result<usize, Fail
     }
 }
 
-#[test]
-fn a_refused_append_changes_nothing(rt: HostRuntime) -> Result<(), Fail> {
-    let mut calls = 0u64;
-    let mut most = 0;
-    let mut kinds = 0;
-    while most < ROWS.len() && calls < 1_000 {
-        let count = rows_within(&rt, rt.alloc(), calls)?;
+/// The most rows that come before a stop, and at how many of the rows some journal stops after that.
+fn stops(rt: &impl Abort, alloc: Global) -> Result<(usize, usize), Fail> {
+    let mut most = 0usize;
+    let mut rows = 0usize;
+    for calls in 0..1_000u64 {
+        let count = rows_within(rt, alloc, calls)?;
         if most < count {
-            kinds += 1;
+            rows = rows.saturating_add(1);
             most = count;
         }
-        calls += 1;
+        if most == ROWS.len() {
+            break;
+        }
     }
-    // each row is the one at which some journal stops
+    Ok((most, rows))
+}
+
+#[test]
+fn a_refused_append_changes_nothing(rt: HostRuntime) -> Result<(), Fail> {
+    let (most, rows) = stops(&rt, rt.alloc())?;
+    // each row but the first is one at which some journal stops
     assert_eq!(rt; most, ROWS.len());
-    assert_eq!(rt; kinds, ROWS.len());
+    assert_eq!(rt; rows, ROWS.len());
     Ok(())
 }

@@ -125,16 +125,25 @@ fn run_to_stop(alloc: Global, stop: Stop) -> Result<bool, Fail> {
     Ok(whole)
 }
 
+/// After how many calls all lines are served before the stop, tried at every fifth.
+fn calls_of_all(alloc: Global, of_log: bool) -> Result<Option<u64>, Fail> {
+    for fifth in 0..200u64 {
+        let calls = fifth.saturating_mul(5);
+        if run_to_stop(alloc, Stop { of_log, calls })? {
+            return Ok(Some(calls));
+        }
+    }
+    Ok(None)
+}
+
 #[test]
 fn a_stop_leaves_what_was_accepted(rt: HostRuntime) -> Result<(), Fail> {
-    let alloc = rt.alloc();
     for of_log in [true, false] {
-        let mut calls = 0u64;
-        while calls < 1_000 && !run_to_stop(alloc, Stop { of_log, calls })? {
-            calls += 5;
-        }
+        let Some(calls) = calls_of_all(rt.alloc(), of_log)? else {
+            return Err("no run without a stop".into());
+        };
         println!(rt; "calls: {calls}")?;
-        assert!(rt; 0 < calls && calls < 1_000);
+        assert!(rt; 0 < calls);
     }
     Ok(())
 }

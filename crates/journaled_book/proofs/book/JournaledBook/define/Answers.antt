@@ -1,9 +1,8 @@
-use Rattle.std.proofs.Common.{◌≡◌, Option, OnOk, ap, subst, ◌∙◌}
+use Rattle.std.proofs.Common.{Option, ap, ◌∙◌}
 use Rattle.serde_json.specs.View.{view}
-use Rattle.sqlite.specs.Held.{Held, state}
+use Rattle.sqlite.specs.Held.{state}
 use Rattle.book_log.specs.Story.{Story}
 use Rattle.book_log.specs.declared.entry.Entry.{Entry}
-use Rattle.journaled_book.specs.Changes.{Appends}
 use Rattle.journaled_book.specs.Journaled.{story_of, with_entry}
 use Rattle.journaled_book.proofs.Entering.{defined_entry, reported_ok, reported_err}
 use Rattle.journaled_book.proofs.book.JournaledBook.define.Goals as goal

@@ -1,4 +1,4 @@
-use Rattle.std.proofs.Common.{◌≡◌, Option, ap, ◌∙◌}
+use Rattle.std.proofs.Common.{Option, ap, ◌∙◌}
 use Rattle.book_log.specs.Story.{Story}
 use Rattle.book_log.specs.declared.entry.Entry.{Entry}
 use Rattle.journaled_book.specs.Journaled.{story_of, with_entry}
