@@ -6,9 +6,13 @@ returns-in-Ok-open-clause-ok g c =
     record { journal = c.in-Ok.journal; loaded = c.in-Ok-open.session.journal; is_opened = c.in-Ok.ensures.ok; gives = c.in-Ok-open.ensures.opened }
 
 pub returns-in-Ok-clause-err : goal.returns-in-Ok-clause-err
-returns-in-Ok-clause-err g c = inr (c.in-Err-open.fault, c.of_open.ensures, record {
-  journal = c.in-Ok.journal;
-  left = c.in-Err-open.field-0-1;
-  is_opened = c.in-Ok.ensures.ok;
-  refuses = c.in-Err-open.ensures.refused;
-})
+returns-in-Ok-clause-err g c = inr (
+  c.in-Err-open.fault,
+  c.of_open.ensures,
+  record {
+    journal = c.in-Ok.journal;
+    left = c.in-Err-open.field-0-1;
+    is_opened = c.in-Ok.ensures.ok;
+    refuses = c.in-Err-open.ensures.refused;
+  },
+)
