@@ -4,9 +4,10 @@ use Rattle.std.specs.Prelude.{Result, is_some, IfSome, IsSome}
 use Rattle.std.specs.Str.{is_utf8}
 use Rattle.std.specs.declared.alloc.AllocError.{AllocError}
 use Rattle.book_log.specs.Story.{Story}
+use Rattle.book_log.specs.declared.entry.Entry.{Entry}
 use Rattle.command_lines.specs.Grammar.{Spoken, command_of, text_command}
 use Rattle.rollback_book.specs.Book.{Volume}
-use Rattle.journaled_book.specs.Journaled.{story_of}
+use Rattle.journaled_book.specs.Journaled.{story_of, with_entry}
 use Rattle.reply_lines.specs.Replies.{refused}
 use Rattle.operator_line.specs.Answers.{AnswersOpen, AnswersClosed, AnswersCommand, AnswersSpoken}
 
@@ -35,6 +36,12 @@ pub some_kept : (old new : Option Volume) → IsSome old → story_of new ≡ st
 some_kept None new some same = cc
 some_kept (Some b) None some same = cc
 some_kept (Some b) (Some a) some same = refl
+
+-- and where it has an entry more
+pub some_entered : (old new : Option Volume) (entry : Entry) → IsSome old → story_of new ≡ with_entry (story_of old) entry → IsSome new
+some_entered None new entry some same = cc
+some_entered (Some b) None entry some same = cc
+some_entered (Some b) (Some a) entry some same = refl
 
 pub if_story : (P : Story → Type 0) (o : Option Story) → ((s : Story) → o ≡ Some s → P s) → IfSome o P
 if_story P None h = tt

@@ -1,20 +1,8 @@
 #![tactic(auto)]
 
 //! `rollback`: serves the lines of standard input on standard output, with a journal in memory or of a file.
-#[cfg(test)]
-mod beside;
-#[cfg(test)]
-mod drawn_lines;
-mod fault;
-#[cfg(test)]
-mod line_tests;
-mod mode;
-mod running;
-#[cfg(test)]
-mod tests;
 
-use mode::{Mode, ModeRefusal, mode_of};
-use running::{refuse, run};
+use rollback_run::{Mode, ModeRefusal, mode_of, refuse, run};
 use sqlite::{Alter, Connection, Error, ErrorCode, MemStore};
 use std::alloc::{AllocError, Global};
 use std::env;

@@ -10,7 +10,7 @@ use Rattle.journaled_book.specs.Journaled.{with_entry}
 use Rattle.operator_line.specs.Answers.{MovesFirst}
 use Rattle.operator_line.specs.Driving.{IsFirst}
 use Rattle.operator_line.proofs.Replied.{in_story, stops_drive}
-use Rattle.operator_line.proofs.Sessions.{some_kept}
+use Rattle.operator_line.proofs.Sessions.{some_entered, some_kept}
 use Rattle.operator_line.proofs.driving.take_step.Goals as goal
 
 pub returns-in_err-moved-clause-step : goal.returns-in_err-moved-clause-step
@@ -52,3 +52,6 @@ returns-clause-step g c =
         λ texts h. c.in-Ok.ensures.lines texts (keeps texts h),
       ),
     )
+
+pub returns-clause-open : goal.returns-clause-open
+returns-clause-open g c = some_entered c.args.book.now.book c.step.new.self.book (Stepped c.in_ok-moved.moved.name c.in_ok-moved.moved.kind) c.requires.open c.in_ok-moved.ensures.ok

@@ -1,0 +1,55 @@
+-- How a run fails: what is told of it, and the program's status.
+use Rattle.std.specs.Prelude.{ℕ, List, [], ◌∷◌, ◌++◌, Result, Ok, Err, codes}
+use Rattle.std.specs.Fmt.{decimal}
+use Rattle.book_journal.specs.declared.fault.JournalFault.{JournalFault}
+use Rattle.book_journal.specs.declared.fault.JournalFault.TheVariants as journal_fault
+use Rattle.journaled_book.specs.declared.fault.OpenFault.{OpenFault}
+use Rattle.journaled_book.specs.declared.fault.OpenFault.TheVariants as open_fault
+use Rattle.operator_line.specs.declared.serving.ServeFault.{ServeFault}
+use Rattle.operator_line.specs.declared.serving.ServeFault.TheVariants as serve_fault
+use Rattle.rollback_run.specs.declared.fault.Fault.{Fault}
+use Rattle.rollback_run.specs.declared.fault.Fault.TheVariants.{Damaged, Gap, Store, Input, Output, Memory}
+
+-- ---- which fault it is
+
+abbrev pub of_journal : JournalFault → Fault
+of_journal (journal_fault.Store cause) = Store
+of_journal (journal_fault.Gap position) = Gap position
+of_journal journal_fault.Memory = Memory
+
+abbrev pub of_open : OpenFault → Fault
+of_open (open_fault.Damaged line) = Damaged line
+of_open (open_fault.Journal fault) = of_journal fault
+of_open open_fault.Memory = Memory
+
+abbrev pub of_serve : ServeFault → Fault
+of_serve serve_fault.Read = Input
+of_serve serve_fault.Write = Output
+of_serve serve_fault.Memory = Memory
+
+abbrev pub served : Result Unit ServeFault → Result Unit Fault
+served (Ok done) = Ok done
+served (Err fault) = Err (of_serve fault)
+
+-- ---- how it is told
+
+abbrev pub fault_text : Fault → List ℕ
+fault_text (Damaged line) = codes "rollback: damaged " ++ (decimal line ++ 10 ∷ [])
+fault_text (Gap position) = codes "rollback: gap " ++ (decimal position ++ 10 ∷ [])
+fault_text Store = codes "rollback: store\n"
+fault_text Input = codes "rollback: input\n"
+fault_text Output = codes "rollback: output\n"
+fault_text Memory = codes "rollback: memory\n"
+
+-- 3 where the journal gives no book, 4 where the streams or memory fail
+abbrev pub fault_status : Fault → ℕ
+fault_status (Damaged line) = 3
+fault_status (Gap position) = 3
+fault_status Store = 3
+fault_status Input = 4
+fault_status Output = 4
+fault_status Memory = 4
+
+abbrev pub outcome_status : Result Unit Fault → ℕ
+outcome_status (Ok done) = 0
+outcome_status (Err fault) = fault_status fault

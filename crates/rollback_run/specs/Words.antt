@@ -1,0 +1,54 @@
+-- The words of the command line: which mode they name, and why they name none.
+use Rattle.std.specs.Prelude.{◌≡◌, ◌≢◌, ◌⊎◌, List, Option, None, Some, IsSome, codes, string_bytes}
+use Rattle.clap.specs.Words.{App, Rule, Text, new_app, new_rule, with_rule, first_of, matches_of, fault_of, IsAmong}
+use Rattle.clap.specs.declared.error.kind.ErrorKind.{ErrorKind}
+use Rattle.clap.specs.declared.error.kind.ErrorKind.TheVariants as kind
+use Rattle.rollback_run.specs.declared.mode.Mode.{Mode}
+use Rattle.rollback_run.specs.declared.mode.Mode.TheVariants.{InMemory, Journal, Check}
+use Rattle.rollback_run.specs.declared.mode.ModeRefusal.{ModeRefusal}
+use Rattle.rollback_run.specs.declared.mode.ModeRefusal.TheVariants.{Help, Usage, Memory}
+
+-- an option with one value
+abbrev pub option_rule : Text → Rule
+option_rule name = record (new_rule name) { long = Some name; value_names = 1 }
+
+-- the program's command
+abbrev pub program : App
+program = with_rule (with_rule (new_app (codes "rollback")) (option_rule (codes "journal"))) (option_rule (codes "check"))
+
+-- the value of an option in the matches that these words have
+abbrev pub value_in : List Text → Text → Option Text
+value_in words name = first_of name (matches_of program words)
+
+-- the mode of these values of the two options
+abbrev pub NamesFile : Option Text → Option Text → Mode → Type 0
+NamesFile journal check InMemory = (journal ≡ None) × (check ≡ None)
+NamesFile journal check (Journal file) = (journal ≡ Some (string_bytes file)) × (check ≡ None)
+NamesFile journal check (Check file) = (journal ≡ None) × (check ≡ Some (string_bytes file))
+
+-- the values name no mode
+abbrev pub RefusesNamed : Option Text → Option Text → ModeRefusal → Type 0
+RefusesNamed journal check (Help text) = ⊥
+RefusesNamed journal check Usage = IsSome journal × IsSome check
+RefusesNamed journal check Memory = Unit {0}
+
+-- how an error of this kind is told
+abbrev pub IsRefusedBy : ErrorKind → ModeRefusal → Type 0
+IsRefusedBy k (Help text) = k ≡ kind.DisplayHelp
+IsRefusedBy k Usage = (k ≢ kind.DisplayHelp) × (k ≢ kind.OutOfMemory)
+IsRefusedBy k Memory = Unit {0}
+
+-- the mode is the one that the matches of these words name
+abbrev pub Names : List Text → Mode → Type 0
+Names words mode = NamesFile (value_in words (codes "journal")) (value_in words (codes "check")) mode
+
+-- the words are refused with an error that is told so
+pub record IsRefused (words : List Text) (refusal : ModeRefusal) : Type 0 where
+  pub kind : ErrorKind
+  pub among : IsAmong kind (fault_of program words)
+  pub told : IsRefusedBy kind refusal
+
+-- Both options are there, or the words are refused for another cause than memory. Want of memory says nothing of them.
+abbrev pub Refuses : List Text → ModeRefusal → Type 0
+Refuses words Memory = Unit {0}
+Refuses words refusal = RefusesNamed (value_in words (codes "journal")) (value_in words (codes "check")) refusal ⊎ IsRefused words refusal

@@ -1,0 +1,119 @@
+// Why a run fails, and how that is told.
+ghost use Rattle.std.specs.Prelude.{◌≡◌, OnOk};
+ghost use Rattle.std.specs.Io.KnownBytes.{Appends};
+ghost use Rattle.book_journal.specs.Faults.{fault_of};
+ghost use Rattle.rollback_run.specs.Faults.{fault_text, fault_status, outcome_status, of_journal, of_open, of_serve};
+
+use book_journal::JournalFault;
+use journaled_book::OpenFault;
+use operator_line::ServeFault;
+use sqlite::Error;
+use std::io;
+use std::io::Write;
+
+/// The input ended, the check passed, or help was asked for.
+pub const ENDED: u8 = 0;
+
+/// The words of the command line are wrong.
+pub const USAGE: u8 = 2;
+
+/// The journal gives no book.
+pub const REFUSED: u8 = 3;
+
+/// The input can't be read, the output can't be written, or memory was refused.
+pub const FAILED: u8 = 4;
+
+/// Why a run fails.
+#[derive(Clone, Copy, Debug, PartialEq, Eq)]
+pub enum Fault {
+    /// The journal's line of this number isn't what its place needs, or is refused.
+    Damaged(usize),
+    /// The journal's number at this position is another.
+    Gap(usize),
+    /// The journal's database refuses.
+    Store,
+    /// The input can't be read.
+    Input,
+    /// The output can't be written.
+    Output,
+    /// Memory was refused.
+    Memory,
+}
+
+impl Fault {
+    /// How a refusal of the journal is told.
+    pub(crate) fn of_journal(fault: JournalFault) -> Fault
+        ensures { result ≡ of_journal fault }
+    {
+        match fault {
+            JournalFault::Store(_) => Fault::Store,
+            JournalFault::Gap(position) => Fault::Gap(position),
+            JournalFault::Memory => Fault::Memory,
+        }
+    }
+
+    /// How a refusal to connect is told.
+    pub(crate) fn of_connection(cause: Error) -> Fault
+        ensures { result ≡ of_journal (fault_of cause) }
+    {
+        Fault::of_journal(JournalFault::from(cause))
+    }
+
+    /// How a journal is told that gives no book.
+    pub(crate) fn of_open(fault: OpenFault) -> Fault
+        ensures { result ≡ of_open fault }
+    {
+        match fault {
+            OpenFault::Damaged(line) => Fault::Damaged(line),
+            OpenFault::Journal(fault) => Fault::of_journal(fault),
+            OpenFault::Memory => Fault::Memory,
+        }
+    }
+
+    /// How an end of serving is told.
+    pub(crate) fn of_serve(fault: ServeFault) -> Fault
+        ensures { result ≡ of_serve fault }
+    {
+        match fault {
+            ServeFault::Read => Fault::Input,
+            ServeFault::Write => Fault::Output,
+            ServeFault::Memory => Fault::Memory,
+        }
+    }
+
+    fn status(self) -> u8
+        ensures { result ≡ fault_status self }
+    {
+        match self {
+            Fault::Damaged(_) | Fault::Gap(_) | Fault::Store => REFUSED,
+            Fault::Input | Fault::Output | Fault::Memory => FAILED,
+        }
+    }
+
+    /// Writes what is told of it.
+    fn tell<W: Write>(self, faults: &mut W) -> io::Result<()>
+        ensures { OnOk result (Appends (W.contents faults.old) (W.contents faults.new) (fault_text self)) }
+    {
+        match self {
+            Fault::Damaged(line) => write!(faults, "rollback: damaged {line}\n"),
+            Fault::Gap(position) => write!(faults, "rollback: gap {position}\n"),
+            Fault::Store => faults.write_all(b"rollback: store\n"),
+            Fault::Input => faults.write_all(b"rollback: input\n"),
+            Fault::Output => faults.write_all(b"rollback: output\n"),
+            Fault::Memory => faults.write_all(b"rollback: memory\n"),
+        }
+    }
+}
+
+/// The status of a run's outcome, which is told where it is a fault. Where even that can't be written, the status alone tells it.
+pub(crate) fn end<W: Write>(outcome: Result<(), Fault>, faults: &mut W) -> u8
+    ensures { result ≡ outcome_status outcome }
+{
+    match outcome {
+        Ok(()) => ENDED,
+        Err(fault) => {
+            let _ = fault.tell(faults);
+            fault.status()
+        }
+    }
+}

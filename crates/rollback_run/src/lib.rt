@@ -1,0 +1,10 @@
+#![tactic(auto)]
+
+//! What the program `rollback` does: what its words ask for, and how it runs then, over any streams and any store.
+mod fault;
+mod mode;
+mod running;
+
+pub use fault::{ENDED, FAILED, Fault, REFUSED, USAGE};
+pub use mode::{Mode, ModeRefusal, mode_of};
+pub use running::{refuse, run};

@@ -1,0 +1,112 @@
+// What the words of the command line ask for.
+ghost use Rattle.std.specs.Prelude.{◌≡◌, map, false, IfOk, IfErr, option_map, string_bytes};
+ghost use Rattle.clap.specs.Words.{app_of, rule_of, kind_of};
+ghost use Rattle.rollback_run.specs.Words.{program, option_rule, IsRefusedBy, Names, NamesFile, Refuses, RefusesNamed};
+
+use clap::error::ErrorKind;
+use clap::{Arg, Command, Error};
+use std::alloc::{AllocError, Global};
+
+const ABOUT: &str =
+    "Runs executions of state machines, and takes their steps back: a command a line.";
+
+const JOURNAL: &str = "journal";
+
+const JOURNAL_HELP: &str = "Keep the accepted commands in this file";
+
+const CHECK: &str = "check";
+
+const CHECK_HELP: &str = "Only tell whether this file gives a book";
+
+/// What is to be done.
+#[derive(Debug, Drop)]
+pub enum Mode {
+    /// To serve on a journal in memory.
+    InMemory,
+    /// To serve on the journal of this file.
+    Journal(String),
+    /// To tell whether the journal of this file gives a book.
+    Check(String),
+}
+
+/// Why there is nothing to be done.
+#[derive(Debug, Drop)]
+pub enum ModeRefusal {
+    /// This help was asked for.
+    Help(String),
+    /// The words are none that are known.
+    Usage,
+    /// Memory was refused.
+    Memory,
+}
+
+/// An option that takes a file.
+fn option<'a>(alloc: Global, name: &'a str, help: &'a str) -> Arg<'a>
+    ensures rule { rule_of result ≡ option_rule name.entry.now }
+    ensures local { result.global ≡ false }
+{
+    Arg::new(alloc, name)
+        .long(name)
+        .value_name("FILE")
+        .help(help)
+}
+
+fn command<'a>(alloc: Global) -> Result<Command<'a>, AllocError>
+    ensures { IfOk result (λ c. app_of c ≡ program) }
+{
+    Command::new(alloc, "rollback")
+        .about(ABOUT)
+        .arg(option(alloc, JOURNAL, JOURNAL_HELP))?
+        .arg(option(alloc, CHECK, CHECK_HELP))
+}
+
+/// What these words ask for, the first of which is the program's own name.
+///
+/// # Errors
+///
+/// `Help` where it is asked for, `Usage` where both options are there or the words are refused for another cause, and
+/// `Memory`.
+pub fn mode_of(alloc: Global, words: &[String]) -> Result<Mode, ModeRefusal>
+    ensures ok { IfOk result (Names (map string_bytes words.now)) }
+    ensures err { IfErr result (Refuses (map string_bytes words.now)) }
+{
+    match command(alloc) {
+        Ok(command) => match command.try_get_matches_from(words) {
+            Ok(matches) => named(alloc, matches.get_str(JOURNAL), matches.get_str(CHECK)),
+            Err(error) => Err(refusal(alloc, &error)),
+        },
+        Err(AllocError) => Err(ModeRefusal::Memory),
+    }
+}
+
+/// The mode that these values of the two options name.
+fn named(alloc: Global, journal: Option<&str>, check: Option<&str>) -> Result<Mode, ModeRefusal>
+    ensures ok { IfOk result (NamesFile (option_map (λ f. f.now) journal.entry) (option_map (λ f. f.now) check.entry)) }
+    ensures err { IfErr result (RefusesNamed (option_map (λ f. f.now) journal.entry) (option_map (λ f. f.now) check.entry)) }
+{
+    match (journal, check) {
+        (None, None) => Ok(Mode::InMemory),
+        (Some(file), None) => match String::from_str(alloc, file) {
+            Ok(file) => Ok(Mode::Journal(file)),
+            Err(AllocError) => Err(ModeRefusal::Memory),
+        },
+        (None, Some(file)) => match String::from_str(alloc, file) {
+            Ok(file) => Ok(Mode::Check(file)),
+            Err(AllocError) => Err(ModeRefusal::Memory),
+        },
+        (Some(_), Some(_)) => Err(ModeRefusal::Usage),
+    }
+}
+
+fn refusal(alloc: Global, error: &Error) -> ModeRefusal
+    ensures { IsRefusedBy (kind_of error.now) result }
+{
+    match error.kind() {
+        ErrorKind::DisplayHelp => match format!(in alloc; "{error}") {
+            Ok(text) => ModeRefusal::Help(text),
+            Err(_) => ModeRefusal::Memory,
+        },
+        ErrorKind::OutOfMemory => ModeRefusal::Memory,
+        _ => ModeRefusal::Usage,
+    }
+}
