@@ -1,4 +1,4 @@
-// A machine of three Pass states, which pass their input on, over inputs of 8 kB and over empty ones.
+// A machine of three Pass states, which pass their input on, over inputs of 10 kB and over empty ones.
 use crate::reopening::session_in_memory;
 use crate::{Timed, serve_lines, time_lines};
 use operator_line::Session;
@@ -114,7 +114,7 @@ pub(crate) fn time_both(
     count: u32,
     rates: bool,
 ) -> anyhow::Result<()> {
-    let input = orders(alloc, 70)?;
+    let input = orders(alloc, 80)?;
     let empty = time_input(rt, alloc, "{}", count)?;
     let large = time_input(rt, alloc, &input, count)?;
     print_counts(rt, 2, &empty)?;
