@@ -34,7 +34,7 @@ pub enum Comparison {
 }
 
 /// A test of a rule ("Boolean expression", "Data-Test Expression").
-#[cycle(test)]
+#[cycle(tests)]
 #[derive(Debug, Drop)]
 pub enum Test {
     And(Tests),
@@ -45,7 +45,7 @@ pub enum Test {
 }
 
 /// The tests of an `And` or an `Or`, in the order in which they stood. Contracts see the list of their trees.
-#[cycle(test)]
+#[cycle(tests)]
 #[derive(Debug, Drop)]
 pub struct Tests {
     pub(crate) inner: Vec<Test>,
@@ -81,7 +81,7 @@ impl Tests {
 }
 
 /// The test under a `Not`. Contracts see its tree.
-#[cycle(test)]
+#[cycle(tests)]
 #[derive(Debug, Drop)]
 pub struct InnerTest {
     pub(crate) inner: Box<Test>,

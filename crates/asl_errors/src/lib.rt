@@ -4,8 +4,6 @@
 mod equality;
 mod error_readers;
 mod errors;
-#[cfg(test)]
-mod tests;
 
 pub use error_readers::read_error_handling;
 pub use errors::{Catcher, Catchers, ErrorHandling, ErrorNames, Retrier, Retriers};

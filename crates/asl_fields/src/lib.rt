@@ -5,8 +5,6 @@
 mod fault;
 mod field_readers;
 mod fields;
-#[cfg(test)]
-mod tests;
 
 pub use fault::MachineFault;
 pub use field_readers::{

@@ -82,7 +82,7 @@ impl Retries {
     }
 
     /// The counter of the retrier at this place, from 0. Takes no memory.
-    pub(crate) fn get(&self, place: usize) -> Option<u32>
+    pub fn get(&self, place: usize) -> Option<u32>
         ensures { result ≡ slice_get self.now place }
     {
         self.inner.get(place).copied()
@@ -141,6 +141,13 @@ impl Frames {
     {
         let inner = Vec::new(alloc);
         Frames { inner }
+    }
+
+    /// The frames, in order, lent.
+    pub fn as_slice(&self) -> &[Frame]
+        ensures { result.now ≡ self.now }
+    {
+        self.inner.as_slice()
     }
 
     /// The frames themselves. Takes no memory.

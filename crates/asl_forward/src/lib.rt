@@ -6,20 +6,14 @@ mod error;
 mod forking;
 mod frame;
 mod handling;
-#[cfg(test)]
-mod handling_tests;
 mod outcomes;
 mod prepared;
 mod processing;
-#[cfg(test)]
-mod tests;
 mod turn;
-#[cfg(test)]
-mod turn_tests;
 mod work;
 
 pub use frame::{Fault, Frame, Frames, Origin, Phase, Retries};
 pub use handling::{after_branch, after_error};
 pub use prepared::{Outcome, Prepared, prepare};
 pub use turn::{first_frame, next_frame, standing};
-pub use work::{finish, joined};
+pub use work::{finish, joined, work_of};

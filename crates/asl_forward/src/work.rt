@@ -17,8 +17,9 @@ use item_store::Answer;
 use json_tree::{Json, JsonList, Text};
 use std::alloc::{AllocError, Global};
 
-/// What a state that does work has for its result.
-pub(crate) fn work_of(state: &State) -> Option<(&Processing, &ErrorHandling, &Transition)>
+/// What a state that does work has for its result: none of a state that does none. So a caller of `joined` can see what
+/// it asks for.
+pub fn work_of(state: &State) -> Option<(&Processing, &ErrorHandling, &Transition)>
     ensures { option_map (λ p. (p.0.now, p.1.now, p.2.now)) result ≡ work_of state.now }
 {
     match state {

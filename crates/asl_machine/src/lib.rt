@@ -11,10 +11,6 @@ mod read;
 mod shared;
 mod state;
 mod state_readers;
-#[cfg(test)]
-mod state_tests;
-#[cfg(test)]
-mod tests;
 
 pub use asl_choice::{Comparison, InnerTest, Relation, Rule, Rules, Test, Tests};
 pub use asl_errors::{Catcher, Catchers, ErrorHandling, ErrorNames, Retrier, Retriers};

@@ -3,7 +3,6 @@ ghost use Rattle.std.specs.Prelude.{◌≡◌, option_copied, option_map, [], If
 ghost use Rattle.std.specs.BTreeMap.{insert_entry};
 ghost use Rattle.std.specs.Cmp.Lexicographic.{slice_cmp};
 ghost use Rattle.std.specs.Ordering.{nat_cmp};
-ghost use Rattle.asl_machine.specs.Alone.{runs_alone, all_alone};
 ghost use Rattle.asl_machine.specs.Complete.{state_of, IsComplete};
 ghost use Rattle.asl_machine.specs.Find.{branch_of, machine_at, state_at};
 ghost use Rattle.asl_fields.specs.Refusal.{Refuses};
@@ -54,18 +53,6 @@ impl States {
         }
     }
 
-    /// Whether each state is run on its own.
-    fn run_alone(&self) -> bool
-        ensures { result ≡ all_alone self.now }
-    {
-        for (_name, state) in &self.inner {
-            if !runs_alone(state) {
-                return false;
-            }
-        }
-        true
-    }
-
     /// The first name that a state may go to and that is no state's.
     fn first_missing(&self) -> Option<&Text>
         ensures { option_copied result ≡ first_missing self.now self.now }
@@ -108,14 +95,6 @@ impl Machine {
         self.states.get(name)
     }
 
-    /// Whether each state of its own `States` object is run on its own: none is a Task, a Parallel or a Map, so that there is
-    /// no other `States` object. Looks at each state.
-    pub fn runs_alone(&self) -> bool
-        ensures { result ≡ all_alone self.now.states }
-    {
-        self.states.run_alone()
-    }
-
     /// The branch or the processor that the path leads to; this machine, where the path is outermost. Takes, for each step,
     /// time logarithmic in the number of states.
     pub fn machine_at(&self, path: &LevelPath) -> Option<&Machine>
@@ -142,16 +121,6 @@ impl Machine {
             Some(machine) => machine.states.get(name),
             None => None,
         }
-    }
-}
-
-fn runs_alone(state: &State) -> bool
-    ensures { result ≡ runs_alone (tree_of state.now) }
-{
-    match state {
-        State::Pass(_) | State::Choice(_) | State::Wait(_) => true,
-        State::Succeed(_) | State::Fail(_) => true,
-        State::Task(_) | State::Parallel(_) | State::Map(_) => false,
     }
 }
 

@@ -11,8 +11,6 @@ mod laws;
 mod number;
 mod order;
 mod reading;
-#[cfg(test)]
-mod tests;
 mod value;
 mod writing;
 

@@ -13,8 +13,6 @@ mod insert;
 mod journal;
 mod read;
 mod table;
-#[cfg(test)]
-mod tests;
 
 pub use fault::JournalFault;
 pub use journal::Journal;

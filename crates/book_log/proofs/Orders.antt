@@ -76,7 +76,7 @@ pub record IsUnwound (left : Story) (s : Setting) (w : World) (ts : List Past) (
   pub allowed : IsAllowed (steps s) ts order
   pub there : StandsAt left s (undo_each (steps s) w order) (without (steps s) order ts)
 
-order_split : (r : Result StepName Refusal) (rest : Result Story Refusal) (left : Story) → once_undone r rest ≡ Ok left → (n : StepName) × (r ≡ Ok n) × (rest ≡ Ok left)
+pub order_split : (r : Result StepName Refusal) (rest : Result Story Refusal) (left : Story) → once_undone r rest ≡ Ok left → (n : StepName) × (r ≡ Ok n) × (rest ≡ Ok left)
 order_split (Ok n) rest left h = (n, refl, h)
 order_split (Err e) rest left h = cc
 

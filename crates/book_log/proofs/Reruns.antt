@@ -116,26 +116,27 @@ no_more_than {A} {B} f (x ∷ xs) ys once inside =
 
 -- ---- steps by their names
 
+-- the step of a name is among the others, and has the name
+pub named_is : (name : StepName) (ss : List Step) (s : Step) → step_named name ss ≡ Some s → (name_of s ≡ name) × In s ss
+named_is name [] s h = cc
+named_is name (x ∷ ss) s h =
+    by_bool (is_same_step name (name_of x)) _
+    (λ k. let e : x ≡ s = same_Some _ _ (rw k at h) in (ap name_of (sym e) ∙ sym (step_same name (name_of x) k), inl (sym e)))
+    (λ k. let r = named_is name ss s (rw k at h) in (r.0, inr r.1))
+
 -- the chosen steps have the names, and are among the others
-named_chosen : (ss : List Step) (names : List StepName) (chosen : List Step) → steps_named ss names ≡ Some chosen → (map name_of chosen ≡ names) × ((x : Step) → In x chosen → In x ss)
+pub named_chosen : (ss : List Step) (names : List StepName) (chosen : List Step) → steps_named ss names ≡ Some chosen → (map name_of chosen ≡ names) × ((x : Step) → In x chosen → In x ss)
 named_chosen ss [] chosen h =
     let e : [] ≡ chosen = same_Some _ _ h in
     (ap (map name_of) (sym e), λ x i. absurd (subst (In x) (sym e) i))
 named_chosen ss (name ∷ names) chosen h =
     let k = and_then_some (λ (s : Step). option_map (λ (more : List Step). s ∷ more) (steps_named ss names)) (step_named name ss) chosen h in
     let m = map_some (λ (more : List Step). k.0 ∷ more) (steps_named ss names) chosen k.2 in
-    let f = one_found name ss k.0 k.1 in
+    let f = named_is name ss k.0 k.1 in
     let rest = named_chosen ss names m.0 m.1 in (
       ap (map name_of) (sym m.2) ∙ ap₂ (λ (n : StepName) (l : List StepName). n ∷ l) f.0 rest.0,
       λ x i. elim (subst (In x) (sym m.2) i) as (λ _. In x ss) [ inl e ↦ subst (λ (z : Step). In z ss) (sym e) f.1 | inr j ↦ rest.1 x j ],
     )
-  where
-    one_found : (name : StepName) (ss : List Step) (s : Step) → step_named name ss ≡ Some s → (name_of s ≡ name) × In s ss
-    one_found name [] s h = cc
-    one_found name (x ∷ ss) s h =
-        by_bool (is_same_step name (name_of x)) _
-        (λ k. let e : x ≡ s = same_Some _ _ (rw k at h) in (ap name_of (sym e) ∙ sym (step_same name (name_of x) k), inl (sym e)))
-        (λ k. let r = one_found name ss s (rw k at h) in (r.0, inr r.1))
 
 module _ (s : Setting) (begin : Begin) where
   -- a step of a run is the first of its name
@@ -174,7 +175,7 @@ retold_run story ss v us legal inside runs =
     let d = legal_defines story legal in
     retell us (of_log story.begin (defines story.log)) s base v [] d.legal d.there (from_run (steps s) us base v is) (λ t i. counts.shallow t.step (own t i)) (omega (arith, few, some)) (omega (arith, few, all, defined))
 
-rerun_split : (o : Option Story) (again : Story) → or_no_step o ≡ Ok again → o ≡ Some again
+pub rerun_split : (o : Option Story) (again : Story) → or_no_step o ≡ Ok again → o ≡ Some again
 rerun_split None again h = cc
 rerun_split (Some story) again h = cc
 

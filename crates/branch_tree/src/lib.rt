@@ -5,8 +5,6 @@ mod branch;
 mod first;
 mod laws;
 mod readiness;
-#[cfg(test)]
-mod tests;
 mod tree;
 
 pub use branch::Branch;

@@ -78,8 +78,9 @@ impl Tree {
     /// The least name among those that go on from this one, which is the execution's, whose thread moves (it is `Ready`, or
     /// can `Join` or `Terminate`) and is not passed by.
     ///
-    /// Goes through each thread at most once, and under those that a found one comes before only by their phase. Takes two
-    /// blocks for each name that is made: of the threads before the one found that have not ended, and of that one.
+    /// Goes through each thread at most once, and under those that a found one comes before only by their phase. Names share
+    /// the execution's, and each of a branch takes a block: of the threads before the one found that have not ended, and two
+    /// for that one.
     pub fn first_ready(
         &self,
         alloc: Global,

@@ -213,7 +213,7 @@ fn read_execution(alloc: Global, word: &str) -> Result<Execution, CommandFault>
     if !is_name(word) {
         return Err(CommandFault::BadLine);
     }
-    match ThreadName::new(String::from_str(alloc, word)?) {
+    match ThreadName::new(alloc, Text::new(alloc, word)?) {
         Some(thread) => Ok(Execution { thread }),
         None => Err(CommandFault::BadLine),
     }

@@ -2,8 +2,6 @@
 
 //! The grammar of the operators' command lines: which command a line is, and the one line of each command.
 mod command;
-#[cfg(test)]
-mod command_tests;
 mod execution;
 mod laws;
 mod words;

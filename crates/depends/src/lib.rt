@@ -5,8 +5,6 @@ mod depend;
 mod laws;
 mod places;
 mod planning;
-#[cfg(test)]
-mod tests;
 
 pub use depend::{depends, first_dependent};
 pub use laws::{

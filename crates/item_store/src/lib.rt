@@ -13,8 +13,6 @@ mod listing;
 mod reading;
 mod slot;
 mod store;
-#[cfg(test)]
-mod tests;
 
 pub use access::AccessMode;
 pub use call::{Action, Call, Condition, ConditionKind, Request, ReturnValues, Terms};

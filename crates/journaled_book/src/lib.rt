@@ -11,8 +11,6 @@ mod fault;
 mod lines;
 mod loading;
 mod parts;
-#[cfg(test)]
-mod tests;
 
 pub use book::JournaledBook;
 pub use fault::{BeginRefusal, ChangeFault, OpenFault};

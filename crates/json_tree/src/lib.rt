@@ -9,8 +9,6 @@ mod nesting;
 mod order;
 mod reading;
 mod short;
-#[cfg(test)]
-mod tests;
 mod text;
 mod told;
 mod tree;

@@ -52,8 +52,7 @@ pub fn deed_of(
 fn execution_of(alloc: Global, exec: &ThreadName) -> Result<ThreadName, AllocError>
     ensures { IfOk result (λ t. t ≡ execution exec.now.exec) }
 {
-    let exec = String::from_str(alloc, exec.exec())?;
-    match ThreadName::new(exec) {
+    match ThreadName::new(alloc, Text::new(alloc, exec.exec())?) {
         Some(thread) => Ok(thread),
         None => unreachable!(),
     }

@@ -14,8 +14,6 @@ mod remainder;
 mod replaying;
 mod running;
 mod step;
-#[cfg(test)]
-mod tests;
 mod world;
 
 pub use places::Place;

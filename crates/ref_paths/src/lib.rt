@@ -13,8 +13,6 @@ mod placing;
 mod reading;
 mod template;
 mod template_reading;
-#[cfg(test)]
-mod tests;
 
 pub use composing::{PickRefusal, pick_placed};
 pub use filling::FillFault;

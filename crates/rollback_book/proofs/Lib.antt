@@ -15,3 +15,4 @@ pub mod Ordered
 pub mod Rerun
 pub mod Started
 pub mod Retaken
+pub mod Commuted

@@ -23,6 +23,7 @@ use Rattle.book_log.specs.declared.begin.Begin.{Begin}
 use Rattle.book_log.specs.declared.entry.Entry.TheVariants.{Undo}
 use Rattle.book_log.specs.declared.refusal.Refusal.{Refusal}
 use Rattle.book_log.proofs.Answered.{once, undo_said}
+use Rattle.book_log.proofs.Orders.{order_split}
 use Rattle.book_log.proofs.Standing.{StandsAt, no_frames, past_there, fact_named, stands_undone, step_same}
 use Rattle.rollback_book.specs.Book.{Volume, IsAt, IsFreePlace, IsTied}
 use Rattle.rollback_book.specs.Ordering.{left_by, order_refusal, refused_or}
@@ -113,10 +114,6 @@ module _ (b : Volume) (tied : IsTied b) where
     undone_free at is_at = free_by at is_at (first_dependent (facts b.history.records.items) at) refl
 
 -- ---- one after another
-
-order_split : (r : Result StepName Refusal) (rest : Result Story Refusal) (left : Story) → once_undone r rest ≡ Ok left → (n : StepName) × (r ≡ Ok n) × (rest ≡ Ok left)
-order_split (Ok n) rest left h = (n, refl, h)
-order_split (Err e) rest left h = cc
 
 free_named : (name n : StepName) (o : Option Fact) → free_answer name o ≡ Ok n → name ≡ n
 free_named name n None h = cc

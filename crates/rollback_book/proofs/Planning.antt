@@ -19,6 +19,7 @@ use Rattle.book_log.specs.declared.entry.Entry.{Entry}
 use Rattle.rollback_book.specs.Book.{Volume, IsTied, IsAt}
 use Rattle.rollback_book.specs.Making.{IsPlanned, WasPlanned}
 use Rattle.rollback_book.specs.declared.room.PlanRoom.{PlanRoom}
+use Rattle.rollback_book.proofs.Commuted.{plan_allowed}
 use Rattle.rollback_book.proofs.Tied.{facts_are, as_many_records}
 use Rattle.rollback_book.proofs.Free.{Stood, stood, stood_by, plan_is, places_are}
 
@@ -91,6 +92,7 @@ module _ (b : Volume) (tied : IsTied b) (name : StepName) (at : ℕ) (is_at : Is
         at = at;
         there = ap (option_map (λ (f : Fact). f.name)) told ∙ ap Some (t.fact ∙ sym step);
         places = places ∙ ap (λ (fs : List Fact). plan fs at) (facts_are b tied);
+        order = plan_allowed b.story tied.legal name r.names (names_planned r.places r.names places names);
       }
 
 -- ---- later

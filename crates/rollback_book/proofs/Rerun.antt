@@ -1,30 +1,24 @@
 -- Steps taken again, one after another, are what a rerun answers.
 use Rattle.std.proofs.Common.{◌≡◌, ◌<◌, ◌+◌, arith, ℕ, List, [], ◌∷◌, ◌++◌, drop, get_or, length, map, take, zero, suc, append_assoc, refl, ap, ap₂, sym, subst, ◌∙◌, inl, inr, Option, None, Some, Result, Ok, Err}
-use Rattle.std.specs.Prelude.{◌⊎◌, position, is_some, option_map, option_and_then}
+use Rattle.std.specs.Prelude.{◌⊎◌, option_map, option_and_then}
 use Rattle.std.proofs.lemmas.List.{append-nil, map-append}
 use Rattle.std.proofs.lemmas.Option.{same_Some}
-use Rattle.json_tree.specs.Data.{depth}
-use Rattle.json_tree.specs.View.{data_of}
-use Rattle.json_tree.specs.declared.tree.Json.{Json}
 use Rattle.asl_machine.specs.Definition.{Definition}
-use Rattle.step_names.specs.Thread.{Thread, execution}
+use Rattle.step_names.specs.Thread.{execution}
 use Rattle.step_names.specs.declared.step.StepName.{StepName}
-use Rattle.trace_theory.specs.Traces.{In, names_of, run}
-use Rattle.trace_theory.proofs.Lists.{by_bool}
+use Rattle.trace_theory.specs.Traces.{run}
 use Rattle.trace_theory.proofs.Records.{run_then}
 use Rattle.trace_theory.proofs.Runs.{and_then_some, map_some}
 use Rattle.saved_steps.specs.Run.{take_step}
-use Rattle.saved_steps.specs.Steps.{Step, started, moved, name_of, start_name}
-use Rattle.saved_steps.specs.World.{Setting, World, is_same_step}
+use Rattle.saved_steps.specs.Steps.{Step, started, moved, start_name}
+use Rattle.saved_steps.specs.World.{Setting, World}
 use Rattle.saved_steps.specs.declared.fact.Fact.{Fact}
 use Rattle.saved_steps.specs.declared.fact.Kind.{Kind}
 use Rattle.depends.specs.Instance.{steps}
-use Rattle.depends.specs.Laws.{facts_of}
 use Rattle.step_history.specs.History.{Past, taken_in}
-use Rattle.book_log.specs.Answers.{defines, entry_for, entry_of, from_step, or_no_step, rerun_answer, retold, start_answer, step_answer, step_named, steps_named}
-use Rattle.book_log.specs.Laws.{IsRerun}
+use Rattle.book_log.specs.Answers.{defines, entry_for, entry_of, or_no_step, rerun_answer, retold, step_named, steps_named}
 use Rattle.book_log.specs.Legal.{GoesOnLegally, IsAccepted, IsLegal}
-use Rattle.book_log.specs.Story.{Story, accepted, base_of, machine_of, remaining, run_of, setting_of, past_of, world_of}
+use Rattle.book_log.specs.Story.{Story, accepted, base_of, remaining, setting_of, past_of, world_of}
 use Rattle.book_log.specs.declared.begin.Begin.{Begin}
 use Rattle.book_log.specs.declared.entry.Entry.{Entry}
 use Rattle.book_log.specs.declared.entry.Entry.TheVariants.{Define, Start, Step as Stepped, Undo, Rollback}
@@ -32,8 +26,8 @@ use Rattle.book_log.specs.declared.refusal.Refusal.{Refusal}
 use Rattle.book_log.specs.declared.refusal.Refusal.TheVariants.{NoStep, Memory}
 use Rattle.book_log.proofs.LegalRuns.{of_log, legal_logs_run}
 use Rattle.book_log.proofs.Counts.{defines-append}
-use Rattle.book_log.proofs.Reruns.{legal_defines, reruns_are_exact, reruns_are_legal}
-use Rattle.book_log.proofs.Standing.{StandsAt, step_same}
+use Rattle.book_log.proofs.Reruns.{legal_defines, named_chosen, rerun_split, reruns_are_exact, reruns_are_legal}
+use Rattle.book_log.proofs.Standing.{StandsAt}
 use Rattle.book_log.proofs.Taking.{start_said, step_said}
 use Rattle.rollback_book.specs.Rerunning.{CanRetake, IsRetaken, MayDefine, Retakes}
 
@@ -65,27 +59,6 @@ take_next (y ∷ xs) (suc i) x h e =
     ap (λ k. take k (y ∷ xs)) n ∙ ap (λ l. y ∷ l) (take_next xs i x (omega (arith, h)) e)
 
 -- ---- names
-
--- the step of a name is among the others, and has the name
-pub named_is : (name : StepName) (ss : List Step) (s : Step) → step_named name ss ≡ Some s → (name_of s ≡ name) × In s ss
-named_is name [] s h = cc
-named_is name (x ∷ ss) s h =
-    by_bool (is_same_step name (name_of x)) _
-    (λ k. let e : x ≡ s = same_Some _ _ (rw k at h) in (ap name_of (sym e) ∙ sym (step_same name (name_of x) k), inl (sym e)))
-    (λ k. let r = named_is name ss s (rw k at h) in (r.0, inr r.1))
-
-named_chosen : (ss : List Step) (names : List StepName) (chosen : List Step) → steps_named ss names ≡ Some chosen → (map name_of chosen ≡ names) × ((x : Step) → In x chosen → In x ss)
-named_chosen ss [] chosen h =
-    let e : [] ≡ chosen = same_Some _ _ h in
-    (ap (map name_of) (sym e), λ x i. absurd (subst (In x) (sym e) i))
-named_chosen ss (name ∷ names) chosen h =
-    let k = and_then_some (λ (s : Step). option_map (λ (more : List Step). s ∷ more) (steps_named ss names)) (step_named name ss) chosen h in
-    let m = map_some (λ (more : List Step). k.0 ∷ more) (steps_named ss names) chosen k.2 in
-    let f = named_is name ss k.0 k.1 in
-    let rest = named_chosen ss names m.0 m.1 in (
-      ap (map name_of) (sym m.2) ∙ ap₂ (λ (n : StepName) (l : List StepName). n ∷ l) f.0 rest.0,
-      λ x i. elim (subst (In x) (sym m.2) i) as (λ _. In x ss) [ inl e ↦ subst (λ (z : Step). In z ss) (sym e) f.1 | inr j ↦ rest.1 x j ],
-    )
 
 none_after : (o : Option Step) → option_and_then (λ (s : Step). option_map (λ (more : List Step). s ∷ more) None) o ≡ None
 none_after None = refl
@@ -127,10 +100,6 @@ module _ (s : Setting) where
 
 -- ---- reruns
 
-rerun_split : (o : Option Story) (again : Story) → or_no_step o ≡ Ok again → o ≡ Some again
-rerun_split None again h = cc
-rerun_split (Some story) again h = cc
-
 -- some remaining steps, run from the start
 pub record IsTried (story : Story) (names : List StepName) (again : Story) : Type 0 where
   pub chosen : List Step
@@ -140,7 +109,7 @@ pub record IsTried (story : Story) (names : List StepName) (again : Story) : Typ
   pub runs : run (steps (setting_of story)) (base_of story.begin) chosen ≡ Some (world, past)
   pub is : retold story past ≡ again
 
-tried : (story : Story) (names : List StepName) (again : Story) → rerun_answer story names ≡ Ok again → IsTried story names again
+pub tried : (story : Story) (names : List StepName) (again : Story) → rerun_answer story names ≡ Ok again → IsTried story names again
 unfolding rerun_answer
 tried story names again h =
     let o = rerun_split _ again h in
@@ -172,7 +141,7 @@ one_retold story ts t =
     (ap (λ (l : List Entry). defines story.log ++ l) (map-append entry_of ts (t ∷ [])) ∙ sym (append_assoc (defines story.log) (map entry_of ts) (entry_of t ∷ [])))
 
 -- what an answered rerun has stands in the world of its run
-tried_stands : (story : Story) (names : List StepName) (again : Story) → IsLegal story → (a : rerun_answer story names ≡ Ok again) (t : IsTried story names again) → StandsAt again (setting_of story) t.world t.past
+pub tried_stands : (story : Story) (names : List StepName) (again : Story) → IsLegal story → (a : rerun_answer story names ≡ Ok again) (t : IsTried story names again) → StandsAt again (setting_of story) t.world t.past
 tried_stands story names again legal a t =
     let exact = reruns_are_exact story names legal in
     let own = named_chosen (remaining story) names t.chosen t.named in

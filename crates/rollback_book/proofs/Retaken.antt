@@ -1,6 +1,6 @@
 -- What a book tells of a step that is taken in it again.
-use Rattle.std.proofs.Common.{◌≡◌, ◌≤◌, ◌+◌, ◌-◌, ◌==◌, arith, ℕ, eq-eqb, Bool, true, false, cond, List, [], ◌∷◌, map, refl, ap, ap₂, sym, subst, ◌∙◌, inl, inr, Option, None, Some, Result, Ok, Err}
-use Rattle.std.specs.Prelude.{◌⊎◌, IsSome, position, is_some, option_and_then}
+use Rattle.std.proofs.Common.{◌≡◌, ◌≤◌, ◌+◌, ◌-◌, arith, ℕ, eq-eqb, Bool, true, false, cond, List, [], ◌∷◌, refl, ap, sym, ◌∙◌, inl, inr, Option, None, Some, Result, Ok, Err}
+use Rattle.std.specs.Prelude.{position, is_some}
 use Rattle.std.proofs.lemmas.Bool.{eqb-true}
 use Rattle.std.proofs.lemmas.Option.{same_Some}
 use Rattle.json_tree.specs.Data.{depth}
@@ -16,33 +16,28 @@ use Rattle.trace_theory.proofs.Lists.{by_bool}
 use Rattle.trace_theory.proofs.Runs.{and_then_some}
 use Rattle.depends.specs.Instance.{steps}
 use Rattle.depends.specs.Laws.{facts_of}
-use Rattle.depends.proofs.Planned.{numbered}
 use Rattle.depends.proofs.Turned.{frame_move}
-use Rattle.depends.proofs.Worlds.{deed_taken}
-use Rattle.saved_steps.specs.Deeds.{Deed, frame_deed, if_numbered, move_deed, next_step}
+use Rattle.saved_steps.specs.Deeds.{Deed, frame_deed, move_deed, next_step}
 use Rattle.saved_steps.specs.Held.{frames_of, paths_of, seen}
 use Rattle.saved_steps.specs.Steps.{Step, started, moved, name_of, start_name}
 use Rattle.saved_steps.specs.World.{Setting, World, is_same_step}
 use Rattle.saved_steps.specs.declared.fact.Fact.{Fact}
-use Rattle.saved_steps.specs.declared.fact.Kind.{Kind}
 use Rattle.saved_steps.specs.declared.record.StepRecord.{StepRecord}
 use Rattle.step_history.specs.History.{Past}
 use Rattle.book_log.specs.Answers.{Gives, from_step, moved_answer, start_answer, step_answer, step_named, thread_answer, is_full_for_step}
 use Rattle.book_log.specs.Legal.{IsLegal}
-use Rattle.book_log.specs.Story.{Story, accepted, machine_of, past_of, remaining, setting_of, world_of}
-use Rattle.book_log.specs.declared.entry.Entry.TheVariants.{Start, Step as Stepped}
+use Rattle.book_log.specs.Story.{Story, machine_of, past_of, remaining, setting_of, world_of}
 use Rattle.book_log.specs.declared.moved.Moved.{Moved}
 use Rattle.book_log.specs.declared.refusal.Refusal.{Refusal}
-use Rattle.book_log.specs.declared.refusal.Refusal.TheVariants.{NoMachine, ExecTaken, Full, NoStep, Memory}
+use Rattle.book_log.specs.declared.refusal.Refusal.TheVariants.{NoMachine, ExecTaken, Full}
 use Rattle.book_log.proofs.Counts.{legal_counts}
 use Rattle.book_log.proofs.Standing.{fact_named, names_there}
-use Rattle.book_log.proofs.Taking.{step_said}
+use Rattle.book_log.proofs.Reruns.{named_is}
 use Rattle.rollback_book.specs.Book.{Volume, IsTied}
-use Rattle.rollback_book.specs.Rerunning.{CanRetake, Retakes, is_numbered, last_start}
-use Rattle.rollback_book.proofs.Rerun.{named_is}
+use Rattle.rollback_book.specs.Rerunning.{CanRetake, is_numbered, last_start}
 use Rattle.rollback_book.proofs.Searching.{no_step, step_at}
 use Rattle.rollback_book.proofs.Started.{legal_last, legal_numbered}
-use Rattle.rollback_book.proofs.Tied.{facts_are, stands, world_is}
+use Rattle.rollback_book.proofs.Tied.{facts_are, stands}
 
 -- ---- a step that remains
 

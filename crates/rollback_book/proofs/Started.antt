@@ -1,5 +1,5 @@
 -- In a legal log the last start of an execution that remains is the start that remains; and moves are numbered from 1.
-use Rattle.std.proofs.Common.{◌≡◌, ◌≤◌, ◌+◌, arith, ℕ, Bool, true, false, cond, List, [], ◌∷◌, ◌++◌, ◌-◌, drop, zero, suc, refl, ap, ap₂, sym, subst, ◌∙◌, inl, inr, Option, None, Some, Ok}
+use Rattle.std.proofs.Common.{◌≡◌, ◌≤◌, arith, ℕ, Bool, true, false, cond, List, [], ◌∷◌, ◌++◌, ◌-◌, drop, zero, suc, refl, ap, ap₂, sym, subst, ◌∙◌, inl, inr, Option, None, Some}
 use Rattle.std.specs.Prelude.{slice_get}
 use Rattle.std.proofs.Math.Seq.{drop-cons}
 use Rattle.std.proofs.lemmas.Option.{slice_get_within, get_or_from_slice_get}
@@ -7,13 +7,12 @@ use Rattle.json_tree.specs.declared.tree.Json.{Json}
 use Rattle.step_names.specs.Thread.{Thread, execution}
 use Rattle.step_names.specs.declared.step.StepName.{StepName}
 use Rattle.step_names.proofs.OrderLaws.{thread_itself}
-use Rattle.trace_theory.specs.Traces.{In, names_of, without}
+use Rattle.trace_theory.specs.Traces.{In, names_of}
 use Rattle.trace_theory.proofs.Arranged.{named_place}
 use Rattle.trace_theory.proofs.Lists.{by_bool, Before-across, In-filter, In-split, here}
 use Rattle.trace_theory.proofs.Records.{names-without}
 use Rattle.trace_theory.proofs.Runs.{Runs, and_then_some, from_run}
-use Rattle.asl_forward.specs.declared.frame.Frame.{Frame}
-use Rattle.saved_steps.specs.Deeds.{Deed, deed, frame_deed, if_numbered, move_deed, next_step}
+use Rattle.saved_steps.specs.Deeds.{frame_deed, if_numbered, move_deed}
 use Rattle.saved_steps.specs.Run.{take_step}
 use Rattle.saved_steps.specs.Steps.{Step, started, moved, name_of, start_name}
 use Rattle.saved_steps.specs.World.{Setting, World, is_same_thread, is_same_step}
@@ -31,7 +30,7 @@ use Rattle.book_log.specs.declared.entry.Entry.{Entry}
 use Rattle.book_log.specs.declared.entry.Entry.TheVariants.{Define, Start, Step as Stepped, Undo, Rollback}
 use Rattle.book_log.proofs.Answered.{once}
 use Rattle.book_log.proofs.LegalRuns.{of_log, of_legal, legal_stands}
-use Rattle.book_log.proofs.Standing.{StandsAt, is_run, names_there, no_frames, remainder_next, stands_started}
+use Rattle.book_log.proofs.Standing.{is_run, names_there, no_frames, remainder_next, stands_started}
 use Rattle.book_log.proofs.Taking.{start_said}
 use Rattle.rollback_book.specs.Rerunning.{Origin, last_start, or_earlier, start_in}
 

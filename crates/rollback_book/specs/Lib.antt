@@ -3,3 +3,4 @@ pub mod Making
 pub mod Ready
 pub mod Ordering
 pub mod Rerunning
+pub mod Commuting

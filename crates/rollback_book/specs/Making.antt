@@ -10,7 +10,7 @@ use Rattle.saved_steps.specs.Deeds as deeds
 use Rattle.saved_steps.specs.Made.{CanApply, IsMadeFor}
 use Rattle.saved_steps.specs.Steps.{Step, started, moved}
 use Rattle.saved_steps.specs.declared.made.Made.{Made as MadeStep}
-use Rattle.step_history.specs.History.{HasRoom}
+use Rattle.step_history.specs.History.{Past, HasRoom}
 use Rattle.step_names.specs.declared.step.StepName.{StepName}
 use Rattle.book_log.specs.Answers.{IsDefineRefusal, start_answer, step_answer, plan_answer}
 use Rattle.book_log.specs.Legal.{IsAccepted}
@@ -21,6 +21,7 @@ use Rattle.book_log.specs.declared.moved.Moved.{Moved}
 use Rattle.book_log.specs.declared.refusal.Refusal.{Refusal}
 use Rattle.book_log.specs.declared.refusal.Refusal.TheVariants.{Memory}
 use Rattle.rollback_book.specs.Book.{Volume, place_in}
+use Rattle.rollback_book.specs.Commuting.{IsAllowedOrder}
 use Rattle.rollback_book.specs.declared.making.Change.{Change}
 use Rattle.rollback_book.specs.declared.making.Change.TheVariants as change
 use Rattle.rollback_book.specs.declared.making.Entered.{Entered}
@@ -101,6 +102,8 @@ pub record IsPlanned (story : Story) (r : PlanRoom) : Type 0 where
   pub at : ℕ
   pub there : option_map (λ f. f.name) (slice_get (facts_of story) at) ≡ Some r.step
   pub places : r.places ≡ plan (facts_of story) at
+  -- the steps of these names may be undone one by one in this order
+  pub order : (xs : List Past) × IsAllowedOrder story r.names xs
 
 -- The room was planned when the book had its first entries, as many as the room counts.
 pub record WasPlanned (story : Story) (r : PlanRoom) : Type 0 where

@@ -6,7 +6,6 @@ use Rattle.saved_steps.specs.Steps.{Step, started, moved, start_name}
 use Rattle.saved_steps.specs.World.{is_same_thread}
 use Rattle.saved_steps.specs.declared.fact.Kind.{Kind}
 use Rattle.step_names.specs.Thread.{Thread, execution}
-use Rattle.step_names.specs.declared.step.StepName.{StepName}
 use Rattle.book_log.specs.Answers.{start_answer, step_answer}
 use Rattle.book_log.specs.Legal.{IsAccepted}
 use Rattle.book_log.specs.Story.{Story, accepted}

@@ -6,8 +6,10 @@ ghost use Rattle.step_history.specs.History.{AreRecordsOf};
 ghost use Rattle.book_log.specs.Answers.{undo_answer, plan_answer};
 ghost use Rattle.book_log.specs.Beginning.{table_of};
 ghost use Rattle.book_log.specs.Legal.{IsLegal};
-ghost use Rattle.book_log.specs.Story.{accepted, past_of, remaining, world_of};
+ghost use Rattle.book_log.specs.Laws.{IsRolledBack};
+ghost use Rattle.book_log.specs.Story.{accepted, consequences_of, past_of, remaining, world_of};
 ghost use Rattle.rollback_book.specs.Book.{IsAt, IsFreePlace};
+ghost use Rattle.rollback_book.specs.Commuting.{IsRest};
 ghost use Rattle.rollback_book.specs.Making.{IsPlanned, WasPlanned};
 
 use crate::lists::{names_at, push_with_room};
@@ -135,6 +137,8 @@ impl Book {
     pub fn rollback(&mut self, room: PlanRoom) -> Result<StepNames, Refusal>
         requires { WasPlanned self.old.story room }
         ensures ok { IfOk result (λ names. (names ≡ room.names) × (plan_answer self.old.story room.step ≡ Ok names) × (self.new.story ≡ accepted self.old.story (Entry.Rollback room.step names))) }
+        ensures exact { IfOk result (IsRolledBack self.old.story room.step) }
+        ensures rest { OnOk result (IsRest self.old.story (consequences_of self.old.story room.step) self.new.story) }
         ensures stale { IfErr result (λ e. (e ≡ Refusal.Stale (length self.old.story.log)) × (room.entries < length self.old.story.log)) }
         ensures err { OnErr result (self.new.story ≡ self.old.story) }
     {

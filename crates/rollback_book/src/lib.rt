@@ -11,8 +11,6 @@ mod ordering;
 mod rerunning;
 mod room;
 mod stepping;
-#[cfg(test)]
-mod tests;
 
 pub use book::Book;
 pub use book_log::{Begin, Entry, Moved, Refusal, StepNames};

@@ -5,6 +5,7 @@ ghost use Rattle.depends.specs.Dependence.{depends_directly};
 ghost use Rattle.saved_steps.specs.World.{is_same_step};
 ghost use Rattle.book_log.specs.Answers.{from_step, found_answer, order_answer, undo_answer};
 ghost use Rattle.book_log.specs.Story.{Story, accepted};
+ghost use Rattle.rollback_book.specs.Commuting.{HasConsequences, IsOnlyResult, UndoesAllowed};
 ghost use Rattle.rollback_book.specs.Ordering.{facts_left, left_by, order_refusal};
 
 use crate::book::Book;
@@ -26,6 +27,9 @@ impl Book {
         ensures answer { MatchResult result
             (λ _. order_answer self.old.story steps.now ≡ Ok self.new.story)
             (λ e. (e ≡ Refusal.Memory) ⊎ (order_answer self.old.story steps.now ≡ Err e)) }
+        ensures allowed { UndoesAllowed self.old.story steps.now result self.new.story }
+        ensures whole { OnOk result (HasConsequences self.old.story steps.now) }
+        ensures one { OnOk result (IsOnlyResult self.old.story steps.now self.new.story) }
         ensures err { OnErr result (self.new.story ≡ self.old.story) }
     {
         match look_at_order(alloc, self.history.records(), steps) {

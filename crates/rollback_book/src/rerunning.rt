@@ -1,5 +1,5 @@
 // A book whose steps are taken again in another order.
-ghost use Rattle.std.specs.Prelude.{◌≡◌, ◌⊎◌, ◌≤◌, ◌++◌, ◌∷◌, [], Some, Ok, Err, IfOk, IsSome, MatchResult, OnOk, option_map, option_copied};
+ghost use Rattle.std.specs.Prelude.{◌≡◌, ◌⊎◌, ◌≤◌, ◌++◌, ◌∷◌, [], Some, Ok, Err, IfOk, IfErr, IsSome, MatchResult, OnOk, option_map, option_copied};
 ghost use Rattle.json_tree.specs.Data.{depth};
 ghost use Rattle.json_tree.specs.View.{data_of};
 ghost use Rattle.saved_steps.specs.Held.{frames_of, seen};
@@ -7,6 +7,7 @@ ghost use Rattle.saved_steps.specs.Steps.{started, moved};
 ghost use Rattle.book_log.specs.Answers.{defines, rerun_answer, step_named};
 ghost use Rattle.book_log.specs.Legal.{IsAccepted, IsLegal};
 ghost use Rattle.book_log.specs.Story.{accepted, remaining, world_of};
+ghost use Rattle.rollback_book.specs.Commuting.{CannotRun, IsRerunOf};
 ghost use Rattle.rollback_book.specs.Rerunning.{MayDefine, Retakes, is_numbered, last_start, start_in};
 
 use crate::book::Book;
@@ -28,9 +29,11 @@ impl Book {
     ///
     /// `NoStep` where a name doesn't remain, isn't the next of its thread at its turn, or has no move then; and `Memory`.
     pub fn rerun(&self, alloc: Global, steps: &[StepName]) -> Result<Book, Refusal>
-        ensures { MatchResult result
+        ensures answer { MatchResult result
             (λ b. rerun_answer self.now.story steps.now ≡ Ok b.story)
             (λ e. (e ≡ Refusal.Memory) ⊎ (rerun_answer self.now.story steps.now ≡ Err e)) }
+        ensures ok { IfOk result (λ b. IsRerunOf self.now.story steps.now b.story) }
+        ensures err { IfErr result (λ e. (e ≡ Refusal.Memory) ⊎ ((e ≡ Refusal.NoStep) × CannotRun self.now.story steps.now)) }
     {
         let mut again = Book::defining(alloc, &self.begin, self.log.as_slice())?;
         for name in steps {

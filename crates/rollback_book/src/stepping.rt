@@ -129,7 +129,7 @@ impl Book {
         let Ok(name) = next_name(thread, frame) else {
             return Err(Refusal::Memory);
         };
-        match self.history.next_of(alloc, machine, thread) {
+        match self.history.next_of(alloc, machine, thread, frame) {
             Ok(Some(next)) => Ok((name, next)),
             Ok(None) => unreachable!(),
             Err(AllocError) => {
@@ -145,10 +145,9 @@ impl Book {
             (λ p. IsReadyTo self.now thread.now p.0.now p.1.now)
             (λ e. step_answer self.now.story thread.now ≡ Err e) }
     {
-        let Some(frame) = self.history.frame(thread) else {
+        let Some((frame, readiness)) = self.history.look_up(thread) else {
             return Err(Refusal::NoThread);
         };
-        let readiness = self.history.ready(thread);
         if !has_move(readiness) {
             return Err(Refusal::NotReady(readiness));
         }

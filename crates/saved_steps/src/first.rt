@@ -12,6 +12,7 @@ ghost use Rattle.saved_steps.specs.Held.{rows_at, frames_of};
 use crate::world::World;
 use asl_forward::Phase;
 use branch_tree::{Tree, below_is_parked};
+use json_tree::Text;
 use std::alloc::{AllocError, Global};
 use std::collections::BTreeSet;
 use step_names::ThreadName;
@@ -42,7 +43,7 @@ fn first_in(
     if has_ended(tree) {
         return Ok(None);
     }
-    let Some(name) = ThreadName::new(String::from_str(alloc, exec)?) else {
+    let Some(name) = ThreadName::new(alloc, Text::new(alloc, exec)?) else {
         return Ok(None);
     };
     tree.first_ready(alloc, &name, passed)
@@ -52,8 +53,8 @@ impl World {
     /// The least name of a thread that moves (it is `Ready`, or can `Join` or `Terminate`) and is not passed by.
     ///
     /// Goes through the executions in the order of their names, up to that of the thread that it finds. One that is done or
-    /// has failed costs a step and no memory; of the others it takes two blocks for each name that is made, as
-    /// `Tree::first_ready` says, and one for the execution's name.
+    /// has failed costs a step and no memory; of the others it takes the blocks of `Tree::first_ready`, and two for the name
+    /// of the execution where that has more than 22 bytes.
     pub fn first_ready(
         &self,
         alloc: Global,

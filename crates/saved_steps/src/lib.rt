@@ -11,8 +11,6 @@ mod making;
 mod next;
 mod places;
 mod record;
-#[cfg(test)]
-mod tests;
 mod undoing;
 mod world;
 

@@ -1,5 +1,5 @@
 // The trees of executions, each at its execution's name.
-ghost use Rattle.std.specs.Prelude.{◌≡◌, ℕ, List, [], ◌++◌, is_some, None, Some, true, false, option_copied, IfSome, IsSomeAnd, OnOk, if◌then◌else◌};
+ghost use Rattle.std.specs.Prelude.{◌≡◌, ℕ, List, [], ◌++◌, is_some, None, Some, true, false, option_copied, option_map, IfSome, IsSomeAnd, OnOk, if◌then◌else◌};
 ghost use Rattle.std.specs.BTreeMap.{get_by_text};
 ghost use Rattle.std.specs.Str.{bytes_eq};
 ghost use Rattle.branch_tree.specs.FlatMap.{IsTree, is_parked, with_frame, grafted, alone};
@@ -37,14 +37,17 @@ pub(crate) fn frame_in<'a>(executions: &'a Executions, thread: &ThreadName) -> O
     tree.find(thread.path())
 }
 
-/// What a thread can do next.
-pub(crate) fn readiness_in(executions: &Executions, thread: &ThreadName) -> Readiness
-    ensures { result ≡ readiness_at (paths_of (frames_in executions.now) thread.now.exec) thread.now.path }
+/// The frame of a thread, and what it can do next.
+pub(crate) fn look_up<'a>(
+    executions: &'a Executions,
+    thread: &ThreadName,
+) -> Option<(&'a Frame, Readiness)>
+    ensures frame { option_map (λ p. p.0.now) result ≡ frames_in executions.now thread.now }
+    ensures ready { IfSome result (λ p. p.1 ≡ readiness_at (paths_of (frames_in executions.now) thread.now.exec) thread.now.path) }
 {
-    match tree_in(executions, thread.exec()) {
-        Some(tree) => tree.ready(thread.path()),
-        None => Readiness::NoThread,
-    }
+    let tree = tree_in(executions, thread.exec())?;
+    let frame = tree.find(thread.path())?;
+    Some((frame, tree.ready(thread.path())))
 }
 
 // ---- places

@@ -1,11 +1,11 @@
 // The executions and the items that steps change.
-ghost use Rattle.std.specs.Prelude.{◌≡◌, None, option_copied, IfSome};
+ghost use Rattle.std.specs.Prelude.{◌≡◌, None, option_copied, option_map, IfSome};
 ghost use Rattle.branch_tree.specs.FlatMap.{IsTree};
 ghost use Rattle.branch_tree.specs.Ready.{readiness_at};
 ghost use Rattle.step_names.specs.Thread.{Thread};
 ghost use Rattle.saved_steps.specs.Held.{frames_of, paths_of};
 
-use crate::places::{Executions, frame_in, readiness_in};
+use crate::places::{Executions, frame_in, look_up};
 use asl_forward::Frame;
 use branch_tree::Readiness;
 use item_store::ItemStore;
@@ -42,11 +42,13 @@ impl World {
         frame_in(&self.executions, thread)
     }
 
-    /// What a thread can do next. Takes no memory, in the time of `frame` and of the number of the thread's branches.
-    pub fn ready(&self, thread: &ThreadName) -> Readiness
-        ensures { result ≡ readiness_at (paths_of (frames_of self.now) thread.now.exec) thread.now.path }
+    /// The frame of a thread, and what it can do next. Takes no memory, in the time of `frame` and of the number of the thread's
+    /// branches; the execution is looked up once.
+    pub fn look_up(&self, thread: &ThreadName) -> Option<(&Frame, Readiness)>
+        ensures frame { option_map (λ p. p.0.now) result ≡ frames_of self.now thread.now }
+        ensures ready { IfSome result (λ p. p.1 ≡ readiness_at (paths_of (frames_of self.now) thread.now.exec) thread.now.path) }
     {
-        readiness_in(&self.executions, thread)
+        look_up(&self.executions, thread)
     }
 
     /// The items of the table.

@@ -1,5 +1,5 @@
 // The steps that remain, and the world that they give.
-ghost use Rattle.std.specs.Prelude.{◌≡◌, [], None, IfOk, length, position, option_copied};
+ghost use Rattle.std.specs.Prelude.{◌≡◌, [], None, IfOk, IfSome, length, position, option_copied, option_map};
 ghost use Rattle.std.specs.BTreeSet.{contains};
 ghost use Rattle.branch_tree.specs.Ready.{readiness_at};
 ghost use Rattle.depends.specs.Plans as plans;
@@ -43,11 +43,12 @@ impl History {
         self.world.frame(thread)
     }
 
-    /// What a thread can do next. Takes no memory.
-    pub fn ready(&self, thread: &ThreadName) -> Readiness
-        ensures { result ≡ readiness_at (paths_of (frames_of self.now.world) thread.now.exec) thread.now.path }
+    /// The frame of a thread, and what it can do next: its execution is looked up once. Takes no memory.
+    pub fn look_up(&self, thread: &ThreadName) -> Option<(&Frame, Readiness)>
+        ensures frame { option_map (λ p. p.0.now) result ≡ frames_of self.now.world thread.now }
+        ensures ready { IfSome result (λ p. p.1 ≡ readiness_at (paths_of (frames_of self.now.world) thread.now.exec) thread.now.path) }
     {
-        self.world.ready(thread)
+        self.world.look_up(thread)
     }
 
     /// The least name of a thread that has a move and is not passed by. Takes the memory and the time of `World::first_ready`:

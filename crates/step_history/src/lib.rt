@@ -5,8 +5,6 @@ mod history;
 mod laws;
 mod making;
 mod moving;
-#[cfg(test)]
-mod tests;
 mod undoing;
 
 pub use history::History;

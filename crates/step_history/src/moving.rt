@@ -27,24 +27,23 @@ fn has_work(state: &State) -> bool
 }
 
 impl History {
-    /// What a thread's move is to do, in the machine of its frame's level; none, where it waits, is done, has failed, isn't
-    /// there or stands nowhere in this machine. Takes what `prepare`, `joined` and `after_branch` take, and memory for the
+    /// What the move of a thread with this frame is to do, in the machine of the frame's level; none, where it waits, is done, has
+    /// failed or stands nowhere in this machine. Takes what `prepare`, `joined` and `after_branch` take, and memory for the
     /// name of each branch in turn; the outputs of branches are shared.
     pub fn next_of(
         &self,
         alloc: Global,
         machine: &SharedMachine,
         thread: &ThreadName,
+        frame: &Frame,
     ) -> Result<Option<Next>, AllocError>
         requires history { IsSomeHistory self.now }
+        requires frame { frames_of self.now.world thread.now ≡ Some frame.now }
         requires count { length self.now.records.items + 1 < 2 ^ 32 }
         requires depth { IfSome (frames_of self.now.world thread.now) (HasNamesBelow thread.now) }
         ensures { IfOk result (λ next. (s : Setting) (base : World) (ts : List Past) → IsHistory s base ts self.now → IsMachineOf s (frames_of self.now.world thread.now) machine.now → IsMoveOf s self.now.world thread.now next) }
     {
         nexts_are_moves();
-        let Some(frame) = self.world.frame(thread) else {
-            return Ok(None);
-        };
         let Some((_, state)) = standing(machine.machine(), frame) else {
             return Ok(None);
         };

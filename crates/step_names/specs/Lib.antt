@@ -1,3 +1,4 @@
+mod ExecView
 pub mod Thread
 pub mod Written
 pub mod Grammar

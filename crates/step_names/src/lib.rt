@@ -15,13 +15,12 @@
 //! by branch, the shorter path first; steps by their thread and then their number.
 #![tactic(auto)]
 
+mod exec_name;
 mod grammar;
 mod laws;
 mod path_buffer;
 mod room;
 mod step;
-#[cfg(test)]
-mod tests;
 mod thread;
 mod written;
 

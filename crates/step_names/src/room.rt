@@ -1,6 +1,7 @@
 ghost use Rattle.std.specs.Prelude.{◌≡◌, ◌≤◌, string_len, vec_len, vec_capacity};
 ghost use Rattle.std.specs.String.{string_capacity};
 
+use crate::exec_name::ExecName;
 use crate::path_buffer::MOST_BRANCHES;
 use crate::step::StepName;
 use crate::thread::{LONGEST_EXEC, ThreadName};
@@ -32,7 +33,7 @@ impl NameRoom {
         let NameRoom { mut exec, mut path } = self;
         let _ = exec.push_str(name.exec());
         let _ = path.extend_from_slice(name.path());
-        ThreadName::from_parts(exec, path)
+        ThreadName::from_parts(ExecName::roomed(exec), path)
     }
 
     /// A copy of a step's name, in this room. Takes no memory.

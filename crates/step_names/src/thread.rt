@@ -7,9 +7,11 @@ ghost use Rattle.step_names.specs.Grammar.{read_thread};
 ghost use Rattle.step_names.specs.Under.{is_under, IsUnder, goes_on_by};
 
 use crate::NameFault;
+use crate::exec_name::ExecName;
 use crate::grammar::{is_name, read_parts};
 use crate::path_buffer::MOST_BRANCHES;
 use crate::written::{path_len, push_path};
+use json_tree::Text;
 use std::alloc::{AllocError, Global};
 use std::cmp::Ordering;
 use std::marker::Model;
@@ -20,41 +22,42 @@ pub(crate) const LONGEST_EXEC: usize = 64;
 /// The most bytes that the name of a thread is written in: 64 of the execution's name, and 22 of each branch.
 pub const LONGEST_THREAD: usize = 746;
 
-/// The name of a thread.
+/// The name of a thread. The names of an execution's threads share the execution's name.
 ///
 /// Contracts see it as its execution's bytes and its list of branches, and so `≡` there, and `==` here, compare
 /// names and no capacities. It keeps the bounds of the grammar, so there is a longest name.
 #[derive(Debug, Drop)]
 pub struct ThreadName {
-    exec: String,
+    exec: ExecName,
     path: Vec<(u32, u32)>,
 }
 
 impl Model for ThreadName {
-    ghost use Rattle.std.specs.Prelude.{string_bytes};
     ghost use Rattle.step_names.specs.Thread.{Thread, IsThread};
 
     ghost Value = { Thread };
 
-    ghost view = { λ a. record { exec = string_bytes a.exec; path = a.path.items } };
+    ghost view = { λ a. record { exec = a.exec; path = a.path.items } };
 
-    ghost invariant = { λ a. IsThread (record { exec = string_bytes a.exec; path = a.path.items }) };
+    ghost invariant = { λ a. IsThread (record { exec = a.exec; path = a.path.items }) };
 }
 
 impl ThreadName {
     /// The execution's own thread, where the text is a NAME. Takes no memory, in time of the text's length.
-    pub fn new(exec: String) -> Option<ThreadName>
-        ensures { SomeIff result (IsTrue (is_name (string_bytes exec))) (execution (string_bytes exec)) }
+    pub fn new(alloc: Global, exec: Text) -> Option<ThreadName>
+        ensures { SomeIff result (IsTrue (is_name exec)) (execution exec) }
     {
         if !is_name(exec.as_str()) {
             return None;
         }
-        let path = Vec::new(*exec.allocator());
-        Some(ThreadName { exec, path })
+        Some(ThreadName {
+            exec: ExecName::shared(exec),
+            path: Vec::new(alloc),
+        })
     }
 
-    /// Reads a name. A text that is no name is told before any memory is asked for; a name takes a block for its
-    /// execution and one for its branches, if it has any. Time in proportion to the text.
+    /// Reads a name. A text that is no name is told before any memory is asked for; a name takes two blocks for an
+    /// execution of more than 22 bytes, and one for its branches, if it has any. Time in proportion to the text.
     ///
     /// # Errors
     ///
@@ -66,15 +69,18 @@ impl ThreadName {
         let Some((exec, path)) = read_parts(text) else {
             return Err(NameFault::BadName);
         };
-        let exec = String::from_str(alloc, exec)?;
+        let exec = Text::new(alloc, exec)?;
         let path = Vec::from_slice(alloc, path.as_slice())?;
-        Ok(ThreadName { exec, path })
+        Ok(ThreadName {
+            exec: ExecName::shared(exec),
+            path,
+        })
     }
 
     /// A name of parts that keep the bounds.
-    pub(crate) fn from_parts(exec: String, path: Vec<(u32, u32)>) -> ThreadName
-        requires { IsThread (record { exec = string_bytes exec; path = path.items }) }
-        ensures { result ≡ record { exec = string_bytes exec; path = path.items } }
+    pub(crate) fn from_parts(exec: ExecName, path: Vec<(u32, u32)>) -> ThreadName
+        requires { IsThread (record { exec = exec; path = path.items }) }
+        ensures { result ≡ record { exec = exec; path = path.items } }
     {
         ThreadName { exec, path }
     }
@@ -85,6 +91,13 @@ impl ThreadName {
         ensures bounds { IsThread self.now }
     {
         self.exec.as_str()
+    }
+
+    /// The execution's name, shared. Takes no memory, but where the name was made in a room and has more than 22 bytes.
+    pub fn exec_text(&self) -> Result<Text, AllocError>
+        ensures { IfOk result (λ t. t ≡ self.now.exec) }
+    {
+        self.exec.share()
     }
 
     /// The branches that lead to the thread, outermost first: the number of the step that forked, from 1, and the
@@ -103,12 +116,12 @@ impl ThreadName {
         self.path.is_empty()
     }
 
-    /// A copy, by the allocators that this name keeps. Takes a block for the execution and one for the branches, if
-    /// there are any.
+    /// A copy, which shares the execution's name. Takes a block for the branches, if there are any, by the allocator
+    /// that this name keeps; and two more where the name was made in a room and its execution has more than 22 bytes.
     pub fn copy(&self) -> Result<ThreadName, AllocError>
         ensures { IfOk result (λ t. t ≡ self.now) }
     {
-        let exec = String::from_str(*self.exec.allocator(), self.exec.as_str())?;
+        let exec = self.exec.copy()?;
         let path = Vec::from_slice(*self.path.allocator(), self.path.as_slice())?;
         Ok(ThreadName { exec, path })
     }
@@ -119,7 +132,7 @@ impl ThreadName {
         ensures bound { result ≤ LONGEST_THREAD }
         ensures bounds { IsThread self.now }
     {
-        self.exec.len() + path_len(self.path.as_slice())
+        self.exec.as_str().len() + path_len(self.path.as_slice())
     }
 
     /// The name's one spelling. Takes one block, of its length.
@@ -159,8 +172,8 @@ impl ThreadName {
         push_path(out, self.path.as_slice());
     }
 
-    /// The name of a branch of the fork that step `fork` of this thread made. Takes a block for the execution and one
-    /// for the branches.
+    /// The name of a branch of the fork that step `fork` of this thread made. It shares the execution's name, and takes
+    /// the memory of a copy of this name with a branch more.
     ///
     /// # Errors
     ///
@@ -173,7 +186,7 @@ impl ThreadName {
         if fork == 0 || self.path.len() == MOST_BRANCHES {
             return Err(NameFault::BadName);
         }
-        let exec = String::from_str(alloc, self.exec.as_str())?;
+        let exec = self.exec.copy()?;
         let mut path = Vec::with_capacity(alloc, self.path.len() + 1)?;
         path.extend_from_slice(self.path.as_slice())?;
         path.push((fork, branch))?;
@@ -186,7 +199,8 @@ impl ThreadName {
         ensures test { result ≡ is_under self.now thread.now fork }
         ensures under { IsTrue result ↔ IsUnder self.now thread.now fork }
     {
-        self.exec == thread.exec && goes_on_by(self.path.as_slice(), thread.path.as_slice(), fork)
+        self.exec.as_str() == thread.exec.as_str()
+            && goes_on_by(self.path.as_slice(), thread.path.as_slice(), fork)
     }
 }
 
@@ -250,7 +264,7 @@ impl Ord for ThreadName {
     ghost matches_eq = { λ _ _. refl };
 
     fn cmp(&self, other: &ThreadName) -> Ordering {
-        match self.exec.cmp(&other.exec) {
+        match self.exec.as_str().cmp(other.exec.as_str()) {
             Ordering::Equal => self.path.cmp(&other.path),
             unequal => unequal,
         }

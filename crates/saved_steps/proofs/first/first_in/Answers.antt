@@ -16,4 +16,4 @@ returns-then-has_ended c =
 pub returns : goal.returns
 returns c =
     in_place c.first_ready.result c.args.place.now c.in-Some.tree c.in-Some-new.name (execution c.args.exec.now) (contains thread_cmp c.args.passed.now) c.in-Some.is
-    (c.in-Some-new.ensures.1 ∙ ap execution c.in_ok-from_str.ensures.ok) c.first_ready.ensures
+    (c.in-Some-new.ensures.1 ∙ ap execution c.in_ok-new.ensures) c.first_ready.ensures

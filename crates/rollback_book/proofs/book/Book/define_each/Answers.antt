@@ -1,4 +1,4 @@
-use Rattle.std.proofs.Common.{◌+◌, ◌∷◌, ◌++◌, [], List, drop, take, suc, ap, sym, subst, ◌∙◌}
+use Rattle.std.proofs.Common.{◌∷◌, ◌++◌, [], List, drop, take, suc, ap, sym, subst, ◌∙◌}
 use Rattle.book_log.specs.Answers.{defines}
 use Rattle.book_log.specs.Legal.{IsLegal}
 use Rattle.book_log.specs.Story.{Story}

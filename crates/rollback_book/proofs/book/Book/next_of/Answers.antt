@@ -1,4 +1,4 @@
-use Rattle.std.proofs.Common.{sym, subst, Option}
+use Rattle.std.proofs.Common.{◌≡◌, sym, subst, Option, Some}
 use Rattle.std.specs.Prelude.{IfSome}
 use Rattle.asl_forward.specs.declared.frame.Frame.{Frame}
 use Rattle.saved_steps.specs.Held.{frames_of}
@@ -10,6 +10,9 @@ use Rattle.rollback_book.proofs.book.Book.next_of.Goals as goal
 
 pub next_name-requires : goal.next_name-requires
 next_name-requires c = c.in_ok-machine.ensures.few
+
+pub next_of-requires-clause-frame : goal.next_of-requires-clause-frame
+next_of-requires-clause-frame c = subst (λ (b : Volume). frames_of b.history.world c.args.thread.now ≡ Some c.in_ok-machine.frame.now) (sym c.self.view_is) c.in_ok-machine.ensures.frame
 
 pub next_of-requires-clause-depth : goal.next_of-requires-clause-depth
 next_of-requires-clause-depth c =

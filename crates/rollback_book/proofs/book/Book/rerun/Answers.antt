@@ -1,11 +1,12 @@
-use Rattle.std.proofs.Common.{◌≡◌, ◌∷◌, List, drop, take, suc, refl, ap, sym, subst, ◌∙◌, inl, inr, Ok, Err}
-use Rattle.step_names.specs.declared.step.StepName.{StepName}
+use Rattle.std.proofs.Common.{List, drop, take, suc, refl, ap, sym, subst, ◌∙◌, inl, inr, Ok}
+use Rattle.std.proofs.lemmas.List.{take_all}
 use Rattle.book_log.specs.Answers.{defines, rerun_answer, step_named}
 use Rattle.book_log.specs.Legal.{IsLegal}
 use Rattle.book_log.specs.Story.{Story, remaining}
 use Rattle.book_log.specs.declared.entry.Entry.{Entry}
 use Rattle.book_log.proofs.LegalRuns.{of_log}
 use Rattle.rollback_book.specs.Book.{Volume}
+use Rattle.rollback_book.proofs.Commuted.{cannot_run, rerun_of}
 use Rattle.rollback_book.proofs.Rerun.{begins, ends_here, goes_on, parts_at, take_next}
 use Rattle.rollback_book.proofs.book.Book.rerun.Goals as goal
 
@@ -17,8 +18,8 @@ loop-name-init c =
     begins c.args.self.now.story
     ∙ ap (λ (s : Story). Ok s) (sym (c.in_ok-again.ensures ∙ ap (λ (l : List Entry). of_log c.self.inside.begin (defines l)) c.as_slice.ensures.value ∙ ap (λ (b : Volume). of_log b.story.begin (defines b.story.log)) c.self.view_is))
 
-pub returns-in-Err : goal.returns-in-Err
-returns-in-Err c =
+pub returns-in-Err-clause-answer : goal.returns-in-Err-clause-answer
+returns-in-Err-clause-answer c =
     let story = c.args.self.now.story in
     let legal = subst (λ (b : Volume). IsLegal b.story) c.self.view_is c.self.invariant.legal in
     let steps = c.args.steps.now in
@@ -39,3 +40,16 @@ loop-name-preserved c =
     let name = c.name-item.result in
     ap (rerun_answer story) (take_next steps i name c.loop-name-test.true c.name-item.is)
     ∙ goes_on story legal (take i steps) c.loop-name.again.story c.loop-name.invariant name tt (step_named name (remaining story)) c.take_again.new.again.story refl c.in-Ok.ensures
+
+pub returns-in-Err-clause-err : goal.returns-in-Err-clause-err
+returns-in-Err-clause-err c =
+    let story = c.args.self.now.story in
+    let legal = subst (λ (b : Volume). IsLegal b.story) c.self.view_is c.self.invariant.legal in
+    elim (returns-in-Err-clause-answer c) [ inl m ↦ inl m | inr h ↦ inr (cannot_run story legal c.args.steps.now c.in-Err.refusal h) ]
+
+pub returns-clause-ok : goal.returns-clause-ok
+returns-clause-ok c =
+    let story = c.args.self.now.story in
+    let legal = subst (λ (b : Volume). IsLegal b.story) c.self.view_is c.self.invariant.legal in
+    let all = take_all c.loop-name.name-index c.args.steps.now c.loop-name-test.false in
+    rerun_of story legal c.args.steps.now c.loop-name.again.story (ap (rerun_answer story) (sym all) ∙ c.loop-name.invariant)

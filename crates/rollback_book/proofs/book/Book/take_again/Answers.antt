@@ -1,4 +1,4 @@
-use Rattle.std.proofs.Common.{rules, ◌≡◌, ◌≤◌, inr, refl, ap, sym, subst, ◌∙◌, true, Option, None, Err}
+use Rattle.std.proofs.Common.{rules, ◌≡◌, ◌≤◌, inr, refl, ap, sym, subst, true, Option, None, Err}
 use Rattle.std.specs.Prelude.{is_some}
 use Rattle.saved_steps.specs.Steps.{Step}
 use Rattle.book_log.specs.Answers.{step_named}

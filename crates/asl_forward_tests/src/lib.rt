@@ -1,0 +1,9 @@
+//! Tests of asl_forward, in a crate of their own, so that asl_forward is proved once and they alone anew.
+#![tactic(auto)]
+
+#[cfg(test)]
+mod handling_tests;
+#[cfg(test)]
+mod tests;
+#[cfg(test)]
+mod turn_tests;

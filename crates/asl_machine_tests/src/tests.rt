@@ -1,0 +1,504 @@
+use asl_machine::{LevelPath, Machine, MachineFault, Processing, SharedMachine, State, Transition};
+use json_tree::{Json, Text};
+use serde_json::Value;
+use std::alloc::{AllocError, Global};
+use std::test::Fail;
+
+/// How a test names a fault: its number in a reply, and the field or the state.
+fn told(fault: &MachineFault) -> (u32, &str) {
+    match fault {
+        MachineFault::Missing(name) => (1, name.as_str()),
+        MachineFault::UnknownField(name) => (2, name.as_str()),
+        MachineFault::Unsupported(name) => (3, name.as_str()),
+        MachineFault::BadField(name) => (4, name.as_str()),
+        MachineFault::NoTarget(name) => (5, name.as_str()),
+        MachineFault::NextAndEnd(name) => (6, name.as_str()),
+        MachineFault::StatesAllPlace => (7, ""),
+        MachineFault::TooDeep => (8, ""),
+        MachineFault::Memory => (9, ""),
+    }
+}
+
+/// The machine that a text defines, or what its refusal is told as.
+pub fn machine_of(alloc: Global, text: &str) -> Result<Result<Machine, MachineFault>, Fail> {
+    let definition = Value::from_str(alloc, text)?;
+    Ok(Machine::read(alloc, &definition))
+}
+
+pub fn is_refused(alloc: Global, text: &str, number: u32, name: &str) -> Result<bool, Fail> {
+    match machine_of(alloc, text)? {
+        Ok(_) => Ok(false),
+        Err(fault) => Ok(told(&fault) == (number, name)),
+    }
+}
+
+pub fn is_read(alloc: Global, text: &str) -> Result<bool, Fail> {
+    Ok(machine_of(alloc, text)?.is_ok())
+}
+
+/// Definitions with one fault each, the fault's number, and what it is about.
+const FAULTS: &[(&str, u32, &str)] = &[
+    ("7", 1, "StartAt"),
+    ("[]", 1, "StartAt"),
+    (r#"{"States":{"P":{"Type":"Succeed"}}}"#, 1, "StartAt"),
+    (r#"{"StartAt":"P"}"#, 1, "States"),
+    (r#"{"StartAt":"P","States":{"P":{}}}"#, 1, "Type"),
+    (
+        r#"{"StartAt":"P","States":{"P":{"Type":"Pass"}}}"#,
+        1,
+        "Next",
+    ),
+    (
+        r#"{"StartAt":"P","States":{"P":{"Type":"Pass","End":false}}}"#,
+        1,
+        "Next",
+    ),
+    (
+        r#"{"StartAt":"P","States":{"P":{"Type":"Succeed"}},"Startat":"P"}"#,
+        2,
+        "Startat",
+    ),
+    (
+        r#"{"StartAt":"P","States":{"P":{"Type":"Succeed","Result":1}}}"#,
+        2,
+        "Result",
+    ),
+    (
+        r#"{"StartAt":"P","States":{"P":{"Type":"Succeed","End":true}}}"#,
+        2,
+        "End",
+    ),
+    (
+        r#"{"StartAt":"P","States":{"P":{"Type":"Pass","End":true,"Resource":"x"}}}"#,
+        2,
+        "Resource",
+    ),
+    (
+        r#"{"StartAt":"P","States":{"P":{"Type":"Pass","End":true,"TimeoutSeconds":1}}}"#,
+        2,
+        "TimeoutSeconds",
+    ),
+    (
+        r#"{"StartAt":"P","States":{"P":{"Type":"Succeed"}},"QueryLanguage":"JSONata"}"#,
+        3,
+        "QueryLanguage",
+    ),
+    (
+        r#"{"StartAt":"P","States":{"P":{"Type":"Succeed","QueryLanguage":"JSONata"}}}"#,
+        3,
+        "QueryLanguage",
+    ),
+    (
+        r#"{"StartAt":"P","States":{"P":{"Type":"Succeed"}},"QueryLanguage":"SQL"}"#,
+        4,
+        "QueryLanguage",
+    ),
+    (
+        r#"{"StartAt":"P","States":{"P":{"Type":"Succeed","QueryLanguage":null}}}"#,
+        4,
+        "QueryLanguage",
+    ),
+    (
+        r#"{"StartAt":7,"States":{"P":{"Type":"Succeed"}}}"#,
+        4,
+        "StartAt",
+    ),
+    (r#"{"StartAt":"P","States":[]}"#, 4, "States"),
+    (r#"{"StartAt":"P","States":{"P":7}}"#, 4, "States"),
+    (r#"{"StartAt":"P","States":{"P":{"Type":7}}}"#, 4, "Type"),
+    (
+        r#"{"StartAt":"P","States":{"P":{"Type":"pass","End":true}}}"#,
+        4,
+        "Type",
+    ),
+    (
+        r#"{"StartAt":"P","States":{"P":{"Type":"Pass","End":"true"}}}"#,
+        4,
+        "End",
+    ),
+    (
+        r#"{"StartAt":"P","States":{"P":{"Type":"Pass","Next":7}}}"#,
+        4,
+        "Next",
+    ),
+    (
+        r#"{"StartAt":"P","States":{"P":{"Type":"Pass","End":true,"Result":[{"x":1.5}]}}}"#,
+        4,
+        "Result",
+    ),
+    (
+        r#"{"StartAt":"P","States":{"P":{"Type":"Pass","End":true,"Result":9223372036854775808}}}"#,
+        4,
+        "Result",
+    ),
+    (
+        r#"{"StartAt":"p","States":{"P":{"Type":"Succeed"}}}"#,
+        5,
+        "p",
+    ),
+    (r#"{"StartAt":"P","States":{}}"#, 5, "P"),
+    (
+        r#"{"StartAt":"P","States":{"P":{"Type":"Pass","Next":"Q"}}}"#,
+        5,
+        "Q",
+    ),
+    (
+        r#"{"StartAt":"P","States":{"P":{"Type":"Pass","Next":"P","End":true}}}"#,
+        6,
+        "P",
+    ),
+    (
+        r#"{"StartAt":"P","States":{"P":{"Type":"Pass","End":true,"InputPath":7}}}"#,
+        4,
+        "InputPath",
+    ),
+    (
+        r#"{"StartAt":"P","States":{"P":{"Type":"Pass","End":true,"InputPath":"a"}}}"#,
+        4,
+        "InputPath",
+    ),
+    (
+        r#"{"StartAt":"P","States":{"P":{"Type":"Succeed","OutputPath":"$.a["}}}"#,
+        4,
+        "OutputPath",
+    ),
+    (
+        r#"{"StartAt":"P","States":{"P":{"Type":"Succeed","OutputPath":true}}}"#,
+        4,
+        "OutputPath",
+    ),
+    (
+        r#"{"StartAt":"P","States":{"P":{"Type":"Pass","End":true,"ResultPath":"$$.a"}}}"#,
+        4,
+        "ResultPath",
+    ),
+    (
+        r#"{"StartAt":"P","States":{"P":{"Type":"Pass","End":true,"ResultPath":{}}}}"#,
+        4,
+        "ResultPath",
+    ),
+    (
+        r#"{"StartAt":"P","States":{"P":{"Type":"Pass","End":true,"Parameters":{"x.$":"a"}}}}"#,
+        4,
+        "x.$",
+    ),
+    (
+        r#"{"StartAt":"P","States":{"P":{"Type":"Pass","End":true,"Parameters":{"x.$":7}}}}"#,
+        4,
+        "x.$",
+    ),
+    (
+        r#"{"StartAt":"P","States":{"P":{"Type":"Pass","End":true,"Parameters":{"x":[0.5]}}}}"#,
+        4,
+        "Parameters",
+    ),
+    (
+        r#"{"StartAt":"P","States":{"P":{"Type":"Pass","End":true,"Parameters":{"x.$":"States.UUID()"}}}}"#,
+        3,
+        "x.$",
+    ),
+    (
+        r#"{"StartAt":"P","States":{"P":{"Type":"Pass","End":true,"Parameters":{"x.$":"$$.Map.Item.Index"}}}}"#,
+        3,
+        "x.$",
+    ),
+    (
+        r#"{"StartAt":"P","States":{"P":{"Type":"Succeed","ResultPath":"$"}}}"#,
+        2,
+        "ResultPath",
+    ),
+    (
+        r#"{"StartAt":"P","States":{"P":{"Type":"Succeed","Parameters":{}}}}"#,
+        2,
+        "Parameters",
+    ),
+    (
+        r#"{"StartAt":"P","States":{"P":{"Type":"Pass","End":true,"ResultSelector":{}}}}"#,
+        2,
+        "ResultSelector",
+    ),
+    (
+        r#"{"StartAt":"P","States":{"P":{"Type":"Wait","Seconds":1}}}"#,
+        1,
+        "Next",
+    ),
+    (
+        r#"{"StartAt":"P","States":{"P":{"Type":"Wait","End":true,"Result":1}}}"#,
+        2,
+        "Result",
+    ),
+    (
+        r#"{"StartAt":"P","States":{"P":{"Type":"Wait","End":true,"InputPath":1}}}"#,
+        4,
+        "InputPath",
+    ),
+    (
+        r#"{"StartAt":"P","States":{"P":{"Type":"Wait","Next":"Q"}}}"#,
+        5,
+        "Q",
+    ),
+    (
+        r#"{"StartAt":"P","States":{"P":{"Type":"Wait","Next":"P","End":true}}}"#,
+        6,
+        "P",
+    ),
+    (
+        r#"{"StartAt":"P","States":{"P":{"Type":"Fail","Error":7}}}"#,
+        4,
+        "Error",
+    ),
+    (
+        r#"{"StartAt":"P","States":{"P":{"Type":"Fail","Cause":null}}}"#,
+        4,
+        "Cause",
+    ),
+    (
+        r#"{"StartAt":"P","States":{"P":{"Type":"Fail","End":false}}}"#,
+        2,
+        "End",
+    ),
+    (
+        r#"{"StartAt":"P","States":{"P":{"Type":"Fail","InputPath":"$"}}}"#,
+        2,
+        "InputPath",
+    ),
+    (
+        r#"{"StartAt":"P","States":{"P":{"Type":"Fail","ErrorPath":"$.e"}}}"#,
+        3,
+        "ErrorPath",
+    ),
+];
+
+#[test]
+fn names_each_fault(rt: HostRuntime) -> Result<(), Fail> {
+    for &(text, number, name) in FAULTS {
+        assert!(rt; is_refused(rt.alloc(), text, number, name)?, "at {text}");
+    }
+    Ok(())
+}
+
+/// What stays outside at every place ("State Machine Structure", "State Types", and the names of JSONata's fields).
+const LEFT_OUT: &[&str] = &[
+    "Assign",
+    "Output",
+    "Arguments",
+    "Items",
+    "Condition",
+    "ItemReader",
+    "ItemBatcher",
+    "ResultWriter",
+    "Label",
+    "MaxConcurrencyPath",
+    "ToleratedFailureCount",
+    "ToleratedFailureCountPath",
+    "ToleratedFailurePercentage",
+    "ToleratedFailurePercentagePath",
+    "ErrorPath",
+    "CausePath",
+    "Credentials",
+    "StringEqualsPath",
+    "StringLessThanPath",
+    "StringGreaterThanPath",
+    "StringLessThanEqualsPath",
+    "StringGreaterThanEqualsPath",
+    "NumericEqualsPath",
+    "NumericLessThanPath",
+    "NumericGreaterThanPath",
+    "NumericLessThanEqualsPath",
+    "NumericGreaterThanEqualsPath",
+    "BooleanEqualsPath",
+    "TimestampEquals",
+    "TimestampEqualsPath",
+    "TimestampLessThan",
+    "TimestampLessThanPath",
+    "TimestampGreaterThan",
+    "TimestampGreaterThanPath",
+    "TimestampLessThanEquals",
+    "TimestampLessThanEqualsPath",
+    "TimestampGreaterThanEquals",
+    "TimestampGreaterThanEqualsPath",
+    "IsTimestamp",
+    "StringMatches",
+];
+
+#[test]
+fn leaves_names_out_everywhere(rt: HostRuntime) -> Result<(), Fail> {
+    let alloc = rt.alloc();
+    for &name in LEFT_OUT {
+        let top = format!(in alloc;
+            r#"{{"StartAt":"P","States":{{"P":{{"Type":"Succeed"}}}},"{name}":1}}"#
+        )?;
+        assert!(rt; is_refused(alloc, &top, 3, name)?, "at {top}");
+        let pass = format!(in alloc;
+            r#"{{"StartAt":"P","States":{{"P":{{"Type":"Pass","End":true,"{name}":1}}}}}}"#
+        )?;
+        assert!(rt; is_refused(alloc, &pass, 3, name)?, "at {pass}");
+        let succeed = format!(in alloc;
+            r#"{{"StartAt":"P","States":{{"P":{{"Type":"Succeed","{name}":1}}}}}}"#
+        )?;
+        assert!(rt; is_refused(alloc, &succeed, 3, name)?, "at {succeed}");
+    }
+    Ok(())
+}
+
+const MACHINES: &[&str] = &[
+    r#"{"StartAt":"P","States":{"P":{"Type":"Pass","Result":7,"End":true}}}"#,
+    r#"{"Comment":1,"Version":1.5,"TimeoutSeconds":"x","QueryLanguage":"JSONPath","StartAt":"","States":{"":{"Type":"Succeed"}}}"#,
+    r#"{"StartAt":"A","States":{"A":{"Type":"Pass","End":false,"Next":"B","Comment":[1.5]},"B":{"Type":"Succeed","QueryLanguage":"JSONPath"}}}"#,
+    r#"{"StartAt":"A","States":{"A":{"Type":"Pass","Next":"A"}}}"#,
+    r#"{"StartAt":"A","States":{"A":{"Type":"Pass","End":true,"InputPath":null,"OutputPath":"$.a[0]","ResultPath":"$['b']","Parameters":{"x.$":"$.c","y":[1,{"z.$":"$"}]}}}}"#,
+    r#"{"StartAt":"S","States":{"S":{"Type":"Succeed","InputPath":"$","OutputPath":null}}}"#,
+    r#"{"StartAt":"A","States":{"A":{"Type":"Pass","End":true,"Parameters":7}}}"#,
+    r#"{"StartAt":"W","States":{"W":{"Type":"Wait","Seconds":1.5,"TimestampPath":7,"Next":"F"},"F":{"Type":"Fail","Error":"X","Comment":{}}}}"#,
+    r#"{"StartAt":"F","States":{"F":{"Type":"Fail"}}}"#,
+];
+
+#[test]
+fn reads_machines(rt: HostRuntime) -> Result<(), Fail> {
+    for &text in MACHINES {
+        assert!(rt; is_read(rt.alloc(), text)?, "at {text}");
+    }
+    Ok(())
+}
+
+/// Whether the state of this name is a Pass that goes to the state `next`, with this whole number as its result.
+fn passes_to(
+    machine: &Machine,
+    path: &LevelPath,
+    name: &Text,
+    next: &str,
+    want: Option<i64>,
+) -> bool {
+    let Some(State::Pass(pass)) = machine.state_at(path, name) else {
+        return false;
+    };
+    let goes = match &pass.transition {
+        Transition::Next(to) => to.as_str() == next,
+        Transition::End => next == "",
+    };
+    let found = match &pass.result {
+        Some(Json::Whole(found)) => Some(*found),
+        _ => None,
+    };
+    goes && found == want
+}
+
+fn is_machine_of_two(alloc: Global, machine: &Machine) -> Result<bool, AllocError> {
+    let outermost = LevelPath::outermost(alloc);
+    let first = Text::new(alloc, "A")?;
+    let second = Text::new(alloc, "B")?;
+    let absent = Text::new(alloc, "C")?;
+    Ok(
+        machine.start().as_str() == "A"
+            && passes_to(machine, &outermost, &first, "B", Some(-7))
+            && passes_to(machine, &outermost, &second, "", None)
+            && machine.state_at(&outermost, &absent).is_none(),
+    )
+}
+
+#[test]
+fn finds_states(rt: HostRuntime) -> Result<(), Fail> {
+    let alloc = rt.alloc();
+    let text =
+        r#"{"StartAt":"A","States":{"B":{"Type":"Pass","End":true},"A":{"Type":"Pass","Result":-7,"Next":"B"}}}"#;
+    let Ok(machine) = machine_of(alloc, text)? else {
+        return Err("a machine is refused".into());
+    };
+    let shared = SharedMachine::new(alloc, machine)?;
+    let again = shared.share()?;
+    assert!(rt; is_machine_of_two(alloc, shared.machine())?);
+    assert!(rt; is_machine_of_two(alloc, again.machine())?);
+    Ok(())
+}
+
+/// A Pass state with each of its fields.
+const PROCESSED: &str =
+    r#"{"StartAt":"A","States":{"A":{"Type":"Pass","InputPath":"$.a","OutputPath":null,"Parameters":{"x.$":"$.c"},"Next":"B"},"B":{"Type":"Succeed"}}}"#;
+
+/// Whether paths are those of that state: one is read, one is `$`, and one is none.
+fn is_processed(processing: &Processing) -> bool {
+    processing.input_path.is_some()
+        && processing.result_path.is_some()
+        && processing.output_path.is_none()
+        && processing.parameters.is_some()
+        && processing.result_selector.is_none()
+}
+
+#[test]
+fn reads_processing(rt: HostRuntime) -> Result<(), Fail> {
+    let alloc = rt.alloc();
+    let Ok(machine) = machine_of(alloc, PROCESSED)? else {
+        return Err("a machine is refused".into());
+    };
+    let outermost = LevelPath::outermost(alloc);
+    let first = Text::new(alloc, "A")?;
+    let last = Text::new(alloc, "B")?;
+    let Some(State::Pass(pass)) = machine.state_at(&outermost, &first) else {
+        return Err("no Pass state is found".into());
+    };
+    assert!(rt; is_processed(&pass.processing));
+    let Some(State::Succeed(succeed)) = machine.state_at(&outermost, &last) else {
+        return Err("no Succeed state is found".into());
+    };
+    assert!(rt; succeed.processing.parameters.is_none());
+    assert!(rt; succeed.processing.output_path.is_some());
+    Ok(())
+}
+
+const FAILING: &str = r#"{"StartAt":"F","States":{"F":{"Type":"Fail","Error":"X"}}}"#;
+
+#[test]
+fn reads_errors(rt: HostRuntime) -> Result<(), Fail> {
+    let alloc = rt.alloc();
+    let Ok(machine) = machine_of(alloc, FAILING)? else {
+        return Err("a machine is refused".into());
+    };
+    let outermost = LevelPath::outermost(alloc);
+    let Some(State::Fail(state)) = machine.state_at(&outermost, machine.start()) else {
+        return Err("no Fail state is found".into());
+    };
+    assert_eq!(rt; state.error.as_str(), "X");
+    assert_eq!(rt; state.cause.as_str(), "");
+    Ok(())
+}
+
+/// Machines of which no two are one: each differs from the first in one place.
+const UNLIKE: &[&str] = &[
+    r#"{"StartAt":"A","States":{"A":{"Type":"Pass","Next":"B"},"B":{"Type":"Map","ItemProcessor":{"StartAt":"C","States":{"C":{"Type":"Succeed"}}},"End":true}}}"#,
+    r#"{"StartAt":"B","States":{"A":{"Type":"Pass","Next":"B"},"B":{"Type":"Map","ItemProcessor":{"StartAt":"C","States":{"C":{"Type":"Succeed"}}},"End":true}}}"#,
+    r#"{"StartAt":"A","States":{"A":{"Type":"Pass","Next":"A"},"B":{"Type":"Map","ItemProcessor":{"StartAt":"C","States":{"C":{"Type":"Succeed"}}},"End":true}}}"#,
+    r#"{"StartAt":"A","States":{"A":{"Type":"Pass","Next":"B","Result":7},"B":{"Type":"Map","ItemProcessor":{"StartAt":"C","States":{"C":{"Type":"Succeed"}}},"End":true}}}"#,
+    r#"{"StartAt":"A","States":{"A":{"Type":"Pass","Next":"B"},"B":{"Type":"Map","ItemProcessor":{"StartAt":"C","States":{"C":{"Type":"Fail"}}},"End":true}}}"#,
+    r#"{"StartAt":"A","States":{"A":{"Type":"Pass","Next":"B"},"B":{"Type":"Map","ItemProcessor":{"StartAt":"C","States":{"C":{"Type":"Succeed"}}},"ItemSelector":{"i.$":"$$.Map.Item.Index"},"End":true}}}"#,
+    r#"{"StartAt":"A","States":{"A":{"Type":"Pass","Next":"B"},"B":{"Type":"Map","ItemProcessor":{"StartAt":"C","States":{"C":{"Type":"Succeed"}}},"Retry":[{"ErrorEquals":["E"]}],"End":true}}}"#,
+    r#"{"StartAt":"A","States":{"A":{"Type":"Pass","Next":"B"},"B":{"Type":"Parallel","Branches":[{"StartAt":"C","States":{"C":{"Type":"Succeed"}}}],"End":true}}}"#,
+    r#"{"StartAt":"A","States":{"A":{"Type":"Pass","Next":"B"},"B":{"Type":"Succeed"},"C":{"Type":"Succeed"}}}"#,
+    r#"{"StartAt":"A","States":{"A":{"Type":"Pass","Next":"B"},"B":{"Type":"Choice","Choices":[{"Not":{"Variable":"$.a","NumericEquals":1},"Next":"A"}]}}}"#,
+    r#"{"StartAt":"A","States":{"A":{"Type":"Pass","Next":"B"},"B":{"Type":"Choice","Choices":[{"Not":{"Variable":"$.a","NumericEquals":2},"Next":"A"}]}}}"#,
+];
+
+/// Whether two texts define one machine; none, where one of them defines none.
+fn are_one(alloc: Global, text: &str, other: &str) -> Result<Option<bool>, Fail> {
+    let (Ok(machine), Ok(another)) = (machine_of(alloc, text)?, machine_of(alloc, other)?) else {
+        return Ok(None);
+    };
+    Ok(Some(machine == another))
+}
+
+#[test]
+fn compares_machines(rt: HostRuntime) -> Result<(), Fail> {
+    let alloc = rt.alloc();
+    for &text in UNLIKE {
+        for &other in UNLIKE {
+            assert!(rt;
+                are_one(alloc, text, other)? == Some(text == other),
+                "{text} {other}"
+            );
+        }
+    }
+    let spelled =
+        r#" {"States":{"A":{"End":false,"Next":"A","Comment":1,"Type":"Pass"}},"StartAt":"A"}"#;
+    let plain = r#"{"StartAt":"A","States":{"A":{"Type":"Pass","Next":"A","InputPath":"$"}}}"#;
+    assert!(rt; are_one(alloc, spelled, plain)? == Some(true));
+    Ok(())
+}
