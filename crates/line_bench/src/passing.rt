@@ -1,6 +1,6 @@
 // A machine of three Pass states, which pass their input on, over inputs of 10 kB and over empty ones.
+use crate::lines::{Timed, serve_lines, time_lines};
 use crate::reopening::session_in_memory;
-use crate::{Timed, serve_lines, time_lines};
 use operator_line::Session;
 use sqlite::Alter;
 use std::alloc::Global;

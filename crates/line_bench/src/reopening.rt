@@ -1,5 +1,5 @@
 // Sessions on journals: what a start and a step cost there, and how long a journal takes to be opened again.
-use crate::{BEGINNING, Timed, serve_lines, starts, steps, time_lines};
+use crate::lines::{BEGINNING, Timed, serve_lines, starts, steps, time_lines};
 use anyhow::Context;
 use book_journal::Journal;
 use operator_line::Session;
@@ -97,17 +97,12 @@ fn time_file(rt: &HostRuntime, path: &str, count: u32) -> anyhow::Result<()> {
 }
 
 /// Serves so many starts and steps on a journal in memory, and on a file where one is named, and opens each again.
-pub(crate) fn time_journals(
-    rt: &HostRuntime,
-    word: &str,
-    path: Option<String>,
-) -> anyhow::Result<()> {
-    let count: u32 = word.parse().context("the number of executions")?;
+pub(crate) fn time(rt: &HostRuntime, count: u32, path: Option<&String>) -> anyhow::Result<()> {
     let conn = Connection::open_in_memory(rt.alloc())?;
     let (kept, _conn) = time_kept(rt, rt.alloc(), conn, count)?;
     print_kept(rt, "in memory", &kept)?;
     match path {
-        Some(path) => time_file(rt, &path, count),
+        Some(path) => time_file(rt, path.as_str(), count),
         None => Ok(()),
     }
 }

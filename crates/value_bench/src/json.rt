@@ -1,19 +1,12 @@
 // Reads a document by `json_tree` and by `serde_json` alone, copies it, puts a value three steps deep into a copy, writes it,
-// compares it with another of its text, and drops it. With a number of rounds as its argument it prints how long each took
-// on average, for a document of 8 kB and, in a hundredth of the rounds, for one of 1 MB. With `hold`, a count and a name of
-// those that `hold` lists it reads that many times and keeps what was read, so that the process' peak of memory tells its size.
-#![tactic(auto)]
-
-mod holding;
-mod timing;
-
-use anyhow::Context;
-use holding::{hold_copies, hold_trees, hold_values};
+// compares it with another of its text, and drops it, for a document of 8 kB and, in a hundredth of the rounds, for one of
+// 1 MB; and keeps what was read, so that the process' peak of memory tells its size.
+use crate::holding::{hold_copies, hold_trees, hold_values};
+use crate::timing::time_all;
+use crate::{number, rounds};
 use json_tree::{read, write_text};
 use std::alloc::Global;
-use std::env;
 use std::rt::Runtime;
-use timing::time_all;
 
 /// An object with that many orders.
 fn orders(alloc: Global, count: u32) -> anyhow::Result<String> {
@@ -67,36 +60,27 @@ fn is_written_as_read(alloc: Global, text: &str) -> anyhow::Result<bool> {
     Ok(written?.as_str() == text)
 }
 
-fn number(word: &str) -> anyhow::Result<u32> {
-    let number: u32 = word.parse().context("a number")?;
-    Ok(number)
-}
-
 fn time_documents(rt: &impl Runtime, alloc: Global, rounds: u32) -> anyhow::Result<()> {
     time_all(rt, alloc, &orders(alloc, 66)?, rounds)?;
     time_all(rt, alloc, &orders(alloc, 8000)?, rounds / 100)
 }
 
-fn run(rt: &impl Runtime, alloc: Global, words: &[String]) -> anyhow::Result<()> {
+/// With `hold`, a count and a name of those that `hold` lists, reads that many times and keeps what was read; else prints how
+/// long each call took on average of so many rounds.
+pub(crate) fn time(rt: &impl Runtime, alloc: Global, words: &[String]) -> anyhow::Result<()> {
     match words {
-        [] => Ok(()),
         [word, count, what] if word.as_str() == "hold" => {
             let held = hold(alloc, what.as_str(), number(count.as_str())?)?;
             println!(rt; "{held} held")?;
             Ok(())
         }
-        [rounds, ..] => time_documents(rt, alloc, number(rounds.as_str())?),
+        words => time_documents(rt, alloc, rounds(words)?),
     }
 }
 
-fn main(rt: HostRuntime) -> anyhow::Result<()> {
-    let alloc = rt.alloc();
+pub(crate) fn show(rt: &impl Runtime, alloc: Global) -> anyhow::Result<()> {
     let text = orders(alloc, 1000)?;
     let same = is_written_as_read(alloc, &text)?;
     println!(rt; "{} bytes, written as they were read: {same}", text.len())?;
-    let mut words = Vec::new(alloc);
-    for word in env::args(&rt)?.skip(1) {
-        words.push(word)?;
-    }
-    run(&rt, alloc, words.as_slice())
+    Ok(())
 }

@@ -1,13 +1,7 @@
-// Reads definitions from its input, a name and a definition on each line, and tells of each that it is one, or why it is refused; and
-// reads one of 41 states. With a number of rounds as its argument it also prints how many definitions were read a second, beside
-// `serde_json`'s reading of the same text.
-#![tactic(auto)]
-
-use anyhow::Context;
+// Tells of definitions that they are machines, or why they are refused; and reads one of 41 states.
 use asl_machine::{Machine, MachineFault};
 use serde_json::Value;
 use std::alloc::{AllocError, Global};
-use std::env;
 use std::rt::Runtime;
 use std::time::{Duration, Instant};
 
@@ -61,7 +55,8 @@ fn rate(things: usize, took: Duration) -> u128 {
     (things as u128).saturating_mul(1_000_000) / took.as_micros().max(1)
 }
 
-fn time_reading(rt: &impl Runtime, alloc: Global, rounds: u32) -> anyhow::Result<()> {
+/// Prints how many definitions were read a second, beside `serde_json`'s reading of the same text.
+pub(crate) fn time(rt: &impl Runtime, alloc: Global, rounds: u32) -> anyhow::Result<()> {
     let text = definition(alloc, BLOCKS)?;
     let mut values = 0usize;
     let start = Instant::now(rt)?;
@@ -110,8 +105,8 @@ fn answer(alloc: Global, definition: &str) -> anyhow::Result<String> {
     Ok(answered?)
 }
 
-/// Tells of each definition of the input what it is.
-fn answer_all(rt: &HostRuntime, alloc: Global) -> anyhow::Result<()> {
+/// Tells of each definition of the input what it is: each line has a name and a definition.
+pub(crate) fn answer_all(rt: &HostRuntime, alloc: Global) -> anyhow::Result<()> {
     for line in rt.lines(alloc) {
         let line = line?;
         if let Some((name, definition)) = line.as_str().split_once(' ') {
@@ -122,20 +117,9 @@ fn answer_all(rt: &HostRuntime, alloc: Global) -> anyhow::Result<()> {
     Ok(())
 }
 
-fn show(rt: &impl Runtime, alloc: Global) -> anyhow::Result<()> {
+pub(crate) fn show(rt: &impl Runtime, alloc: Global) -> anyhow::Result<()> {
     let text = definition(alloc, BLOCKS)?;
     let is_read = read_definition(alloc, &text) == 1;
     println!(rt; "a definition of 41 states is read: {is_read}")?;
-    Ok(())
-}
-
-fn main(rt: HostRuntime) -> anyhow::Result<()> {
-    let alloc = rt.alloc();
-    answer_all(&rt, alloc)?;
-    show(&rt, alloc)?;
-    if let Some(rounds) = env::args(&rt)?.nth(1) {
-        let rounds: u32 = rounds.parse().context("the number of rounds")?;
-        time_reading(&rt, alloc, rounds)?;
-    }
     Ok(())
 }

@@ -1,17 +1,10 @@
-// Makes a turn of each state, and the frame that comes of a call, of branches and of an error, and tells what came of it. With a
-// number of rounds as its argument it also prints how many of each were made a second.
-#![tactic(auto)]
-
-mod turns;
-
+// Makes a turn of each state, and the frame that comes of a call, of branches and of an error, and tells what came of it.
 use crate::turns::{Act, Comes, rounds_of};
-use anyhow::Context;
 use asl_forward::{Frame, first_frame};
 use asl_machine::{Machine, SharedMachine};
 use json_tree::{Json, Text, read};
 use serde_json::Value;
 use std::alloc::{AllocError, Global};
-use std::env;
 use std::rt::Runtime;
 use std::time::{Duration, Instant};
 
@@ -189,7 +182,7 @@ fn time_row(
     timed
 }
 
-fn show(rt: &impl Runtime, alloc: Global) -> anyhow::Result<()> {
+pub(crate) fn show(rt: &impl Runtime, alloc: Global) -> anyhow::Result<()> {
     for row in ROWS {
         let (made, _) = time_row(rt, alloc, row, 2)?;
         println!(rt; "{}: {} {made} times of 2", row.0, row.4.name())?;
@@ -197,20 +190,11 @@ fn show(rt: &impl Runtime, alloc: Global) -> anyhow::Result<()> {
     Ok(())
 }
 
-fn time_all(rt: &impl Runtime, alloc: Global, rounds: u32) -> anyhow::Result<()> {
+/// Prints how many of each were made a second.
+pub(crate) fn time(rt: &impl Runtime, alloc: Global, rounds: u32) -> anyhow::Result<()> {
     for row in ROWS {
         let (_, rate) = time_row(rt, alloc, row, rounds)?;
         println!(rt; "{}: {rate} a second", row.0)?;
-    }
-    Ok(())
-}
-
-fn main(rt: HostRuntime) -> anyhow::Result<()> {
-    let alloc = rt.alloc();
-    show(&rt, alloc)?;
-    if let Some(rounds) = env::args(&rt)?.nth(1) {
-        let rounds: u32 = rounds.parse().context("the number of rounds")?;
-        time_all(&rt, alloc, rounds)?;
     }
     Ok(())
 }

@@ -1,12 +1,7 @@
-// Reads and writes items. With a number of rounds as its argument it also prints how many items a second each step took,
-// beside `json_tree` on the same text.
-#![tactic(auto)]
-
-use anyhow::Context;
+// Reads and writes items, beside `json_tree` on the same text.
 use attr_values::{Item, read_item, write_item};
 use json_tree::{Json, JsonList, read, write_text};
 use std::alloc::Global;
-use std::env;
 use std::rt::Runtime;
 use std::time::{Duration, Instant};
 
@@ -96,16 +91,22 @@ fn time_writing(
     Ok(())
 }
 
-fn main(rt: HostRuntime) -> anyhow::Result<()> {
-    let alloc = rt.alloc();
+fn stocked(alloc: Global, text: &str) -> anyhow::Result<Vec<Item>> {
+    read_items(alloc, &read(alloc, text.as_bytes())?)
+}
+
+pub(crate) fn show(rt: &impl Runtime, alloc: Global) -> anyhow::Result<()> {
     let text = stock(alloc, 1000)?;
-    let items = read_items(alloc, &read(alloc, text.as_bytes())?)?;
+    let items = stocked(alloc, &text)?;
     let same = write_text(alloc, &write_items(alloc, items.as_slice())?)? == text;
     println!(rt; "{} items, written as they were read: {same}", items.len())?;
-    if let Some(rounds) = env::args(&rt)?.nth(1) {
-        let rounds: u32 = rounds.parse().context("the number of rounds")?;
-        time_reading(&rt, alloc, &text, rounds)?;
-        time_writing(&rt, alloc, items.as_slice(), rounds)?;
-    }
     Ok(())
+}
+
+/// Prints how many items a second each step took.
+pub(crate) fn time(rt: &impl Runtime, alloc: Global, rounds: u32) -> anyhow::Result<()> {
+    let text = stock(alloc, 1000)?;
+    time_reading(rt, alloc, &text, rounds)?;
+    let items = stocked(alloc, &text)?;
+    time_writing(rt, alloc, items.as_slice(), rounds)
 }

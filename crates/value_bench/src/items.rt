@@ -1,13 +1,8 @@
-// Keeps 60,000 items and lists them. With a number of rounds as its argument it also prints how many slots were found and
-// items swapped a second, among 1,000 items and among 60,000, and how long a listing of 60,000 took.
-#![tactic(auto)]
-
-use anyhow::Context;
+// Keeps items and lists them, finds slots and swaps, among 1,000 items and among 60,000.
 use attr_values::{Item, Key, KeyAttribute, KeySchema, KeyType, Value, key_of, read_item};
 use item_store::{ItemStore, SlotNo};
 use json_tree::{Text, read};
 use std::alloc::{AllocError, Global};
-use std::env;
 use std::rt::Runtime;
 use std::time::{Duration, Instant};
 
@@ -202,16 +197,20 @@ fn time_both(
     time_listing(rt, store, rounds)
 }
 
-fn main(rt: HostRuntime) -> anyhow::Result<()> {
-    let alloc = rt.alloc();
+fn many(alloc: Global) -> anyhow::Result<ItemStore> {
     let items = items(alloc, MANY)?;
     let mut store = empty_store(alloc)?;
     fill(alloc, &mut store, items)?;
-    let (count, rises) = listed(&store);
+    Ok(store)
+}
+
+pub(crate) fn show(rt: &impl Runtime, alloc: Global) -> anyhow::Result<()> {
+    let (count, rises) = listed(&many(alloc)?);
     println!(rt; "{count} items listed in key order: {rises}")?;
-    if let Some(rounds) = env::args(&rt)?.nth(1) {
-        let rounds: u32 = rounds.parse().context("the number of rounds")?;
-        time_both(&rt, alloc, &store, rounds)?;
-    }
     Ok(())
+}
+
+/// Prints how many slots were found and items swapped a second, and how long a listing of 60,000 items took.
+pub(crate) fn time(rt: &impl Runtime, alloc: Global, rounds: u32) -> anyhow::Result<()> {
+    time_both(rt, alloc, &many(alloc)?, rounds)
 }

@@ -1,13 +1,8 @@
-// Appends lines to a journal in memory, one a call, and loads them. With a file's name, or `:memory:`, and a number of lines as
-// its arguments it does so there, and prints how many appends it made in a second and how long the load took. `sqlite3` can
-// open the file afterwards.
-#![tactic(auto)]
-
+// Appends lines to a journal, one a call, and loads them.
 use anyhow::Context;
 use book_journal::Journal;
 use sqlite::{Alter, Connection};
 use std::alloc::Global;
-use std::env;
 use std::time::{Duration, Instant};
 
 fn append_each<S: Alter>(
@@ -61,23 +56,19 @@ fn in_memory(rt: &HostRuntime, count: u32) -> anyhow::Result<()> {
     timed(rt, &mut journal, count)
 }
 
-fn counted(rt: &HostRuntime, count: u32) -> anyhow::Result<()> {
+pub(crate) fn show(rt: &HostRuntime) -> anyhow::Result<()> {
     let mut journal = opened(Connection::open_in_memory(rt.alloc())?)?;
-    append_each(rt.alloc(), &mut journal, count)?;
+    append_each(rt.alloc(), &mut journal, 100)?;
     let lines = loaded(rt.alloc(), &mut journal)?;
     println!(rt; "{lines} lines")?;
     Ok(())
 }
 
-fn main(rt: HostRuntime) -> anyhow::Result<()> {
-    let path = env::args(&rt)?.nth(1);
-    let count = env::args(&rt)?.nth(2);
-    let (Some(path), Some(count)) = (path, count) else {
-        return counted(&rt, 100);
-    };
-    let count: u32 = count.parse().context("the number of lines")?;
-    match path.as_str() {
-        ":memory:" => in_memory(&rt, count),
-        file => on_file(&rt, file, count),
+/// On a file of this name, or in memory where it is `:memory:`, prints how many of so many appends were made in a second and
+/// how long the load took. `sqlite3` can open the file afterwards.
+pub(crate) fn time(rt: &HostRuntime, place: &str, count: u32) -> anyhow::Result<()> {
+    match place {
+        ":memory:" => in_memory(rt, count),
+        file => on_file(rt, file, count),
     }
 }

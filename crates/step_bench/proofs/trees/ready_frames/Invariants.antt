@@ -1,7 +1,7 @@
 use Rattle.std.proofs.Common.{◌≡◌, length, false}
 use Rattle.std.specs.List.{All}
 use Rattle.branch_tree.specs.FlatMap.{is_parked}
-use Rattle.tree_bench.proofs.ready_frames.Given as goal
+use Rattle.step_bench.proofs.trees.ready_frames.Given as goal
 
 abbrev pub invariant-loop : goal.invariant-loop
 invariant-loop l = record {

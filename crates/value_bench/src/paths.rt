@@ -1,12 +1,7 @@
-// Picks, places and fills in a large tree. With a number of rounds as its argument it also prints how many a second of each,
-// in a tree of 10,000 values and in one of 100,000, whose paths lead past the same few.
-#![tactic(auto)]
-
-use anyhow::Context;
+// Picks, places and fills in a tree of 10,000 values and in one of 100,000, whose paths lead past the same few.
 use json_tree::{Json, read, write_text};
 use ref_paths::{RefPath, Template, place};
 use std::alloc::Global;
-use std::env;
 use std::rt::Runtime;
 use std::time::{Duration, Instant};
 
@@ -121,15 +116,15 @@ fn filled(alloc: Global, root: &Json) -> anyhow::Result<String> {
     Ok(write_text(alloc, &filled)?)
 }
 
-fn main(rt: HostRuntime) -> anyhow::Result<()> {
-    let alloc = rt.alloc();
+pub(crate) fn show(rt: &impl Runtime, alloc: Global) -> anyhow::Result<()> {
     let (root, found) = picked(alloc)?;
     let filled = filled(alloc, &root)?;
     println!(rt; "picked what was placed: {found}, filled {filled}")?;
-    if let Some(rounds) = env::args(&rt)?.nth(1) {
-        let rounds: u32 = rounds.parse().context("the number of rounds")?;
-        time_all(&rt, alloc, 10_000, rounds)?;
-        time_all(&rt, alloc, 100_000, rounds)?;
-    }
     Ok(())
+}
+
+/// Prints how many a second of each.
+pub(crate) fn time(rt: &impl Runtime, alloc: Global, rounds: u32) -> anyhow::Result<()> {
+    time_all(rt, alloc, 10_000, rounds)?;
+    time_all(rt, alloc, 100_000, rounds)
 }

@@ -1,15 +1,10 @@
-// Starts executions of one Pass state, takes the step of each, shows each, and undoes all from the end. With a number of
-// steps as its argument it does so with a sixteenth, a quarter and all of that many, and prints how many calls of each kind
-// it made in a second.
-#![tactic(auto)]
-
+// Starts executions of one Pass state in a book, takes the step of each, shows each, and undoes all from the end.
 use anyhow::Context;
 use attr_values::{KeyAttribute, KeySchema, KeyType};
 use json_tree::{Json, JsonList, Text};
 use rollback_book::{Begin, Book};
 use serde_json::Value;
 use std::alloc::Global;
-use std::env;
 use std::rt::Runtime;
 use std::time::{Duration, Instant};
 use step_names::{StepName, ThreadName};
@@ -204,19 +199,14 @@ fn run(rt: &impl Runtime, alloc: Global, executions: u32, is_timed: bool) -> any
     with_book(rt, alloc, names.as_slice(), is_timed)
 }
 
-fn time_all(rt: &impl Runtime, alloc: Global, steps: u32) -> anyhow::Result<()> {
-    for part in [16, 4, 1] {
-        run(rt, alloc, steps / part / 2, true)?;
-    }
-    Ok(())
+pub(crate) fn show(rt: &impl Runtime, alloc: Global) -> anyhow::Result<()> {
+    run(rt, alloc, 8, false)
 }
 
-fn main(rt: HostRuntime) -> anyhow::Result<()> {
-    let alloc = rt.alloc();
-    run(&rt, alloc, 8, false)?;
-    if let Some(steps) = env::args(&rt)?.nth(1) {
-        let steps: u32 = steps.parse().context("the number of steps")?;
-        time_all(&rt, alloc, steps)?;
+/// With a sixteenth, a quarter and all of so many steps, prints how many calls of each kind it made in a second.
+pub(crate) fn time(rt: &impl Runtime, alloc: Global, steps: u32) -> anyhow::Result<()> {
+    for part in [16, 4, 1] {
+        run(rt, alloc, steps / part / 2, true)?;
     }
     Ok(())
 }

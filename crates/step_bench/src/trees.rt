@@ -1,21 +1,15 @@
-// Builds a tree of 31 levels and a fork of 4,096 branches, takes the branches out and gives them back. With a number of
-// rounds as its argument it also prints how many look-ups and replacements it did a second at depths 1, 5 and 31, and how
-// long it took to take out 4,096 branches and give them back, with nothing under them and with two branches each.
-#![tactic(auto)]
-
+// Builds a tree of 31 levels and a fork of 4,096 branches, takes the branches out and gives them back.
 ghost use Rattle.std.specs.Prelude.{◌≡◌, length, IfOk, IfSome, IsSomeAnd, true, false};
 ghost use Rattle.std.specs.Bool.{OnTrue};
 ghost use Rattle.std.specs.List.{All};
 ghost use Rattle.branch_tree.specs.FlatMap.{IsTree, is_parked};
 ghost use Rattle.branch_tree.specs.Tree.{frame_at, IsNode};
 
-use anyhow::Context;
 use asl_forward::{Frame, Phase, Retries};
 use asl_machine::{Level, LevelPath};
 use branch_tree::{Branch, Tree};
 use json_tree::{Json, Text};
 use std::alloc::{AllocError, Global};
-use std::env;
 use std::rt::Runtime;
 use std::time::{Duration, Instant};
 
@@ -269,7 +263,7 @@ fn taken_and_given(alloc: Global) -> Result<usize, AllocError> {
     Ok(if is_whole { branches } else { 0 })
 }
 
-fn show(rt: &impl Runtime, alloc: Global) -> anyhow::Result<()> {
+pub(crate) fn show(rt: &impl Runtime, alloc: Global) -> anyhow::Result<()> {
     let is_found = finds_deepest(alloc)?;
     let branches = taken_and_given(alloc)?;
     println!(rt; "a thread of 31 forks found: {is_found}")?;
@@ -277,22 +271,14 @@ fn show(rt: &impl Runtime, alloc: Global) -> anyhow::Result<()> {
     Ok(())
 }
 
-fn time_all(rt: &impl Runtime, alloc: Global, rounds: u32) -> anyhow::Result<()> {
+/// Prints how many look-ups and replacements it did a second at depths 1, 5 and 31, and how often 4,096 branches were taken
+/// out and given back, with 0, 2 and 20 branches under each.
+pub(crate) fn time(rt: &impl Runtime, alloc: Global, rounds: u32) -> anyhow::Result<()> {
     for depth in [1, 5, LEVELS] {
         time_depth(rt, alloc, depth, rounds)?;
     }
     for under in [0, 2, 20] {
         time_round(rt, alloc, under, rounds)?;
-    }
-    Ok(())
-}
-
-fn main(rt: HostRuntime) -> anyhow::Result<()> {
-    let alloc = rt.alloc();
-    show(&rt, alloc)?;
-    if let Some(rounds) = env::args(&rt)?.nth(1) {
-        let rounds: u32 = rounds.parse().context("the number of rounds")?;
-        time_all(&rt, alloc, rounds)?;
     }
     Ok(())
 }
