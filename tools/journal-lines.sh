@@ -1,6 +1,6 @@
 #!/bin/sh
 # Appends lines to a journal on a file, one a call, and reads the file with the system's `sqlite3`: the lines have to be the same.
-# It needs `sqlite3`, and crates/journal_bench/out/journal_bench, which `rt run` in crates/journal_bench leaves.
+# It needs `sqlite3`, and crates/line_bench/out/line_bench, which `rt run` in crates/line_bench leaves.
 #
 #     sh tools/journal-lines.sh [COUNT]      COUNT lines; 1,000 where it is left out
 #
@@ -10,13 +10,13 @@ set -eu
 cd "$(dirname "$0")/.."
 count=${1:-1000}
 many=$((count * 100))
-bench=crates/journal_bench/out/journal_bench
+bench=crates/line_bench/out/line_bench
 if ! command -v sqlite3 > /dev/null; then
     echo "journal-lines: no sqlite3 is installed" >&2
     exit 2
 fi
 if [ ! -x "$bench" ]; then
-    echo "journal-lines: run rt run in crates/journal_bench first" >&2
+    echo "journal-lines: run rt run in crates/line_bench first" >&2
     exit 2
 fi
 folder=$(mktemp -d)
@@ -36,7 +36,7 @@ shell_takes() {
     echo $((ended - began))
 }
 
-"$bench" "$folder/journal.db" "$count"
+"$bench" journal "$count" "$folder/journal.db"
 awk -v n="$count" 'BEGIN { for (i = 0; i < n; i++) printf "%d|step execution-%d\n", i, i }' > "$folder/wanted"
 sqlite3 "$folder/journal.db" "SELECT no, line FROM entry ORDER BY no" > "$folder/found"
 cmp "$folder/wanted" "$folder/found"
@@ -50,7 +50,7 @@ took=$(shell_takes "$folder/shell.db" "$folder/one-by-one.sql")
 echo "sqlite3's shell: $((count * 1000000000 / took)) inserts a second"
 
 echo "in memory:"
-"$bench" :memory: "$many"
+"$bench" journal "$many" :memory:
 {
     echo "$table"
     inserts "$many"
@@ -65,7 +65,7 @@ echo "from a file of $many lines:"
     echo "COMMIT;"
 } > "$folder/at-once.sql"
 sqlite3 "$folder/many.db" < "$folder/at-once.sql"
-"$bench" "$folder/many.db" 0
+"$bench" journal 0 "$folder/many.db"
 echo "SELECT no, line FROM entry ORDER BY no;" > "$folder/load.sql"
 took=$(shell_takes "$folder/many.db" "$folder/load.sql")
 echo "sqlite3's shell: the lines written out in $((took / 1000000)) ms"
