@@ -14,7 +14,7 @@ use Rattle.asl_machine.specs.Complete.{IsState, LeadsInto, StaysInside}
 use Rattle.asl_machine.specs.Definition.{StateTree, Definition}
 use Rattle.asl_machine.specs.declared.state.State.{State}
 use Rattle.asl_machine.specs.declared.state.State.TheVariants as state
-use Rattle.asl_machine.specs.declared.state.Transition.TheVariants.{Next}
+use Rattle.asl_states.specs.declared.state.Transition.TheVariants.{Next}
 use Rattle.asl_forward.specs.Forks.{parallel_frames, map_frames}
 use Rattle.asl_forward.specs.Handling.{stand_for, retried, catcher_for, error_object}
 use Rattle.asl_forward.specs.Outcomes.{tries_again, on_catch, on_retry, handled, errors_of, after_error, taken_by, after_branch, call_fault, Work, work_of, comes_to, after_result, after_answer, after_join, action_of, asks, task_turn, parks, forks, fork_of, turn, turn_of}

@@ -7,11 +7,11 @@ use Rattle.asl_machine.specs.Complete.{IsState, LeadsInto, StaysInside}
 use Rattle.asl_machine.specs.Definition.{Definition}
 use Rattle.asl_machine.specs.declared.state.State.{State}
 use Rattle.asl_machine.specs.declared.state.State.TheVariants.{Pass, Task, Choice as ChoiceState, Wait, Succeed, Fail, Parallel, Map}
-use Rattle.asl_machine.specs.declared.state.Transition.{Transition}
-use Rattle.asl_machine.specs.declared.state.Transition.TheVariants.{Next, End}
+use Rattle.asl_states.specs.declared.state.Transition.{Transition}
+use Rattle.asl_states.specs.declared.state.Transition.TheVariants.{Next, End}
 use Rattle.asl_choice.specs.TestView.{test_of}
 use Rattle.asl_choice.specs.declared.choice.Rule.{Rule}
-use Rattle.asl_machine.specs.declared.state.Choice.{Choice}
+use Rattle.asl_states.specs.declared.state.Choice.{Choice}
 use Rattle.asl_choice.specs.Holding.{holds, first_rule}
 use Rattle.asl_forward.specs.Choosing.{or_default, goes_to, chosen}
 use Rattle.asl_forward.specs.Processing.{effective, passed_on}

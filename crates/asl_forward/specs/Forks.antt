@@ -2,7 +2,7 @@
 use Rattle.std.specs.Prelude.{ℕ, ◌+◌, nat_le, List, [], ◌∷◌, ◌++◌, length, Option, None, Some, Result, Ok, Err, ok_or, if◌then◌else◌, codes}
 use Rattle.json_tree.specs.Data.{Data, list, null, boolean, whole, text, fields}
 use Rattle.asl_machine.specs.Definition.{Definition}
-use Rattle.asl_machine.specs.Reading.{json_of, items_in}
+use Rattle.asl_states.specs.Reading.{json_of, items_in}
 use Rattle.asl_machine.specs.declared.level.Level.{Level}
 use Rattle.asl_machine.specs.declared.state.Map.{Map}
 use Rattle.asl_machine.specs.declared.state.Parallel.{Parallel}

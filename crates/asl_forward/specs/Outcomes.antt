@@ -12,14 +12,14 @@ use Rattle.item_store.specs.declared.call.Call as call
 use Rattle.asl_errors.specs.declared.errors.Catcher.{Catcher}
 use Rattle.asl_errors.specs.declared.errors.ErrorHandling.{ErrorHandling}
 use Rattle.asl_machine.specs.Definition.{Definition}
-use Rattle.asl_machine.specs.declared.state.Processing.{Processing}
-use Rattle.asl_machine.specs.declared.state.Resource.{Resource}
-use Rattle.asl_machine.specs.declared.state.Resource.TheVariants.{GetItem, PutItem, DeleteItem}
+use Rattle.asl_states.specs.declared.state.Processing.{Processing}
+use Rattle.asl_states.specs.declared.state.Resource.{Resource}
+use Rattle.asl_states.specs.declared.state.Resource.TheVariants.{GetItem, PutItem, DeleteItem}
 use Rattle.asl_machine.specs.declared.state.State.{State}
 use Rattle.asl_machine.specs.declared.state.State.TheVariants as state
-use Rattle.asl_machine.specs.declared.state.Task.{Task}
-use Rattle.asl_machine.specs.declared.state.Transition.{Transition}
-use Rattle.asl_machine.specs.declared.state.Transition.TheVariants.{Next}
+use Rattle.asl_states.specs.declared.state.Task.{Task}
+use Rattle.asl_states.specs.declared.state.Transition.{Transition}
+use Rattle.asl_states.specs.declared.state.Transition.TheVariants.{Next}
 use Rattle.asl_forward.specs.Forks.{parallel_frames, map_frames}
 use Rattle.asl_forward.specs.Handling.{retried, catcher_for, error_object}
 use Rattle.asl_forward.specs.Processing.{and_then, effective, held, passed_on, placed_in}

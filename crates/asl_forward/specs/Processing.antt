@@ -8,7 +8,7 @@ use Rattle.ref_paths.specs.Picking.{pick_at}
 use Rattle.ref_paths.specs.Placing.{place_at}
 use Rattle.ref_paths.specs.Templates.{Payload}
 use Rattle.ref_paths.specs.declared.path.PathStep.{PathStep}
-use Rattle.asl_machine.specs.declared.state.Processing.{Processing}
+use Rattle.asl_states.specs.declared.state.Processing.{Processing}
 
 -- what follows, unless an error came before
 abbrev pub and_then : (Data → Result Data (List ℕ)) → Result Data (List ℕ) → Result Data (List ℕ)

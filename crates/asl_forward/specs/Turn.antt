@@ -6,16 +6,16 @@ use Rattle.json_tree.specs.declared.tree.Json.{Json}
 use Rattle.asl_machine.specs.Complete.{state_of}
 use Rattle.asl_machine.specs.Definition.{Definition}
 use Rattle.asl_machine.specs.Find.{machine_at}
-use Rattle.asl_machine.specs.Reading.{json_of}
+use Rattle.asl_states.specs.Reading.{json_of}
 use Rattle.asl_errors.specs.declared.errors.Retrier.{Retrier}
-use Rattle.asl_machine.specs.declared.state.Choice.{Choice}
-use Rattle.asl_machine.specs.declared.state.Fail.{Fail}
-use Rattle.asl_machine.specs.declared.state.Pass.{Pass}
-use Rattle.asl_machine.specs.declared.state.Processing.{Processing}
+use Rattle.asl_states.specs.declared.state.Choice.{Choice}
+use Rattle.asl_states.specs.declared.state.Fail.{Fail}
+use Rattle.asl_states.specs.declared.state.Pass.{Pass}
+use Rattle.asl_states.specs.declared.state.Processing.{Processing}
 use Rattle.asl_machine.specs.declared.state.State.{State}
 use Rattle.asl_machine.specs.declared.state.State.TheVariants as state
-use Rattle.asl_machine.specs.declared.state.Transition.{Transition}
-use Rattle.asl_machine.specs.declared.state.Transition.TheVariants.{Next, End}
+use Rattle.asl_states.specs.declared.state.Transition.{Transition}
+use Rattle.asl_states.specs.declared.state.Transition.TheVariants.{Next, End}
 use Rattle.asl_forward.specs.Choosing.{chosen}
 use Rattle.asl_forward.specs.Processing.{and_then, effective, passed_on}
 use Rattle.asl_forward.specs.declared.frame.Fault.{Fault}

@@ -19,8 +19,8 @@ use Rattle.asl_errors.specs.declared.errors.Catcher.{Catcher}
 use Rattle.asl_fields.specs.declared.fault.MachineFault.TheVariants.{NoTarget}
 use Rattle.asl_machine.specs.declared.state.State.{State}
 use Rattle.asl_machine.specs.declared.state.State.TheVariants.{Pass, Task, Choice, Wait, Succeed, Fail, Parallel, Map}
-use Rattle.asl_machine.specs.declared.state.Transition.{Transition}
-use Rattle.asl_machine.specs.declared.state.Transition.TheVariants.{Next, End}
+use Rattle.asl_states.specs.declared.state.Transition.{Transition}
+use Rattle.asl_states.specs.declared.state.Transition.TheVariants.{Next, End}
 
 abbrev States : Type 0
 States = List (List ℕ × StateTree)

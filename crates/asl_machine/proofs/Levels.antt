@@ -16,10 +16,10 @@ use Rattle.asl_machine.specs.Definition.{StateTree, Definition}
 use Rattle.asl_machine.specs.Find.{branch_of, machine_at}
 use Rattle.asl_machine.specs.Levels.{IsWhole}
 use Rattle.asl_machine.specs.Profile.{BranchesAre, ListedBranches, IsProcessor, NamedProcessor, IsOfKind, kind_of, IsState, StatesAre, MembersAre, states_in, StatesWithin, IsMachine, Defines}
-use Rattle.asl_machine.specs.Reading.{name_of_two}
+use Rattle.asl_states.specs.Reading.{name_of_two}
 use Rattle.asl_machine.specs.TreeView.{tree_of, state_in}
-use Rattle.asl_machine.specs.declared.kind.StateKind.{StateKind}
-use Rattle.asl_machine.specs.declared.kind.StateKind.TheVariants as kind
+use Rattle.asl_states.specs.declared.kind.StateKind.{StateKind}
+use Rattle.asl_states.specs.declared.kind.StateKind.TheVariants as kind
 use Rattle.asl_machine.specs.declared.level.LevelStep.{LevelStep}
 use Rattle.asl_machine.specs.declared.state.State.{State}
 use Rattle.asl_machine.proofs.Inside.{complete_over}

@@ -1,5 +1,4 @@
 pub mod Trees
-pub mod Whole
 pub mod Inside
 pub mod OneMachine
 pub mod Refused

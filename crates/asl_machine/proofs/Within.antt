@@ -1,13 +1,10 @@
 -- What the readers' goals need.
-use Rattle.std.proofs.Common.{◌≡◌, ℕ, zero, suc, ◌+◌, ◌-◌, ◌<◌, ◌≤◌, List, [], ◌∷◌, length, get_or, drop, Option, Some, None, Result, Ok, Err, IfOk, IfErr, option_and_then, codes, ap, inl, inr, arith, sub-one, add-one, drop-cons, refl, subst, sym, ◌∙◌}
+use Rattle.std.proofs.Common.{◌≡◌, ℕ, zero, suc, ◌+◌, ◌-◌, ◌<◌, ◌≤◌, List, [], ◌∷◌, length, get_or, drop, Option, Some, Result, Ok, Err, IfOk, IfErr, option_and_then, codes, ap, inl, inr, arith, sub-one, add-one, drop-cons, refl, subst, sym, ◌∙◌}
 use Rattle.serde_json.specs.Data.{Data as Source, Items, Members}
 use Rattle.serde_json.specs.Find.{get, as_array, as_object}
 use Rattle.serde_json.specs.View.{view, items_view}
 use Rattle.serde_json.specs.declared.value.Value.{Value}
-use Rattle.ref_paths.specs.declared.path.PathStep.{PathStep}
-use Rattle.asl_fields.proofs.OneField.{one_path}
 use Rattle.asl_fields.specs.Refusal.{Refuses}
-use Rattle.asl_fields.specs.Values.{IsPathField}
 use Rattle.asl_fields.specs.declared.fault.MachineFault.{MachineFault}
 use Rattle.asl_fields.specs.declared.fault.MachineFault.TheVariants.{Missing, UnknownField, Unsupported, BadField, NoTarget, NextAndEnd, StatesAllPlace, TooDeep, Memory}
 use Rattle.asl_fields.specs.declared.fields.Place.{Place}
@@ -15,10 +12,7 @@ use Rattle.asl_fields.specs.declared.fields.Place.TheVariants as at
 use Rattle.asl_machine.specs.Definition.{StateTree, Definition}
 use Rattle.asl_machine.specs.Faults.{StatesFault, LevelFault, StatesFaultWithin, BranchFault, BranchesFault, ListedBranchesFault, BranchesFieldFault, ProcessorObjectFault, ProcessorFault, NamedProcessorFault}
 use Rattle.asl_machine.specs.Profile.{StatesAre, IsMachine, StatesWithin, BranchesAre, ListedBranches}
-use Rattle.asl_machine.specs.Reading.{count_items}
-
-pub null_is_no_path : (d : Option Source) (p : List PathStep) → IsPathField d None → IsPathField d (Some p) → ⊥
-null_is_no_path d p h k = let no : None ≡ Some p = one_path d None (Some p) h k in cc
+use Rattle.asl_states.specs.Reading.{count_items}
 
 pub refuses_map : (e : MachineFault) (P Q : Type 0) → (P → Q) → Refuses e P → Refuses e Q
 refuses_map (Missing field) P Q f h = f h

@@ -11,8 +11,8 @@ use Rattle.asl_choice.specs.declared.choice.Rule.{Rule}
 use Rattle.asl_errors.specs.declared.errors.Catcher.{Catcher}
 use Rattle.asl_machine.specs.declared.state.State.{State}
 use Rattle.asl_machine.specs.declared.state.State.TheVariants.{Pass, Task, Choice, Wait, Succeed, Fail, Parallel, Map}
-use Rattle.asl_machine.specs.declared.state.Transition.{Transition}
-use Rattle.asl_machine.specs.declared.state.Transition.TheVariants.{Next, End}
+use Rattle.asl_states.specs.declared.state.Transition.{Transition}
+use Rattle.asl_states.specs.declared.state.Transition.TheVariants.{Next, End}
 
 -- the state of a name in a `States` object
 abbrev pub state_of : List ℕ → List (List ℕ × StateTree) → Option State

@@ -3,14 +3,14 @@ use Rattle.std.specs.Prelude.{ℕ, suc, max, List, [], ◌∷◌, Option}
 use Rattle.ref_paths.specs.Templates.{Payload}
 use Rattle.ref_paths.specs.declared.path.PathStep.{PathStep}
 use Rattle.asl_errors.specs.declared.errors.ErrorHandling.{ErrorHandling}
-use Rattle.asl_machine.specs.declared.state.Choice.{Choice}
-use Rattle.asl_machine.specs.declared.state.Fail.{Fail}
-use Rattle.asl_machine.specs.declared.state.Pass.{Pass}
-use Rattle.asl_machine.specs.declared.state.Processing.{Processing}
-use Rattle.asl_machine.specs.declared.state.Succeed.{Succeed}
-use Rattle.asl_machine.specs.declared.state.Task.{Task}
-use Rattle.asl_machine.specs.declared.state.Transition.{Transition}
-use Rattle.asl_machine.specs.declared.state.Wait.{Wait}
+use Rattle.asl_states.specs.declared.state.Choice.{Choice}
+use Rattle.asl_states.specs.declared.state.Fail.{Fail}
+use Rattle.asl_states.specs.declared.state.Pass.{Pass}
+use Rattle.asl_states.specs.declared.state.Processing.{Processing}
+use Rattle.asl_states.specs.declared.state.Succeed.{Succeed}
+use Rattle.asl_states.specs.declared.state.Task.{Task}
+use Rattle.asl_states.specs.declared.state.Transition.{Transition}
+use Rattle.asl_states.specs.declared.state.Wait.{Wait}
 
 mutual
   pub data StateTree : Type 0 where

@@ -5,7 +5,6 @@ pub mod TreeFalls
 pub mod Complete
 pub mod Targets
 pub mod Find
-pub mod Reading
 pub mod Profile
 pub mod Levels
 pub mod Faults

@@ -1,73 +1,30 @@
 -- Which machine a definition is ("State Machine Structure", "State Types"), by the tables of its objects' fields.
-use Rattle.std.specs.Prelude.{◌≡◌, ℕ, zero, suc, Bool, true, false, ◌≤◌, List, [], ◌∷◌, ◌++◌, Option, None, Some, is_some, option_and_then, if◌then◌else◌, codes}
+use Rattle.std.specs.Prelude.{◌≡◌, ℕ, zero, suc, ◌≤◌, List, [], ◌∷◌, ◌++◌, Option, None, Some, option_and_then, codes}
 use Rattle.std.specs.BTreeMap.{insert_entry}
 use Rattle.std.specs.Cmp.Lexicographic.{slice_cmp}
 use Rattle.std.specs.Ordering.{nat_cmp}
 use Rattle.serde_json.specs.Data.{Data as Source, Items, no_items, item, Members, no_members, member}
 use Rattle.serde_json.specs.Find.{get, as_str, as_array, as_object}
-use Rattle.ref_paths.specs.Templates.{Payload}
-use Rattle.ref_paths.specs.declared.path.PathStep.{PathStep}
-use Rattle.asl_fields.specs.Fields.{is_text}
-use Rattle.asl_fields.specs.Values.{HasFields, IsPathField, IsTemplateField, text_or_empty}
-use Rattle.asl_fields.specs.declared.fault.MachineFault.{MachineFault}
+use Rattle.asl_fields.specs.Values.{HasFields, IsPathField}
 use Rattle.asl_fields.specs.declared.fields.Place.{Place}
 use Rattle.asl_fields.specs.declared.fields.Place.TheVariants as at
-use Rattle.asl_choice.specs.TestFields.{AreRules}
-use Rattle.asl_errors.specs.ErrorFields.{IsErrorHandling}
-use Rattle.asl_errors.specs.declared.errors.ErrorHandling.{ErrorHandling}
 use Rattle.asl_machine.specs.Definition.{StateTree, Definition}
-use Rattle.asl_machine.specs.Reading.{transition_of, result_of, default_of, resource_of, config_fault, concurrency_fault, name_of_two, count_items}
+use Rattle.asl_states.specs.Reading.{config_fault, concurrency_fault, name_of_two, count_items}
 use Rattle.asl_machine.specs.Targets.{target_fault}
 use Rattle.asl_machine.specs.TreeView.{tree_of}
-use Rattle.asl_machine.specs.declared.kind.StateKind.{StateKind}
-use Rattle.asl_machine.specs.declared.kind.StateKind.TheVariants as kind
-use Rattle.asl_machine.specs.declared.state.Choice.{Choice}
-use Rattle.asl_machine.specs.declared.state.Fail.{Fail}
+use Rattle.asl_states.specs.declared.kind.StateKind.{StateKind}
+use Rattle.asl_states.specs.declared.kind.StateKind.TheVariants as kind
+use Rattle.asl_states.specs.declared.state.Choice.{Choice}
+use Rattle.asl_states.specs.declared.state.Fail.{Fail}
 use Rattle.asl_machine.specs.declared.state.Map.{Map}
 use Rattle.asl_machine.specs.declared.state.Parallel.{Parallel}
-use Rattle.asl_machine.specs.declared.state.Pass.{Pass}
-use Rattle.asl_machine.specs.declared.state.Processing.{Processing}
+use Rattle.asl_states.specs.declared.state.Pass.{Pass}
 use Rattle.asl_machine.specs.declared.state.State.{State}
 use Rattle.asl_machine.specs.declared.state.State.TheVariants.{Pass as PassState, Task as TaskState, Choice as ChoiceState, Wait as WaitState, Succeed as SucceedState, Fail as FailState, Parallel as ParallelState, Map as MapState}
-use Rattle.asl_machine.specs.declared.state.Succeed.{Succeed}
-use Rattle.asl_machine.specs.declared.state.Task.{Task}
-use Rattle.asl_machine.specs.declared.state.Transition.{Transition}
-use Rattle.asl_machine.specs.declared.state.Wait.{Wait}
-
--- what all states with an input and an output may have, but for parameters
-abbrev pub IsProcessing : Source → Processing → Type 0
-IsProcessing d p =
-    IsPathField (get (codes "InputPath") d) p.input_path × IsTemplateField false (get (codes "ResultSelector") d) p.result_selector
-    × IsPathField (get (codes "ResultPath") d) p.result_path × IsPathField (get (codes "OutputPath") d) p.output_path
-
-abbrev pub HasParameters : Source → Processing → Type 0
-HasParameters d p = IsTemplateField false (get (codes "Parameters") d) p.parameters
-
--- ---- states
-
-abbrev pub IsPass : Source → Pass → Type 0
-IsPass d s =
-    HasFields at.Pass d × HasParameters d s.processing × IsProcessing d s.processing × (result_of (get (codes "Result") d) ≡ Some s.result) × (transition_of d ≡ Some s.transition)
-
-abbrev pub IsSucceed : Source → Succeed → Type 0
-IsSucceed d s = HasFields at.Succeed d × (s.processing.parameters ≡ None) × IsProcessing d s.processing
-
-abbrev pub IsWait : Source → Wait → Type 0
-IsWait d s = HasFields at.Wait d × (s.processing.parameters ≡ None) × IsProcessing d s.processing × (transition_of d ≡ Some s.transition)
-
-abbrev pub IsFail : Source → Fail → Type 0
-IsFail d s = HasFields at.Fail d × (text_or_empty (get (codes "Error") d) ≡ Some s.error) × (text_or_empty (get (codes "Cause") d) ≡ Some s.cause)
-
--- what a Task, a Parallel and a Map have alike
-abbrev pub HasWork : Source → Processing → ErrorHandling → Transition → Type 0
-HasWork d p errors transition = IsProcessing d p × IsErrorHandling d errors × (transition_of d ≡ Some transition)
-
-abbrev pub IsTask : Source → Task → Type 0
-IsTask d s = HasFields at.Task d × (resource_of (get (codes "Resource") d) ≡ Some s.resource) × HasParameters d s.processing × HasWork d s.processing s.errors s.transition
-
-abbrev pub IsChoice : Source → Choice → Type 0
-IsChoice d s =
-    HasFields at.Choice d × AreRules d s.rules × (default_of (get (codes "Default") d) ≡ Some s.default) × (s.processing.parameters ≡ None) × IsProcessing d s.processing
+use Rattle.asl_states.specs.declared.state.Succeed.{Succeed}
+use Rattle.asl_states.specs.declared.state.Task.{Task}
+use Rattle.asl_states.specs.declared.state.Wait.{Wait}
+use Rattle.asl_states.specs.Profile.{HasParameters, IsPass, IsSucceed, IsWait, IsFail, HasWork, IsTask, IsChoice, HasSelector, kind_named}
 
 -- ---- states that hold machines: which machine an object at a place is, `P` says
 
@@ -94,33 +51,13 @@ abbrev pub NamedProcessor : (Place → Source → Definition → Type 0) → Sou
 NamedProcessor P d None m = ⊥
 NamedProcessor P d (Some name) m = IsProcessor P (get name d) m
 
-abbrev pub NamedSelector : Source → Option (List ℕ) → Option Payload → Type 0
-NamedSelector d None p = ⊥
-NamedSelector d (Some name) p = IsTemplateField true (get name d) p
-
 abbrev pub HasProcessor : (Place → Source → Definition → Type 0) → Source → Definition → Type 0
 HasProcessor P d m = NamedProcessor P d (name_of_two (codes "ItemProcessor") (codes "Iterator") d) m
-
-abbrev pub HasSelector : Source → Option Payload → Type 0
-HasSelector d p = NamedSelector d (name_of_two (codes "ItemSelector") (codes "Parameters") d) p
 
 abbrev pub IsMap : (Place → Source → Definition → Type 0) → Source → Map → Type 0
 IsMap P d s =
     HasFields at.Map d × (concurrency_fault (get (codes "MaxConcurrency") d) ≡ None) × IsPathField (get (codes "ItemsPath") d) (Some s.items_path) × HasSelector d s.item_selector
     × (s.processing.parameters ≡ None) × HasWork d s.processing s.errors s.transition × HasProcessor P d s.processor
-
--- the type of a name
-abbrev pub kind_named : List ℕ → Option StateKind
-kind_named name =
-    if is_text name (codes "Pass") then Some kind.Pass
-    else (if is_text name (codes "Task") then Some kind.Task
-    else (if is_text name (codes "Choice") then Some kind.Choice
-    else (if is_text name (codes "Wait") then Some kind.Wait
-    else (if is_text name (codes "Succeed") then Some kind.Succeed
-    else (if is_text name (codes "Fail") then Some kind.Fail
-    else (if is_text name (codes "Parallel") then Some kind.Parallel
-    else (if is_text name (codes "Map") then Some kind.Map
-    else None)))))))
 
 abbrev pub IsPassState : Source → State → Type 0
 IsPassState d (PassState s) = IsPass d s

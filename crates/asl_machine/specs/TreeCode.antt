@@ -7,14 +7,14 @@ use Rattle.ref_paths.specs.PayloadCode.{payload_code, steps_code}
 use Rattle.ref_paths.specs.Templates.{Payload}
 use Rattle.asl_machine.specs.Definition.{StateTree, pass, task, choice, wait, succeed, fail, parallel, map_over, MachineTree, machine, MachineTrees, no_machines, branch, NamedStates, no_states, named, Definition}
 use Rattle.asl_errors.specs.contracts.errors.ErrorHandling as error_handling
-use Rattle.asl_machine.specs.contracts.state.Choice as choice_state
-use Rattle.asl_machine.specs.contracts.state.Fail as fail_state
-use Rattle.asl_machine.specs.contracts.state.Pass as pass_state
-use Rattle.asl_machine.specs.contracts.state.Processing as processing
-use Rattle.asl_machine.specs.contracts.state.Succeed as succeed_state
-use Rattle.asl_machine.specs.contracts.state.Task as task_state
-use Rattle.asl_machine.specs.contracts.state.Transition as transition
-use Rattle.asl_machine.specs.contracts.state.Wait as wait_state
+use Rattle.asl_states.specs.contracts.state.Choice as choice_state
+use Rattle.asl_states.specs.contracts.state.Fail as fail_state
+use Rattle.asl_states.specs.contracts.state.Pass as pass_state
+use Rattle.asl_states.specs.contracts.state.Processing as processing
+use Rattle.asl_states.specs.contracts.state.Succeed as succeed_state
+use Rattle.asl_states.specs.contracts.state.Task as task_state
+use Rattle.asl_states.specs.contracts.state.Transition as transition
+use Rattle.asl_states.specs.contracts.state.Wait as wait_state
 
 abbrev text_code : Coded (List ℕ)
 text_code = coded_list coded_ℕ

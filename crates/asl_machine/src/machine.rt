@@ -10,10 +10,11 @@ ghost use Rattle.asl_machine.specs.Targets.{if_missing, missing_next, missing_ca
 ghost use Rattle.asl_machine.specs.TreeView.{tree_of};
 
 use crate::level::LevelPath;
-use crate::state::{Machine, State, States, Transition};
+use crate::state::{Machine, State, States};
 use asl_choice::Rules;
 use asl_errors::Catchers;
 use asl_fields::MachineFault;
+use asl_states::Transition;
 use json_tree::Text;
 use std::alloc::{AllocError, Global};
 use std::collections::BTreeMap;

@@ -4,15 +4,15 @@ ghost use Rattle.serde_json.specs.Find.{get, as_array, as_object};
 ghost use Rattle.serde_json.specs.View.{view, items_view, members_view};
 ghost use Rattle.asl_fields.specs.Refusal.{Refuses};
 ghost use Rattle.asl_machine.specs.Faults.{DefinitionFault, LevelFault, StatesFaultWithin, StatesFault, StateFault, KindFault, ParallelFault, BranchesFault, BranchesFieldFault, MapFault, HasProcessorFault};
-ghost use Rattle.asl_machine.specs.Profile.{Defines, DefinesNone, IsMachine, StatesWithin, StatesAre, IsState, IsOfKind, IsParallel, BranchesAre, ListedBranches, IsMap, HasProcessor, kind_named};
+ghost use Rattle.asl_states.specs.Profile.{kind_named};
+ghost use Rattle.asl_machine.specs.Profile.{Defines, DefinesNone, IsMachine, StatesWithin, StatesAre, IsState, IsOfKind, IsParallel, BranchesAre, ListedBranches, IsMap, HasProcessor};
 
-use crate::kind::{StateKind, kind_named};
-use crate::map_readers::{check_concurrency, check_config, name_of_two, read_elements};
 use crate::state::{Branches, Machine, Map, Parallel, State, States};
-use crate::state_readers::{
-    read_choice, read_fail, read_pass, read_succeed, read_task, read_wait, read_work,
-};
 use asl_fields::{MachineFault, Place, check_fields, read_template, required, text_of};
+use asl_states::{
+    StateKind, check_concurrency, check_config, kind_named, name_of_two, read_choice,
+    read_elements, read_fail, read_pass, read_succeed, read_task, read_wait, read_work,
+};
 use json_tree::Text;
 use serde_json::{Map as Object, Value};
 use std::alloc::Global;

@@ -9,8 +9,8 @@ use Rattle.item_store.specs.declared.access.AccessMode.{AccessMode}
 use Rattle.item_store.specs.declared.access.AccessMode.TheVariants.{Read, Write}
 use Rattle.asl_errors.specs.declared.errors.ErrorHandling.{ErrorHandling}
 use Rattle.asl_machine.specs.Definition.{Definition, pass, fail, parallel, machine_trees}
-use Rattle.asl_machine.specs.declared.state.Processing.{Processing}
-use Rattle.asl_machine.specs.declared.state.Transition.TheVariants.{End}
+use Rattle.asl_states.specs.declared.state.Processing.{Processing}
+use Rattle.asl_states.specs.declared.state.Transition.TheVariants.{End}
 use Rattle.asl_forward.specs.declared.frame.Frame.{Frame}
 use Rattle.asl_forward.specs.declared.frame.Phase.{Phase}
 use Rattle.asl_forward.specs.declared.frame.Phase.TheVariants.{Ready, Parked, Done, Failed}

@@ -14,13 +14,13 @@ use Rattle.item_store.specs.declared.call.Call as call
 use Rattle.asl_errors.specs.declared.errors.Catcher.{Catcher}
 use Rattle.asl_errors.specs.declared.errors.ErrorHandling.{ErrorHandling}
 use Rattle.asl_machine.specs.Definition.{Definition}
-use Rattle.asl_machine.specs.declared.state.Choice.{Choice}
-use Rattle.asl_machine.specs.declared.state.Processing.{Processing}
+use Rattle.asl_states.specs.declared.state.Choice.{Choice}
+use Rattle.asl_states.specs.declared.state.Processing.{Processing}
 use Rattle.asl_machine.specs.declared.state.State.{State}
 use Rattle.asl_machine.specs.declared.state.State.TheVariants as state
-use Rattle.asl_machine.specs.declared.state.Task.{Task}
-use Rattle.asl_machine.specs.declared.state.Transition.{Transition}
-use Rattle.asl_machine.specs.declared.state.Transition.TheVariants.{Next, End}
+use Rattle.asl_states.specs.declared.state.Task.{Task}
+use Rattle.asl_states.specs.declared.state.Transition.{Transition}
+use Rattle.asl_states.specs.declared.state.Transition.TheVariants.{Next, End}
 use Rattle.asl_forward.specs.Choosing.{chosen}
 use Rattle.asl_forward.specs.Forks.{parallel_frames, map_frames}
 use Rattle.asl_forward.specs.Handling.{retried, catcher_for, error_object}

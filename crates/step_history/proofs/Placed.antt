@@ -20,7 +20,7 @@ use Rattle.asl_machine.specs.declared.level.Level.{Level}
 use Rattle.asl_machine.specs.declared.level.LevelStep.{LevelStep}
 use Rattle.asl_machine.specs.declared.state.State.{State}
 use Rattle.asl_machine.specs.declared.state.State.TheVariants as state
-use Rattle.asl_machine.specs.declared.state.Task.{Task}
+use Rattle.asl_states.specs.declared.state.Task.{Task}
 use Rattle.asl_forward.specs.Forks.{branch_frame, parallel_frames, map_frames}
 use Rattle.asl_forward.specs.Outcomes.{Work, work_of, after_join, after_answer, after_branch, asks, task_turn, parks, forks, fork_of, turn_of, turn, action_of}
 use Rattle.asl_forward.specs.Processing.{effective}

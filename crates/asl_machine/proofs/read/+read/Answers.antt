@@ -5,7 +5,7 @@ use Rattle.serde_json.specs.declared.value.Value.{Value}
 use Rattle.asl_fields.specs.Refusal.{Refuses}
 use Rattle.asl_machine.specs.Faults.{LevelFault, BranchesFault}
 use Rattle.asl_machine.specs.Profile.{IsMachine}
-use Rattle.asl_machine.specs.Reading.{name_of_two}
+use Rattle.asl_states.specs.Reading.{name_of_two}
 use Rattle.asl_machine.proofs.Within.{too_many, branches_listed, branch_refuses, processor_refuses, states_refuse, states_read}
 use Rattle.asl_machine.proofs.read.+read.Goals as goal
 

@@ -1,6 +1,6 @@
 // The types of states.
 ghost use Rattle.std.specs.Prelude.{◌≡◌};
-ghost use Rattle.asl_machine.specs.Profile.{kind_named};
+ghost use Rattle.asl_states.specs.Profile.{kind_named};
 
 /// A state's type ("State Types").
 #[derive(Clone, Copy, Debug, PartialEq, Eq)]

@@ -9,10 +9,10 @@ use Rattle.json_tree.specs.declared.tree.Json.TheVariants.{Null, Bool as Boolean
 use Rattle.asl_fields.specs.Fields.{is_text}
 use Rattle.asl_fields.specs.declared.fault.MachineFault.{MachineFault}
 use Rattle.asl_fields.specs.declared.fault.MachineFault.TheVariants.{Unsupported, BadField}
-use Rattle.asl_machine.specs.declared.state.Resource.{Resource}
-use Rattle.asl_machine.specs.declared.state.Resource.TheVariants.{GetItem, PutItem, DeleteItem}
-use Rattle.asl_machine.specs.declared.state.Transition.{Transition}
-use Rattle.asl_machine.specs.declared.state.Transition.TheVariants.{Next, End}
+use Rattle.asl_states.specs.declared.state.Resource.{Resource}
+use Rattle.asl_states.specs.declared.state.Resource.TheVariants.{GetItem, PutItem, DeleteItem}
+use Rattle.asl_states.specs.declared.state.Transition.{Transition}
+use Rattle.asl_states.specs.declared.state.Transition.TheVariants.{Next, End}
 
 -- ---- a value whose numbers are whole
 

@@ -4,9 +4,9 @@ ghost use Rattle.serde_json.specs.Find.{get, as_object};
 ghost use Rattle.serde_json.specs.View.{view, members_view};
 ghost use Rattle.asl_fields.specs.FieldFaults.{optional_text_fault};
 ghost use Rattle.asl_fields.specs.Refusal.{Refuses};
-ghost use Rattle.asl_machine.specs.Faults.{PassFault, WaitFault, SucceedFault, FailFault, TaskFault, ChoiceFault, WorkFault, ResourceFault, ProcessingFault, result_fault, transition_fault};
-ghost use Rattle.asl_machine.specs.Profile.{IsPass, IsWait, IsSucceed, IsFail, IsTask, IsChoice, HasWork, IsProcessing};
-ghost use Rattle.asl_machine.specs.Reading.{result_of, transition_of, is_end, default_of, resource_of, resource_named};
+ghost use Rattle.asl_states.specs.Faults.{PassFault, WaitFault, SucceedFault, FailFault, TaskFault, ChoiceFault, WorkFault, ResourceFault, ProcessingFault, result_fault, transition_fault};
+ghost use Rattle.asl_states.specs.Profile.{IsPass, IsWait, IsSucceed, IsFail, IsTask, IsChoice, HasWork, IsProcessing};
+ghost use Rattle.asl_states.specs.Reading.{result_of, transition_of, is_end, default_of, resource_of, resource_named};
 
 use crate::state::{Choice, Fail, Pass, Processing, Resource, Succeed, Task, Transition, Wait};
 use asl_choice::read_rules;

@@ -6,7 +6,7 @@ use Rattle.json_tree.specs.Reading.{whole_of}
 use Rattle.json_tree.specs.View.{data_of}
 use Rattle.json_tree.specs.declared.tree.Json.{Json}
 use Rattle.json_tree.specs.declared.tree.Json.TheVariants.{Null, Bool, Whole, Text, List as ListOf, Fields}
-use Rattle.asl_machine.specs.Reading.{items_in, members_in, json_of, whole_json}
+use Rattle.asl_states.specs.Reading.{items_in, members_in, json_of, whole_json}
 
 items_in-items_of : (ds : List Data) → items_in (items_of ds) ≡ ds
 items_in-items_of [] = refl

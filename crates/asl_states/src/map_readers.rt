@@ -4,9 +4,9 @@ ghost use Rattle.serde_json.specs.Find.{get};
 ghost use Rattle.serde_json.specs.View.{view};
 ghost use Rattle.asl_fields.specs.Refusal.{Refuses};
 ghost use Rattle.asl_fields.specs.Values.{IsPathField};
-ghost use Rattle.asl_machine.specs.Faults.{ItemsPathFault, HasSelectorFault};
-ghost use Rattle.asl_machine.specs.Profile.{HasSelector};
-ghost use Rattle.asl_machine.specs.Reading.{name_of_two, config_fault, concurrency_fault};
+ghost use Rattle.asl_states.specs.Faults.{ItemsPathFault, HasSelectorFault};
+ghost use Rattle.asl_states.specs.Profile.{HasSelector};
+ghost use Rattle.asl_states.specs.Reading.{name_of_two, config_fault, concurrency_fault};
 
 use asl_fields::{MachineFault, read_path, read_template};
 use json_tree::Text;

@@ -2,8 +2,8 @@ use Rattle.std.proofs.Common.{rules, codes, subst}
 use Rattle.serde_json.specs.Find.{get}
 use Rattle.serde_json.specs.View.{view}
 use Rattle.asl_fields.specs.Values.{IsPathField}
-use Rattle.asl_machine.proofs.Within.{null_is_no_path}
-use Rattle.asl_machine.proofs.map_readers.read_items_path.Goals as goal
+use Rattle.asl_states.proofs.NoPath.{null_is_no_path}
+use Rattle.asl_states.proofs.map_readers.read_items_path.Goals as goal
 
 pub returns-in_ok-new-in-None-clause-fault : goal.returns-in_ok-new-in-None-clause-fault
 returns-in_ok-new-in-None-clause-fault c =

@@ -1,0 +1,4 @@
+pub mod Whole
+pub mod NoPath
+pub mod OneState
+pub mod StateRefused

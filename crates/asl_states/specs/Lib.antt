@@ -1,0 +1,4 @@
+pub mod Reading
+pub mod Profile
+pub mod Faults
+pub mod Same
