@@ -4,8 +4,8 @@ use Rattle.std.proofs.lemmas.Bool.{cond-false, lt-leb}
 use Rattle.json_tree.specs.Data.{Data, depth}
 use Rattle.asl_machine.specs.Definition.{Definition}
 use Rattle.asl_forward.specs.Forks.{with_others, begins, frames_from}
-use Rattle.asl_forward.specs.Processing.{held}
-use Rattle.asl_forward.specs.declared.frame.Frame.{Frame}
+use Rattle.asl_frames.specs.Processing.{held}
+use Rattle.asl_frames.specs.declared.frame.Frame.{Frame}
 
 -- those frames, and then these
 abbrev pub after_those : List Frame → Result (List Frame) (List ℕ) → Result (List Frame) (List ℕ)

@@ -16,10 +16,10 @@ use Rattle.item_store.specs.Calls.{call_of}
 use Rattle.item_store.specs.declared.call.Call.{Call}
 use Rattle.asl_forward.specs.Forks.{branch_frame, with_others, begins, frames_from, parallel_frames, elements, element_input, element_frames, counted_frames, map_frames}
 use Rattle.asl_forward.specs.Outcomes.{asks, task_turn, forks, fork_of, turn, turn_of, action_of}
-use Rattle.asl_forward.specs.Processing.{held, effective}
-use Rattle.asl_forward.specs.Turn.{Standing, standing, counters_of, retriers_of}
-use Rattle.asl_forward.specs.declared.frame.Frame.{Frame}
-use Rattle.asl_forward.specs.declared.frame.Phase.TheVariants.{Ready}
+use Rattle.asl_frames.specs.Processing.{held, effective}
+use Rattle.asl_frames.specs.Turn.{Standing, standing, counters_of, retriers_of}
+use Rattle.asl_frames.specs.declared.frame.Frame.{Frame}
+use Rattle.asl_frames.specs.declared.frame.Phase.TheVariants.{Ready}
 use Rattle.asl_forward.specs.declared.prepared.Outcome.{Outcome}
 use Rattle.asl_forward.specs.declared.prepared.Outcome.TheVariants as outcome
 

@@ -1,6 +1,3 @@
-pub mod Again
 pub mod Begun
-pub mod Counters
 pub mod Firsts
 pub mod NextFrames
-pub mod Turns

@@ -18,13 +18,13 @@ use Rattle.asl_states.specs.declared.state.Transition.TheVariants.{Next}
 use Rattle.asl_forward.specs.Forks.{parallel_frames, map_frames}
 use Rattle.asl_forward.specs.Handling.{stand_for, retried, catcher_for, error_object}
 use Rattle.asl_forward.specs.Outcomes.{tries_again, on_catch, on_retry, handled, errors_of, after_error, taken_by, after_branch, call_fault, Work, work_of, comes_to, after_result, after_answer, after_join, action_of, asks, task_turn, parks, forks, fork_of, turn, turn_of}
-use Rattle.asl_forward.specs.Processing.{and_then, effective, held, passed_on, placed_in}
-use Rattle.asl_forward.specs.Turn.{Standing, next_frame, ends, go_on, has_failed, own_fault}
-use Rattle.asl_forward.specs.declared.frame.Fault.{Fault}
-use Rattle.asl_forward.specs.declared.frame.Frame.{Frame}
+use Rattle.asl_frames.specs.Processing.{and_then, effective, held, passed_on, placed_in}
+use Rattle.asl_frames.specs.Turn.{Standing, next_frame, ends, go_on, has_failed, own_fault}
+use Rattle.asl_frames.specs.declared.frame.Fault.{Fault}
+use Rattle.asl_frames.specs.declared.frame.Frame.{Frame}
 use Rattle.asl_forward.specs.declared.prepared.Outcome.{Outcome}
 use Rattle.asl_forward.specs.declared.prepared.Outcome.TheVariants as outcome
-use Rattle.asl_forward.proofs.Turns.{on_count, end_count, on_level, end_level, on_state, end_state, next_frame-count, next_frame-level, next_frame-state}
+use Rattle.asl_frames.proofs.Turns.{on_count, end_count, on_level, end_level, on_state, end_state, next_frame-count, next_frame-level, next_frame-state}
 
 abbrev States : Type 0
 States = List (List ℕ × StateTree)

@@ -10,10 +10,10 @@ use Rattle.ref_paths.specs.Filling.{filled}
 use Rattle.ref_paths.specs.Picking.{pick_at}
 use Rattle.ref_paths.specs.Templates.{Payload}
 use Rattle.ref_paths.specs.declared.path.PathStep.{PathStep}
-use Rattle.asl_forward.specs.Processing.{and_then, held}
-use Rattle.asl_forward.specs.Turn.{counters_at}
-use Rattle.asl_forward.specs.declared.frame.Frame.{Frame}
-use Rattle.asl_forward.specs.declared.frame.Phase.TheVariants.{Ready}
+use Rattle.asl_frames.specs.Processing.{and_then, held}
+use Rattle.asl_frames.specs.Turn.{counters_at}
+use Rattle.asl_frames.specs.declared.frame.Frame.{Frame}
+use Rattle.asl_frames.specs.declared.frame.Phase.TheVariants.{Ready}
 
 -- the `States` object of a state's branch; a Map's one processor is branch 0
 abbrev pub inward : Level → List ℕ → ℕ → Level

@@ -1,14 +1,15 @@
 -- Which retrier and which catcher stand for an error (Amazon States Language, "Errors": "Retrying after error" and "Fallback
 -- states").
-use Rattle.std.specs.Prelude.{ℕ, zero, suc, nat_lt, List, [], ◌∷◌, Bool, true, false, ◌&&◌, ◌||◌, not, if◌then◌else◌, Option, Some, None, slice_get, option_and_then, codes}
+use Rattle.std.specs.Prelude.{ℕ, nat_lt, List, Bool, true, false, ◌&&◌, ◌||◌, not, if◌then◌else◌, Option, Some, None, slice_get, option_and_then, codes}
 use Rattle.std.specs.List.{list_any, position, find}
 use Rattle.json_tree.specs.Data.{Data, text, fields, no_members, member}
 use Rattle.asl_fields.specs.Fields.{is_text}
 use Rattle.asl_errors.specs.declared.errors.Retrier.{Retrier}
 use Rattle.asl_errors.specs.declared.errors.Catcher.{Catcher}
-use Rattle.asl_forward.specs.declared.frame.Fault.{Fault}
-use Rattle.asl_forward.specs.declared.frame.Origin.{Origin}
-use Rattle.asl_forward.specs.declared.frame.Origin.TheVariants.{Call, Branch, Other}
+use Rattle.asl_frames.specs.declared.frame.Fault.{Fault}
+use Rattle.asl_frames.specs.declared.frame.Origin.{Origin}
+use Rattle.asl_frames.specs.declared.frame.Origin.TheVariants.{Call, Branch, Other}
+use Rattle.asl_frames.specs.Counters.{one_more}
 
 abbrev pub is_call : Origin → Bool
 is_call Call = true
@@ -38,11 +39,6 @@ abbrev pub may_try : Option Retrier → Option ℕ → Bool
 may_try (Some r) (Some tries) = nat_lt tries r.max_attempts
 may_try (Some r) None = false
 may_try None tries = false
-
-abbrev pub one_more : List ℕ → ℕ → List ℕ
-one_more [] i = []
-one_more (n ∷ counters) zero = suc n ∷ counters
-one_more (n ∷ counters) (suc i) = n ∷ one_more counters i
 
 -- The counters after one more use of the first retrier that stands for an error; nothing where none does, and where that one
 -- was used as often as it may be: no later one is asked then.

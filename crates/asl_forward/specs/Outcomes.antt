@@ -22,12 +22,12 @@ use Rattle.asl_states.specs.declared.state.Transition.{Transition}
 use Rattle.asl_states.specs.declared.state.Transition.TheVariants.{Next}
 use Rattle.asl_forward.specs.Forks.{parallel_frames, map_frames}
 use Rattle.asl_forward.specs.Handling.{retried, catcher_for, error_object}
-use Rattle.asl_forward.specs.Processing.{and_then, effective, held, passed_on, placed_in}
-use Rattle.asl_forward.specs.Turn.{Standing, standing, next_frame, ends, go_on, has_failed, own_fault}
-use Rattle.asl_forward.specs.declared.frame.Fault.{Fault}
-use Rattle.asl_forward.specs.declared.frame.Frame.{Frame}
-use Rattle.asl_forward.specs.declared.frame.Origin.TheVariants as origin
-use Rattle.asl_forward.specs.declared.frame.Phase.TheVariants.{Ready, Parked}
+use Rattle.asl_frames.specs.Processing.{and_then, effective, held, passed_on, placed_in}
+use Rattle.asl_frames.specs.Turn.{Standing, standing, next_frame, ends, go_on, has_failed, own_fault}
+use Rattle.asl_frames.specs.declared.frame.Fault.{Fault}
+use Rattle.asl_frames.specs.declared.frame.Frame.{Frame}
+use Rattle.asl_frames.specs.declared.frame.Origin.TheVariants as origin
+use Rattle.asl_frames.specs.declared.frame.Phase.TheVariants.{Ready, Parked}
 use Rattle.asl_forward.specs.declared.prepared.Outcome.{Outcome}
 use Rattle.asl_forward.specs.declared.prepared.Outcome.TheVariants as outcome
 

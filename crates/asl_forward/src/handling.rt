@@ -5,12 +5,12 @@ ghost use Rattle.asl_errors.specs.declared.errors.Retrier.{Retrier};
 ghost use Rattle.json_tree.specs.View.{data_of};
 ghost use Rattle.asl_forward.specs.Handling.{is_call, is_branch, means, stand_for, may_try, retried, catcher_for, error_object};
 ghost use Rattle.asl_forward.specs.Outcomes.{tries_again, on_catch, handled, after_error, taken_by, after_branch};
-ghost use Rattle.asl_forward.specs.Turn.{Standing, standing};
+ghost use Rattle.asl_frames.specs.Turn.{Standing, standing};
 
-use crate::error::TurnFault;
-use crate::frame::{Fault, Frame, Origin, Phase, Retries};
-use crate::processing::place_held;
-use crate::turn::{enter, failed, own_fault, same_place, standing};
+use asl_frames::{
+    Fault, Frame, Origin, Phase, Retries, TurnFault, enter, failed, own_fault, place_held,
+    same_place, standing,
+};
 use asl_machine::{
     Catcher, Catchers, ErrorHandling, ErrorNames, Machine, Retrier, Retriers, State,
 };

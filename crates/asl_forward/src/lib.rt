@@ -1,19 +1,15 @@
 #![tactic(auto)]
 
-//! Frames, and what a state makes of one.
-mod choosing;
-mod error;
+//! What every state makes of a frame: its turn, and what comes of a call, of branches and of an error.
 mod forking;
-mod frame;
+mod frames;
 mod handling;
 mod outcomes;
 mod prepared;
-mod processing;
-mod turn;
 mod work;
 
-pub use frame::{Fault, Frame, Frames, Origin, Phase, Retries};
+pub use asl_frames::{Fault, Frame, Origin, Phase, Retries, first_frame, next_frame, standing};
+pub use frames::Frames;
 pub use handling::{after_branch, after_error};
 pub use prepared::{Outcome, Prepared, prepare};
-pub use turn::{first_frame, next_frame, standing};
 pub use work::{finish, joined, work_of};

@@ -3,14 +3,14 @@ ghost use Rattle.std.specs.Prelude.{◌≡◌, ◌+◌, ◌^◌, ◌<◌, Some, 
 ghost use Rattle.std.specs.Coded.{codes};
 ghost use Rattle.std.proofs.Props.{props};
 ghost use Rattle.asl_forward.specs.Planned.{turn_at};
-ghost use Rattle.asl_forward.specs.Turn.{standing};
-ghost use Rattle.asl_forward.specs.contracts.frame.Phase as phase_contract;
+ghost use Rattle.asl_frames.specs.Turn.{standing};
+ghost use Rattle.asl_frames.specs.contracts.frame.Phase as phase_contract;
 ghost use Rattle.asl_forward.specs.contracts.prepared.Outcome as outcome_contract;
-ghost use Rattle.asl_forward.specs.declared.frame.Phase.TheVariants.{Ready};
+ghost use Rattle.asl_frames.specs.declared.frame.Phase.TheVariants.{Ready};
 
-use crate::frame::{Frame, Frames, Phase};
+use crate::frames::Frames;
 use crate::outcomes::turn;
-use crate::turn::standing;
+use asl_frames::{Frame, Phase, standing};
 use asl_machine::SharedMachine;
 use item_store::Call;
 use std::alloc::{AllocError, Global};

@@ -4,14 +4,11 @@ ghost use Rattle.json_tree.specs.View.{data_of};
 ghost use Rattle.item_store.specs.Deciding.{reply_of};
 ghost use Rattle.asl_forward.specs.Outcomes.{Work, work_of, work_at, handled, call_fault, after_result, after_answer, after_join};
 ghost use Rattle.asl_forward.specs.Planned.{asks_table};
-ghost use Rattle.asl_forward.specs.Turn.{Standing, standing};
+ghost use Rattle.asl_frames.specs.Turn.{Standing, standing};
 
-use crate::error::TurnFault;
-use crate::frame::{Fault, Frame, Origin};
 use crate::handling::handle;
 use crate::prepared::Prepared;
-use crate::processing::output_of;
-use crate::turn::{go_on, own_fault, standing};
+use asl_frames::{Fault, Frame, Origin, TurnFault, go_on, output_of, own_fault, standing};
 use asl_machine::{ErrorHandling, Machine, Processing, State, Transition};
 use item_store::Answer;
 use json_tree::{Json, JsonList, Text};

@@ -14,8 +14,6 @@ use Rattle.asl_states.specs.declared.kind.StateKind.{StateKind}
 use Rattle.asl_states.specs.declared.kind.StateKind.TheVariants as kind
 use Rattle.asl_states.specs.declared.state.Choice.{Choice}
 use Rattle.asl_states.specs.declared.state.Fail.{Fail}
-use Rattle.asl_machine.specs.declared.state.Map.{Map}
-use Rattle.asl_machine.specs.declared.state.Parallel.{Parallel}
 use Rattle.asl_states.specs.declared.state.Pass.{Pass}
 use Rattle.asl_states.specs.declared.state.Processing.{Processing}
 use Rattle.asl_states.specs.declared.state.Succeed.{Succeed}

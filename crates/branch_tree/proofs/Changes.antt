@@ -5,7 +5,7 @@ use Rattle.std.specs.List.{slice_get}
 use Rattle.std.proofs.lemmas.Bool.{eqb-true, eq-eqb, ne_eqb, cases_eq}
 use Rattle.std.proofs.lemmas.Option.{slice_get-get_or}
 use Rattle.std.proofs.lemmas.List.Elements.{All-set}
-use Rattle.asl_forward.specs.declared.frame.Frame.{Frame}
+use Rattle.asl_frames.specs.declared.frame.Frame.{Frame}
 use Rattle.branch_tree.specs.Paths.{Path, same_branch, same_path, rest_after}
 use Rattle.branch_tree.specs.FlatMap.{FrameMap, IsTree, with_frame, grafted, grafted_at}
 use Rattle.branch_tree.specs.Tree.{Rows, flat, frame_at, branch_at, node_at, IsNode}

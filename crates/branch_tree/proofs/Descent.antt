@@ -5,7 +5,7 @@ use Rattle.std.specs.List.{slice_get}
 use Rattle.std.proofs.lemmas.Bool.{eq-eqb, ne_eqb, eqb-true}
 use Rattle.std.proofs.lemmas.Option.{slice_get_within, slice_get-get_or, slice_get_past}
 use Rattle.std.proofs.lemmas.List.{take_all}
-use Rattle.asl_forward.specs.declared.frame.Frame.{Frame}
+use Rattle.asl_frames.specs.declared.frame.Frame.{Frame}
 use Rattle.branch_tree.specs.Paths.{Path}
 use Rattle.branch_tree.specs.Tree.{Rows, flat, frame_at, branch_at, node_at}
 use Rattle.branch_tree.proofs.Flat.{at_node}

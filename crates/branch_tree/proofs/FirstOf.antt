@@ -9,9 +9,9 @@ use Rattle.std.proofs.lemmas.List.{append-nil, take_all}
 use Rattle.std.proofs.lemmas.List.Folds.{list_any_more, list_all_more}
 use Rattle.std.proofs.lemmas.Option.{slice_get_past, slice_get-get_or, same_Some}
 use Rattle.step_names.specs.Thread.{Thread, IsThread, child_of}
-use Rattle.asl_forward.specs.declared.frame.Frame.{Frame}
-use Rattle.asl_forward.specs.declared.frame.Phase.{Phase}
-use Rattle.asl_forward.specs.declared.frame.Phase.TheVariants.{Ready, Parked}
+use Rattle.asl_frames.specs.declared.frame.Frame.{Frame}
+use Rattle.asl_frames.specs.declared.frame.Phase.{Phase}
+use Rattle.asl_frames.specs.declared.frame.Phase.TheVariants.{Ready, Parked}
 use Rattle.branch_tree.specs.Paths.{Path}
 use Rattle.branch_tree.specs.declared.readiness.Readiness.{Readiness}
 use Rattle.branch_tree.specs.FlatMap.{FrameMap, branch_count}

@@ -3,7 +3,7 @@ use Rattle.std.proofs.Common.{◌≡◌, List, [], ◌∷◌, ◌++◌, sym, ap,
 use Rattle.std.specs.List.{All}
 use Rattle.std.proofs.lemmas.List.{map-append}
 use Rattle.std.proofs.lemmas.List.Elements.{All-push}
-use Rattle.asl_forward.specs.declared.frame.Frame.{Frame}
+use Rattle.asl_frames.specs.declared.frame.Frame.{Frame}
 use Rattle.branch_tree.specs.FlatMap.{IsTree}
 use Rattle.branch_tree.specs.Tree.{Rows, leaf, frame_at}
 

@@ -3,9 +3,9 @@ use Rattle.std.proofs.Common.{arith, suc, ◌≡◌, ℕ, ◌+◌, Bool, List, [
 use Rattle.std.proofs.Math.Path.{fun_ext}
 use Rattle.std.specs.List.{slice_get, list_any, list_all, range_with_len}
 use Rattle.std.proofs.lemmas.Bool.{eq-eqb}
-use Rattle.asl_forward.specs.declared.frame.Frame.{Frame}
-use Rattle.asl_forward.specs.declared.frame.Phase.{Phase}
-use Rattle.asl_forward.specs.declared.frame.Phase.TheVariants.{Parked}
+use Rattle.asl_frames.specs.declared.frame.Frame.{Frame}
+use Rattle.asl_frames.specs.declared.frame.Phase.{Phase}
+use Rattle.asl_frames.specs.declared.frame.Phase.TheVariants.{Parked}
 use Rattle.branch_tree.specs.Paths.{Path}
 use Rattle.branch_tree.specs.FlatMap.{FrameMap, branch_count}
 use Rattle.branch_tree.specs.Ready.{readiness_in, readiness_at, root_readiness, readiness_of, frame_is, is_done, has_failed, progress}

@@ -1,8 +1,8 @@
 -- The frames of an execution as one flat map from path to frame.
 use Rattle.std.specs.Prelude.{◌≡◌, ℕ, Bool, true, false, ◌&&◌, [], ◌∷◌, ◌++◌, ◌==◌, nat_lt, if◌then◌else◌, Option, Some, None, IsSome, is_some}
-use Rattle.asl_forward.specs.declared.frame.Frame.{Frame}
-use Rattle.asl_forward.specs.declared.frame.Phase.{Phase}
-use Rattle.asl_forward.specs.declared.frame.Phase.TheVariants.{Ready, Parked, Done, Failed}
+use Rattle.asl_frames.specs.declared.frame.Frame.{Frame}
+use Rattle.asl_frames.specs.declared.frame.Phase.{Phase}
+use Rattle.asl_frames.specs.declared.frame.Phase.TheVariants.{Ready, Parked, Done, Failed}
 use Rattle.branch_tree.specs.Paths.{Path, same_path, rest_after}
 
 abbrev pub FrameMap : Type 0

@@ -1,6 +1,6 @@
 -- Laws over the calls of a tree, by what their contracts say.
 use Rattle.std.specs.Prelude.{◌∷◌, ℕ, ◌<◌, ◌≡◌, ◌++◌, Some}
-use Rattle.asl_forward.specs.declared.frame.Frame.{Frame}
+use Rattle.asl_frames.specs.declared.frame.Frame.{Frame}
 use Rattle.branch_tree.specs.Paths.{Path, rest_after}
 use Rattle.branch_tree.specs.FlatMap.{FrameMap, IsTree, grafted, alone, branch_count}
 use Rattle.step_names.specs.Thread.{Thread}

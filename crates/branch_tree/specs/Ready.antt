@@ -1,9 +1,9 @@
 -- What a thread can do next, by the flat map alone.
 use Rattle.std.specs.Prelude.{ℕ, Bool, true, false, [], ◌∷◌, ◌++◌, if◌then◌else◌, Option, Some, None}
 use Rattle.std.specs.List.{list_any, list_all, range_with_len}
-use Rattle.asl_forward.specs.declared.frame.Frame.{Frame}
-use Rattle.asl_forward.specs.declared.frame.Phase.{Phase}
-use Rattle.asl_forward.specs.declared.frame.Phase.TheVariants.{Ready, Parked, Done, Failed}
+use Rattle.asl_frames.specs.declared.frame.Frame.{Frame}
+use Rattle.asl_frames.specs.declared.frame.Phase.{Phase}
+use Rattle.asl_frames.specs.declared.frame.Phase.TheVariants.{Ready, Parked, Done, Failed}
 use Rattle.branch_tree.specs.declared.readiness.Readiness.{Readiness}
 use Rattle.branch_tree.specs.declared.readiness.Readiness.TheVariants as readiness
 use Rattle.branch_tree.specs.Paths.{Path}

@@ -3,8 +3,8 @@ use Rattle.std.specs.Prelude.{◌≡◌, ℕ, ◌+◌, List, [], ◌∷◌, ◌+
 use Rattle.std.specs.Option.{option_and_then}
 use Rattle.std.specs.List.{All}
 use Rattle.std.specs.Coded.{Coded, coded×, coded_ℕ, coded_list}
-use Rattle.asl_forward.specs.declared.frame.Frame.{Frame}
-use Rattle.asl_forward.specs.contracts.frame.Frame as frame
+use Rattle.asl_frames.specs.declared.frame.Frame.{Frame}
+use Rattle.asl_frames.specs.contracts.frame.Frame as frame
 use Rattle.branch_tree.specs.Paths.{Path, same_path}
 use Rattle.branch_tree.specs.FlatMap.{FrameMap, IsTree, branch_count}
 

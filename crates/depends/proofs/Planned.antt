@@ -5,8 +5,8 @@ use Rattle.std.proofs.lemmas.Bool.{eqb-true}
 use Rattle.std.proofs.lemmas.Option.{same_Some}
 use Rattle.json_tree.specs.declared.tree.Json.{Json}
 use Rattle.asl_machine.specs.Definition.{Definition}
-use Rattle.asl_forward.specs.Turn.{first_frame}
-use Rattle.asl_forward.specs.declared.frame.Frame.{Frame}
+use Rattle.asl_frames.specs.Turn.{first_frame}
+use Rattle.asl_frames.specs.declared.frame.Frame.{Frame}
 use Rattle.step_names.specs.Thread.{Thread, execution}
 use Rattle.step_names.specs.declared.step.StepName.{StepName}
 use Rattle.saved_steps.specs.Deeds.{Deed, next_step, deed_of, move_deed, frame_deed, start_deed, if_numbered, deed}

@@ -21,15 +21,15 @@ use Rattle.asl_states.specs.declared.state.Transition.TheVariants.{Next, End}
 use Rattle.asl_forward.specs.Forks.{parallel_frames, map_frames}
 use Rattle.asl_forward.specs.Handling.{retried, catcher_for, error_object}
 use Rattle.asl_forward.specs.Outcomes.{Work, work_of, on_catch, on_retry, handled, errors_of, taken_by, after_branch, call_fault, comes_to, after_result, after_answer, after_join, action_of, asks, task_turn, forks, fork_of, turn_of, turn}
-use Rattle.asl_forward.specs.Processing.{and_then, effective, held, passed_on, placed_in}
-use Rattle.asl_forward.specs.Turn.{Standing, ends, go_on, own_fault}
-use Rattle.asl_forward.specs.declared.frame.Fault.{Fault}
-use Rattle.asl_forward.specs.declared.frame.Frame.{Frame}
-use Rattle.asl_forward.specs.declared.frame.Phase.{Phase}
-use Rattle.asl_forward.specs.declared.frame.Phase.TheVariants.{Ready, Parked, Done, Failed}
+use Rattle.asl_frames.specs.Processing.{and_then, effective, held, passed_on, placed_in}
+use Rattle.asl_frames.specs.Turn.{Standing, ends, go_on, own_fault}
+use Rattle.asl_frames.specs.declared.frame.Fault.{Fault}
+use Rattle.asl_frames.specs.declared.frame.Frame.{Frame}
+use Rattle.asl_frames.specs.declared.frame.Phase.{Phase}
+use Rattle.asl_frames.specs.declared.frame.Phase.TheVariants.{Ready, Parked, Done, Failed}
 use Rattle.asl_forward.specs.declared.prepared.Outcome.{Outcome}
 use Rattle.asl_forward.specs.declared.prepared.Outcome.TheVariants as outcome
-use Rattle.asl_forward.proofs.Turns.{next_frame-count}
+use Rattle.asl_frames.proofs.Turns.{next_frame-count}
 use Rattle.step_names.specs.Thread.{Thread}
 use Rattle.step_names.specs.declared.step.StepName.{StepName}
 use Rattle.saved_steps.specs.Deeds.{Deed, next_step, deed_of, called, call_deed, deed_of_turn, kids, first_fault, outputs, join_deed, close_deed, deed_in, stands, frame_deed}

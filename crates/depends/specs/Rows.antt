@@ -11,9 +11,9 @@ use Rattle.asl_errors.specs.declared.errors.ErrorHandling.{ErrorHandling}
 use Rattle.asl_machine.specs.Definition.{Definition, pass, fail, parallel, machine_trees}
 use Rattle.asl_states.specs.declared.state.Processing.{Processing}
 use Rattle.asl_states.specs.declared.state.Transition.TheVariants.{End}
-use Rattle.asl_forward.specs.declared.frame.Frame.{Frame}
-use Rattle.asl_forward.specs.declared.frame.Phase.{Phase}
-use Rattle.asl_forward.specs.declared.frame.Phase.TheVariants.{Ready, Parked, Done, Failed}
+use Rattle.asl_frames.specs.declared.frame.Frame.{Frame}
+use Rattle.asl_frames.specs.declared.frame.Phase.{Phase}
+use Rattle.asl_frames.specs.declared.frame.Phase.TheVariants.{Ready, Parked, Done, Failed}
 use Rattle.step_names.specs.Thread.{Thread}
 use Rattle.trace_theory.specs.Traces.{run, names_of, after, undo_each}
 use Rattle.saved_steps.specs.Steps.{Step, started, moved}

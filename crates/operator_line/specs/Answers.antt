@@ -17,7 +17,7 @@ use Rattle.item_store.specs.Listing.{IsListing}
 use Rattle.item_store.specs.Table.{Table}
 use Rattle.asl_machine.specs.Definition.{Definition}
 use Rattle.asl_machine.specs.Profile.{Defines as DefinesMachine}
-use Rattle.asl_forward.specs.declared.frame.Frame.{Frame}
+use Rattle.asl_frames.specs.declared.frame.Frame.{Frame}
 use Rattle.step_names.specs.Order.{thread_cmp}
 use Rattle.step_names.specs.Thread.{Thread, IsThread}
 use Rattle.step_names.specs.Written.{step_text}

@@ -2,7 +2,7 @@
 use Rattle.std.proofs.Common.{◌≡◌, Bool, true, false, ◌&&◌, cond, List, refl, ap, ◌∙◌, Option, None, Some, Result, Ok, Err}
 use Rattle.std.specs.Prelude.{OnOk, is_ok}
 use Rattle.attr_values.specs.declared.key.Key.{Key}
-use Rattle.asl_forward.specs.declared.frame.Frame.{Frame}
+use Rattle.asl_frames.specs.declared.frame.Frame.{Frame}
 use Rattle.item_store.specs.Deciding.{Attributes}
 use Rattle.item_store.specs.Table.{Table, with_item, is_same_key}
 use Rattle.step_names.specs.Thread.{Thread}

@@ -8,11 +8,11 @@ use Rattle.json_tree.specs.declared.tree.Json.{Json}
 use Rattle.asl_machine.specs.Definition.{Definition}
 use Rattle.asl_forward.specs.Outcomes.{Work, work_of, work_at, turn, after_answer, after_branch, after_join}
 use Rattle.asl_forward.specs.Planned.{turn_at}
-use Rattle.asl_forward.specs.Turn.{Standing, standing}
-use Rattle.asl_forward.specs.declared.frame.Fault.{Fault}
-use Rattle.asl_forward.specs.declared.frame.Frame.{Frame}
-use Rattle.asl_forward.specs.declared.frame.Phase.{Phase}
-use Rattle.asl_forward.specs.declared.frame.Phase.TheVariants.{Ready, Parked, Done, Failed}
+use Rattle.asl_frames.specs.Turn.{Standing, standing}
+use Rattle.asl_frames.specs.declared.frame.Fault.{Fault}
+use Rattle.asl_frames.specs.declared.frame.Frame.{Frame}
+use Rattle.asl_frames.specs.declared.frame.Phase.{Phase}
+use Rattle.asl_frames.specs.declared.frame.Phase.TheVariants.{Ready, Parked, Done, Failed}
 use Rattle.asl_forward.specs.declared.prepared.Outcome.{Outcome}
 use Rattle.asl_forward.specs.declared.prepared.Outcome.TheVariants as outcome
 use Rattle.attr_values.specs.declared.key.Key.{Key}

@@ -5,9 +5,9 @@ use Rattle.json_tree.specs.Data.{Data}
 use Rattle.asl_machine.specs.Definition.{Definition}
 use Rattle.attr_values.specs.declared.key.Key.{Key}
 use Rattle.asl_forward.specs.Outcomes.{work_of, turn}
-use Rattle.asl_forward.specs.Turn.{standing}
-use Rattle.asl_forward.specs.declared.frame.Fault.{Fault}
-use Rattle.asl_forward.specs.declared.frame.Frame.{Frame}
+use Rattle.asl_frames.specs.Turn.{standing}
+use Rattle.asl_frames.specs.declared.frame.Fault.{Fault}
+use Rattle.asl_frames.specs.declared.frame.Frame.{Frame}
 use Rattle.item_store.specs.Deciding.{Attributes, reply_of}
 use Rattle.item_store.specs.Store.{Store}
 use Rattle.item_store.specs.Table.{Table, Outcome, with_item}

@@ -1,7 +1,7 @@
 // What a step does in a world.
 ghost use Rattle.std.specs.Prelude.{◌≡◌, ◌+◌, ◌<◌, ◌^◌, ◌==◌, true, Some, IfOk, IsSome, option_map};
 ghost use Rattle.asl_forward.specs.Planned.{turn_at};
-ghost use Rattle.asl_forward.specs.Turn.{standing};
+ghost use Rattle.asl_frames.specs.Turn.{standing};
 ghost use Rattle.item_store.specs.Store.{Store, items_of};
 ghost use Rattle.step_names.specs.Thread.{execution};
 ghost use Rattle.saved_steps.specs.Deeds as model;

@@ -11,9 +11,9 @@ use Rattle.item_store.specs.Table.{Table, is_same_key}
 use Rattle.item_store.specs.declared.access.AccessMode.{AccessMode}
 use Rattle.item_store.proofs.Slots.{same_key}
 use Rattle.asl_forward.specs.Outcomes.{Work, work_of, turn, after_answer}
-use Rattle.asl_forward.specs.Turn.{Standing, standing}
-use Rattle.asl_forward.specs.declared.frame.Frame.{Frame}
-use Rattle.asl_forward.specs.declared.frame.Phase.TheVariants.{Ready}
+use Rattle.asl_frames.specs.Turn.{Standing, standing}
+use Rattle.asl_frames.specs.declared.frame.Frame.{Frame}
+use Rattle.asl_frames.specs.declared.frame.Phase.TheVariants.{Ready}
 use Rattle.asl_forward.specs.declared.prepared.Outcome.{Outcome}
 use Rattle.asl_forward.specs.declared.prepared.Outcome.TheVariants as outcome
 use Rattle.asl_forward.specs.declared.prepared.Prepared.{Prepared}

@@ -21,16 +21,16 @@ use Rattle.asl_machine.specs.declared.state.State.TheVariants as state
 use Rattle.asl_states.specs.declared.state.Task.{Task}
 use Rattle.asl_states.specs.declared.state.Transition.{Transition}
 use Rattle.asl_states.specs.declared.state.Transition.TheVariants.{Next, End}
-use Rattle.asl_forward.specs.Choosing.{chosen}
+use Rattle.asl_frames.specs.Choosing.{chosen}
 use Rattle.asl_forward.specs.Forks.{with_others, begins, frames_from, parallel_frames, element_frames, element_input, counted_frames, elements, map_frames}
 use Rattle.asl_forward.specs.Handling.{retried, catcher_for}
 use Rattle.asl_forward.specs.Outcomes.{Work, call_fault, on_catch, on_retry, handled, comes_to, after_answer, after_join, after_branch, errors_of, taken_by, asks, task_turn, forks, fork_of, turn_of, turn, action_of}
 use Rattle.asl_forward.specs.Planned.{turn_at}
-use Rattle.asl_forward.specs.Processing.{effective, held, passed_on}
-use Rattle.asl_forward.specs.Turn.{Standing, standing, go_on, ends, own_fault, goes_where, choice_frame, next_frame}
-use Rattle.asl_forward.specs.declared.frame.Fault.{Fault}
-use Rattle.asl_forward.specs.declared.frame.Frame.{Frame}
-use Rattle.asl_forward.specs.declared.frame.Phase.TheVariants.{Parked}
+use Rattle.asl_frames.specs.Processing.{effective, held, passed_on}
+use Rattle.asl_frames.specs.Turn.{Standing, standing, go_on, ends, own_fault, goes_where, choice_frame, next_frame}
+use Rattle.asl_frames.specs.declared.frame.Fault.{Fault}
+use Rattle.asl_frames.specs.declared.frame.Frame.{Frame}
+use Rattle.asl_frames.specs.declared.frame.Phase.TheVariants.{Parked}
 use Rattle.asl_forward.specs.declared.prepared.Outcome.{Outcome}
 use Rattle.asl_forward.specs.declared.prepared.Outcome.TheVariants as outcome
 use Rattle.saved_steps.specs.Made.{is_open}

@@ -5,10 +5,10 @@ use Rattle.json_tree.specs.Data.{Data}
 use Rattle.json_tree.specs.declared.tree.Json.{Json}
 use Rattle.asl_machine.specs.Definition.{Definition}
 use Rattle.asl_forward.specs.Outcomes.{Work, work_of, after_branch, after_join}
-use Rattle.asl_forward.specs.Turn.{Standing, first_frame}
-use Rattle.asl_forward.specs.declared.frame.Fault.{Fault}
-use Rattle.asl_forward.specs.declared.frame.Frame.{Frame}
-use Rattle.asl_forward.specs.declared.frame.Phase.TheVariants.{Parked}
+use Rattle.asl_frames.specs.Turn.{Standing, first_frame}
+use Rattle.asl_frames.specs.declared.frame.Fault.{Fault}
+use Rattle.asl_frames.specs.declared.frame.Frame.{Frame}
+use Rattle.asl_frames.specs.declared.frame.Phase.TheVariants.{Parked}
 use Rattle.asl_forward.specs.declared.prepared.Prepared.{Prepared}
 use Rattle.step_names.specs.Thread.{Thread, execution}
 use Rattle.step_names.specs.declared.step.StepName.{StepName}

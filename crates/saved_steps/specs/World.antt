@@ -2,7 +2,7 @@
 use Rattle.std.specs.Prelude.{ℕ, List, Bool, Option, ◌&&◌, ◌==◌}
 use Rattle.std.specs.Ordering.{eq_by_cmp}
 use Rattle.asl_machine.specs.Definition.{Definition}
-use Rattle.asl_forward.specs.declared.frame.Frame.{Frame}
+use Rattle.asl_frames.specs.declared.frame.Frame.{Frame}
 use Rattle.attr_values.specs.declared.key.KeySchema.{KeySchema}
 use Rattle.item_store.specs.Table.{Table}
 use Rattle.step_names.specs.Order.{thread_cmp}

@@ -3,7 +3,7 @@ ghost use Rattle.std.specs.Prelude.{◌≡◌, ◌+◌, ◌^◌, ◌<◌, IsSome
 ghost use Rattle.std.specs.Bool.{OnTrue};
 ghost use Rattle.asl_forward.specs.Outcomes.{work_at};
 ghost use Rattle.asl_forward.specs.Planned.{asks_table};
-ghost use Rattle.asl_forward.specs.Turn.{standing};
+ghost use Rattle.asl_frames.specs.Turn.{standing};
 
 use asl_forward::{
     Fault, Frame, Origin, Outcome, Phase, Prepared, after_error, finish, joined, prepare, standing,

@@ -17,12 +17,12 @@ use Rattle.asl_machine.specs.declared.state.State.TheVariants as state
 use Rattle.asl_states.specs.declared.state.Task.{Task}
 use Rattle.asl_forward.specs.Forks.{branch_frame, with_others, begins, frames_from, parallel_frames, element_frames, element_input, counted_frames, elements, map_frames}
 use Rattle.asl_forward.specs.Outcomes.{Work, work_of, after_join, after_answer, asks, task_turn, forks, fork_of, turn_of, turn, action_of}
-use Rattle.asl_forward.specs.Processing.{effective, held}
-use Rattle.asl_forward.specs.Turn.{Standing, first_frame}
-use Rattle.asl_forward.specs.declared.frame.Fault.{Fault}
-use Rattle.asl_forward.specs.declared.frame.Frame.{Frame}
-use Rattle.asl_forward.specs.declared.frame.Phase.{Phase}
-use Rattle.asl_forward.specs.declared.frame.Phase.TheVariants.{Ready, Parked, Done, Failed}
+use Rattle.asl_frames.specs.Processing.{effective, held}
+use Rattle.asl_frames.specs.Turn.{Standing, first_frame}
+use Rattle.asl_frames.specs.declared.frame.Fault.{Fault}
+use Rattle.asl_frames.specs.declared.frame.Frame.{Frame}
+use Rattle.asl_frames.specs.declared.frame.Phase.{Phase}
+use Rattle.asl_frames.specs.declared.frame.Phase.TheVariants.{Ready, Parked, Done, Failed}
 use Rattle.asl_forward.specs.declared.prepared.Outcome.{Outcome}
 use Rattle.asl_forward.specs.declared.prepared.Outcome.TheVariants as outcome
 use Rattle.branch_tree.specs.FlatMap.{is_parked}

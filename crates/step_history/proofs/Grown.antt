@@ -7,7 +7,7 @@ use Rattle.step_names.specs.Thread.{Thread}
 use Rattle.saved_steps.specs.Deeds.{Deed, deed}
 use Rattle.saved_steps.specs.Held.{frames_of, seen}
 use Rattle.saved_steps.specs.declared.world.World.{World}
-use Rattle.asl_forward.specs.declared.frame.Frame.{Frame}
+use Rattle.asl_frames.specs.declared.frame.Frame.{Frame}
 use Rattle.std.proofs.Math.Path.{fun_ext}
 use Rattle.saved_steps.specs.Keeping.{kept}
 use Rattle.saved_steps.specs.Made.{IsMadeFor, KeepsStore}

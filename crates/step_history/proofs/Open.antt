@@ -21,16 +21,16 @@ use Rattle.asl_machine.specs.declared.state.State.TheVariants as state
 use Rattle.asl_states.specs.declared.state.Task.{Task}
 use Rattle.asl_states.specs.declared.state.Transition.{Transition}
 use Rattle.asl_states.specs.declared.state.Transition.TheVariants.{Next, End}
-use Rattle.asl_forward.specs.Choosing.{chosen}
+use Rattle.asl_frames.specs.Choosing.{chosen}
 use Rattle.asl_forward.specs.Forks.{parallel_frames, map_frames}
 use Rattle.asl_forward.specs.Handling.{retried, catcher_for, error_object}
 use Rattle.asl_forward.specs.Outcomes.{Work, work_of, on_catch, on_retry, handled, errors_of, taken_by, after_branch, call_fault, comes_to, after_result, after_answer, after_join, action_of, asks, task_turn, forks, fork_of, turn_of, turn}
-use Rattle.asl_forward.specs.Processing.{and_then, effective, held, passed_on, placed_in}
-use Rattle.asl_forward.specs.Turn.{Standing, go_on, ends, own_fault, goes_where, choice_frame, next_frame, pass_output, idle_output, first_frame}
-use Rattle.asl_forward.specs.declared.frame.Fault.{Fault}
-use Rattle.asl_forward.specs.declared.frame.Frame.{Frame}
-use Rattle.asl_forward.specs.declared.frame.Phase.{Phase}
-use Rattle.asl_forward.specs.declared.frame.Phase.TheVariants.{Ready, Parked, Done, Failed}
+use Rattle.asl_frames.specs.Processing.{and_then, effective, held, passed_on, placed_in}
+use Rattle.asl_frames.specs.Turn.{Standing, go_on, ends, own_fault, goes_where, choice_frame, next_frame, pass_output, idle_output, first_frame}
+use Rattle.asl_frames.specs.declared.frame.Fault.{Fault}
+use Rattle.asl_frames.specs.declared.frame.Frame.{Frame}
+use Rattle.asl_frames.specs.declared.frame.Phase.{Phase}
+use Rattle.asl_frames.specs.declared.frame.Phase.TheVariants.{Ready, Parked, Done, Failed}
 use Rattle.asl_forward.specs.declared.prepared.Outcome.{Outcome}
 use Rattle.asl_forward.specs.declared.prepared.Outcome.TheVariants as outcome
 use Rattle.step_names.specs.Thread.{Thread, execution}

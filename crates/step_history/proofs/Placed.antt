@@ -23,12 +23,12 @@ use Rattle.asl_machine.specs.declared.state.State.TheVariants as state
 use Rattle.asl_states.specs.declared.state.Task.{Task}
 use Rattle.asl_forward.specs.Forks.{branch_frame, parallel_frames, map_frames}
 use Rattle.asl_forward.specs.Outcomes.{Work, work_of, after_join, after_answer, after_branch, asks, task_turn, parks, forks, fork_of, turn_of, turn, action_of}
-use Rattle.asl_forward.specs.Processing.{effective}
-use Rattle.asl_forward.specs.Turn.{Standing, standing, first_frame}
-use Rattle.asl_forward.specs.declared.frame.Fault.{Fault}
-use Rattle.asl_forward.specs.declared.frame.Frame.{Frame}
-use Rattle.asl_forward.specs.declared.frame.Phase.{Phase}
-use Rattle.asl_forward.specs.declared.frame.Phase.TheVariants.{Ready, Parked, Done, Failed}
+use Rattle.asl_frames.specs.Processing.{effective}
+use Rattle.asl_frames.specs.Turn.{Standing, standing, first_frame}
+use Rattle.asl_frames.specs.declared.frame.Fault.{Fault}
+use Rattle.asl_frames.specs.declared.frame.Frame.{Frame}
+use Rattle.asl_frames.specs.declared.frame.Phase.{Phase}
+use Rattle.asl_frames.specs.declared.frame.Phase.TheVariants.{Ready, Parked, Done, Failed}
 use Rattle.asl_forward.specs.declared.prepared.Outcome.{Outcome}
 use Rattle.asl_forward.specs.declared.prepared.Outcome.TheVariants as outcome
 use Rattle.asl_forward.proofs.Firsts.{standing_parts, one_step_further, first_of, branches_all, OnBranches}

@@ -4,10 +4,10 @@ use Rattle.std.specs.Prelude.{IfSome, IsSomeAnd, option_map, option_and_then}
 use Rattle.json_tree.specs.Data.{Data}
 use Rattle.asl_machine.specs.Definition.{Definition}
 use Rattle.asl_forward.specs.Outcomes.{Work, work_of, after_join}
-use Rattle.asl_forward.specs.Turn.{Standing, standing}
-use Rattle.asl_forward.specs.declared.frame.Fault.{Fault}
-use Rattle.asl_forward.specs.declared.frame.Frame.{Frame}
-use Rattle.asl_forward.specs.declared.frame.Phase.TheVariants.{Ready, Parked}
+use Rattle.asl_frames.specs.Turn.{Standing, standing}
+use Rattle.asl_frames.specs.declared.frame.Fault.{Fault}
+use Rattle.asl_frames.specs.declared.frame.Frame.{Frame}
+use Rattle.asl_frames.specs.declared.frame.Phase.TheVariants.{Ready, Parked}
 use Rattle.asl_forward.specs.declared.prepared.Prepared.{Prepared}
 use Rattle.branch_tree.specs.FlatMap.{is_parked}
 use Rattle.step_names.specs.Thread.{Thread}

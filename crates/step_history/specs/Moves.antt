@@ -3,8 +3,8 @@ use Rattle.std.specs.Prelude.{◌≡◌, ℕ, List, map, Option, Some, None, IfS
 use Rattle.std.specs.List.{range_with_len}
 use Rattle.json_tree.specs.Data.{Data}
 use Rattle.asl_machine.specs.Definition.{Definition}
-use Rattle.asl_forward.specs.declared.frame.Fault.{Fault}
-use Rattle.asl_forward.specs.declared.frame.Frame.{Frame}
+use Rattle.asl_frames.specs.declared.frame.Fault.{Fault}
+use Rattle.asl_frames.specs.declared.frame.Frame.{Frame}
 use Rattle.step_names.specs.Thread.{Thread, child_of}
 use Rattle.saved_steps.specs.Deeds.{deed, next_step, move_deed, fault_of, output_of, first_fault, outputs}
 use Rattle.saved_steps.specs.Held.{frames_of, seen}
@@ -14,7 +14,7 @@ use Rattle.saved_steps.specs.World.{Setting}
 use Rattle.saved_steps.specs.declared.next.Next.{Next}
 use Rattle.saved_steps.specs.declared.next.Next.TheVariants.{Begin, Work as WorkOn, Join, Terminate}
 use Rattle.asl_forward.specs.Outcomes.{Work, work_of, work_at, after_join, after_branch}
-use Rattle.asl_forward.specs.Turn.{Standing, standing}
+use Rattle.asl_frames.specs.Turn.{Standing, standing}
 use Rattle.saved_steps.specs.declared.world.World.{World}
 
 -- the machine is the setting's of a frame's level

@@ -2,7 +2,7 @@
 ghost use Rattle.std.specs.Prelude.{◌≡◌, ◌<◌, ◌≤◌, ◌+◌, ◌^◌, List, length, IfOk, IfSome, IsSome, Some, None, is_some, option_copied, option_map};
 ghost use Rattle.json_tree.specs.View.{data_of};
 ghost use Rattle.asl_forward.specs.Outcomes.{work_of, work_at};
-ghost use Rattle.asl_forward.specs.Turn.{standing};
+ghost use Rattle.asl_frames.specs.Turn.{standing};
 ghost use Rattle.step_names.specs.Thread.{child_of};
 ghost use Rattle.saved_steps.specs.Deeds.{first_fault, outputs};
 ghost use Rattle.saved_steps.specs.Held.{frames_of};

@@ -1,7 +1,7 @@
 use Rattle.std.proofs.Common.{arith, sym, subst, ◌≡◌, false, ◌∙◌}
 use Rattle.branch_tree.specs.FlatMap.{is_parked}
 use Rattle.branch_tree.specs.Tree.{IsNode, node_at}
-use Rattle.asl_forward.specs.declared.frame.Frame.{Frame}
+use Rattle.asl_frames.specs.declared.frame.Frame.{Frame}
 use Rattle.branch_tree.proofs.Nodes.{flat_tree}
 use Rattle.branch_tree.proofs.Descent.{first, rest, goes_by, goes_to, holds_there, first_then_rest, shorter}
 use Rattle.branch_tree.proofs.Changes.{grafted_below, set_node, grafted_here}

@@ -52,7 +52,7 @@ impl Model for Retries {
 }
 
 impl Retries {
-    ghost use Rattle.asl_forward.specs.Handling.{one_more};
+    ghost use Rattle.asl_frames.specs.Counters.{one_more};
 
     /// The counters of a state without retriers. Takes no memory.
     pub fn none(alloc: Global) -> Retries
@@ -90,7 +90,7 @@ impl Retries {
 
     /// The counters after one more use of the retrier at this place. Takes memory for each.
     #[tactic(auto, using(crate::proofs::Counters::one_more_within, crate::proofs::Counters::one_more_past))]
-    pub(crate) fn one_more(&self, place: usize) -> Result<Retries, AllocError>
+    pub fn one_more(&self, place: usize) -> Result<Retries, AllocError>
         requires { IfSome (slice_get self.now place) (λ n. n + 1 < 2 ^ 32) }
         ensures { IfOk result (λ r. r ≡ one_more self.now place) }
     {
@@ -115,52 +115,9 @@ pub struct Frame {
     pub phase: Phase,
 }
 
-/// The frames of a fork's branches, in order. Contracts see their list.
-#[derive(Debug, Drop)]
-pub struct Frames {
-    pub(crate) inner: Vec<Frame>,
-}
-
-impl Model for Frames {
-    ghost use Rattle.std.specs.Prelude.{List};
-    ghost use Rattle.std.specs.Coded.{codes};
-    ghost use Rattle.asl_forward.specs.declared.frame.Frame.{Frame};
-    ghost use Rattle.asl_forward.specs.contracts.frame.Frame as frame;
-
-    ghost Value = { List Frame };
-
-    ghost coded = { Prim.hlevel (codes, frame.the_row.coded) };
-
-    ghost view = { λ a. a.inner.items };
-}
-
-impl Frames {
-    /// No frames. Takes no memory.
-    pub(crate) fn new(alloc: Global) -> Frames
-        ensures { result ≡ [] }
-    {
-        let inner = Vec::new(alloc);
-        Frames { inner }
-    }
-
-    /// The frames, in order, lent.
-    pub fn as_slice(&self) -> &[Frame]
-        ensures { result.now ≡ self.now }
-    {
-        self.inner.as_slice()
-    }
-
-    /// The frames themselves. Takes no memory.
-    pub fn into_vec(self) -> Vec<Frame>
-        ensures { result.items ≡ self }
-    {
-        self.inner
-    }
-}
-
 impl Frame {
     /// An equal frame of one that is ready, which shares its raw input. Takes memory for long names and for the counters.
-    pub(crate) fn copy_ready(&self) -> Result<Frame, AllocError>
+    pub fn copy_ready(&self) -> Result<Frame, AllocError>
         requires { self.now.phase ≡ Phase.Ready }
         ensures { IfOk result (λ f. f ≡ self.now) }
     {

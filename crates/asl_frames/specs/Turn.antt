@@ -16,12 +16,12 @@ use Rattle.asl_machine.specs.declared.state.State.{State}
 use Rattle.asl_machine.specs.declared.state.State.TheVariants as state
 use Rattle.asl_states.specs.declared.state.Transition.{Transition}
 use Rattle.asl_states.specs.declared.state.Transition.TheVariants.{Next, End}
-use Rattle.asl_forward.specs.Choosing.{chosen}
-use Rattle.asl_forward.specs.Processing.{and_then, effective, passed_on}
-use Rattle.asl_forward.specs.declared.frame.Fault.{Fault}
-use Rattle.asl_forward.specs.declared.frame.Frame.{Frame}
-use Rattle.asl_forward.specs.declared.frame.Origin.TheVariants.{Other}
-use Rattle.asl_forward.specs.declared.frame.Phase.TheVariants.{Ready, Done, Failed}
+use Rattle.asl_frames.specs.Choosing.{chosen}
+use Rattle.asl_frames.specs.Processing.{and_then, effective, passed_on}
+use Rattle.asl_frames.specs.declared.frame.Fault.{Fault}
+use Rattle.asl_frames.specs.declared.frame.Frame.{Frame}
+use Rattle.asl_frames.specs.declared.frame.Origin.TheVariants.{Other}
+use Rattle.asl_frames.specs.declared.frame.Phase.TheVariants.{Ready, Done, Failed}
 
 -- ---- frames
 

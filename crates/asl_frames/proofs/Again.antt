@@ -5,7 +5,7 @@ use Rattle.json_tree.specs.View.{data_of}
 use Rattle.json_tree.specs.declared.tree.Json.{Json}
 use Rattle.json_tree.specs.declared.tree.Json.TheVariants.{Null, Bool, Whole, Text, List as ListOf, Fields}
 use Rattle.asl_states.specs.Reading.{items_in, members_in, json_of}
-use Rattle.asl_forward.specs.Processing.{and_then, picked}
+use Rattle.asl_frames.specs.Processing.{and_then, picked}
 
 pub items_again : (ds : List Data) → ds ≡ items_in (items_of ds)
 items_again [] = refl

@@ -1,9 +1,9 @@
 -- Errors as the code holds them.
 use Rattle.std.specs.Prelude.{◌≡◌, ℕ, List, Result, Err, codes}
-use Rattle.asl_forward.specs.declared.error.StateError.{StateError}
-use Rattle.asl_forward.specs.declared.error.StateError.TheVariants.{Runtime, ParameterPathFailure, ResultPathMatchFailure, NoChoiceMatched}
-use Rattle.asl_forward.specs.declared.error.TurnFault.{TurnFault}
-use Rattle.asl_forward.specs.declared.error.TurnFault.TheVariants.{Error, Memory}
+use Rattle.asl_frames.specs.declared.error.StateError.{StateError}
+use Rattle.asl_frames.specs.declared.error.StateError.TheVariants.{Runtime, ParameterPathFailure, ResultPathMatchFailure, NoChoiceMatched}
+use Rattle.asl_frames.specs.declared.error.TurnFault.{TurnFault}
+use Rattle.asl_frames.specs.declared.error.TurnFault.TheVariants.{Error, Memory}
 
 abbrev pub error_name : StateError → List ℕ
 error_name Runtime = codes "States.Runtime"

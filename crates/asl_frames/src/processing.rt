@@ -2,8 +2,8 @@
 ghost use Rattle.std.specs.Prelude.{◌≡◌, Some, Ok, IfOk, IfErr};
 ghost use Rattle.json_tree.specs.Data.{Data};
 ghost use Rattle.json_tree.specs.View.{data_of};
-ghost use Rattle.asl_forward.specs.Errors.{Tells};
-ghost use Rattle.asl_forward.specs.Processing.{and_then, picked, filled_from, placed_in, held, effective, passed_on};
+ghost use Rattle.asl_frames.specs.Errors.{Tells};
+ghost use Rattle.asl_frames.specs.Processing.{and_then, picked, filled_from, placed_in, held, effective, passed_on};
 
 use crate::error::{StateError, TurnFault};
 use asl_machine::Processing;

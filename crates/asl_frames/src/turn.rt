@@ -3,10 +3,10 @@ ghost use Rattle.std.specs.Prelude.{◌≡◌, ◌+◌, ◌^◌, ◌<◌, option
 ghost use Rattle.json_tree.specs.Data.{Data};
 ghost use Rattle.json_tree.specs.View.{data_of};
 ghost use Rattle.asl_machine.specs.Definition.{Definition};
-ghost use Rattle.asl_forward.specs.Errors.{Tells, error_name};
-ghost use Rattle.asl_forward.specs.Turn.{retriers_of, counters_at, enters, is_done, has_failed, own_fault, declared_fault, go_on, ends, first_frame, pass_result, pass_output, idle_output, after_state, standing, choice_frame, goes_where};
-ghost use Rattle.asl_forward.specs.Choosing.{chosen};
-ghost use Rattle.asl_forward.specs.Processing.{effective};
+ghost use Rattle.asl_frames.specs.Errors.{Tells, error_name};
+ghost use Rattle.asl_frames.specs.Turn.{retriers_of, counters_at, enters, is_done, has_failed, own_fault, declared_fault, go_on, ends, first_frame, pass_result, pass_output, idle_output, after_state, standing, choice_frame, goes_where};
+ghost use Rattle.asl_frames.specs.Choosing.{chosen};
+ghost use Rattle.asl_frames.specs.Processing.{effective};
 
 use crate::choosing::choose;
 use crate::error::{StateError, TurnFault};
@@ -159,7 +159,7 @@ fn end(
 
 /// The frame that goes on with a state's output.
 #[tactic(auto, using(crate::proofs::Again::json_again))]
-pub(crate) fn go_on(
+pub fn go_on(
     alloc: Global,
     level: &Machine,
     transition: &Transition,
@@ -177,7 +177,7 @@ pub(crate) fn go_on(
 
 /// The frame before another state of the level.
 #[tactic(auto, using(crate::proofs::Again::json_again))]
-pub(crate) fn enter(
+pub fn enter(
     alloc: Global,
     level: &Machine,
     name: &Text,
@@ -217,11 +217,7 @@ fn place_of(
 }
 
 /// A counter of 0 for each retrier of the state of this name.
-pub(crate) fn counters_at(
-    alloc: Global,
-    level: &Machine,
-    name: &Text,
-) -> Result<Retries, AllocError>
+pub fn counters_at(alloc: Global, level: &Machine, name: &Text) -> Result<Retries, AllocError>
     ensures { IfOk result (λ r. r ≡ counters_at level.now name.now) }
 {
     match level.state(name) {
@@ -242,7 +238,7 @@ fn retriers_of(state: &State) -> &[Retrier]
 }
 
 /// The frame at the same place in another phase, a move later. Its raw input is shared.
-pub(crate) fn with_phase(frame: &Frame, phase: Phase) -> Result<Frame, AllocError>
+pub fn with_phase(frame: &Frame, phase: Phase) -> Result<Frame, AllocError>
     requires { frame.now.count + 1 < 2 ^ 32 }
     ensures { IfOk result (λ g. g ≡ record { level = frame.now.level; state = frame.now.state; raw = frame.now.raw; retries = frame.now.retries; count = frame.now.count + 1; phase = phase }) }
 {
@@ -266,7 +262,7 @@ pub(crate) fn with_phase(frame: &Frame, phase: Phase) -> Result<Frame, AllocErro
 }
 
 /// Where a frame stands, and its raw input, shared.
-pub(crate) fn same_place(frame: &Frame) -> Result<(Level, Text, Json), AllocError>
+pub fn same_place(frame: &Frame) -> Result<(Level, Text, Json), AllocError>
     ensures { IfOk result (λ p. (p.0 ≡ frame.now.level) × (p.1 ≡ frame.now.state) × (p.2 ≡ frame.now.raw)) }
 {
     let raw = frame.raw.copy()?;
@@ -275,7 +271,7 @@ pub(crate) fn same_place(frame: &Frame) -> Result<(Level, Text, Json), AllocErro
     Ok((level, state, raw))
 }
 
-pub(crate) fn failed(frame: &Frame, fault: Fault) -> Result<Frame, AllocError>
+pub fn failed(frame: &Frame, fault: Fault) -> Result<Frame, AllocError>
     requires { frame.now.count + 1 < 2 ^ 32 }
     ensures { IfOk result (λ g. g ≡ has_failed frame.now fault) }
 {
@@ -283,7 +279,7 @@ pub(crate) fn failed(frame: &Frame, fault: Fault) -> Result<Frame, AllocError>
 }
 
 /// An error of the state itself.
-pub(crate) fn own_fault(alloc: Global, error: StateError) -> Result<Fault, AllocError>
+pub fn own_fault(alloc: Global, error: StateError) -> Result<Fault, AllocError>
     ensures { IfOk result (λ f. f ≡ own_fault (error_name error)) }
 {
     let cause = Text::new(alloc, "")?;

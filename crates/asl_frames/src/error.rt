@@ -1,6 +1,6 @@
 // Errors that states meet by themselves.
 ghost use Rattle.std.specs.Prelude.{◌≡◌};
-ghost use Rattle.asl_forward.specs.Errors.{error_name};
+ghost use Rattle.asl_frames.specs.Errors.{error_name};
 
 use std::alloc::AllocError;
 
@@ -37,7 +37,7 @@ pub enum TurnFault {
 
 impl From<AllocError> for TurnFault {
     ghost use Rattle.std.specs.Prelude.{◌≡◌};
-    ghost use Rattle.asl_forward.specs.declared.error.TurnFault.TheVariants.{Memory};
+    ghost use Rattle.asl_frames.specs.declared.error.TurnFault.TheVariants.{Memory};
 
     ghost from_gives = { λ _ e. e ≡ Memory };
 

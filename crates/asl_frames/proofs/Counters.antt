@@ -1,6 +1,6 @@
 -- One more use of a retrier, at its place among the counters.
 use Rattle.std.proofs.Common.{◌≡◌, ℕ, zero, suc, ◌+◌, ◌<◌, ◌≤◌, List, [], ◌∷◌, length, get_or, set, refl, ap, arith, add-one, sym}
-use Rattle.asl_forward.specs.Handling.{one_more}
+use Rattle.asl_frames.specs.Counters.{one_more}
 
 pub one_more_within : (xs : List ℕ) (i d : ℕ) → i < length xs → one_more xs i ≡ set xs i (get_or xs i d + 1)
 one_more_within [] i d h =

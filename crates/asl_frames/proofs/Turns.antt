@@ -13,10 +13,10 @@ use Rattle.asl_choice.specs.TestView.{test_of}
 use Rattle.asl_choice.specs.declared.choice.Rule.{Rule}
 use Rattle.asl_states.specs.declared.state.Choice.{Choice}
 use Rattle.asl_choice.specs.Holding.{holds, first_rule}
-use Rattle.asl_forward.specs.Choosing.{or_default, goes_to, chosen}
-use Rattle.asl_forward.specs.Processing.{effective, passed_on}
-use Rattle.asl_forward.specs.Turn.{ends, has_failed, own_fault, goes_where, choice_frame, next_frame, pass_output, idle_output}
-use Rattle.asl_forward.specs.declared.frame.Frame.{Frame}
+use Rattle.asl_frames.specs.Choosing.{or_default, goes_to, chosen}
+use Rattle.asl_frames.specs.Processing.{effective, passed_on}
+use Rattle.asl_frames.specs.Turn.{ends, has_failed, own_fault, goes_where, choice_frame, next_frame, pass_output, idle_output}
+use Rattle.asl_frames.specs.declared.frame.Frame.{Frame}
 use Rattle.json_tree.specs.View.{data_of}
 
 -- a Choice state goes there with some input

@@ -1,8 +1,8 @@
 // Where a Choice state goes ("Choice State").
 ghost use Rattle.std.specs.Prelude.{◌≡◌, Ok, Err, IfOk, IfErr};
 ghost use Rattle.json_tree.specs.View.{data_of};
-ghost use Rattle.asl_forward.specs.Choosing.{chosen};
-ghost use Rattle.asl_forward.specs.Errors.{error_name};
+ghost use Rattle.asl_frames.specs.Choosing.{chosen};
+ghost use Rattle.asl_frames.specs.Errors.{error_name};
 
 use crate::error::StateError;
 use asl_machine::Choice;

@@ -1,0 +1,3 @@
+pub mod Again
+pub mod Counters
+pub mod Turns

@@ -1,0 +1,5 @@
+pub mod Choosing
+pub mod Counters
+pub mod Errors
+pub mod Processing
+pub mod Turn
