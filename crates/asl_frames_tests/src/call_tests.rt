@@ -1,0 +1,220 @@
+// Each call by itself, over one machine and its first frame.
+use crate::tests::{Want, is_as_wanted, is_written, json_of, machine_of, start};
+use asl_frames::{
+    Fault, Frame, LEVELS, Phase, Retries, StateError, counters_at, effective_input, enter, failed,
+    go_on, held, output_of, own_fault, place_held, same_place, with_phase,
+};
+use asl_machine::{Machine, Pass, Processing, SharedMachine, State, Transition};
+use json_tree::{Json, Text};
+use ref_paths::RefPath;
+use std::alloc::{AllocError, Global};
+use std::test::Fail;
+
+const ERRORS: &[(StateError, &str)] = &[
+    (StateError::Runtime, "States.Runtime"),
+    (
+        StateError::ParameterPathFailure,
+        "States.ParameterPathFailure",
+    ),
+    (
+        StateError::ResultPathMatchFailure,
+        "States.ResultPathMatchFailure",
+    ),
+    (StateError::NoChoiceMatched, "States.NoChoiceMatched"),
+];
+
+#[test]
+fn names_errors(rt: HostRuntime) -> Result<(), Fail> {
+    for &(error, name) in ERRORS {
+        assert_eq!(rt; error.name(), name);
+        let fault = own_fault(rt.alloc(), error)?;
+        assert!(rt; fault.error.as_str() == name && fault.cause.as_str() == "");
+    }
+    Ok(())
+}
+
+/// The counters after one more use of the second retrier.
+fn used_once(counters: &Retries) -> Result<Option<Retries>, AllocError> {
+    match counters.get(1) {
+        Some(tries) if tries < 9 => Ok(Some(counters.one_more(1)?)),
+        _ => Ok(None),
+    }
+}
+
+fn has_counters(counters: &Retries, first: u32, second: u32) -> bool {
+    counters.get(0) == Some(first) && counters.get(1) == Some(second) && counters.get(2).is_none()
+}
+
+#[test]
+fn counts_retries(rt: HostRuntime) -> Result<(), Fail> {
+    let fresh = Retries::fresh(rt.alloc(), 2)?;
+    assert!(rt; has_counters(&fresh, 0, 0));
+    let copy = fresh.copy()?;
+    assert!(rt; has_counters(&copy, 0, 0));
+    let Some(used) = used_once(&fresh)? else {
+        return Err("a retrier has no counter".into());
+    };
+    assert!(rt; has_counters(&used, 0, 1));
+    assert!(rt; has_counters(&fresh, 0, 0));
+    let none = Retries::none(rt.alloc());
+    assert!(rt; none.get(0).is_none() && used_once(&none)?.is_none());
+    Ok(())
+}
+
+const MACHINE: &str =
+    r#"{"StartAt":"P","States":{"P":{"Type":"Pass","InputPath":"$.x","Parameters":{"y.$":"$.z"},"ResultPath":"$.r","OutputPath":"$.r","Next":"T"},"T":{"Type":"Task","Resource":"arn:aws:states:::dynamodb:getItem","Retry":[{"ErrorEquals":["A"]},{"ErrorEquals":["B"]}],"End":true}}}"#;
+
+const INPUT: &str = r#"{"x":{"z":5}}"#;
+
+fn is_json(alloc: Global, json: Json, want: &str) -> bool {
+    let is = is_written(alloc, &json, want);
+    drop(json);
+    is
+}
+
+fn is_value<E: Drop>(alloc: Global, made: Result<Json, E>, want: &str) -> bool {
+    match made {
+        Ok(json) => is_json(alloc, json, want),
+        Err(_) => false,
+    }
+}
+
+/// Whether a Pass state's paths and templates make of the input what they are to make.
+fn processes(alloc: Global, processing: &Processing, raw: &Json) -> bool {
+    is_value(alloc, effective_input(alloc, processing, raw), r#"{"y":5}"#)
+        && is_value(
+            alloc,
+            output_of(alloc, processing, raw, Json::Whole(7)),
+            "7",
+        )
+        && is_value(
+            alloc,
+            place_held(alloc, &processing.result_path, raw, Json::Whole(7)),
+            r#"{"r":7,"x":{"z":5}}"#,
+        )
+}
+
+fn pass_of(machine: &Machine) -> Option<&Pass> {
+    match machine.state(machine.start()) {
+        Some(State::Pass(pass)) => Some(pass),
+        _ => None,
+    }
+}
+
+#[test]
+fn makes_inputs_and_outputs(rt: HostRuntime) -> Result<(), Fail> {
+    let alloc = rt.alloc();
+    let machine = machine_of(alloc, MACHINE)?;
+    let input = json_of(alloc, INPUT)?;
+    let done = match pass_of(machine.machine()) {
+        Some(pass) => processes(alloc, &pass.processing, &input),
+        None => false,
+    };
+    assert!(rt; done);
+    assert_eq!(rt; LEVELS, 127);
+    assert!(rt; is_value(alloc, held(Json::Whole(7)), "7"));
+    Ok(())
+}
+
+/// Whether a frame that was made is as it is to be, a move later.
+fn comes(alloc: Global, made: Result<Frame, AllocError>, want: Want) -> bool {
+    match made {
+        Ok(frame) => frame.count == 1 && is_as_wanted(alloc, &frame, want),
+        Err(AllocError) => false,
+    }
+}
+
+fn goes_on(alloc: Global, machine: &Machine, frame: &Frame) -> Result<bool, AllocError> {
+    let next = Transition::Next(Text::new(alloc, "T")?);
+    if frame.count > 9 {
+        return Ok(false);
+    }
+    let goes = comes(
+        alloc,
+        go_on(alloc, machine, &next, frame, Json::Whole(7)),
+        Want::Ready("T", "7"),
+    );
+    drop(next);
+    let ends = comes(
+        alloc,
+        go_on(alloc, machine, &Transition::End, frame, Json::Whole(7)),
+        Want::Done("7"),
+    );
+    Ok(goes && ends)
+}
+
+fn enters(alloc: Global, machine: &Machine, frame: &Frame) -> Result<bool, AllocError> {
+    let name = Text::new(alloc, "T")?;
+    if frame.count > 9 {
+        return Ok(false);
+    }
+    let counted = match counters_at(alloc, machine, &name) {
+        Ok(counters) => has_counters(&counters, 0, 0),
+        Err(AllocError) => false,
+    };
+    let made = enter(alloc, machine, &name, frame, Json::Whole(7));
+    Ok(counted && comes(alloc, made, Want::Ready("T", "7")))
+}
+
+fn fails(alloc: Global, frame: &Frame) -> Result<bool, AllocError> {
+    let fault: Fault = own_fault(alloc, StateError::Runtime)?;
+    if frame.count > 9 {
+        drop(fault);
+        return Ok(false);
+    }
+    let done = with_phase(frame, Phase::Done(Json::Whole(7)));
+    let is_done = comes(alloc, done, Want::Done("7"));
+    let failed = failed(frame, fault);
+    Ok(is_done && comes(alloc, failed, Want::Failed("States.Runtime", "")))
+}
+
+/// Whether a ready frame's copy, and its place alone, are its own.
+fn is_copied(alloc: Global, frame: &Frame) -> Result<bool, AllocError> {
+    let Phase::Ready = &frame.phase else {
+        return Ok(false);
+    };
+    let copy = frame.copy_ready()?;
+    let same = copy.count == 0 && is_as_wanted(alloc, &copy, Want::Ready("P", INPUT));
+    drop(copy);
+    let (level, state, raw) = same_place(frame)?;
+    let placed = level.path.is_outermost()
+        && level.machine.as_str() == "m"
+        && state.as_str() == "P"
+        && is_written(alloc, &raw, INPUT);
+    Ok(same && placed)
+}
+
+fn all_of(alloc: Global, machine: &SharedMachine, frame: &Frame) -> Result<bool, AllocError> {
+    Ok(
+        goes_on(alloc, machine.machine(), frame)?
+            && enters(alloc, machine.machine(), frame)?
+            && fails(alloc, frame)?
+            && is_copied(alloc, frame)?,
+    )
+}
+
+#[test]
+fn makes_frames(rt: HostRuntime) -> Result<(), Fail> {
+    let alloc = rt.alloc();
+    let machine = machine_of(alloc, MACHINE)?;
+    let input = json_of(alloc, INPUT)?;
+    let frame = start(alloc, &machine, &input)?;
+    let made = all_of(alloc, &machine, &frame);
+    drop(frame);
+    assert!(rt; made?);
+    Ok(())
+}
+
+#[test]
+fn null_places_nothing(rt: HostRuntime) -> Result<(), Fail> {
+    let alloc = rt.alloc();
+    let none: Option<RefPath> = None;
+    assert!(rt;
+        is_value(
+            alloc,
+            place_held(alloc, &none, &Json::Whole(1), Json::Whole(7)),
+            "1"
+        )
+    );
+    Ok(())
+}

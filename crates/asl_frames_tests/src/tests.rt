@@ -1,0 +1,341 @@
+use asl_frames::{Frame, Phase, first_frame, next_frame, standing};
+use asl_machine::{Machine, SharedMachine};
+use json_tree::{Json, Text, read, write_text};
+use serde_json::Value;
+use std::alloc::{AllocError, Global};
+use std::test::Fail;
+
+pub(crate) fn machine_of(alloc: Global, text: &str) -> Result<SharedMachine, Fail> {
+    let definition = Value::from_str(alloc, text)?;
+    match Machine::read(alloc, &definition) {
+        Ok(machine) => Ok(SharedMachine::new(alloc, machine)?),
+        Err(_fault) => Err("the definition is refused".into()),
+    }
+}
+
+pub(crate) fn json_of(alloc: Global, text: &str) -> Result<Json, Fail> {
+    match read(alloc, text.as_bytes()) {
+        Ok(json) => Ok(json),
+        Err(_fault) => Err("the input is refused".into()),
+    }
+}
+
+pub(crate) fn start(
+    alloc: Global,
+    machine: &SharedMachine,
+    input: &Json,
+) -> Result<Frame, AllocError> {
+    let name = Text::new(alloc, "m")?;
+    first_frame(alloc, &name, machine.machine(), input)
+}
+
+/// The frame after one more move.
+fn next_of(alloc: Global, machine: &SharedMachine, frame: &Frame) -> Result<Frame, Fail> {
+    let Some((level, state)) = standing(machine.machine(), frame) else {
+        return Err("a frame stands before no state".into());
+    };
+    if frame.count > 9 {
+        return Err("more moves than a test makes".into());
+    }
+    Ok(next_frame(alloc, level, state, frame)?)
+}
+
+/// The frame after one or two moves.
+fn moved(
+    alloc: Global,
+    machine: &SharedMachine,
+    first: &Frame,
+    twice: bool,
+) -> Result<Frame, Fail> {
+    let next = next_of(alloc, machine, first)?;
+    if !twice {
+        return Ok(next);
+    }
+    let last = next_of(alloc, machine, &next);
+    drop(next);
+    Ok(last?)
+}
+
+pub(crate) fn is_written(alloc: Global, json: &Json, want: &str) -> bool {
+    match write_text(alloc, json) {
+        Ok(text) => text.as_str() == want,
+        Err(_refused) => false,
+    }
+}
+
+/// How a frame is to be shown: its phase, then what it holds or where it stands.
+#[derive(Clone, Copy, Debug)]
+pub(crate) enum Want {
+    Done(&'static str),
+    Failed(&'static str, &'static str),
+    /// The state, and its raw input.
+    Ready(&'static str, &'static str),
+}
+
+pub(crate) fn is_as_wanted(alloc: Global, frame: &Frame, want: Want) -> bool {
+    match (&frame.phase, want) {
+        (Phase::Done(output), Want::Done(text)) => is_written(alloc, output, text),
+        (Phase::Failed(fault), Want::Failed(error, cause)) => {
+            fault.error.as_str() == error && fault.cause.as_str() == cause
+        }
+        (Phase::Ready, Want::Ready(state, raw)) => {
+            frame.state.as_str() == state && is_written(alloc, &frame.raw, raw)
+        }
+        _ => false,
+    }
+}
+
+/// Whether a machine comes to that from this input in one or two moves.
+fn comes_to(
+    alloc: Global,
+    definition: &str,
+    input: &str,
+    twice: bool,
+    want: Want,
+) -> Result<bool, Fail> {
+    let machine = machine_of(alloc, definition)?;
+    let input = json_of(alloc, input)?;
+    let first = start(alloc, &machine, &input)?;
+    let last = moved(alloc, &machine, &first, twice)?;
+    let moves = if twice { 2 } else { 1 };
+    Ok(last.count == moves && is_as_wanted(alloc, &last, want))
+}
+
+fn pass_with(alloc: Global, fields: &str) -> Result<String, AllocError> {
+    let mut text = String::from_str(alloc, r#"{"StartAt":"P","States":{"P":{"Type":"Pass","#)?;
+    text.push_str(fields)?;
+    text.push_str(r#""End":true}}}"#)?;
+    Ok(text)
+}
+
+/// Fields of a Pass state, its input, and what one move comes to.
+const PASSES: &[(&str, &str, Want)] = &[
+    ("", r#"{"a":[1]}"#, Want::Done(r#"{"a":[1]}"#)),
+    (r#""Result":7,"#, "{}", Want::Done("7")),
+    (
+        r#""InputPath":"$.x","Parameters":{"y.$":"$.z","k":[{"w.$":"$"}]},"ResultPath":"$.r","OutputPath":"$.r","#,
+        r#"{"x":{"z":5}}"#,
+        Want::Done(r#"{"k":[{"w":{"z":5}}],"y":5}"#),
+    ),
+    (
+        r#""InputPath":"$.x","Parameters":{"y.$":"$.z","k":[{"w.$":"$"}]},"ResultPath":"$.r","OutputPath":"$.r","#,
+        r#"{"x":{}}"#,
+        Want::Failed("States.ParameterPathFailure", ""),
+    ),
+    (
+        r#""Result":7,"ResultPath":"$.r","#,
+        r#"{"a":1}"#,
+        Want::Done(r#"{"a":1,"r":7}"#),
+    ),
+    (
+        r#""Result":7,"ResultPath":"$.r","#,
+        "1",
+        Want::Failed("States.ResultPathMatchFailure", ""),
+    ),
+    (r#""InputPath":null,"#, r#"{"a":1}"#, Want::Done("{}")),
+    (r#""OutputPath":null,"#, r#"{"a":1}"#, Want::Done("{}")),
+    (
+        r#""Result":7,"ResultPath":null,"#,
+        r#"{"a":1}"#,
+        Want::Done(r#"{"a":1}"#),
+    ),
+    (
+        r#""Result":7,"Parameters":{"x.$":"$.no"},"#,
+        "{}",
+        Want::Failed("States.ParameterPathFailure", ""),
+    ),
+    (
+        r#""InputPath":"$.no","Parameters":{"x.$":"$.no"},"#,
+        "{}",
+        Want::Failed("States.Runtime", ""),
+    ),
+    (
+        r#""Result":{"b":[1,2]},"ResultPath":"$.r","OutputPath":"$.r.b[1]","#,
+        r#"{"a":1}"#,
+        Want::Done("2"),
+    ),
+    (
+        r#""Result":1,"ResultPath":"$.r","OutputPath":"$.no","#,
+        "{}",
+        Want::Failed("States.Runtime", ""),
+    ),
+    (
+        r#""Result":1,"ResultPath":"$.r","OutputPath":"$.no","#,
+        "1",
+        Want::Failed("States.ResultPathMatchFailure", ""),
+    ),
+    (
+        r#""Result":1,"ResultPath":"$.r","OutputPath":null,"#,
+        "1",
+        Want::Failed("States.ResultPathMatchFailure", ""),
+    ),
+    (
+        r#""Result":1,"ResultPath":null,"OutputPath":"$.a[0]","#,
+        r#"{"a":[3]}"#,
+        Want::Done("3"),
+    ),
+    (
+        r#""InputPath":"$.a","ResultPath":"$.b","#,
+        r#"{"a":[3]}"#,
+        Want::Done(r#"{"a":[3],"b":[3]}"#),
+    ),
+    (
+        r#""Parameters":[{"x.$":"$.a"}],"#,
+        r#"{"a":[3]}"#,
+        Want::Done(r#"[{"x":[3]}]"#),
+    ),
+];
+
+#[test]
+fn passes(rt: HostRuntime) -> Result<(), Fail> {
+    let alloc = rt.alloc();
+    for &(fields, input, want) in PASSES {
+        let definition = pass_with(alloc, fields)?;
+        let is_met = comes_to(alloc, definition.as_str(), input, false, want)?;
+        assert!(rt; is_met, "{fields} {input}");
+    }
+    Ok(())
+}
+
+/// Machines, their inputs, whether two moves are made, and what they come to.
+const MACHINES: &[(&str, &str, bool, Want)] = &[
+    (
+        r#"{"StartAt":"S","States":{"S":{"Type":"Succeed","InputPath":"$.x","OutputPath":"$.y"}}}"#,
+        r#"{"x":{"y":1}}"#,
+        false,
+        Want::Done("1"),
+    ),
+    (
+        r#"{"StartAt":"S","States":{"S":{"Type":"Succeed","InputPath":"$.x"}}}"#,
+        "{}",
+        false,
+        Want::Failed("States.Runtime", ""),
+    ),
+    (
+        r#"{"StartAt":"W","States":{"W":{"Type":"Wait","Seconds":5,"InputPath":"$.x","Next":"S"},"S":{"Type":"Succeed"}}}"#,
+        r#"{"x":[2]}"#,
+        false,
+        Want::Ready("S", "[2]"),
+    ),
+    (
+        r#"{"StartAt":"F","States":{"F":{"Type":"Fail","Error":"E","Cause":"c"}}}"#,
+        "{}",
+        false,
+        Want::Failed("E", "c"),
+    ),
+    (
+        r#"{"StartAt":"F","States":{"F":{"Type":"Fail"}}}"#,
+        "{}",
+        false,
+        Want::Failed("", ""),
+    ),
+    (
+        r#"{"StartAt":"A","States":{"A":{"Type":"Pass","Result":[1],"ResultPath":"$.r","Next":"B"},"B":{"Type":"Pass","InputPath":"$.r","End":true}}}"#,
+        r#"{"k":0}"#,
+        true,
+        Want::Done("[1]"),
+    ),
+    (
+        r#"{"StartAt":"A","States":{"A":{"Type":"Pass","Result":[1],"ResultPath":"$.r","Next":"B"},"B":{"Type":"Pass","End":true}}}"#,
+        r#"{"k":0}"#,
+        false,
+        Want::Ready("B", r#"{"k":0,"r":[1]}"#),
+    ),
+];
+
+#[test]
+fn runs_machines(rt: HostRuntime) -> Result<(), Fail> {
+    let alloc = rt.alloc();
+    for &(definition, input, twice, want) in MACHINES {
+        assert!(rt;
+            comes_to(alloc, definition, input, twice, want)?,
+            "{definition} {input}"
+        );
+    }
+    Ok(())
+}
+
+// ---- depth and long paths
+
+fn nested_lists(alloc: Global, levels: u32) -> Result<String, AllocError> {
+    let mut text = String::new(alloc);
+    for _ in 0..levels {
+        text.push_str("[")?;
+    }
+    for _ in 0..levels {
+        text.push_str("]")?;
+    }
+    Ok(text)
+}
+
+fn is_done(frame: &Frame) -> bool {
+    match &frame.phase {
+        Phase::Done(_) => true,
+        _ => false,
+    }
+}
+
+/// Whether a Pass whose parameters hold its input a level deeper is done, or fails for the depth.
+fn is_held(alloc: Global, levels: u32, held: bool) -> Result<bool, Fail> {
+    let definition = pass_with(alloc, r#""Parameters":{"a.$":"$"},"#)?;
+    let machine = machine_of(alloc, definition.as_str())?;
+    let input = json_of(alloc, nested_lists(alloc, levels)?.as_str())?;
+    let first = start(alloc, &machine, &input)?;
+    let last = next_of(alloc, &machine, &first)?;
+    let failed = is_as_wanted(alloc, &last, Want::Failed("States.Runtime", ""));
+    Ok(is_done(&last) == held && failed == !held)
+}
+
+#[test]
+fn holds_127_levels(rt: HostRuntime) -> Result<(), Fail> {
+    let alloc = rt.alloc();
+    assert!(rt; is_held(alloc, 126, true)?);
+    assert!(rt; is_held(alloc, 127, false)?);
+    Ok(())
+}
+
+/// Fields with a path of 100,000 names for each `#`, and what a move from an empty object comes to.
+const LONG: &[(&str, Want)] = &[
+    (r##""InputPath":"#","##, Want::Failed("States.Runtime", "")),
+    (r##""OutputPath":"#","##, Want::Failed("States.Runtime", "")),
+    (
+        r##""Result":1,"ResultPath":"#","##,
+        Want::Failed("States.Runtime", ""),
+    ),
+    (
+        r##""Result":1,"ResultPath":"#","OutputPath":"#","##,
+        Want::Done("1"),
+    ),
+    (
+        r##""Result":1,"ResultPath":"#","OutputPath":null,"##,
+        Want::Done("{}"),
+    ),
+];
+
+fn with_long_paths(alloc: Global, fields: &str) -> Result<String, AllocError> {
+    let mut text = String::new(alloc);
+    for part in fields.split('#') {
+        if !text.is_empty() {
+            text.push_str("$")?;
+            for _ in 0..100_000 {
+                text.push_str(".a")?;
+            }
+        }
+        text.push_str(part)?;
+    }
+    Ok(text)
+}
+
+#[test]
+fn goes_long_paths(rt: HostRuntime) -> Result<(), Fail> {
+    let alloc = rt.alloc();
+    for &(fields, want) in LONG {
+        let long = with_long_paths(alloc, fields)?;
+        let definition = pass_with(alloc, long.as_str())?;
+        assert!(rt;
+            comes_to(alloc, definition.as_str(), "{}", false, want)?,
+            "{fields}"
+        );
+    }
+    Ok(())
+}
