@@ -1,4 +1,4 @@
-use asl_forward::{Frame, Outcome, Phase, first_frame, prepare, standing};
+use asl_forward::{Frame, Phase, first_frame};
 use asl_machine::{Machine, SharedMachine};
 use json_tree::{Json, Text, read, write_text};
 use serde_json::Value;
@@ -56,32 +56,4 @@ pub(crate) fn is_as_wanted(alloc: Global, frame: &Frame, want: Want) -> bool {
         }
         _ => false,
     }
-}
-
-const PASS: &str = r#"{"StartAt":"P","States":{"P":{"Type":"Pass","Result":7,"End":true}}}"#;
-
-/// Whether what is prepared of a first frame keeps that frame, and comes to the next one.
-fn is_prepared(alloc: Global, machine: &SharedMachine, first: &Frame) -> Result<bool, Fail> {
-    if first.count > 9 || standing(machine.machine(), first).is_none() {
-        return Ok(false);
-    }
-    let Phase::Ready = &first.phase else {
-        return Ok(false);
-    };
-    let prepared = prepare(alloc, machine, first)?;
-    let keeps = prepared.frame().count == 0 && is_written(alloc, &prepared.frame().raw, "3");
-    let comes = match prepared.outcome() {
-        Outcome::Next(next) => is_as_wanted(alloc, next, Want::Done("7")),
-        _ => false,
-    };
-    Ok(keeps && comes)
-}
-
-#[test]
-fn prepares(rt: HostRuntime) -> Result<(), Fail> {
-    let alloc = rt.alloc();
-    let machine = machine_of(alloc, PASS)?;
-    let first = start(alloc, &machine, &Json::Whole(3))?;
-    assert!(rt; is_prepared(alloc, &machine, &first)?);
-    Ok(())
 }

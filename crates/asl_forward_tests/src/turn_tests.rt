@@ -534,12 +534,14 @@ fn forks(rt: HostRuntime) -> Result<(), Fail> {
     Ok(())
 }
 
+/// A list of so many zeros, one at least.
 fn zeros(alloc: Global, count: usize) -> Result<Json, Fail> {
-    let mut list = JsonList::new(alloc);
-    for _ in 0..count {
-        list.push(Json::Whole(0))?;
+    let mut text = String::from_str(alloc, "[0")?;
+    for _ in 1..count {
+        text.push_str(",0")?;
     }
-    Ok(Json::List(list))
+    text.push_str("]")?;
+    json_of(alloc, &text)
 }
 
 /// What a Map over so many elements comes to: the number of its branches, or none where it fails.
@@ -587,5 +589,32 @@ fn asks_the_table(rt: HostRuntime) -> Result<(), Fail> {
     for &(machine, table) in CALLS {
         assert!(rt; asks(alloc, machine, table)?, "{machine}");
     }
+    Ok(())
+}
+
+/// Whether a turn keeps the frame that it was made of, and comes to the next one.
+fn keeps_its_frame(alloc: Global, turn: &Prepared) -> bool {
+    let keeps = turn.frame().count == 0 && is_written(alloc, &turn.frame().raw, "3");
+    let comes = match turn.outcome() {
+        Outcome::Next(next) => is_as_wanted(alloc, next, Want::Done("7")),
+        _ => false,
+    };
+    keeps && comes
+}
+
+fn is_prepared(alloc: Global) -> Result<bool, Fail> {
+    let turn = turn_of(
+        alloc,
+        r#"{"StartAt":"P","States":{"P":{"Type":"Pass","Result":7,"End":true}}}"#,
+        "3",
+    )?;
+    let keeps = keeps_its_frame(alloc, &turn);
+    drop(turn);
+    Ok(keeps)
+}
+
+#[test]
+fn prepares(rt: HostRuntime) -> Result<(), Fail> {
+    assert!(rt; is_prepared(rt.alloc())?);
     Ok(())
 }

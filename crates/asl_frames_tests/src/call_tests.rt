@@ -42,7 +42,10 @@ fn used_once(counters: &Retries) -> Result<Option<Retries>, AllocError> {
 }
 
 fn has_counters(counters: &Retries, first: u32, second: u32) -> bool {
-    counters.get(0) == Some(first) && counters.get(1) == Some(second) && counters.get(2).is_none()
+    match (counters.get(0), counters.get(1), counters.get(2)) {
+        (Some(one), Some(other), None) => one == first && other == second,
+        _ => false,
+    }
 }
 
 #[test]

@@ -29,15 +29,15 @@ pub(crate) fn start(
     first_frame(alloc, &name, machine.machine(), input)
 }
 
-/// The frame after one more move.
-fn next_of(alloc: Global, machine: &SharedMachine, frame: &Frame) -> Result<Frame, Fail> {
+/// The frame after one more move; where there is none, it is refused as memory is.
+fn next_of(alloc: Global, machine: &SharedMachine, frame: &Frame) -> Result<Frame, AllocError> {
     let Some((level, state)) = standing(machine.machine(), frame) else {
-        return Err("a frame stands before no state".into());
+        return Err(AllocError);
     };
     if frame.count > 9 {
-        return Err("more moves than a test makes".into());
+        return Err(AllocError);
     }
-    Ok(next_frame(alloc, level, state, frame)?)
+    next_frame(alloc, level, state, frame)
 }
 
 /// The frame after one or two moves.

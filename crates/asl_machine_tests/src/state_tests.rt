@@ -1,4 +1,4 @@
-use crate::tests::{is_read, is_refused, machine_of};
+use crate::tests::{machine_of, told_of};
 use asl_machine::{LevelPath, Machine, State};
 use json_tree::Text;
 use std::alloc::{AllocError, Global};
@@ -21,11 +21,11 @@ fn nested(alloc: Global, levels: u32) -> Result<String, AllocError> {
 #[test]
 fn nests_32_levels(rt: HostRuntime) -> Result<(), Fail> {
     let alloc = rt.alloc();
-    assert!(rt; is_read(alloc, &nested(alloc, 1)?)?);
-    assert!(rt; is_read(alloc, &nested(alloc, 31)?)?);
-    assert!(rt; is_read(alloc, &nested(alloc, 32)?)?);
-    assert!(rt; is_refused(alloc, &nested(alloc, 33)?, 8, "")?);
-    assert!(rt; is_refused(alloc, &nested(alloc, 34)?, 8, "")?);
+    assert_eq!(rt; told_of(alloc, &nested(alloc, 1)?), Some(0));
+    assert_eq!(rt; told_of(alloc, &nested(alloc, 31)?), Some(0));
+    assert_eq!(rt; told_of(alloc, &nested(alloc, 32)?), Some(0));
+    assert_eq!(rt; told_of(alloc, &nested(alloc, 33)?), Some(8));
+    assert_eq!(rt; told_of(alloc, &nested(alloc, 34)?), Some(8));
     Ok(())
 }
 
@@ -48,8 +48,8 @@ fn branched(alloc: Global, branches: usize) -> Result<String, AllocError> {
 #[test]
 fn reads_4096_branches(rt: HostRuntime) -> Result<(), Fail> {
     let alloc = rt.alloc();
-    assert!(rt; is_read(alloc, &branched(alloc, 4096)?)?);
-    assert!(rt; is_refused(alloc, &branched(alloc, 4097)?, 4, "Branches")?);
+    assert_eq!(rt; told_of(alloc, &branched(alloc, 4096)?), Some(0));
+    assert_eq!(rt; told_of(alloc, &branched(alloc, 4097)?), Some(4));
     Ok(())
 }
 
@@ -116,7 +116,7 @@ fn has_branches(machine: &Machine, path: &LevelPath, name: &Text) -> bool {
 #[test]
 fn finds_inner_states(rt: HostRuntime) -> Result<(), Fail> {
     let alloc = rt.alloc();
-    let Ok(machine) = machine_of(alloc, NESTED)? else {
+    let Some(machine) = machine_of(alloc, NESTED) else {
         return Err("a machine is refused".into());
     };
     let outermost = LevelPath::outermost(alloc);

