@@ -67,7 +67,7 @@ refuse_in_session() {
         if [ "$status" -eq 0 ] && cmp -s "$room/wanted" "$room/found"; then
             [ "$requests" -ge "$number" ] || break
             passed=$((passed + 1))
-        elif [ "$status" -ne 0 ] && grep -Eq '[Oo]ut of memory|AllocError' "$room/said"; then
+        elif [ "$status" -ne 0 ] && grep -Eq '[Oo]ut of memory|memory allocation failed|AllocError' "$room/said"; then
             ended=$((ended + 1))
         else
             echo "$1: FAILED with request $number refused, status $status:"
