@@ -1,3 +1,7 @@
+ghost use Rattle.std.specs.Prelude.{◌≡◌, Some};
+ghost use Rattle.serde_json.specs.Find.{as_object};
+ghost use Rattle.serde_json.specs.View.{view, members_view};
+
 use asl_fields::MachineFault;
 use asl_states::{
     StateKind, check_concurrency, check_config, kind_named, name_of_two, read_choice,
@@ -46,7 +50,9 @@ fn told_of_fields(
     kind: StateKind,
     object: &Value,
     fields: &Map<String, Value>,
-) -> char {
+) -> char
+    requires { as_object (view object.now) ≡ Some (members_view fields.now.entries) }
+{
     match kind {
         StateKind::Pass => told(read_pass(alloc, "S", object, fields)),
         StateKind::Task => told(read_task(alloc, "S", object, fields)),
