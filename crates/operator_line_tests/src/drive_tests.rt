@@ -53,11 +53,11 @@ const BEFORE_A_DRIVE: &[(&str, &str)] = &[
 const AFTER_A_DRIVE: &[(&str, &str)] = &[
     (
         "history",
-        "ok 6\ne#0\ne#1\ne/1.0#1\ne/1.0#2\ne/1.1#1\ne/1.1#2\n",
+        "ok 7\ne#0\ne#1\ne/1.0#1\ne/1.0#2\ne/1.1#1\ne/1.1#2\ne#2\n",
     ),
     (
         "rollback e#1",
-        "ok 5\ne/1.1#2\ne/1.1#1\ne/1.0#2\ne/1.0#1\ne#1\n",
+        "ok 6\ne#2\ne/1.1#2\ne/1.1#1\ne/1.0#2\ne/1.0#1\ne#1\n",
     ),
     ("history", "ok 1\ne#0\n"),
 ];
@@ -69,15 +69,15 @@ fn drive_to_the_end(
 ) -> Result<(), Fail> {
     tell_all(rt, alloc, session, BEFORE_A_DRIVE)?;
     for _ in 0..2 {
-        if !has_six_steps(session) {
-            let _taken = reply_to(alloc, session, "drive 5")?;
+        if !has_all_steps(session) {
+            let _taken = reply_to(alloc, session, "drive 9")?;
         }
     }
     tell_all(rt, alloc, session, AFTER_A_DRIVE)
 }
 
-fn has_six_steps(session: &Session<MemStore>) -> bool {
-    session.book().is_some_and(|book| book.history().len() == 6)
+fn has_all_steps(session: &Session<MemStore>) -> bool {
+    session.book().is_some_and(|book| book.history().len() == 7)
 }
 
 /// For tools/refused-growths.sh: a drive that ends early has taken whole steps, and another takes those that are left.
