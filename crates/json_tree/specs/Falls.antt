@@ -1,6 +1,6 @@
 -- What a list or some fields hold nests less deep than they do.
 use denote.Param.Weighed.{most}
-use Rattle.std.specs.Prelude.{◌≤◌, max, List, [], ◌∷◌, Option, Some, None, map}
+use Rattle.std.specs.Prelude.{◌≤◌, List, [], ◌∷◌, Option, Some, None}
 use Rattle.std.specs.Arc.{arc_value}
 use Rattle.std.specs.declared.sync.Arc.{Arc}
 use Rattle.std.specs.declared.vec.Vec.{Vec}

@@ -1,6 +1,6 @@
 -- The order of values: by kind (null, booleans, whole numbers, texts, lists, fields), and then by what they hold. A list,
 -- and fields, are compared value by value, where the first that differs decides; a shorter one is less.
-use Rattle.std.specs.Prelude.{◌≡◌, ℕ, List, refl}
+use Rattle.std.specs.Prelude.{◌≡◌, ℕ, refl}
 use Rattle.std.proofs.Common.{sym, ap, ◌∙◌, ap₂}
 use Rattle.std.specs.Cmp.{IsTotalOrder, int_cmp_total, bool_cmp_total}
 use Rattle.std.specs.Cmp.Lexicographic.{nat_list_cmp_total}

@@ -13,7 +13,8 @@ use serde_json::{Map, Number, Value};
 use std::alloc::Global;
 
 /// Reads one value (RFC 8259), with white space round it. Of fields with one name the last is read. Takes memory for
-/// `serde_json`'s value of the text, which it goes through once, and for lists and fields; texts are moved.
+/// `serde_json`'s value of the text, which it goes through once and then drops, and for lists, fields and texts of more than
+/// 22 bytes.
 pub fn read(alloc: Global, bytes: &[u8]) -> Result<Json, JsonFault>
     ensures ok { IfOk result (λ j. read_json bytes.now ≡ Some (data_of j)) }
     ensures nests { IfOk result (λ j. depth (data_of j) ≤ 127) }
@@ -23,7 +24,7 @@ pub fn read(alloc: Global, bytes: &[u8]) -> Result<Json, JsonFault>
     ensures memory { result ≡ Err JsonFault.Memory → 0 < length bytes.now }
 {
     match Value::from_slice(alloc, bytes) {
-        Ok(value) => take_whole(alloc, value),
+        Ok(value) => copy_value(alloc, &value),
         Err(e) => if e.is_memory() {
             Err(JsonFault::Memory)
         } else {
@@ -137,64 +138,6 @@ fn copy_members(alloc: Global, members: &Map<String, Value>) -> Result<JsonField
     for (key, member) in members.iter() {
         let name = Text::new(alloc, key.as_str())?;
         let value = copy_value(alloc, member)?;
-        inner.push(Field { name, value })?;
-    }
-    Ok(JsonFields::from_sorted(inner)?)
-}
-
-/// The value of the same shape, made of it. As in `from_value`, numbers come before memory.
-fn take_whole(alloc: Global, value: Value) -> Result<Json, JsonFault>
-    ensures ok { IfOk result (λ j. whole_of (view value) ≡ Some (data_of j)) }
-    ensures not_json { result ≡ Err JsonFault.NotJson → ⊥ }
-    ensures not_whole { (result ≡ Err JsonFault.NotWhole) ↔ (whole_of (view value) ≡ None) }
-{
-    if !is_whole(&value) {
-        return Err(JsonFault::NotWhole);
-    }
-    take_value(alloc, value)
-}
-
-#[cycle(take_value)]
-fn take_value(alloc: Global, value: Value) -> Result<Json, JsonFault>
-    ensures ok { IfOk result (λ j. whole_of (view value) ≡ Some (data_of j)) }
-    ensures not_json { result ≡ Err JsonFault.NotJson → ⊥ }
-    ensures not_whole { result ≡ Err JsonFault.NotWhole → whole_of (view value) ≡ None }
-{
-    match value {
-        Value::Null => Ok(Json::Null),
-        Value::Bool(b) => Ok(Json::Bool(b)),
-        Value::Number(number) => whole_number(&number),
-        Value::String(text) => Ok(Json::Text(Text::from_string(text)?)),
-        Value::Array(items) => Ok(Json::List(take_items(alloc, items)?)),
-        Value::Object(members) => Ok(Json::Fields(take_members(alloc, members)?)),
-    }
-}
-
-#[cycle(take_value)]
-fn take_items(alloc: Global, items: Vec<Value>) -> Result<JsonList, JsonFault>
-    ensures ok { IfOk result (λ l. whole_items (items_view items.items) ≡ Some (items_of l)) }
-    ensures not_json { result ≡ Err JsonFault.NotJson → ⊥ }
-    ensures not_whole { result ≡ Err JsonFault.NotWhole → whole_items (items_view items.items) ≡ None }
-{
-    let mut inner = Vec::with_capacity(alloc, items.len())?;
-    for item in items {
-        inner.push(take_value(alloc, item)?)?;
-    }
-    Ok(JsonList::from_vec(inner)?)
-}
-
-#[cycle(take_value)]
-fn take_members(alloc: Global, members: Map<String, Value>) -> Result<JsonFields, JsonFault>
-    ensures ok { IfOk result
-        (λ m. whole_members (members_view members.entries) ≡ Some (members_of m)) }
-    ensures not_json { result ≡ Err JsonFault.NotJson → ⊥ }
-    ensures not_whole { result ≡ Err JsonFault.NotWhole
-        → whole_members (members_view members.entries) ≡ None }
-{
-    let mut inner = Vec::with_capacity(alloc, members.len())?;
-    for (name, member) in members {
-        let name = Text::from_string(name)?;
-        let value = take_value(alloc, member)?;
         inner.push(Field { name, value })?;
     }
     Ok(JsonFields::from_sorted(inner)?)

@@ -1,8 +1,6 @@
-use Rattle.std.proofs.Common.{◌≡◌, IfOk, IfErr, OnOk, OnErr, None, IsSome, rules}
+use Rattle.std.proofs.Common.{rules}
 use Rattle.std.proofs.lemmas.Fn.{always_returns_same}
-use Rattle.json_tree.specs.Fields.{text_cmp, get_field, without_field, IsInNameOrder}
-use Rattle.json_tree.specs.Places.{IsAt, IsGapFor}
-use Rattle.json_tree.specs.View.{fields_of}
+use Rattle.json_tree.specs.Fields.{text_cmp}
 use Rattle.json_tree.proofs.Views.{searched, found_some, gap_none, gap_stays}
 use Rattle.json_tree.proofs.fields.place_of.Goals as goal
 

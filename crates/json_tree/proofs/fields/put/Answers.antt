@@ -1,7 +1,6 @@
-use Rattle.std.proofs.Common.{◌≡◌, Some, sym, ap, ◌∙◌, subst, arith}
+use Rattle.std.proofs.Common.{Some, sym, ap, ◌∙◌, subst, arith}
 use Rattle.json_tree.specs.Fields.{with_field, IsInNameOrder}
 use Rattle.json_tree.specs.View.{data_of, fields_of}
-use Rattle.json_tree.specs.Places.{IsAt, IsGapFor}
 use Rattle.json_tree.proofs.Views.{within, gap_within, field_at, no_field, set_there, insert_there, order_with, at_named, gap_named}
 use Rattle.json_tree.proofs.fields.put.Goals as goal
 

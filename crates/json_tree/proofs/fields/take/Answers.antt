@@ -1,4 +1,4 @@
-use Rattle.std.proofs.Common.{◌≡◌, Some, refl, sym, ap, ◌∙◌, subst, arith}
+use Rattle.std.proofs.Common.{Some, refl, sym, ap, ◌∙◌, subst, arith}
 use Rattle.json_tree.specs.Fields.{IsInNameOrder}
 use Rattle.json_tree.specs.View.{data_of, fields_of}
 use Rattle.json_tree.proofs.Views.{within, field_at, remove_there, order_without, at_named}

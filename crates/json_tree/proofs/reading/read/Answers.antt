@@ -28,15 +28,15 @@ empty (x ∷ xs) d is = omega arith
 pub returns-in-Ok-clause-ok : goal.returns-in-Ok-clause-ok
 returns-in-Ok-clause-ok c =
     let source = source_is c.args.bytes.now (view c.in-Ok.value) c.in-Ok.ensures.ok in
-    IfOk-weaker c.take_whole.result _ _ (λ j h. ap (option_and_then whole_of) source ∙ h) c.take_whole.ensures.ok
+    IfOk-weaker c.copy_value.result _ _ (λ j h. ap (option_and_then whole_of) source ∙ h) c.copy_value.ensures.ok
 
 pub returns-in-Ok-clause-nests : goal.returns-in-Ok-clause-nests
-returns-in-Ok-clause-nests c = IfOk-weaker c.take_whole.result _ _ (λ j h. omega (arith, depth-whole_of (view c.in-Ok.value) (data_of j) h, c.in-Ok.ensures.nests)) c.take_whole.ensures.ok
+returns-in-Ok-clause-nests c = IfOk-weaker c.copy_value.result _ _ (λ j h. omega (arith, depth-whole_of (view c.in-Ok.value) (data_of j) h, c.in-Ok.ensures.nests)) c.copy_value.ensures.ok
 
 pub returns-in-Ok-clause-not_whole : goal.returns-in-Ok-clause-not_whole
 returns-in-Ok-clause-not_whole c =
     let source = source_is c.args.bytes.now (view c.in-Ok.value) c.in-Ok.ensures.ok in
-    λ e. (ap is_some source, ap (option_and_then whole_of) source ∙ c.take_whole.ensures.not_whole.0 e)
+    λ e. (ap is_some source, ap (option_and_then whole_of) source ∙ c.copy_value.ensures.not_whole e)
 
 pub returns-in-Ok-clause-memory : goal.returns-in-Ok-clause-memory
 returns-in-Ok-clause-memory c = λ e. empty c.args.bytes.now (view c.in-Ok.value) c.in-Ok.ensures.ok.1

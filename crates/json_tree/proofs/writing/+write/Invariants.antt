@@ -1,6 +1,5 @@
 use Rattle.std.proofs.Common.{◌≡◌, ◌++◌, drop}
 use Rattle.json_tree.specs.Data.{items_of, members_of}
-use Rattle.json_tree.specs.Fields.{IsInNameOrder}
 use Rattle.json_tree.specs.Proper.{ItemsAreProper, MembersAreProper}
 use Rattle.json_tree.specs.Tokens.{items_tokens, members_tokens}
 use Rattle.json_tree.specs.View.{list_of, fields_of}

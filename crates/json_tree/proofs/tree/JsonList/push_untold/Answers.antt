@@ -1,8 +1,5 @@
-use Rattle.std.proofs.Common.{◌≡◌, sym, ap, ◌∙◌, ◌++◌, ◌∷◌, [], List, is_ok}
+use Rattle.std.proofs.Common.{◌≡◌, ap, ◌∙◌, ◌++◌, ◌∷◌, [], is_ok}
 use Rattle.std.proofs.lemmas.List.{map-append}
-use Rattle.std.proofs.lemmas.Result.{on_ok_weaker, on_err_weaker}
-use Rattle.std.specs.Arc.{arc_value}
-use Rattle.json_tree.specs.Data.{Data}
 use Rattle.json_tree.specs.View.{data_of, list_of, held}
 use Rattle.json_tree.proofs.Nodes.{same_items, grown, not_grown}
 use Rattle.json_tree.proofs.tree.JsonList.push_untold.Goals as goal
