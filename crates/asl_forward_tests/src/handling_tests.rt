@@ -3,22 +3,30 @@ use crate::turn_tests::{Event, last_of};
 use std::alloc::{AllocError, Global};
 use std::test::Fail;
 
-/// A Parallel with one branch and these fields, and a Pass and a Fail beside it.
+/// A Parallel with one branch and these fields, and a Pass and a Succeed beside it.
 fn parallel_with(alloc: Global, fields: &str) -> Result<String, AllocError> {
-    format!(in alloc;
-        r#"{{"StartAt":"S","States":{{"S":{{"Type":"Parallel","Branches":[{{"StartAt":"P","States":{{"P":{{"Type":"Pass","End":true}}}}}}],{fields}"Next":"T"}},"T":{{"Type":"Pass","Next":"S"}},"H":{{"Type":"Succeed"}}}}}}"#
-    )
+    let mut text = String::from_str(
+        alloc,
+        r#"{"StartAt":"S","States":{"S":{"Type":"Parallel","Branches":[{"StartAt":"P","States":{"P":{"Type":"Pass","End":true}}}],"#,
+    )?;
+    text.push_str(fields)?;
+    text.push_str(r#""Next":"T"},"T":{"Type":"Pass","Next":"S"},"H":{"Type":"Succeed"}}}"#)?;
+    Ok(text)
 }
 
 /// A Task with these fields, and a Succeed beside it.
 fn task_with(alloc: Global, fields: &str) -> Result<String, AllocError> {
-    format!(in alloc;
-        r#"{{"StartAt":"S","States":{{"S":{{"Type":"Task","Resource":"arn:aws:states:::dynamodb:getItem",{fields}"End":true}},"H":{{"Type":"Succeed"}}}}}}"#
-    )
+    let mut text = String::from_str(
+        alloc,
+        r#"{"StartAt":"S","States":{"S":{"Type":"Task","Resource":"arn:aws:states:::dynamodb:getItem","#,
+    )?;
+    text.push_str(fields)?;
+    text.push_str(r#""End":true},"H":{"Type":"Succeed"}}}"#)?;
+    Ok(text)
 }
 
 /// How a machine of these fields goes on, and the counters of its first two retriers then.
-#[derive(Clone, Copy, Debug)]
+#[derive(Clone, Copy)]
 struct Handled {
     fields: &'static str,
     input: &'static str,

@@ -37,7 +37,7 @@ pub(crate) fn is_written(alloc: Global, json: &Json, want: &str) -> bool {
 }
 
 /// How a frame is to be shown: its phase, then what it holds or where it stands.
-#[derive(Clone, Copy, Debug)]
+#[derive(Clone, Copy)]
 pub(crate) enum Want {
     Done(&'static str),
     Failed(&'static str, &'static str),

@@ -10,7 +10,7 @@ use std::alloc::Global;
 use std::test::Fail;
 
 /// What comes to a frame that is ready.
-#[derive(Clone, Copy, Debug)]
+#[derive(Clone, Copy)]
 pub(crate) enum Event {
     /// It moves by itself.
     Moves,
@@ -212,7 +212,7 @@ pub(crate) fn last_of(
 }
 
 /// A machine, its input, what comes to its frames, and how the last of them is, after so many moves.
-#[derive(Clone, Copy, Debug)]
+#[derive(Clone, Copy)]
 struct Run {
     machine: &'static str,
     input: &'static str,

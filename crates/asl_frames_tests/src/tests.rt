@@ -64,7 +64,7 @@ pub(crate) fn is_written(alloc: Global, json: &Json, want: &str) -> bool {
 }
 
 /// How a frame is to be shown: its phase, then what it holds or where it stands.
-#[derive(Clone, Copy, Debug)]
+#[derive(Clone, Copy)]
 pub(crate) enum Want {
     Done(&'static str),
     Failed(&'static str, &'static str),
@@ -312,18 +312,18 @@ const LONG: &[(&str, Want)] = &[
     ),
 ];
 
+/// A path of 100,000 names.
+fn long_path(alloc: Global) -> Result<String, AllocError> {
+    let mut path = ".a".repeat(alloc, 100_000)?;
+    path.insert(0, '$')?;
+    Ok(path)
+}
+
 fn with_long_paths(alloc: Global, fields: &str) -> Result<String, AllocError> {
-    let mut text = String::new(alloc);
-    for part in fields.split('#') {
-        if !text.is_empty() {
-            text.push_str("$")?;
-            for _ in 0..100_000 {
-                text.push_str(".a")?;
-            }
-        }
-        text.push_str(part)?;
-    }
-    Ok(text)
+    let path = long_path(alloc)?;
+    let text = fields.replace(alloc, '#', path.as_str());
+    drop(path);
+    text
 }
 
 #[test]

@@ -7,7 +7,7 @@ use std::test::Fail;
 /// A refusal's number in a reply, of those that are told here.
 fn told(fault: &MachineFault) -> u32 {
     match fault {
-        MachineFault::BadField(name) if name.as_str() == "Branches" => 4,
+        MachineFault::BadField(name) => if name.as_str() == "Branches" { 4 } else { 9 },
         MachineFault::TooDeep => 8,
         _ => 9,
     }
@@ -43,6 +43,23 @@ pub fn told_of(alloc: Global, text: &str) -> Option<u32> {
     }
 }
 
+/// Whether a state goes to this one, or ends where there is no name.
+fn goes_to(transition: &Transition, name: &str) -> bool {
+    match transition {
+        Transition::Next(next) => next.as_str() == name,
+        Transition::End => name == "",
+    }
+}
+
+/// Whether what a state gives is this whole number, or is left out where there is none.
+fn is_whole(given: &Option<Json>, want: Option<i64>) -> bool {
+    match (given, want) {
+        (Some(Json::Whole(found)), Some(want)) => *found == want,
+        (None, None) => true,
+        _ => false,
+    }
+}
+
 /// Whether the state of this name is a Pass that goes to the state `next`, with this whole number as its result.
 fn passes_to(
     machine: &Machine,
@@ -51,18 +68,10 @@ fn passes_to(
     next: &str,
     want: Option<i64>,
 ) -> bool {
-    let Some(State::Pass(pass)) = machine.state_at(path, name) else {
-        return false;
-    };
-    let goes = match &pass.transition {
-        Transition::Next(to) => to.as_str() == next,
-        Transition::End => next == "",
-    };
-    let found = match &pass.result {
-        Some(Json::Whole(found)) => Some(*found),
-        _ => None,
-    };
-    goes && found == want
+    match machine.state_at(path, name) {
+        Some(State::Pass(pass)) => goes_to(&pass.transition, next) && is_whole(&pass.result, want),
+        _ => false,
+    }
 }
 
 fn is_machine_of_two(alloc: Global, machine: &Machine) -> Result<bool, AllocError> {
@@ -106,41 +115,58 @@ fn is_processed(processing: &Processing) -> bool {
         && processing.result_selector.is_none()
 }
 
+fn processing_at<'a>(machine: &'a Machine, name: &Text) -> Option<&'a Processing> {
+    match machine.state(name) {
+        Some(State::Pass(pass)) => Some(&pass.processing),
+        Some(State::Succeed(succeed)) => Some(&succeed.processing),
+        _ => None,
+    }
+}
+
+/// Whether the states of that machine have their paths, and each that is left out is `$`.
+fn has_processing(alloc: Global, machine: &Machine) -> Result<bool, AllocError> {
+    let first = Text::new(alloc, "A")?;
+    let last = Text::new(alloc, "B")?;
+    let pass = processing_at(machine, &first);
+    let succeed = processing_at(machine, &last);
+    Ok(match (pass, succeed) {
+        (Some(pass), Some(succeed)) => {
+            is_processed(pass) && succeed.parameters.is_none() && succeed.output_path.is_some()
+        }
+        _ => false,
+    })
+}
+
 #[test]
 fn reads_processing(rt: HostRuntime) -> Result<(), Fail> {
     let alloc = rt.alloc();
     let Some(machine) = machine_of(alloc, PROCESSED) else {
         return Err("a machine is refused".into());
     };
-    let outermost = LevelPath::outermost(alloc);
-    let first = Text::new(alloc, "A")?;
-    let last = Text::new(alloc, "B")?;
-    let Some(State::Pass(pass)) = machine.state_at(&outermost, &first) else {
-        return Err("no Pass state is found".into());
-    };
-    assert!(rt; is_processed(&pass.processing));
-    let Some(State::Succeed(succeed)) = machine.state_at(&outermost, &last) else {
-        return Err("no Succeed state is found".into());
-    };
-    assert!(rt; succeed.processing.parameters.is_none());
-    assert!(rt; succeed.processing.output_path.is_some());
+    let is_met = has_processing(alloc, &machine);
+    drop(machine);
+    assert!(rt; is_met?);
     Ok(())
 }
 
 const FAILING: &str = r#"{"StartAt":"F","States":{"F":{"Type":"Fail","Error":"X"}}}"#;
 
+/// Whether a machine starts with a Fail state of this error, without a cause.
+fn fails_with(machine: &Machine, error: &str) -> bool {
+    match machine.state(machine.start()) {
+        Some(State::Fail(state)) => state.error.as_str() == error && state.cause.as_str() == "",
+        _ => false,
+    }
+}
+
 #[test]
 fn reads_errors(rt: HostRuntime) -> Result<(), Fail> {
-    let alloc = rt.alloc();
-    let Some(machine) = machine_of(alloc, FAILING) else {
+    let Some(machine) = machine_of(rt.alloc(), FAILING) else {
         return Err("a machine is refused".into());
     };
-    let outermost = LevelPath::outermost(alloc);
-    let Some(State::Fail(state)) = machine.state_at(&outermost, machine.start()) else {
-        return Err("no Fail state is found".into());
-    };
-    assert_eq!(rt; state.error.as_str(), "X");
-    assert_eq!(rt; state.cause.as_str(), "");
+    let is_met = fails_with(&machine, "X");
+    drop(machine);
+    assert!(rt; is_met);
     Ok(())
 }
 
