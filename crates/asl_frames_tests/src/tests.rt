@@ -257,14 +257,10 @@ fn runs_machines(rt: HostRuntime) -> Result<(), Fail> {
 
 // ---- depth and long paths
 
-fn nested_lists(alloc: Global, levels: u32) -> Result<String, AllocError> {
-    let mut text = String::new(alloc);
-    for _ in 0..levels {
-        text.push_str("[")?;
-    }
-    for _ in 0..levels {
-        text.push_str("]")?;
-    }
+fn nested_lists(alloc: Global, levels: usize) -> Result<String, AllocError> {
+    let mut text = "[".repeat(alloc, levels)?;
+    let closed = "]".repeat(alloc, levels)?;
+    text.push_str(closed.as_str())?;
     Ok(text)
 }
 
@@ -276,7 +272,7 @@ fn is_done(frame: &Frame) -> bool {
 }
 
 /// Whether a Pass whose parameters hold its input a level deeper is done, or fails for the depth.
-fn is_held(alloc: Global, levels: u32, held: bool) -> Result<bool, Fail> {
+fn is_held(alloc: Global, levels: usize, held: bool) -> Result<bool, Fail> {
     let definition = pass_with(alloc, r#""Parameters":{"a.$":"$"},"#)?;
     let machine = machine_of(alloc, definition.as_str())?;
     let input = json_of(alloc, nested_lists(alloc, levels)?.as_str())?;

@@ -47,7 +47,7 @@ pub fn told_of(alloc: Global, text: &str) -> Option<u32> {
 fn goes_to(transition: &Transition, name: &str) -> bool {
     match transition {
         Transition::Next(next) => next.as_str() == name,
-        Transition::End => name == "",
+        Transition::End => name.is_empty(),
     }
 }
 
