@@ -1,16 +1,16 @@
 -- The frames with which the branches of a Parallel or a Map state begin (Amazon States Language, "Parallel State", "Map State").
 use Rattle.std.specs.Prelude.{ℕ, ◌+◌, nat_le, List, [], ◌∷◌, ◌++◌, length, Option, None, Some, Result, Ok, Err, ok_or, if◌then◌else◌, codes}
 use Rattle.json_tree.specs.Data.{Data, list, null, boolean, whole, text, fields}
-use Rattle.asl_machine.specs.Definition.{Definition}
+use Rattle.asl_tree.specs.Definition.{Definition}
 use Rattle.asl_states.specs.Reading.{json_of, items_in}
-use Rattle.asl_machine.specs.declared.level.Level.{Level}
-use Rattle.asl_machine.specs.declared.state.Map.{Map}
-use Rattle.asl_machine.specs.declared.state.Parallel.{Parallel}
+use Rattle.asl_tree.specs.declared.level.Level.{Level}
+use Rattle.asl_tree.specs.declared.state.Map.{Map}
+use Rattle.asl_tree.specs.declared.state.Parallel.{Parallel}
 use Rattle.ref_paths.specs.Filling.{filled}
 use Rattle.ref_paths.specs.Picking.{pick_at}
 use Rattle.ref_paths.specs.Templates.{Payload}
 use Rattle.ref_paths.specs.declared.path.PathStep.{PathStep}
-use Rattle.asl_frames.specs.Processing.{and_then, held}
+use Rattle.asl_processing.specs.Processing.{and_then, held}
 use Rattle.asl_frames.specs.Turn.{counters_at}
 use Rattle.asl_frames.specs.declared.frame.Frame.{Frame}
 use Rattle.asl_frames.specs.declared.frame.Phase.TheVariants.{Ready}

@@ -1,4 +1,3 @@
 pub mod Forks
-pub mod Handling
 pub mod Outcomes
 pub mod Planned

@@ -1,6 +1,6 @@
 -- The turn of a frame that stands in a machine.
 use Rattle.std.specs.Prelude.{Bool, true, false, Option, option_map}
-use Rattle.asl_machine.specs.Definition.{Definition}
+use Rattle.asl_tree.specs.Definition.{Definition}
 use Rattle.asl_forward.specs.Outcomes.{turn}
 use Rattle.asl_frames.specs.Turn.{standing}
 use Rattle.asl_frames.specs.declared.frame.Frame.{Frame}

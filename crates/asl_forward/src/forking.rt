@@ -2,17 +2,17 @@
 ghost use Rattle.std.specs.Prelude.{◌≡◌, ◌≤◌, ◌++◌, ◌∷◌, [], length, Ok, IfOk, IfErr, OnOk, Some, ok_or, option_copied, codes};
 ghost use Rattle.json_tree.specs.Data.{depth as nesting};
 ghost use Rattle.json_tree.specs.View.{data_of};
-ghost use Rattle.asl_frames.specs.Errors.{Tells};
+ghost use Rattle.asl_processing.specs.Errors.{Tells};
 ghost use Rattle.asl_forward.specs.Forks.{inward, branch_frame, frames_from, parallel_frames, elements, element_input, element_frames, map_frames};
 ghost use Rattle.asl_forward.specs.Outcomes.{fork_of};
-ghost use Rattle.asl_frames.specs.Processing.{held, effective};
+ghost use Rattle.asl_processing.specs.Processing.{held, effective};
 ghost use Rattle.asl_frames.specs.Turn.{counters_at};
 
 use crate::frames::Frames;
 use asl_frames::{
     Frame, LEVELS, Phase, Retries, StateError, TurnFault, counters_at, effective_input, held,
 };
-use asl_machine::{Branches, Level, Machine, Map, Parallel};
+use asl_tree::{Branches, Level, Machine, Map, Parallel};
 use json_tree::{Json, JsonList, Text, depth};
 use ref_paths::{FillFault, RefPath, Template};
 use std::alloc::{AllocError, Global};
@@ -40,7 +40,7 @@ fn inward(frame: &Frame, branch: u32) -> Result<Level, AllocError>
 }
 
 /// The frame of a branch of this machine, before its first state.
-#[tactic(auto, using(asl_frames::proofs::Again::json_again))]
+#[tactic(auto, using(asl_processing::proofs::Again::json_again))]
 fn branch_frame(
     alloc: Global,
     frame: &Frame,
@@ -204,7 +204,7 @@ fn element_frames(
 }
 
 /// The list that the items path leads to.
-#[tactic(auto, using(asl_frames::proofs::Again::items_again))]
+#[tactic(auto, using(asl_processing::proofs::Again::items_again))]
 fn elements<'a>(path: &RefPath, input: &'a Json) -> Option<&'a JsonList>
     ensures { ok_or (option_copied result) (codes "States.Runtime") ≡ elements path.now (data_of input.now) }
 {

@@ -2,20 +2,21 @@
 ghost use Rattle.std.specs.Prelude.{◌≡◌, ◌+◌, ◌^◌, ◌<◌, List, ℕ, length, Result, IfOk, IfErr};
 ghost use Rattle.json_tree.specs.View.{data_of};
 ghost use Rattle.item_store.specs.Calls.{call_of};
-ghost use Rattle.asl_frames.specs.Errors.{Tells};
+ghost use Rattle.asl_processing.specs.Errors.{Tells};
 ghost use Rattle.asl_forward.specs.Outcomes.{action_of, asks, fails, forks, parks, task_turn, turn};
-ghost use Rattle.asl_frames.specs.Processing.{effective};
+ghost use Rattle.asl_processing.specs.Processing.{effective};
 ghost use Rattle.asl_frames.specs.declared.frame.Frame.{Frame};
 
 use crate::forking::{count_of, fork_map, fork_parallel};
 use crate::frames::Frames;
-use crate::handling::handle;
 use crate::prepared::Outcome;
-use crate::work::call_fault;
+use asl_errors::ErrorHandling;
 use asl_frames::{
     Fault, Frame, Phase, TurnFault, effective_input, next_frame, own_fault, with_phase,
 };
-use asl_machine::{ErrorHandling, Machine, Resource, State, Task};
+use asl_results::{call_fault, handle};
+use asl_states::{Resource, Task};
+use asl_tree::{Machine, State};
 use item_store::{Action, Call, CallFault};
 use json_tree::{Json, Text};
 use std::alloc::{AllocError, Global};

@@ -11,7 +11,7 @@ ghost use Rattle.asl_frames.specs.declared.frame.Phase.TheVariants.{Ready};
 use crate::frames::Frames;
 use crate::outcomes::turn;
 use asl_frames::{Frame, Phase, standing};
-use asl_machine::SharedMachine;
+use asl_tree::SharedMachine;
 use item_store::Call;
 use std::alloc::{AllocError, Global};
 

@@ -2,7 +2,7 @@
 #![tactic(auto)]
 
 #[cfg(test)]
-mod handling_tests;
+mod first_tests;
 #[cfg(test)]
 mod tests;
 #[cfg(test)]

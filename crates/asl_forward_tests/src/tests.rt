@@ -1,16 +1,23 @@
-use asl_forward::{Frame, Phase, first_frame};
-use asl_machine::{Machine, SharedMachine};
+use asl_forward::{Frame, Phase, Prepared, first_frame, prepare, standing};
+use asl_machine::{Machine, ReadMachine, SharedMachine};
 use json_tree::{Json, Text, read, write_text};
 use serde_json::Value;
 use std::alloc::{AllocError, Global};
 use std::test::Fail;
 
-pub(crate) fn machine_of(alloc: Global, text: &str) -> Result<SharedMachine, Fail> {
+fn read_machine(alloc: Global, text: &str) -> Result<Machine, Fail> {
     let definition = Value::from_str(alloc, text)?;
-    match Machine::read(alloc, &definition) {
-        Ok(machine) => Ok(SharedMachine::new(alloc, machine)?),
+    let machine = Machine::read(alloc, &definition);
+    drop(definition);
+    match machine {
+        Ok(machine) => Ok(machine),
         Err(_fault) => Err("the definition is refused".into()),
     }
+}
+
+pub(crate) fn machine_of(alloc: Global, text: &str) -> Result<SharedMachine, Fail> {
+    let machine = read_machine(alloc, text)?;
+    Ok(SharedMachine::new(alloc, machine)?)
 }
 
 pub(crate) fn json_of(alloc: Global, text: &str) -> Result<Json, Fail> {
@@ -20,13 +27,34 @@ pub(crate) fn json_of(alloc: Global, text: &str) -> Result<Json, Fail> {
     }
 }
 
+/// The first frame of an execution of this machine.
 pub(crate) fn start(
     alloc: Global,
     machine: &SharedMachine,
     input: &Json,
 ) -> Result<Frame, AllocError> {
     let name = Text::new(alloc, "m")?;
-    first_frame(alloc, &name, machine.machine(), input)
+    let first = first_frame(alloc, &name, machine.machine(), input);
+    drop(name);
+    first
+}
+
+/// The turn of a frame that stands and is ready.
+pub(crate) fn prepared(
+    alloc: Global,
+    machine: &SharedMachine,
+    frame: &Frame,
+) -> Result<Prepared, Fail> {
+    if frame.count > 9 {
+        return Err("more moves than a test makes".into());
+    }
+    if standing(machine.machine(), frame).is_none() {
+        return Err("a frame stands before no state".into());
+    }
+    let Phase::Ready = &frame.phase else {
+        return Err("a frame is not ready".into());
+    };
+    Ok(prepare(alloc, machine, frame)?)
 }
 
 pub(crate) fn is_written(alloc: Global, json: &Json, want: &str) -> bool {
@@ -35,6 +63,22 @@ pub(crate) fn is_written(alloc: Global, json: &Json, want: &str) -> bool {
         Err(_refused) => false,
     }
 }
+
+/// A Task that is retried twice.
+pub(crate) const C: &str =
+    r#"{"StartAt":"C","States":{"C":{"Type":"Task","Resource":"arn:aws:states:::dynamodb:putItem","Parameters":{"TableName":"items","Item":{"id":{"S":"k"},"v":{"S":"new"}},"ConditionExpression":"attribute_not_exists(id)"},"Retry":[{"ErrorEquals":["States.TaskFailed"],"MaxAttempts":2,"BackoffRate":2.0}],"End":true}}}"#;
+
+/// A Task whose errors are caught, and a Choice after it.
+pub(crate) const K: &str =
+    r#"{"StartAt":"T","States":{"T":{"Type":"Task","Resource":"arn:aws:states:::dynamodb:putItem","Parameters":{"TableName":"other","Item":{"id":{"S":"k"}}},"Catch":[{"ErrorEquals":["States.ALL"],"Next":"H","ResultPath":"$.err"}],"End":true},"H":{"Type":"Choice","Choices":[{"Variable":"$.n","NumericGreaterThan":3,"Next":"Z"}]},"Z":{"Type":"Fail","Error":"E","Cause":"c"}}}"#;
+
+/// A Map with an item selector.
+pub(crate) const V: &str =
+    r#"{"StartAt":"M","States":{"M":{"Type":"Map","ItemsPath":"$.xs","ItemSelector":{"i.$":"$$.Map.Item.Index","x.$":"$$.Map.Item.Value","k.$":"$.k"},"ItemProcessor":{"StartAt":"P","States":{"P":{"Type":"Pass","End":true}}},"ResultPath":"$.out","OutputPath":"$.out","End":true}}}"#;
+
+/// A Map over its input.
+pub(crate) const M: &str =
+    r#"{"StartAt":"M","States":{"M":{"Type":"Map","ItemProcessor":{"StartAt":"P","States":{"P":{"Type":"Pass","End":true}}},"End":true}}}"#;
 
 /// How a frame is to be shown: its phase, then what it holds or where it stands.
 #[derive(Clone, Copy)]

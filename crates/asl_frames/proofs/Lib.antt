@@ -1,3 +1,2 @@
-pub mod Again
 pub mod Counters
 pub mod Turns

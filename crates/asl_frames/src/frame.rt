@@ -1,7 +1,7 @@
 // A thread's frame: where it stands, and what it has.
 ghost use Rattle.std.specs.Prelude.{◌≡◌, ◌+◌, ◌^◌, ◌<◌, [], replicate, slice_get, IfOk, IfSome};
 
-use asl_machine::Level;
+use asl_tree::Level;
 use json_tree::{Json, Text};
 use std::alloc::{AllocError, Global};
 use std::marker::Model;

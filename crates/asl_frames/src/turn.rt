@@ -2,19 +2,17 @@
 ghost use Rattle.std.specs.Prelude.{◌≡◌, ◌+◌, ◌^◌, ◌<◌, option_map, IfOk, IfErr, Ok, List, ℕ, Result};
 ghost use Rattle.json_tree.specs.Data.{Data};
 ghost use Rattle.json_tree.specs.View.{data_of};
-ghost use Rattle.asl_machine.specs.Definition.{Definition};
-ghost use Rattle.asl_frames.specs.Errors.{Tells, error_name};
+ghost use Rattle.asl_tree.specs.Definition.{Definition};
+ghost use Rattle.asl_processing.specs.Errors.{Tells, error_name};
 ghost use Rattle.asl_frames.specs.Turn.{retriers_of, counters_at, enters, is_done, has_failed, own_fault, declared_fault, go_on, ends, first_frame, pass_result, pass_output, idle_output, after_state, standing, choice_frame, goes_where};
-ghost use Rattle.asl_frames.specs.Choosing.{chosen};
-ghost use Rattle.asl_frames.specs.Processing.{effective};
+ghost use Rattle.asl_processing.specs.Choosing.{chosen};
+ghost use Rattle.asl_processing.specs.Processing.{effective};
 
-use crate::choosing::choose;
-use crate::error::{StateError, TurnFault};
 use crate::frame::{Fault, Frame, Origin, Phase, Retries};
-use crate::processing::{effective_input, output_of};
-use asl_machine::{
-    Choice, Fail, Level, LevelPath, Machine, Pass, Processing, Retrier, State, Transition,
-};
+use asl_errors::Retrier;
+use asl_processing::{StateError, TurnFault, choose, effective_input, output_of};
+use asl_states::{Choice, Fail, Pass, Processing, Transition};
+use asl_tree::{Level, LevelPath, Machine, State};
 use json_tree::{Json, Text};
 use std::alloc::{AllocError, Global};
 
@@ -158,7 +156,7 @@ fn end(
 }
 
 /// The frame that goes on with a state's output.
-#[tactic(auto, using(crate::proofs::Again::json_again))]
+#[tactic(auto, using(asl_processing::proofs::Again::json_again))]
 pub fn go_on(
     alloc: Global,
     level: &Machine,
@@ -176,7 +174,7 @@ pub fn go_on(
 }
 
 /// The frame before another state of the level.
-#[tactic(auto, using(crate::proofs::Again::json_again))]
+#[tactic(auto, using(asl_processing::proofs::Again::json_again))]
 pub fn enter(
     alloc: Global,
     level: &Machine,

@@ -1,12 +1,11 @@
 // Each call by itself, over one machine and its first frame.
 use crate::tests::{Want, is_as_wanted, is_written, json_of, machine_of, start};
 use asl_frames::{
-    Fault, Frame, LEVELS, Phase, Retries, StateError, counters_at, effective_input, enter, failed,
-    go_on, held, output_of, own_fault, place_held, same_place, with_phase,
+    Fault, Frame, Phase, Retries, StateError, counters_at, enter, failed, go_on, own_fault,
+    same_place, with_phase,
 };
-use asl_machine::{Machine, Pass, Processing, SharedMachine, State, Transition};
+use asl_machine::{Machine, SharedMachine, Transition};
 use json_tree::{Json, Text};
-use ref_paths::RefPath;
 use std::alloc::{AllocError, Global};
 use std::test::Fail;
 
@@ -23,13 +22,12 @@ const ERRORS: &[(StateError, &str)] = &[
     (StateError::NoChoiceMatched, "States.NoChoiceMatched"),
 ];
 
-/// Whether an error has this name, and a fault of it too, without a cause.
+/// Whether a fault of an error has this name, and no cause.
 fn is_named(alloc: Global, error: StateError, name: &str) -> bool {
-    let own = match own_fault(alloc, error) {
+    match own_fault(alloc, error) {
         Ok(fault) => fault.error.as_str() == name && fault.cause.as_str() == "",
         Err(AllocError) => false,
-    };
-    own && error.name() == name
+    }
 }
 
 #[test]
@@ -75,56 +73,6 @@ const MACHINE: &str =
     r#"{"StartAt":"P","States":{"P":{"Type":"Pass","InputPath":"$.x","Parameters":{"y.$":"$.z"},"ResultPath":"$.r","OutputPath":"$.r","Next":"T"},"T":{"Type":"Task","Resource":"arn:aws:states:::dynamodb:getItem","Retry":[{"ErrorEquals":["A"]},{"ErrorEquals":["B"]}],"End":true}}}"#;
 
 const INPUT: &str = r#"{"x":{"z":5}}"#;
-
-fn is_json(alloc: Global, json: Json, want: &str) -> bool {
-    let is = is_written(alloc, &json, want);
-    drop(json);
-    is
-}
-
-fn is_value<E: Drop>(alloc: Global, made: Result<Json, E>, want: &str) -> bool {
-    match made {
-        Ok(json) => is_json(alloc, json, want),
-        Err(_) => false,
-    }
-}
-
-/// Whether a Pass state's paths and templates make of the input what they are to make.
-fn processes(alloc: Global, processing: &Processing, raw: &Json) -> bool {
-    is_value(alloc, effective_input(alloc, processing, raw), r#"{"y":5}"#)
-        && is_value(
-            alloc,
-            output_of(alloc, processing, raw, Json::Whole(7)),
-            "7",
-        )
-        && is_value(
-            alloc,
-            place_held(alloc, &processing.result_path, raw, Json::Whole(7)),
-            r#"{"r":7,"x":{"z":5}}"#,
-        )
-}
-
-fn pass_of(machine: &Machine) -> Option<&Pass> {
-    match machine.state(machine.start()) {
-        Some(State::Pass(pass)) => Some(pass),
-        _ => None,
-    }
-}
-
-#[test]
-fn makes_inputs_and_outputs(rt: HostRuntime) -> Result<(), Fail> {
-    let alloc = rt.alloc();
-    let machine = machine_of(alloc, MACHINE)?;
-    let input = json_of(alloc, INPUT)?;
-    let done = match pass_of(machine.machine()) {
-        Some(pass) => processes(alloc, &pass.processing, &input),
-        None => false,
-    };
-    assert!(rt; done);
-    assert_eq!(rt; LEVELS, 127);
-    assert!(rt; is_value(alloc, held(Json::Whole(7)), "7"));
-    Ok(())
-}
 
 /// Whether a frame that was made is as it is to be, a move later.
 fn comes(alloc: Global, made: Result<Frame, AllocError>, want: Want) -> bool {
@@ -212,19 +160,5 @@ fn makes_frames(rt: HostRuntime) -> Result<(), Fail> {
     let made = all_of(alloc, &machine, &frame);
     drop(frame);
     assert!(rt; made?);
-    Ok(())
-}
-
-#[test]
-fn null_places_nothing(rt: HostRuntime) -> Result<(), Fail> {
-    let alloc = rt.alloc();
-    let none: Option<RefPath> = None;
-    assert!(rt;
-        is_value(
-            alloc,
-            place_held(alloc, &none, &Json::Whole(1), Json::Whole(7)),
-            "1"
-        )
-    );
     Ok(())
 }

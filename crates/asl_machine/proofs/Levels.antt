@@ -11,20 +11,20 @@ use Rattle.serde_json.specs.Data.{Data as Source, Items, no_items, item, Members
 use Rattle.serde_json.specs.Find.{get, as_array}
 use Rattle.asl_fields.specs.declared.fields.Place.{Place}
 use Rattle.asl_fields.specs.declared.fields.Place.TheVariants as at
-use Rattle.asl_machine.specs.Complete.{state_of, IsComplete}
-use Rattle.asl_machine.specs.Definition.{StateTree, Definition}
-use Rattle.asl_machine.specs.Find.{branch_of, machine_at}
-use Rattle.asl_machine.specs.Levels.{IsWhole}
+use Rattle.asl_tree.specs.Complete.{state_of, IsComplete}
+use Rattle.asl_tree.specs.Definition.{StateTree, Definition}
+use Rattle.asl_tree.specs.Find.{branch_of, machine_at}
+use Rattle.asl_tree.specs.Levels.{IsWhole}
 use Rattle.asl_machine.specs.Profile.{BranchesAre, ListedBranches, IsProcessor, NamedProcessor, IsOfKind, kind_of, IsState, StatesAre, MembersAre, states_in, StatesWithin, IsMachine, Defines}
 use Rattle.asl_states.specs.Reading.{name_of_two}
-use Rattle.asl_machine.specs.TreeView.{tree_of, state_in}
+use Rattle.asl_tree.specs.TreeView.{tree_of, state_in}
 use Rattle.asl_states.specs.declared.kind.StateKind.{StateKind}
 use Rattle.asl_states.specs.declared.kind.StateKind.TheVariants as kind
-use Rattle.asl_machine.specs.declared.level.LevelStep.{LevelStep}
-use Rattle.asl_machine.specs.declared.state.State.{State}
-use Rattle.asl_machine.proofs.Inside.{complete_over}
+use Rattle.asl_tree.specs.declared.level.LevelStep.{LevelStep}
+use Rattle.asl_tree.specs.declared.state.State.{State}
+use Rattle.asl_machine.proofs.Whole.{complete_over}
 use Rattle.asl_machine.proofs.OneMachine.{is_pass, is_task, is_choice, is_wait, is_succeed, is_fail, is_parallel, is_map}
-use Rattle.asl_machine.proofs.Trees.{state_in-tree_of}
+use Rattle.asl_tree.proofs.Trees.{state_in-tree_of}
 
 and_then_if : {A B : Type 0} (f : A → Option B) (o : Option A) (Q : A → Type 0) (R : B → Type 0) → IfSome o Q → ((a : A) → Q a → IfSome (f a) R) → IfSome (option_and_then f o) R
 and_then_if f (Some a) Q R h k = k a h

@@ -1,6 +1,5 @@
-pub mod Trees
-pub mod Inside
 pub mod OneMachine
 pub mod Refused
 pub mod Within
+pub mod Whole
 pub mod Levels

@@ -11,21 +11,21 @@ use Rattle.asl_fields.proofs.OneField.{one_path, one_template}
 use Rattle.asl_fields.specs.declared.fields.Place.{Place}
 use Rattle.asl_fields.specs.declared.fields.Place.TheVariants as at
 use Rattle.asl_errors.specs.declared.errors.ErrorHandling.{ErrorHandling}
-use Rattle.asl_machine.specs.Definition.{StateTree, Definition}
+use Rattle.asl_tree.specs.Definition.{StateTree, Definition}
 use Rattle.asl_states.specs.Profile.{IsPass, IsWait, IsSucceed, IsFail, IsTask, IsChoice}
 use Rattle.asl_machine.specs.Profile.{BranchesAre, ListedBranches, IsParallel, IsProcessor, NamedProcessor, IsMap, IsPassState, IsWaitState, IsSucceedState, IsFailState, IsTaskState, IsChoiceState, IsParallelState, IsMapState, IsOfKind, kind_of, IsState, StatesAre, MembersAre, states_in, MachineOver, StatesWithin, Defines}
 use Rattle.asl_states.specs.Reading.{name_of_two}
-use Rattle.asl_machine.specs.TreeView.{tree_of}
+use Rattle.asl_tree.specs.TreeView.{tree_of}
 use Rattle.asl_states.specs.declared.kind.StateKind.{StateKind}
 use Rattle.asl_states.specs.declared.kind.StateKind.TheVariants as kind
 use Rattle.asl_states.specs.declared.state.Choice.{Choice}
 use Rattle.asl_states.specs.declared.state.Fail.{Fail}
-use Rattle.asl_machine.specs.declared.state.Map.{Map}
-use Rattle.asl_machine.specs.declared.state.Parallel.{Parallel}
+use Rattle.asl_tree.specs.declared.state.Map.{Map}
+use Rattle.asl_tree.specs.declared.state.Parallel.{Parallel}
 use Rattle.asl_states.specs.declared.state.Pass.{Pass}
 use Rattle.asl_states.specs.declared.state.Processing.{Processing}
-use Rattle.asl_machine.specs.declared.state.State.{State}
-use Rattle.asl_machine.specs.declared.state.State.TheVariants.{Pass as PassState, Task as TaskState, Choice as ChoiceState, Wait as WaitState, Succeed as SucceedState, Fail as FailState, Parallel as ParallelState, Map as MapState}
+use Rattle.asl_tree.specs.declared.state.State.{State}
+use Rattle.asl_tree.specs.declared.state.State.TheVariants.{Pass as PassState, Task as TaskState, Choice as ChoiceState, Wait as WaitState, Succeed as SucceedState, Fail as FailState, Parallel as ParallelState, Map as MapState}
 use Rattle.asl_states.specs.declared.state.Succeed.{Succeed}
 use Rattle.asl_states.specs.declared.state.Task.{Task}
 use Rattle.asl_states.specs.declared.state.Transition.{Transition}

@@ -8,21 +8,21 @@ use Rattle.asl_fields.specs.declared.fault.MachineFault.{MachineFault}
 use Rattle.asl_fields.specs.declared.fields.Place.{Place}
 use Rattle.asl_fields.specs.declared.fields.Place.TheVariants as at
 use Rattle.asl_machine.proofs.OneMachine.{is_pass, is_wait, is_succeed, is_fail, is_task, is_choice, is_parallel, is_map, AreOne, one_members, one_within}
-use Rattle.asl_machine.specs.Definition.{StateTree, Definition}
+use Rattle.asl_tree.specs.Definition.{StateTree, Definition}
 use Rattle.asl_states.specs.Faults.{NamedSelectorFault}
 use Rattle.asl_machine.specs.Faults.{BranchFault, BranchesFault, ListedBranchesFault, BranchesFieldFault, ParallelFault, ProcessorObjectFault, ProcessorFault, NamedProcessorFault, MapFault, KindFault, TypeFault, StateFault, StatesFault, StatesFieldFault, RequiredStatesFault, TargetsFault, FaultOver, StatesFaultWithin, DefinitionFault}
 use Rattle.asl_states.specs.Profile.{NamedSelector, kind_named}
 use Rattle.asl_machine.specs.Profile.{BranchesAre, ListedBranches, IsParallel, IsProcessor, NamedProcessor, IsMap, IsOfKind, IsState, StatesAre, MembersAre, states_in, MachineOver, StatesWithin, Defines}
 use Rattle.asl_states.specs.Reading.{name_of_two}
-use Rattle.asl_machine.specs.Targets.{target_fault}
+use Rattle.asl_tree.specs.Targets.{target_fault}
 use Rattle.asl_states.specs.declared.kind.StateKind.{StateKind}
 use Rattle.asl_states.specs.declared.kind.StateKind.TheVariants as kind
 use Rattle.asl_states.specs.declared.state.Choice.{Choice}
 use Rattle.asl_states.specs.declared.state.Fail.{Fail}
-use Rattle.asl_machine.specs.declared.state.Map.{Map}
-use Rattle.asl_machine.specs.declared.state.Parallel.{Parallel}
+use Rattle.asl_tree.specs.declared.state.Map.{Map}
+use Rattle.asl_tree.specs.declared.state.Parallel.{Parallel}
 use Rattle.asl_states.specs.declared.state.Pass.{Pass}
-use Rattle.asl_machine.specs.declared.state.State.{State}
+use Rattle.asl_tree.specs.declared.state.State.{State}
 use Rattle.asl_states.specs.declared.state.Succeed.{Succeed}
 use Rattle.asl_states.specs.declared.state.Task.{Task}
 use Rattle.asl_states.specs.declared.state.Wait.{Wait}

@@ -9,7 +9,7 @@ use Rattle.asl_fields.specs.declared.fault.MachineFault.{MachineFault}
 use Rattle.asl_fields.specs.declared.fault.MachineFault.TheVariants.{Missing, UnknownField, Unsupported, BadField, NoTarget, NextAndEnd, StatesAllPlace, TooDeep, Memory}
 use Rattle.asl_fields.specs.declared.fields.Place.{Place}
 use Rattle.asl_fields.specs.declared.fields.Place.TheVariants as at
-use Rattle.asl_machine.specs.Definition.{StateTree, Definition}
+use Rattle.asl_tree.specs.Definition.{StateTree, Definition}
 use Rattle.asl_machine.specs.Faults.{StatesFault, LevelFault, StatesFaultWithin, BranchFault, BranchesFault, ListedBranchesFault, BranchesFieldFault, ProcessorObjectFault, ProcessorFault, NamedProcessorFault}
 use Rattle.asl_machine.specs.Profile.{StatesAre, IsMachine, StatesWithin, BranchesAre, ListedBranches}
 use Rattle.asl_states.specs.Reading.{count_items}

@@ -7,11 +7,11 @@ use Rattle.asl_fields.specs.declared.fault.MachineFault.{MachineFault}
 use Rattle.asl_fields.specs.declared.fault.MachineFault.TheVariants.{Missing, BadField, TooDeep}
 use Rattle.asl_fields.specs.declared.fields.Place.{Place}
 use Rattle.asl_fields.specs.declared.fields.Place.TheVariants as at
-use Rattle.asl_machine.specs.Definition.{StateTree}
+use Rattle.asl_tree.specs.Definition.{StateTree}
 use Rattle.asl_states.specs.Profile.{kind_named}
 use Rattle.asl_machine.specs.Profile.{MembersAre, StatesWithin, start_in, states_in}
 use Rattle.asl_states.specs.Reading.{config_fault, concurrency_fault, name_of_two, count_items}
-use Rattle.asl_machine.specs.Targets.{target_fault}
+use Rattle.asl_tree.specs.Targets.{target_fault}
 use Rattle.asl_states.specs.declared.kind.StateKind.{StateKind}
 use Rattle.asl_states.specs.declared.kind.StateKind.TheVariants as kind
 use Rattle.asl_states.specs.Faults.{ParametersFault, PassFault, SucceedFault, WaitFault, FailFault, WorkFault, TaskFault, ChoiceFault, ItemsPathFault, HasSelectorFault}

@@ -1,12 +1,10 @@
 -- Laws of definitions.
 use Rattle.std.specs.Prelude.{◌≡◌}
 use Rattle.serde_json.specs.Data.{Data}
-use Rattle.ref_paths.specs.Same.{IsExact}
-use Rattle.asl_machine.specs.Complete.{IsComplete}
-use Rattle.asl_machine.specs.Definition.{Definition}
+use Rattle.asl_tree.specs.Complete.{IsComplete}
+use Rattle.asl_tree.specs.Definition.{Definition}
 use Rattle.asl_machine.specs.Faults.{DefinitionFault}
 use Rattle.asl_machine.specs.Profile.{Defines, DefinesNone}
-use Rattle.asl_machine.specs.Same.{same_definition}
 use Rattle.asl_fields.specs.declared.fault.MachineFault.{MachineFault}
 
 -- a definition is one machine at most
@@ -20,7 +18,3 @@ FaultyIsNone = (d : Data) (e : MachineFault) → DefinitionFault d e → Defines
 -- a machine starts at a state that it has, and stays inside
 abbrev pub IsWhole : Type 0
 IsWhole = (d : Data) (m : Definition) → Defines d m → IsComplete m
-
--- what `==` says of machines holds exactly where they are one
-abbrev pub EqualityIsOfMachines : Type 0
-EqualityIsOfMachines = IsExact same_definition

@@ -1,12 +1,4 @@
-pub mod Definition
-pub mod TreeCode
-pub mod TreeView
-pub mod TreeFalls
-pub mod Complete
-pub mod Targets
-pub mod Find
 pub mod Profile
 pub mod Levels
 pub mod Faults
 pub mod Laws
-pub mod Same

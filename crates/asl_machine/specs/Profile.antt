@@ -8,19 +8,19 @@ use Rattle.serde_json.specs.Find.{get, as_str, as_array, as_object}
 use Rattle.asl_fields.specs.Values.{HasFields, IsPathField}
 use Rattle.asl_fields.specs.declared.fields.Place.{Place}
 use Rattle.asl_fields.specs.declared.fields.Place.TheVariants as at
-use Rattle.asl_machine.specs.Definition.{StateTree, Definition}
+use Rattle.asl_tree.specs.Definition.{StateTree, Definition}
 use Rattle.asl_states.specs.Reading.{config_fault, concurrency_fault, name_of_two, count_items}
-use Rattle.asl_machine.specs.Targets.{target_fault}
-use Rattle.asl_machine.specs.TreeView.{tree_of}
+use Rattle.asl_tree.specs.Targets.{target_fault}
+use Rattle.asl_tree.specs.TreeView.{tree_of}
 use Rattle.asl_states.specs.declared.kind.StateKind.{StateKind}
 use Rattle.asl_states.specs.declared.kind.StateKind.TheVariants as kind
 use Rattle.asl_states.specs.declared.state.Choice.{Choice}
 use Rattle.asl_states.specs.declared.state.Fail.{Fail}
-use Rattle.asl_machine.specs.declared.state.Map.{Map}
-use Rattle.asl_machine.specs.declared.state.Parallel.{Parallel}
+use Rattle.asl_tree.specs.declared.state.Map.{Map}
+use Rattle.asl_tree.specs.declared.state.Parallel.{Parallel}
 use Rattle.asl_states.specs.declared.state.Pass.{Pass}
-use Rattle.asl_machine.specs.declared.state.State.{State}
-use Rattle.asl_machine.specs.declared.state.State.TheVariants.{Pass as PassState, Task as TaskState, Choice as ChoiceState, Wait as WaitState, Succeed as SucceedState, Fail as FailState, Parallel as ParallelState, Map as MapState}
+use Rattle.asl_tree.specs.declared.state.State.{State}
+use Rattle.asl_tree.specs.declared.state.State.TheVariants.{Pass as PassState, Task as TaskState, Choice as ChoiceState, Wait as WaitState, Succeed as SucceedState, Fail as FailState, Parallel as ParallelState, Map as MapState}
 use Rattle.asl_states.specs.declared.state.Succeed.{Succeed}
 use Rattle.asl_states.specs.declared.state.Task.{Task}
 use Rattle.asl_states.specs.declared.state.Wait.{Wait}

@@ -1,6 +1,6 @@
 // Laws of definitions: each call does nothing, and its contract is the law.
 ghost use Rattle.asl_machine.specs.Levels.{DefinedMachinesAreWhole};
-ghost use Rattle.asl_machine.specs.Laws.{EqualityIsOfMachines, OneMachine, FaultyIsNone, IsWhole};
+ghost use Rattle.asl_machine.specs.Laws.{OneMachine, FaultyIsNone, IsWhole};
 
 /// A definition is one machine at most, so that what is read of it is that machine.
 pub fn definitions_are_one_machine()
@@ -20,9 +20,4 @@ pub fn machines_are_whole()
 /// Each machine that stands in the machine of a definition is complete, and they nest 32 deep at most.
 pub fn levels_are_whole()
     ensures { DefinedMachinesAreWhole }
-{}
-
-/// `==` says whether two machines are one: what they have room for is no part of it.
-pub fn equality_is_of_machines()
-    ensures { EqualityIsOfMachines }
 {}

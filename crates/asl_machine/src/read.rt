@@ -7,12 +7,12 @@ ghost use Rattle.asl_machine.specs.Faults.{DefinitionFault, LevelFault, StatesFa
 ghost use Rattle.asl_states.specs.Profile.{kind_named};
 ghost use Rattle.asl_machine.specs.Profile.{Defines, DefinesNone, IsMachine, StatesWithin, StatesAre, IsState, IsOfKind, IsParallel, BranchesAre, ListedBranches, IsMap, HasProcessor};
 
-use crate::state::{Branches, Machine, Map, Parallel, State, States};
 use asl_fields::{MachineFault, Place, check_fields, read_template, required, text_of};
 use asl_states::{
     StateKind, check_concurrency, check_config, kind_named, name_of_two, read_choice,
     read_elements, read_fail, read_pass, read_succeed, read_task, read_wait, read_work,
 };
+use asl_tree::{Branches, Machine, Map, Parallel, State, States};
 use json_tree::Text;
 use serde_json::{Map as Object, Value};
 use std::alloc::Global;
@@ -23,12 +23,18 @@ const MOST_LEVELS: u32 = 32;
 /// How many branches a Parallel may have.
 const MOST_BRANCHES: usize = 4096;
 
-impl Machine {
+/// What is read from a definition.
+pub trait ReadMachine {
+    /// Reads a definition.
+    fn read(alloc: Global, definition: &Value) -> Result<Self, MachineFault>;
+}
+
+impl ReadMachine for Machine {
     /// The machine of a definition ("State Machine Structure"). Takes time linear in the definition, and memory for what
     /// the machine holds.
     ///
     /// Where a definition has several faults, which of them is answered is left open.
-    pub fn read(alloc: Global, definition: &Value) -> Result<Machine, MachineFault>
+    fn read(alloc: Global, definition: &Value) -> Result<Machine, MachineFault>
         ensures ok { IfOk result (Defines (view definition.now)) }
         ensures refused { IfErr result (λ e. Refuses e (DefinesNone (view definition.now))) }
         ensures fault { IfErr result (λ e. Refuses e (DefinitionFault (view definition.now) e)) }
@@ -229,7 +235,7 @@ fn read_each_branch(
             }
         }
     }
-    Ok(Branches { inner })
+    Ok(Branches::new(inner))
 }
 
 #[cycle(read)]

@@ -3,7 +3,7 @@ use Rattle.std.specs.Prelude.{◌≡◌, ◌≤◌, List, [], ◌∷◌, None, O
 use Rattle.json_tree.specs.Data.{depth}
 use Rattle.json_tree.specs.View.{data_of}
 use Rattle.item_store.specs.Table.{Table}
-use Rattle.asl_machine.specs.Levels.{IsWhole}
+use Rattle.asl_tree.specs.Levels.{IsWhole}
 use Rattle.saved_steps.specs.Steps.{start_name}
 use Rattle.book_log.specs.Answers.{start_answer, step_answer, undo_answer, plan_answer, is_full_for_define}
 use Rattle.book_log.specs.Beginning.{table_of}

@@ -2,7 +2,7 @@
 -- this gives, are functions of these two: a list is filtered and run from the start, and nothing is undone.
 use Rattle.std.specs.Prelude.{ℕ, List, [], ◌∷◌, ◌++◌, not, fold, filter, map, Option, None, Some, unwrap_or, if◌then◌else◌}
 use Rattle.asl_fields.specs.Fields.{is_text}
-use Rattle.asl_machine.specs.Definition.{Definition}
+use Rattle.asl_tree.specs.Definition.{Definition}
 use Rattle.step_names.specs.declared.step.StepName.{StepName}
 use Rattle.trace_theory.specs.Traces.{run, after, without, names_of}
 use Rattle.saved_steps.specs.Steps.{Step, started, moved, name_of}

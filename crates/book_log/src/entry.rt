@@ -1,6 +1,6 @@
 // The commands that were accepted.
 use crate::step_names_list::StepNames;
-use asl_machine::SharedMachine;
+use asl_tree::SharedMachine;
 use json_tree::{Json, Text};
 use saved_steps::Kind;
 use step_names::{StepName, ThreadName};

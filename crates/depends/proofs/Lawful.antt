@@ -13,8 +13,9 @@ use Rattle.item_store.specs.declared.access.AccessMode.{AccessMode}
 use Rattle.item_store.specs.declared.access.AccessMode.TheVariants.{Read, Write}
 use Rattle.item_store.specs.declared.call.Request.{Request}
 use Rattle.item_store.specs.declared.fault.CallFault.{CallFault}
-use Rattle.asl_machine.specs.Definition.{Definition}
-use Rattle.asl_forward.specs.Outcomes.{Work, work_of, turn, after_answer}
+use Rattle.asl_tree.specs.Definition.{Definition}
+use Rattle.asl_forward.specs.Outcomes.{turn}
+use Rattle.asl_results.specs.Results.{Work, work_of, after_answer}
 use Rattle.asl_frames.specs.Turn.{Standing, first_frame}
 use Rattle.asl_frames.specs.declared.frame.Frame.{Frame}
 use Rattle.asl_frames.specs.declared.frame.Phase.{Phase}

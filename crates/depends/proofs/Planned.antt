@@ -4,7 +4,7 @@ use Rattle.std.specs.Prelude.{◌⊎◌, is_some, option_map}
 use Rattle.std.proofs.lemmas.Bool.{eqb-true}
 use Rattle.std.proofs.lemmas.Option.{same_Some}
 use Rattle.json_tree.specs.declared.tree.Json.{Json}
-use Rattle.asl_machine.specs.Definition.{Definition}
+use Rattle.asl_tree.specs.Definition.{Definition}
 use Rattle.asl_frames.specs.Turn.{first_frame}
 use Rattle.asl_frames.specs.declared.frame.Frame.{Frame}
 use Rattle.step_names.specs.Thread.{Thread, execution}

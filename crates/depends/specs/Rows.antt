@@ -8,7 +8,7 @@ use Rattle.attr_values.specs.declared.key_part.KeyPart.TheVariants.{S as text_pa
 use Rattle.item_store.specs.declared.access.AccessMode.{AccessMode}
 use Rattle.item_store.specs.declared.access.AccessMode.TheVariants.{Read, Write}
 use Rattle.asl_errors.specs.declared.errors.ErrorHandling.{ErrorHandling}
-use Rattle.asl_machine.specs.Definition.{Definition, pass, fail, parallel, machine_trees}
+use Rattle.asl_tree.specs.Definition.{Definition, pass, fail, parallel, machine_trees}
 use Rattle.asl_states.specs.declared.state.Processing.{Processing}
 use Rattle.asl_states.specs.declared.state.Transition.TheVariants.{End}
 use Rattle.asl_frames.specs.declared.frame.Frame.{Frame}

@@ -1,7 +1,7 @@
 -- What the commands of a journaled book do to its journal, and why they are refused.
 use Rattle.std.specs.Prelude.{◌≡◌, ◌⊎◌, ◌<◌, ℕ, List, [], ◌∷◌, ◌++◌, length, Option, None, Some, Result, Ok, Err, IsTrue, IsOk, OnOk, OnErr}
 use Rattle.serde_json.specs.Data as source
-use Rattle.asl_machine.specs.Definition.{Definition}
+use Rattle.asl_tree.specs.Definition.{Definition}
 use Rattle.asl_machine.specs.Profile.{Defines}
 use Rattle.attr_values.specs.declared.fault.ItemFault.TheVariants as item
 use Rattle.sqlite.specs.State.{State, HasCleanDisk, Survives}

@@ -4,7 +4,7 @@ ghost use Rattle.sqlite.specs.Held.{state};
 ghost use Rattle.serde_json.specs.View.{view};
 ghost use Rattle.json_tree.specs.Data.{depth};
 ghost use Rattle.json_tree.specs.View.{data_of};
-ghost use Rattle.asl_machine.specs.Definition.{Definition};
+ghost use Rattle.asl_tree.specs.Definition.{Definition};
 ghost use Rattle.asl_machine.specs.Profile.{Defines};
 ghost use Rattle.book_log.specs.Answers.{start_answer, step_answer};
 ghost use Rattle.command_lines.specs.Grammar as grammar;

@@ -15,7 +15,7 @@ use Rattle.attr_values.specs.declared.key.KeySchema.{KeySchema}
 use Rattle.item_store.specs.Deciding.{Attributes}
 use Rattle.item_store.specs.Listing.{IsListing}
 use Rattle.item_store.specs.Table.{Table}
-use Rattle.asl_machine.specs.Definition.{Definition}
+use Rattle.asl_tree.specs.Definition.{Definition}
 use Rattle.asl_machine.specs.Profile.{Defines as DefinesMachine}
 use Rattle.asl_frames.specs.declared.frame.Frame.{Frame}
 use Rattle.step_names.specs.Order.{thread_cmp}

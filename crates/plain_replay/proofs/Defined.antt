@@ -7,7 +7,7 @@ use Rattle.std.specs.Cmp.Lexicographic.{slice_cmp, same_text, other_text}
 use Rattle.std.specs.BTreeMap.{BTreeMap, UpdatesBy, is_at}
 use Rattle.std.proofs.lemmas.Map.Lookups.{exact_bytes}
 use Rattle.asl_fields.specs.Fields.{is_text}
-use Rattle.asl_machine.specs.Definition.{Definition}
+use Rattle.asl_tree.specs.Definition.{Definition}
 use Rattle.trace_theory.proofs.Lists.{by_bool}
 use Rattle.plain_replay.specs.Worlds.{machine_in}
 

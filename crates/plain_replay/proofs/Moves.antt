@@ -5,8 +5,9 @@ use Rattle.std.proofs.lemmas.Bool.{eq-eqb}
 use Rattle.std.proofs.lemmas.Option.{same_Some}
 use Rattle.json_tree.specs.Data.{Data}
 use Rattle.json_tree.specs.declared.tree.Json.{Json}
-use Rattle.asl_machine.specs.Definition.{Definition}
-use Rattle.asl_forward.specs.Outcomes.{Work, work_of, work_at, turn, after_answer, after_branch, after_join}
+use Rattle.asl_tree.specs.Definition.{Definition}
+use Rattle.asl_forward.specs.Outcomes.{turn}
+use Rattle.asl_results.specs.Results.{Work, work_of, work_at, after_answer, after_branch, after_join}
 use Rattle.asl_forward.specs.Planned.{turn_at}
 use Rattle.asl_frames.specs.Turn.{Standing, standing}
 use Rattle.asl_frames.specs.declared.frame.Fault.{Fault}

@@ -1,7 +1,7 @@
 // What becomes of a thread that waits for its branches.
 ghost use Rattle.std.specs.Prelude.{◌≡◌, ◌+◌, ◌<◌, ◌^◌, IfOk, IsSome, option_copied, option_map, is_some};
 ghost use Rattle.json_tree.specs.View.{data_of};
-ghost use Rattle.asl_forward.specs.Outcomes.{work_of, work_at};
+ghost use Rattle.asl_results.specs.Results.{work_of, work_at};
 ghost use Rattle.asl_frames.specs.Turn.{standing};
 ghost use Rattle.step_names.specs.Thread.{child_of};
 ghost use Rattle.saved_steps.specs.Deeds.{first_fault, outputs};

@@ -1,6 +1,6 @@
 // Small logs whose outcomes were worked out by hand.
 use asl_forward::{Fault, Frame, Phase};
-use asl_machine::{Machine, MachineFault, SharedMachine};
+use asl_machine::{Machine, MachineFault, ReadMachine, SharedMachine};
 use attr_values::{KeyAttribute, KeySchema, KeyType, write_item};
 use book_log::{Begin, Entry, StepNames};
 use json_tree::{Json, Text, read, write_text};

@@ -7,8 +7,8 @@ use Rattle.json_tree.specs.View.{data_of}
 use Rattle.json_tree.specs.declared.tree.Json.{Json}
 use Rattle.asl_fields.specs.Fields.{is_text}
 use Rattle.asl_frames.specs.declared.frame.Frame.{Frame}
-use Rattle.asl_machine.specs.Definition.{Definition}
-use Rattle.asl_machine.specs.Levels.{IsWhole}
+use Rattle.asl_tree.specs.Definition.{Definition}
+use Rattle.asl_tree.specs.Levels.{IsWhole}
 use Rattle.step_names.specs.Thread.{Thread}
 use Rattle.step_names.specs.declared.step.StepName.{StepName}
 use Rattle.saved_steps.specs.Deeds as deeds

@@ -4,7 +4,7 @@ use Rattle.std.specs.Prelude.{vec_capacity}
 use Rattle.std.specs.Global.{Vec}
 use Rattle.std.specs.BTreeMap.{BTreeMap}
 use Rattle.attr_values.specs.declared.fault.ItemFault.{ItemFault}
-use Rattle.asl_machine.specs.Definition.{Definition}
+use Rattle.asl_tree.specs.Definition.{Definition}
 use Rattle.item_store.specs.Store.{Store, items_of}
 use Rattle.item_store.specs.Table.{Table}
 use Rattle.saved_steps.specs.World.{Setting, World}

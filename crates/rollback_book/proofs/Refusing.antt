@@ -8,7 +8,7 @@ use Rattle.asl_fields.specs.declared.fault.MachineFault.{MachineFault}
 use Rattle.asl_fields.specs.declared.fault.MachineFault.TheVariants.{Missing, UnknownField, Unsupported, BadField, NoTarget, NextAndEnd, StatesAllPlace, TooDeep, Memory as NoMemory}
 use Rattle.asl_frames.specs.Turn.{first_frame}
 use Rattle.asl_frames.specs.declared.frame.Frame.{Frame}
-use Rattle.asl_machine.specs.Definition.{Definition}
+use Rattle.asl_tree.specs.Definition.{Definition}
 use Rattle.asl_machine.specs.Faults.{DefinitionFault}
 use Rattle.asl_machine.specs.Profile.{Defines, DefinesNone}
 use Rattle.branch_tree.specs.FlatMap.{is_parked}

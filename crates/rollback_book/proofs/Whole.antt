@@ -2,8 +2,8 @@
 use Rattle.std.proofs.Common.{Bool, true, false, cond, List, [], sym, subst, Option, Some}
 use Rattle.std.specs.Prelude.{ℕ, IfSome}
 use Rattle.asl_fields.specs.Fields.{is_text}
-use Rattle.asl_machine.specs.Definition.{Definition}
-use Rattle.asl_machine.specs.Levels.{IsWhole}
+use Rattle.asl_tree.specs.Definition.{Definition}
+use Rattle.asl_tree.specs.Levels.{IsWhole}
 use Rattle.step_history.specs.Levels.{HasWholeMachines}
 use Rattle.book_log.specs.Legal.{IsAccepted, IsLegal}
 use Rattle.book_log.specs.Story.{Story, Remainder, after_entry, remainder, setting_of}

@@ -3,7 +3,7 @@ use Rattle.std.specs.Prelude.{◌≡◌, ◌+◌, ◌<◌, ◌^◌, ◌&&◌, �
 use Rattle.std.specs.declared.cmp.Ordering.TheVariants.{Less}
 use Rattle.json_tree.specs.declared.tree.Json.{Json}
 use Rattle.asl_frames.specs.declared.frame.Frame.{Frame}
-use Rattle.asl_machine.specs.Definition.{Definition}
+use Rattle.asl_tree.specs.Definition.{Definition}
 use Rattle.saved_steps.specs.Deeds as deeds
 use Rattle.saved_steps.specs.Held.{frames_of}
 use Rattle.saved_steps.specs.Made.{Suits, CanApply, IsMadeFor, deed_of_next}

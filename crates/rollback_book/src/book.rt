@@ -41,7 +41,7 @@ pub struct Book {
 
 impl Model for Book {
     ghost use Rattle.rollback_book.specs.Book.{Volume, IsTied, volume};
-    ghost use Rattle.asl_machine.specs.TreeCode.{definition_code};
+    ghost use Rattle.asl_tree.specs.TreeCode.{definition_code};
     ghost use Rattle.book_log.specs.contracts.begin.Begin as begin_row;
     ghost use Rattle.book_log.specs.contracts.entry.Entry as entry_row;
     ghost use Rattle.step_history.specs.contracts.history.History as history_row;

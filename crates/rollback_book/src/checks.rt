@@ -4,7 +4,7 @@ ghost use Rattle.serde_json.specs.View.{view};
 ghost use Rattle.asl_machine.specs.Profile.{Defines};
 ghost use Rattle.book_log.specs.Answers.{IsReadRefusal};
 
-use asl_machine::{Machine, MachineFault};
+use asl_machine::{Machine, MachineFault, ReadMachine};
 use book_log::Refusal;
 use serde_json::Value;
 use std::alloc::Global;

@@ -3,8 +3,8 @@ ghost use Rattle.std.specs.Prelude.{◌≡◌, ◌≤◌, ◌⊎◌, [], IfOk, I
 ghost use Rattle.json_tree.specs.Data.{depth};
 ghost use Rattle.json_tree.specs.View.{data_of};
 ghost use Rattle.serde_json.specs.View.{view};
-ghost use Rattle.asl_machine.specs.Definition.{Definition};
-ghost use Rattle.asl_machine.specs.Levels.{IsWhole};
+ghost use Rattle.asl_tree.specs.Definition.{Definition};
+ghost use Rattle.asl_tree.specs.Levels.{IsWhole};
 ghost use Rattle.asl_machine.specs.Profile.{Defines};
 ghost use Rattle.saved_steps.specs.Held.{frames_of, seen};
 ghost use Rattle.saved_steps.specs.Made.{Suits};

@@ -7,8 +7,9 @@ use Rattle.attr_values.specs.declared.key.Key.{Key}
 use Rattle.item_store.specs.Table as table
 use Rattle.item_store.specs.Table.{Table}
 use Rattle.item_store.specs.declared.access.AccessMode.{AccessMode}
-use Rattle.asl_machine.specs.Definition.{Definition}
-use Rattle.asl_forward.specs.Outcomes.{work_of, turn, after_answer}
+use Rattle.asl_tree.specs.Definition.{Definition}
+use Rattle.asl_forward.specs.Outcomes.{turn}
+use Rattle.asl_results.specs.Results.{work_of, after_answer}
 use Rattle.asl_frames.specs.Turn.{Standing}
 use Rattle.asl_frames.specs.declared.frame.Fault.{Fault}
 use Rattle.asl_frames.specs.declared.frame.Frame.{Frame}

@@ -10,7 +10,8 @@ use Rattle.item_store.specs.Table as table
 use Rattle.item_store.specs.Table.{Table, is_same_key}
 use Rattle.item_store.specs.declared.access.AccessMode.{AccessMode}
 use Rattle.item_store.proofs.Slots.{same_key}
-use Rattle.asl_forward.specs.Outcomes.{Work, work_of, turn, after_answer}
+use Rattle.asl_forward.specs.Outcomes.{turn}
+use Rattle.asl_results.specs.Results.{Work, work_of, after_answer}
 use Rattle.asl_frames.specs.Turn.{Standing, standing}
 use Rattle.asl_frames.specs.declared.frame.Frame.{Frame}
 use Rattle.asl_frames.specs.declared.frame.Phase.TheVariants.{Ready}

@@ -11,7 +11,7 @@ use Rattle.item_store.specs.Store.{items_of}
 use Rattle.item_store.specs.Table as table
 use Rattle.item_store.specs.declared.access.AccessMode.{AccessMode}
 use Rattle.item_store.specs.declared.call.Call as calls
-use Rattle.asl_forward.specs.Outcomes.{Work, work_of, after_answer}
+use Rattle.asl_results.specs.Results.{Work, work_of, after_answer}
 use Rattle.asl_frames.specs.Turn.{Standing, standing}
 use Rattle.asl_frames.specs.declared.frame.Frame.{Frame}
 use Rattle.asl_forward.specs.declared.prepared.Outcome.{Outcome}

@@ -12,21 +12,22 @@ use Rattle.item_store.specs.Faults.{validation}
 use Rattle.item_store.specs.declared.call.Call as call
 use Rattle.asl_errors.specs.declared.errors.Catcher.{Catcher}
 use Rattle.asl_errors.specs.declared.errors.ErrorHandling.{ErrorHandling}
-use Rattle.asl_machine.specs.Definition.{Definition}
+use Rattle.asl_tree.specs.Definition.{Definition}
 use Rattle.asl_states.specs.declared.state.Choice.{Choice}
-use Rattle.asl_machine.specs.declared.state.Map.{Map}
+use Rattle.asl_tree.specs.declared.state.Map.{Map}
 use Rattle.asl_states.specs.declared.state.Processing.{Processing}
-use Rattle.asl_machine.specs.declared.state.State.{State}
-use Rattle.asl_machine.specs.declared.state.State.TheVariants as state
+use Rattle.asl_tree.specs.declared.state.State.{State}
+use Rattle.asl_tree.specs.declared.state.State.TheVariants as state
 use Rattle.asl_states.specs.declared.state.Task.{Task}
 use Rattle.asl_states.specs.declared.state.Transition.{Transition}
 use Rattle.asl_states.specs.declared.state.Transition.TheVariants.{Next, End}
-use Rattle.asl_frames.specs.Choosing.{chosen}
+use Rattle.asl_processing.specs.Choosing.{chosen}
 use Rattle.asl_forward.specs.Forks.{with_others, begins, frames_from, parallel_frames, element_frames, element_input, counted_frames, elements, map_frames}
-use Rattle.asl_forward.specs.Handling.{retried, catcher_for}
-use Rattle.asl_forward.specs.Outcomes.{Work, call_fault, on_catch, on_retry, handled, comes_to, after_answer, after_join, after_branch, errors_of, taken_by, asks, task_turn, forks, fork_of, turn_of, turn, action_of}
+use Rattle.asl_results.specs.Handling.{retried, catcher_for}
+use Rattle.asl_forward.specs.Outcomes.{asks, task_turn, forks, fork_of, turn_of, turn, action_of}
+use Rattle.asl_results.specs.Results.{Work, call_fault, on_catch, on_retry, handled, comes_to, after_answer, after_join, after_branch, errors_of, taken_by}
 use Rattle.asl_forward.specs.Planned.{turn_at}
-use Rattle.asl_frames.specs.Processing.{effective, held, passed_on}
+use Rattle.asl_processing.specs.Processing.{effective, held, passed_on}
 use Rattle.asl_frames.specs.Turn.{Standing, standing, go_on, ends, own_fault, goes_where, choice_frame, next_frame}
 use Rattle.asl_frames.specs.declared.frame.Fault.{Fault}
 use Rattle.asl_frames.specs.declared.frame.Frame.{Frame}

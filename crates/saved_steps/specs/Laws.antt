@@ -3,8 +3,8 @@ use Rattle.std.specs.Prelude.{◌≡◌, ℕ, ◌+◌, List, Bool, true, ◌||�
 use Rattle.attr_values.specs.declared.key.Key.{Key}
 use Rattle.json_tree.specs.Data.{Data}
 use Rattle.json_tree.specs.declared.tree.Json.{Json}
-use Rattle.asl_machine.specs.Definition.{Definition}
-use Rattle.asl_forward.specs.Outcomes.{Work, work_of, after_branch, after_join}
+use Rattle.asl_tree.specs.Definition.{Definition}
+use Rattle.asl_results.specs.Results.{Work, work_of, after_branch, after_join}
 use Rattle.asl_frames.specs.Turn.{Standing, first_frame}
 use Rattle.asl_frames.specs.declared.frame.Fault.{Fault}
 use Rattle.asl_frames.specs.declared.frame.Frame.{Frame}

@@ -6,7 +6,7 @@ use Rattle.item_store.specs.Store.{Store, items_of, slot_key}
 use Rattle.item_store.specs.Table.{in_form}
 use Rattle.item_store.specs.declared.slot.SlotNo.{SlotNo}
 use Rattle.asl_frames.specs.declared.frame.Frame.{Frame}
-use Rattle.asl_forward.specs.Outcomes.{work_of}
+use Rattle.asl_results.specs.Results.{work_of}
 use Rattle.asl_frames.specs.Turn.{standing}
 use Rattle.asl_forward.specs.declared.prepared.Outcome.{Outcome}
 use Rattle.asl_forward.specs.declared.prepared.Outcome.TheVariants as outcome

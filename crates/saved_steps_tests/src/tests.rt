@@ -5,7 +5,7 @@ ghost use Rattle.branch_tree.specs.FlatMap.{is_parked};
 ghost use Rattle.saved_steps.specs.Made.{Suits};
 
 use asl_forward::{Fault, Frame, Origin, Phase, first_frame, prepare, standing};
-use asl_machine::{Machine, MachineFault, SharedMachine};
+use asl_machine::{Machine, MachineFault, ReadMachine, SharedMachine};
 use attr_values::{Item, Key, KeyAttribute, KeySchema, KeyType, key_of, read_item, write_item};
 use item_store::ItemStore;
 use json_tree::{Json, Text, read, write_text};

@@ -1,5 +1,5 @@
 // Tells of definitions that they are machines, or why they are refused; and reads one of 41 states.
-use asl_machine::{Machine, MachineFault};
+use asl_machine::{Machine, MachineFault, ReadMachine};
 use serde_json::Value;
 use std::alloc::{AllocError, Global};
 use std::rt::Runtime;

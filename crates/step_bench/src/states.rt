@@ -1,7 +1,7 @@
 // Makes a turn of each state, and the frame that comes of a call, of branches and of an error, and tells what came of it.
 use crate::turns::{Act, Comes, rounds_of};
 use asl_forward::{Frame, first_frame};
-use asl_machine::{Machine, SharedMachine};
+use asl_machine::{Machine, ReadMachine, SharedMachine};
 use json_tree::{Json, Text, read};
 use serde_json::Value;
 use std::alloc::{AllocError, Global};

@@ -1,7 +1,7 @@
 // One turn of a frame, or the frame that comes of a call, of branches or of an error, over and over.
 ghost use Rattle.std.specs.Prelude.{◌≡◌, ◌+◌, ◌^◌, ◌<◌, IsSome, IsTrue};
 ghost use Rattle.std.specs.Bool.{OnTrue};
-ghost use Rattle.asl_forward.specs.Outcomes.{work_at};
+ghost use Rattle.asl_results.specs.Results.{work_at};
 ghost use Rattle.asl_forward.specs.Planned.{asks_table};
 ghost use Rattle.asl_frames.specs.Turn.{standing};
 

@@ -4,7 +4,7 @@ ghost use Rattle.branch_tree.specs.FlatMap.{is_parked};
 ghost use Rattle.saved_steps.specs.Made.{Suits};
 
 use asl_forward::{Frame, Phase, first_frame, prepare, standing};
-use asl_machine::{Machine, SharedMachine};
+use asl_machine::{Machine, ReadMachine, SharedMachine};
 use attr_values::{KeyAttribute, KeySchema, KeyType};
 use item_store::ItemStore;
 use json_tree::{Json, Text};

@@ -10,14 +10,15 @@ use Rattle.item_store.specs.Table as table
 use Rattle.item_store.specs.declared.access.AccessMode.{AccessMode}
 use Rattle.item_store.specs.declared.call.Call as call
 use Rattle.asl_errors.specs.declared.errors.ErrorHandling.{ErrorHandling}
-use Rattle.asl_machine.specs.Definition.{Definition}
-use Rattle.asl_machine.specs.declared.state.Map.{Map}
-use Rattle.asl_machine.specs.declared.state.State.{State}
-use Rattle.asl_machine.specs.declared.state.State.TheVariants as state
+use Rattle.asl_tree.specs.Definition.{Definition}
+use Rattle.asl_tree.specs.declared.state.Map.{Map}
+use Rattle.asl_tree.specs.declared.state.State.{State}
+use Rattle.asl_tree.specs.declared.state.State.TheVariants as state
 use Rattle.asl_states.specs.declared.state.Task.{Task}
 use Rattle.asl_forward.specs.Forks.{branch_frame, with_others, begins, frames_from, parallel_frames, element_frames, element_input, counted_frames, elements, map_frames}
-use Rattle.asl_forward.specs.Outcomes.{Work, work_of, after_join, after_answer, asks, task_turn, forks, fork_of, turn_of, turn, action_of}
-use Rattle.asl_frames.specs.Processing.{effective, held}
+use Rattle.asl_forward.specs.Outcomes.{asks, task_turn, forks, fork_of, turn_of, turn, action_of}
+use Rattle.asl_results.specs.Results.{Work, work_of, after_join, after_answer}
+use Rattle.asl_processing.specs.Processing.{effective, held}
 use Rattle.asl_frames.specs.Turn.{Standing, first_frame}
 use Rattle.asl_frames.specs.declared.frame.Fault.{Fault}
 use Rattle.asl_frames.specs.declared.frame.Frame.{Frame}

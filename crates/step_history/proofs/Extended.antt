@@ -2,7 +2,7 @@
 use Rattle.std.proofs.Common.{◌≡◌, ℕ, List, [], ◌∷◌, ◌++◌, refl, ap, ap₂, sym, subst, ◌∙◌, Option, None, Some}
 use Rattle.std.specs.Prelude.{option_map, option_and_then, is_some, if◌then◌else◌}
 use Rattle.attr_values.specs.declared.key.KeySchema.{KeySchema}
-use Rattle.asl_machine.specs.Definition.{Definition}
+use Rattle.asl_tree.specs.Definition.{Definition}
 use Rattle.asl_frames.specs.Turn.{Standing, standing, first_frame}
 use Rattle.asl_frames.specs.declared.frame.Frame.{Frame}
 use Rattle.step_names.specs.Thread.{execution}

@@ -5,7 +5,8 @@ use Rattle.std.specs.List.{list_any, list_all, range_with_len}
 use Rattle.std.proofs.lemmas.List.{append-nil}
 use Rattle.json_tree.specs.Data.{Data}
 use Rattle.item_store.specs.Table as table
-use Rattle.asl_forward.specs.Outcomes.{Work, work_of, turn, after_join}
+use Rattle.asl_forward.specs.Outcomes.{turn}
+use Rattle.asl_results.specs.Results.{Work, work_of, after_join}
 use Rattle.asl_frames.specs.Turn.{Standing}
 use Rattle.asl_frames.specs.declared.frame.Fault.{Fault}
 use Rattle.asl_frames.specs.declared.frame.Frame.{Frame}

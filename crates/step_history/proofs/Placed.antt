@@ -12,18 +12,19 @@ use Rattle.item_store.specs.Table as table
 use Rattle.item_store.specs.declared.access.AccessMode.{AccessMode}
 use Rattle.item_store.specs.declared.call.Call as call
 use Rattle.asl_errors.specs.declared.errors.ErrorHandling.{ErrorHandling}
-use Rattle.asl_machine.specs.Complete.{state_of, IsState, StaysInside, IsComplete}
-use Rattle.asl_machine.specs.Definition.{Definition}
-use Rattle.asl_machine.specs.Find.{branch_of, machine_at}
-use Rattle.asl_machine.specs.Levels.{IsWhole}
-use Rattle.asl_machine.specs.declared.level.Level.{Level}
-use Rattle.asl_machine.specs.declared.level.LevelStep.{LevelStep}
-use Rattle.asl_machine.specs.declared.state.State.{State}
-use Rattle.asl_machine.specs.declared.state.State.TheVariants as state
+use Rattle.asl_tree.specs.Complete.{state_of, IsState, StaysInside, IsComplete}
+use Rattle.asl_tree.specs.Definition.{Definition}
+use Rattle.asl_tree.specs.Find.{branch_of, machine_at}
+use Rattle.asl_tree.specs.Levels.{IsWhole}
+use Rattle.asl_tree.specs.declared.level.Level.{Level}
+use Rattle.asl_tree.specs.declared.level.LevelStep.{LevelStep}
+use Rattle.asl_tree.specs.declared.state.State.{State}
+use Rattle.asl_tree.specs.declared.state.State.TheVariants as state
 use Rattle.asl_states.specs.declared.state.Task.{Task}
 use Rattle.asl_forward.specs.Forks.{branch_frame, parallel_frames, map_frames}
-use Rattle.asl_forward.specs.Outcomes.{Work, work_of, after_join, after_answer, after_branch, asks, task_turn, parks, forks, fork_of, turn_of, turn, action_of}
-use Rattle.asl_frames.specs.Processing.{effective}
+use Rattle.asl_forward.specs.Outcomes.{asks, task_turn, parks, forks, fork_of, turn_of, turn, action_of}
+use Rattle.asl_results.specs.Results.{Work, work_of, after_join, after_answer, after_branch}
+use Rattle.asl_processing.specs.Processing.{effective}
 use Rattle.asl_frames.specs.Turn.{Standing, standing, first_frame}
 use Rattle.asl_frames.specs.declared.frame.Fault.{Fault}
 use Rattle.asl_frames.specs.declared.frame.Frame.{Frame}
@@ -32,7 +33,8 @@ use Rattle.asl_frames.specs.declared.frame.Phase.TheVariants.{Ready, Parked, Don
 use Rattle.asl_forward.specs.declared.prepared.Outcome.{Outcome}
 use Rattle.asl_forward.specs.declared.prepared.Outcome.TheVariants as outcome
 use Rattle.asl_forward.proofs.Firsts.{standing_parts, one_step_further, first_of, branches_all, OnBranches}
-use Rattle.asl_forward.proofs.NextFrames.{WorkStays, work_stays, OnFrame, after_answer-level, after_answer-state, after_join-level, after_join-state, after_branch-level, after_branch-state, turn-level, turn-state}
+use Rattle.asl_forward.proofs.NextFrames.{OnFrame, turn-level, turn-state}
+use Rattle.asl_results.proofs.NextFrames.{WorkStays, work_stays, after_answer-level, after_answer-state, after_join-level, after_join-state, after_branch-level, after_branch-state}
 use Rattle.branch_tree.specs.FlatMap.{is_parked}
 use Rattle.branch_tree.specs.Paths.{Path, rest_after}
 use Rattle.saved_steps.proofs.Under.{whole_is}

@@ -3,8 +3,8 @@ use Rattle.std.proofs.Common.{◌≡◌, ℕ, ◌<◌, List, [], ◌∷◌, leng
 use Rattle.std.specs.Prelude.{IfSome, slice_get, map}
 use Rattle.std.proofs.lemmas.Option.{same_Some}
 use Rattle.json_tree.specs.declared.tree.Json.{Json}
-use Rattle.asl_machine.specs.Definition.{Definition}
-use Rattle.asl_machine.specs.Levels.{IsWhole}
+use Rattle.asl_tree.specs.Definition.{Definition}
+use Rattle.asl_tree.specs.Levels.{IsWhole}
 use Rattle.asl_frames.specs.Turn.{first_frame}
 use Rattle.asl_frames.specs.declared.frame.Frame.{Frame}
 use Rattle.depends.specs.Instance.{steps}

@@ -2,8 +2,8 @@
 use Rattle.std.proofs.Common.{◌≡◌, ◌+◌, ◌-◌, arith, ℕ, true, List, refl, ap, sym, subst, ◌∙◌, Option, None, Some, Result, Ok, Err, IfOk}
 use Rattle.std.specs.Prelude.{IfSome, IsSomeAnd, option_map, option_and_then}
 use Rattle.json_tree.specs.Data.{Data}
-use Rattle.asl_machine.specs.Definition.{Definition}
-use Rattle.asl_forward.specs.Outcomes.{Work, work_of, after_join}
+use Rattle.asl_tree.specs.Definition.{Definition}
+use Rattle.asl_results.specs.Results.{Work, work_of, after_join}
 use Rattle.asl_frames.specs.Turn.{Standing, standing}
 use Rattle.asl_frames.specs.declared.frame.Fault.{Fault}
 use Rattle.asl_frames.specs.declared.frame.Frame.{Frame}

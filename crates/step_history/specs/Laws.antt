@@ -1,6 +1,6 @@
 -- What is true of histories.
 use Rattle.std.specs.Prelude.{◌≡◌, ◌≤◌, ℕ, true, List, [], ◌∷◌, ◌++◌, length, Some}
-use Rattle.asl_machine.specs.Definition.{Definition}
+use Rattle.asl_tree.specs.Definition.{Definition}
 use Rattle.asl_frames.specs.declared.frame.Frame.{Frame}
 use Rattle.branch_tree.specs.FlatMap.{is_parked}
 use Rattle.step_names.specs.Thread.{Thread}

@@ -1,6 +1,6 @@
 -- Where the frames of histories stand, and which threads can move, in settings whose machines are whole.
 use Rattle.std.specs.Prelude.{◌≡◌, ◌≤◌, ◌<◌, ℕ, List, length, Some, IsSome, IfSome, is_some}
-use Rattle.asl_machine.specs.Levels.{IsWhole}
+use Rattle.asl_tree.specs.Levels.{IsWhole}
 use Rattle.asl_frames.specs.declared.frame.Frame.{Frame}
 use Rattle.asl_frames.specs.declared.frame.Phase.TheVariants.{Parked}
 use Rattle.branch_tree.specs.First.{has_move}

@@ -2,7 +2,7 @@
 use Rattle.std.specs.Prelude.{◌≡◌, ℕ, List, map, Option, Some, None, IfSome, option_and_then}
 use Rattle.std.specs.List.{range_with_len}
 use Rattle.json_tree.specs.Data.{Data}
-use Rattle.asl_machine.specs.Definition.{Definition}
+use Rattle.asl_tree.specs.Definition.{Definition}
 use Rattle.asl_frames.specs.declared.frame.Fault.{Fault}
 use Rattle.asl_frames.specs.declared.frame.Frame.{Frame}
 use Rattle.step_names.specs.Thread.{Thread, child_of}
@@ -13,7 +13,7 @@ use Rattle.saved_steps.specs.Steps.{moved}
 use Rattle.saved_steps.specs.World.{Setting}
 use Rattle.saved_steps.specs.declared.next.Next.{Next}
 use Rattle.saved_steps.specs.declared.next.Next.TheVariants.{Begin, Work as WorkOn, Join, Terminate}
-use Rattle.asl_forward.specs.Outcomes.{Work, work_of, work_at, after_join, after_branch}
+use Rattle.asl_results.specs.Results.{Work, work_of, work_at, after_join, after_branch}
 use Rattle.asl_frames.specs.Turn.{Standing, standing}
 use Rattle.saved_steps.specs.declared.world.World.{World}
 

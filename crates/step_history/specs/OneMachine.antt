@@ -1,6 +1,6 @@
 -- Histories where each name is one machine's: those that the tests make.
 use Rattle.std.specs.Prelude.{◌≡◌, ℕ, List, Some}
-use Rattle.asl_machine.specs.Definition.{Definition}
+use Rattle.asl_tree.specs.Definition.{Definition}
 use Rattle.attr_values.specs.declared.key.KeySchema.{KeySchema}
 use Rattle.step_names.specs.declared.step.StepName.{StepName}
 use Rattle.saved_steps.specs.Deeds.{deed}

@@ -1,7 +1,7 @@
 // What a thread's move is to do.
 ghost use Rattle.std.specs.Prelude.{◌≡◌, ◌<◌, ◌≤◌, ◌+◌, ◌^◌, List, length, IfOk, IfSome, IsSome, Some, None, is_some, option_copied, option_map};
 ghost use Rattle.json_tree.specs.View.{data_of};
-ghost use Rattle.asl_forward.specs.Outcomes.{work_of, work_at};
+ghost use Rattle.asl_results.specs.Results.{work_of, work_at};
 ghost use Rattle.asl_frames.specs.Turn.{standing};
 ghost use Rattle.step_names.specs.Thread.{child_of};
 ghost use Rattle.saved_steps.specs.Deeds.{first_fault, outputs};
@@ -13,7 +13,7 @@ ghost use Rattle.step_history.specs.Moves.{IsMachineOf, IsMoveOf, IsCloseOf, bra
 
 use crate::history::History;
 use asl_forward::{Fault, Frame, Phase, after_branch, joined, prepare, standing};
-use asl_machine::{Machine, SharedMachine, State};
+use asl_tree::{Machine, SharedMachine, State};
 use json_tree::{Json, JsonList};
 use saved_steps::{Next, nexts_are_moves};
 use std::alloc::{AllocError, Global};

@@ -1,13 +1,13 @@
 //! What no clause says: that calls succeed, and what a history shows whose steps were worked out by hand from the machines'
 //! definitions.
 ghost use Rattle.std.specs.Prelude.{IfOk};
-ghost use Rattle.asl_machine.specs.Definition.{Definition};
-ghost use Rattle.asl_machine.specs.Levels.{IsWhole};
+ghost use Rattle.asl_tree.specs.Definition.{Definition};
+ghost use Rattle.asl_tree.specs.Levels.{IsWhole};
 ghost use Rattle.saved_steps.specs.Made.{Suits};
 ghost use Rattle.step_history.specs.OneMachine.{GoesOn, IsOfMachine};
 
 use asl_forward::first_frame;
-use asl_machine::{Machine, MachineFault, SharedMachine, levels_are_whole};
+use asl_machine::{Machine, MachineFault, ReadMachine, SharedMachine, levels_are_whole};
 use attr_values::{Item, Key, KeyAttribute, KeySchema, KeyType, key_of, read_item, write_item};
 use branch_tree::Readiness;
 use item_store::ItemStore;

@@ -1,4 +1,4 @@
-use Rattle.asl_machine.proofs.Inside.{machine_whole}
+use Rattle.asl_machine.proofs.Whole.{machine_whole}
 use Rattle.asl_machine.proofs.laws.machines_are_whole.Goals as goal
 
 pub returns : goal.returns

@@ -1,7 +1,7 @@
 use Rattle.std.proofs.Common.{ℕ, ◌+◌, ◌*◌, List, [], drop}
 use Rattle.serde_json.specs.View.{items_view, members_view}
 use Rattle.asl_fields.specs.declared.fault.MachineFault.{MachineFault}
-use Rattle.asl_machine.specs.Definition.{StateTree, Definition}
+use Rattle.asl_tree.specs.Definition.{StateTree, Definition}
 use Rattle.asl_machine.specs.Faults.{LevelFault, StatesFault, BranchesFault}
 use Rattle.asl_machine.specs.Profile.{IsMachine, StatesAre, BranchesAre}
 use Rattle.asl_machine.proofs.read.+read.Given as goal

@@ -1,6 +1,6 @@
 use Rattle.std.proofs.Common.{ℕ, ◌+◌, List, refl, ap₂, sym, subst, ◌∙◌}
 use Rattle.std.proofs.lemmas.Bool.{eqb-true}
-use Rattle.asl_machine.specs.Definition.{Definition}
+use Rattle.asl_tree.specs.Definition.{Definition}
 use Rattle.plain_replay.specs.Deeds.{IsCloseOf, branches_of}
 use Rattle.plain_replay.specs.Worlds.{rows_of, frame_in, setting_of, world_of}
 use Rattle.plain_replay.proofs.Moves.{ok_map, other_step, ready, parked}

@@ -1,5 +1,0 @@
-use Rattle.asl_machine.specs.Same.{definition_exact}
-use Rattle.asl_machine.proofs.laws.equality_is_of_machines.Goals as goal
-
-pub returns : goal.returns
-returns c = definition_exact

@@ -1,0 +1,47 @@
+// Errors that states meet by themselves.
+ghost use Rattle.std.specs.Prelude.{◌≡◌};
+ghost use Rattle.asl_processing.specs.Errors.{error_name};
+
+use std::alloc::AllocError;
+
+/// An error of a state itself ("Errors").
+#[derive(Clone, Copy, Debug, PartialEq, Eq)]
+pub enum StateError {
+    Runtime,
+    ParameterPathFailure,
+    ResultPathMatchFailure,
+    NoChoiceMatched,
+}
+
+impl StateError {
+    /// The error's name.
+    pub fn name(self) -> &'static str
+        ensures { result.now ≡ error_name self }
+    {
+        match self {
+            StateError::Runtime => "States.Runtime",
+            StateError::ParameterPathFailure => "States.ParameterPathFailure",
+            StateError::ResultPathMatchFailure => "States.ResultPathMatchFailure",
+            StateError::NoChoiceMatched => "States.NoChoiceMatched",
+        }
+    }
+}
+
+/// Why a value was not made.
+#[derive(Clone, Copy, Debug, PartialEq, Eq)]
+pub enum TurnFault {
+    Error(StateError),
+    /// An allocation was refused.
+    Memory,
+}
+
+impl From<AllocError> for TurnFault {
+    ghost use Rattle.std.specs.Prelude.{◌≡◌};
+    ghost use Rattle.asl_processing.specs.declared.error.TurnFault.TheVariants.{Memory};
+
+    ghost from_gives = { λ _ e. e ≡ Memory };
+
+    fn from(_refused: AllocError) -> TurnFault {
+        TurnFault::Memory
+    }
+}

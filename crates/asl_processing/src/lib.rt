@@ -1,0 +1,10 @@
+#![tactic(auto)]
+
+//! What a state makes of its input and its result, where a Choice state goes, and the errors that states meet by themselves.
+mod choosing;
+mod error;
+mod processing;
+
+pub use choosing::choose;
+pub use error::{StateError, TurnFault};
+pub use processing::{LEVELS, effective_input, held, output_of, place_held};

@@ -1,0 +1,8 @@
+#![tactic(auto)]
+
+//! What a state makes of an error, its own or a branch's, and of the result of its work.
+mod handling;
+mod work;
+
+pub use handling::{after_branch, after_error, handle};
+pub use work::{after_answer, call_fault, joined, work_of};

@@ -1,0 +1,10 @@
+pub mod Definition
+pub mod TreeCode
+pub mod TreeView
+pub mod TreeFalls
+pub mod Complete
+pub mod Targets
+pub mod Find
+pub mod Levels
+pub mod Same
+pub mod Laws
