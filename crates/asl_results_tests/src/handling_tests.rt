@@ -264,7 +264,7 @@ const BRANCHES: &[Row] = &[
     },
     Row {
         kind: MAP,
-        fields: r#""ResultPath":"$.out","OutputPath":"$.out","End":true"#,
+        fields: r#""ItemsPath":"$.xs","ItemSelector":{"i.$":"$$.Map.Item.Index","x.$":"$$.Map.Item.Value","k.$":"$.k"},"ResultPath":"$.out","OutputPath":"$.out","End":true"#,
         input: r#"{"k":9,"xs":[4,5]}"#,
         events: &[Event::Joined(r#"[{"i":0,"k":9,"x":4},{"i":1,"k":9,"x":5}]"#)],
         moves: 2,

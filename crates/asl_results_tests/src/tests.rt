@@ -1,5 +1,5 @@
 use asl_frames::{Frame, Phase, first_frame};
-use asl_machine::Machine;
+use asl_machine::{Machine, ReadMachine};
 use json_tree::{Json, Text, read, write_text};
 use serde_json::Value;
 use std::alloc::{AllocError, Global};
