@@ -4,7 +4,7 @@ use crate::tests::{
 };
 use asl_forward::{Frame, Frames, Outcome, Phase, Prepared};
 use asl_machine::SharedMachine;
-use json_tree::Json;
+use json_tree::{Json, write_text};
 use std::alloc::{AllocError, Global};
 use std::test::Fail;
 
@@ -46,10 +46,26 @@ fn are_branches(alloc: Global, frames: &Frames, wants: &[(u32, &str, &str)]) -> 
     frames.as_slice().len() == wants.len()
 }
 
-/// Whether a frame is parked over so many branches, after its first move.
-fn is_parked(parked: &Frame, count: usize) -> bool {
+/// Whether two values are written alike.
+fn are_alike(alloc: Global, one: &Json, other: &Json) -> bool {
+    match write_text(alloc, one) {
+        Ok(text) => is_written(alloc, other, text.as_str()),
+        Err(_refused) => false,
+    }
+}
+
+/// Whether a frame stands as this one does, with the counter of its state's first retrier.
+fn stands_so(alloc: Global, parked: &Frame, frame: &Frame) -> bool {
+    parked.state.as_str() == frame.state.as_str()
+        && parked.retries.get(0) == frame.retries.get(0)
+        && are_alike(alloc, &parked.raw, &frame.raw)
+}
+
+/// Whether a frame is this one, parked over so many branches by its first move.
+fn is_parked(alloc: Global, parked: &Frame, frame: &Frame, count: usize) -> bool {
+    let is_so = stands_so(alloc, parked, frame);
     match &parked.phase {
-        Phase::Parked(branches) => *branches as usize == count && parked.count == 1,
+        Phase::Parked(branches) => is_so && *branches as usize == count && parked.count == 1,
         _ => false,
     }
 }
@@ -62,10 +78,11 @@ fn is_kept(alloc: Global, turn: &Prepared, raw: &str) -> bool {
 fn is_first(alloc: Global, turn: &Prepared, want: First) -> bool {
     match (turn.outcome(), want) {
         (Outcome::Fork(parked, frames), First::Forks(wants)) => {
-            is_parked(parked, wants.len()) && are_branches(alloc, frames, wants)
+            is_parked(alloc, parked, turn.frame(), wants.len())
+                && are_branches(alloc, frames, wants)
         }
         (Outcome::Fork(parked, frames), First::Branches(count)) => {
-            is_parked(parked, count) && frames.as_slice().len() == count
+            is_parked(alloc, parked, turn.frame(), count) && frames.as_slice().len() == count
         }
         (Outcome::Call(call), First::Asks(table)) => call.table.as_str() == table,
         (Outcome::Next(next), First::Moves(raw, want)) => {
