@@ -3,28 +3,21 @@ use asl_machine::{Machine, ReadMachine, SharedMachine};
 use json_tree::{Json, Text, read, write_text};
 use serde_json::Value;
 use std::alloc::{AllocError, Global};
-use std::test::Fail;
 
-fn read_machine(alloc: Global, text: &str) -> Result<Machine, Fail> {
-    let definition = Value::from_str(alloc, text)?;
-    let machine = Machine::read(alloc, &definition);
-    drop(definition);
-    match machine {
-        Ok(machine) => Ok(machine),
-        Err(_fault) => Err("the definition is refused".into()),
+fn machine_in(alloc: Global, definition: &Value) -> Option<SharedMachine> {
+    let machine = Machine::read(alloc, definition).ok()?;
+    SharedMachine::new(alloc, machine).ok()
+}
+
+pub(crate) fn machine_of(alloc: Global, text: &str) -> Option<SharedMachine> {
+    match Value::from_str(alloc, text) {
+        Ok(definition) => machine_in(alloc, &definition),
+        Err(_) => None,
     }
 }
 
-pub(crate) fn machine_of(alloc: Global, text: &str) -> Result<SharedMachine, Fail> {
-    let machine = read_machine(alloc, text)?;
-    Ok(SharedMachine::new(alloc, machine)?)
-}
-
-pub(crate) fn json_of(alloc: Global, text: &str) -> Result<Json, Fail> {
-    match read(alloc, text.as_bytes()) {
-        Ok(json) => Ok(json),
-        Err(_fault) => Err("the input is refused".into()),
-    }
+pub(crate) fn json_of(alloc: Global, text: &str) -> Option<Json> {
+    read(alloc, text.as_bytes()).ok()
 }
 
 /// The first frame of an execution of this machine.
@@ -39,22 +32,15 @@ pub(crate) fn start(
     first
 }
 
-/// The turn of a frame that stands and is ready.
-pub(crate) fn prepared(
-    alloc: Global,
-    machine: &SharedMachine,
-    frame: &Frame,
-) -> Result<Prepared, Fail> {
-    if frame.count > 9 {
-        return Err("more moves than a test makes".into());
-    }
-    if standing(machine.machine(), frame).is_none() {
-        return Err("a frame stands before no state".into());
-    }
+/// The turn of a frame that stands and is ready, and has made few moves.
+pub(crate) fn prepared(alloc: Global, machine: &SharedMachine, frame: &Frame) -> Option<Prepared> {
     let Phase::Ready = &frame.phase else {
-        return Err("a frame is not ready".into());
+        return None;
     };
-    Ok(prepare(alloc, machine, frame)?)
+    if frame.count > 9 || standing(machine.machine(), frame).is_none() {
+        return None;
+    }
+    prepare(alloc, machine, frame).ok()
 }
 
 pub(crate) fn is_written(alloc: Global, json: &Json, want: &str) -> bool {

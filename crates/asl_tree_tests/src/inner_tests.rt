@@ -1,5 +1,5 @@
 use crate::tests::machine_of;
-use asl_machine::{LevelPath, Machine, State};
+use asl_machine::{Branches, LevelPath, Machine, State};
 use json_tree::Text;
 use std::alloc::{AllocError, Global};
 use std::test::Fail;
@@ -35,6 +35,21 @@ const INNER: &[(&str, u32, &str, char)] = &[
     ("Q", 0, "A", '-'),
 ];
 
+/// The way into a branch of a state that is outermost.
+fn inward(alloc: Global, state: &str, branch: u32) -> Result<LevelPath, AllocError> {
+    let state = Text::new(alloc, state)?;
+    let path = LevelPath::outermost(alloc).inward(&state, branch);
+    drop(state);
+    path
+}
+
+fn has_kind(alloc: Global, machine: &Machine, path: &LevelPath, name: &str, want: char) -> bool {
+    match Text::new(alloc, name) {
+        Ok(name) => kind_at(machine, path, &name) == want && !path.is_outermost(),
+        Err(AllocError) => false,
+    }
+}
+
 fn is_inner(
     alloc: Global,
     machine: &Machine,
@@ -42,41 +57,63 @@ fn is_inner(
     branch: u32,
     name: &str,
     want: char,
-) -> Result<bool, AllocError> {
-    let name = Text::new(alloc, name)?;
-    let state = Text::new(alloc, state)?;
-    let path = LevelPath::outermost(alloc).inward(&state, branch)?;
-    Ok(kind_at(machine, &path, &name) == want && !path.is_outermost())
+) -> bool {
+    match inward(alloc, state, branch) {
+        Ok(path) => has_kind(alloc, machine, &path, name, want),
+        Err(AllocError) => false,
+    }
 }
 
-fn has_branches(machine: &Machine, path: &LevelPath, name: &Text) -> bool {
-    let Some(State::Parallel(parallel)) = machine.state_at(path, name) else {
-        return false;
-    };
-    let starts = match parallel.branches.as_slice() {
-        [first, second] => first.start().as_str() == "A" && second.start().as_str() == "B",
-        _ => false,
-    };
-    let second = match parallel.branches.get(1) {
-        Some(branch) => branch.start().as_str() == "B",
+fn is_found(alloc: Global, state: &str, branch: u32, name: &str, want: char) -> bool {
+    match machine_of(alloc, NESTED) {
+        Some(machine) => is_inner(alloc, &machine, state, branch, name, want),
         None => false,
-    };
-    starts && second && parallel.branches.len() == 2 && parallel.branches.get(2).is_none()
+    }
 }
 
 #[test]
 fn finds_inner_states(rt: HostRuntime) -> Result<(), Fail> {
-    let alloc = rt.alloc();
-    let Some(machine) = machine_of(alloc, NESTED) else {
-        return Err("a machine is refused".into());
-    };
-    let outermost = LevelPath::outermost(alloc);
-    assert!(rt; has_branches(&machine, &outermost, machine.start()));
     for &(state, branch, name, want) in INNER {
         assert!(rt;
-            is_inner(alloc, &machine, state, branch, name, want)?,
+            is_found(rt.alloc(), state, branch, name, want),
             "at {state} {branch} {name}"
         );
     }
+    Ok(())
+}
+
+fn starts_at(branch: Option<&Machine>, start: &str) -> bool {
+    match branch {
+        Some(machine) => machine.start().as_str() == start,
+        None => false,
+    }
+}
+
+fn are_branches(branches: &Branches) -> bool {
+    let listed = branches.as_slice();
+    listed.len() == 2
+        && branches.len() == 2
+        && starts_at(listed.get(0), "A")
+        && starts_at(listed.get(1), "B")
+        && starts_at(branches.get(0), "A")
+        && starts_at(branches.get(1), "B")
+        && branches.get(2).is_none()
+}
+
+fn has_branches(alloc: Global, machine: &Machine) -> bool {
+    match machine.state_at(&LevelPath::outermost(alloc), machine.start()) {
+        Some(State::Parallel(parallel)) => are_branches(&parallel.branches),
+        _ => false,
+    }
+}
+
+#[test]
+fn lends_branches(rt: HostRuntime) -> Result<(), Fail> {
+    let alloc = rt.alloc();
+    let lent = match machine_of(alloc, NESTED) {
+        Some(machine) => has_branches(alloc, &machine),
+        None => false,
+    };
+    assert!(rt; lent);
     Ok(())
 }

@@ -8,10 +8,7 @@ use std::alloc::{AllocError, Global};
 use std::test::Fail;
 
 fn machine_in(alloc: Global, definition: &Value) -> Option<Machine> {
-    match Machine::read(alloc, definition) {
-        Ok(machine) => Some(machine),
-        Err(_fault) => None,
-    }
+    Machine::read(alloc, definition).ok()
 }
 
 /// The machine that a text defines.
@@ -39,45 +36,87 @@ fn is_whole(given: &Option<Json>, want: Option<i64>) -> bool {
     }
 }
 
-/// Whether the state of this name is a Pass that goes to the state `next`, with this whole number as its result.
-fn passes_to(
-    machine: &Machine,
-    path: &LevelPath,
-    name: &Text,
-    next: &str,
-    want: Option<i64>,
-) -> bool {
-    match machine.state_at(path, name) {
+/// Whether a state is a Pass that goes to the state `next`, with this whole number as its result.
+fn passes_to(state: Option<&State>, next: &str, want: Option<i64>) -> bool {
+    match state {
         Some(State::Pass(pass)) => goes_to(&pass.transition, next) && is_whole(&pass.result, want),
         _ => false,
     }
 }
 
-fn is_machine_of_two(alloc: Global, machine: &Machine) -> Result<bool, AllocError> {
+/// Whether the state of this name is such a Pass, or isn't there, found both ways.
+fn finds(alloc: Global, machine: &Machine, name: &Text, want: Option<(&str, Option<i64>)>) -> bool {
     let outermost = LevelPath::outermost(alloc);
-    let first = Text::new(alloc, "A")?;
-    let second = Text::new(alloc, "B")?;
-    let absent = Text::new(alloc, "C")?;
-    Ok(
-        machine.start().as_str() == "A"
-            && passes_to(machine, &outermost, &first, "B", Some(-7))
-            && passes_to(machine, &outermost, &second, "", None)
-            && machine.state_at(&outermost, &absent).is_none(),
-    )
+    let (own, there) = (machine.state(name), machine.state_at(&outermost, name));
+    match want {
+        Some((next, result)) => passes_to(own, next, result) && passes_to(there, next, result),
+        None => own.is_none() && there.is_none(),
+    }
+}
+
+const TWO: &str =
+    r#"{"StartAt":"A","States":{"B":{"Type":"Pass","End":true},"A":{"Type":"Pass","Result":-7,"Next":"B"}}}"#;
+
+/// Names, and the states that they are of that machine: where each goes, and its result.
+const STATES: &[(&str, Option<(&str, Option<i64>)>)] = &[
+    ("A", Some(("B", Some(-7)))),
+    ("B", Some(("", None))),
+    ("C", None),
+];
+
+fn finds_named(
+    alloc: Global,
+    machine: &Machine,
+    name: &str,
+    want: Option<(&str, Option<i64>)>,
+) -> bool {
+    match Text::new(alloc, name) {
+        Ok(name) => finds(alloc, machine, &name, want),
+        Err(AllocError) => false,
+    }
+}
+
+fn is_found(alloc: Global, name: &str, want: Option<(&str, Option<i64>)>) -> bool {
+    match machine_of(alloc, TWO) {
+        Some(machine) => {
+            finds_named(alloc, &machine, name, want) && machine.start().as_str() == "A"
+        }
+        None => false,
+    }
 }
 
 #[test]
 fn finds_states(rt: HostRuntime) -> Result<(), Fail> {
+    for &(name, want) in STATES {
+        assert!(rt; is_found(rt.alloc(), name, want), "at {name}");
+    }
+    Ok(())
+}
+
+fn is_shared(shared: &SharedMachine) -> bool {
+    match shared.share() {
+        Ok(again) => {
+            shared.machine().start().as_str() == "A" && *again.machine() == *shared.machine()
+        }
+        Err(AllocError) => false,
+    }
+}
+
+fn is_kept(alloc: Global, machine: Machine) -> bool {
+    match SharedMachine::new(alloc, machine) {
+        Ok(shared) => is_shared(&shared),
+        Err(AllocError) => false,
+    }
+}
+
+#[test]
+fn shares_machines(rt: HostRuntime) -> Result<(), Fail> {
     let alloc = rt.alloc();
-    let text =
-        r#"{"StartAt":"A","States":{"B":{"Type":"Pass","End":true},"A":{"Type":"Pass","Result":-7,"Next":"B"}}}"#;
-    let Some(machine) = machine_of(alloc, text) else {
-        return Err("a machine is refused".into());
+    let shared = match machine_of(alloc, TWO) {
+        Some(machine) => is_kept(alloc, machine),
+        None => false,
     };
-    let shared = SharedMachine::new(alloc, machine)?;
-    let again = shared.share()?;
-    assert!(rt; is_machine_of_two(alloc, shared.machine())?);
-    assert!(rt; is_machine_of_two(alloc, again.machine())?);
+    assert!(rt; shared);
     Ok(())
 }
 
@@ -111,17 +150,21 @@ fn are_one(alloc: Global, text: &str, other: &str) -> bool {
     }
 }
 
+/// Whether a text of those defines a machine that is its own, and none of the others'.
+fn is_unlike_others(alloc: Global, text: &str) -> bool {
+    for &other in UNLIKE {
+        if are_one(alloc, text, other) != (text == other) {
+            return false;
+        }
+    }
+    true
+}
+
 #[test]
 fn compares_machines(rt: HostRuntime) -> Result<(), Fail> {
     let alloc = rt.alloc();
     for &text in UNLIKE {
-        for &other in UNLIKE {
-            assert_eq!(rt;
-                are_one(alloc, text, other),
-                text == other,
-                "{text} {other}"
-            );
-        }
+        assert!(rt; is_unlike_others(alloc, text), "{text}");
     }
     let spelled =
         r#" {"States":{"A":{"End":false,"Next":"A","Comment":1,"Type":"Pass"}},"StartAt":"A"}"#;
@@ -130,29 +173,40 @@ fn compares_machines(rt: HostRuntime) -> Result<(), Fail> {
     Ok(())
 }
 
-/// The states of a machine whose one state, of this name, fails.
-fn failing(alloc: Global, name: &str) -> Result<States, AllocError> {
+fn failing_state(alloc: Global) -> Result<State, AllocError> {
     let error = Text::new(alloc, "X")?;
     let cause = Text::new(alloc, "")?;
-    let name = Text::new(alloc, name)?;
+    Ok(State::Fail(FailState { error, cause }))
+}
+
+/// The states of a machine that only fails, in the state F.
+fn failing(alloc: Global) -> Result<States, AllocError> {
+    let state = failing_state(alloc)?;
+    let name = Text::new(alloc, "F")?;
     let mut states = States::new(alloc);
-    states.insert(name, State::Fail(FailState { error, cause }))?;
+    states.insert(name, state)?;
     Ok(states)
 }
 
-/// Where a machine of that one state starts, and `?` before the name that no state has.
-fn started(alloc: Global, start: &str) -> Result<String, AllocError> {
-    match Machine::new(Text::new(alloc, start)?, failing(alloc, "F")?) {
-        Ok(machine) => String::from_str(alloc, machine.start().as_str()),
-        Err(MachineFault::NoTarget(name)) => format!(in alloc; "?{}", name.as_str()),
-        Err(_fault) => String::from_str(alloc, "!"),
+/// Whether a machine starts there, or that name is no state's.
+fn is_started(made: Result<Machine, MachineFault>, want: Result<&str, &str>) -> bool {
+    match (made, want) {
+        (Ok(machine), Ok(start)) => machine.start().as_str() == start,
+        (Err(MachineFault::NoTarget(missing)), Err(name)) => missing.as_str() == name,
+        _ => false,
     }
+}
+
+fn starts(alloc: Global, start: &str, want: Result<&str, &str>) -> Result<bool, AllocError> {
+    let start = Text::new(alloc, start)?;
+    let states = failing(alloc)?;
+    Ok(is_started(Machine::new(start, states), want))
 }
 
 #[test]
 fn starts_at_a_state(rt: HostRuntime) -> Result<(), Fail> {
     let alloc = rt.alloc();
-    assert_eq!(rt; started(alloc, "F")?.as_str(), "F");
-    assert_eq!(rt; started(alloc, "G")?.as_str(), "?G");
+    assert!(rt; starts(alloc, "F", Ok("F"))?);
+    assert!(rt; starts(alloc, "G", Err("G"))?);
     Ok(())
 }
