@@ -95,14 +95,22 @@ fn is_first(alloc: Global, turn: &Prepared, want: First) -> bool {
 
 fn first_is(alloc: Global, machine: &SharedMachine, first: &Frame, want: First) -> bool {
     match prepared(alloc, machine, first) {
-        Some(turn) => is_first(alloc, &turn, want),
+        Some(turn) => {
+            let is_met = is_first(alloc, &turn, want);
+            drop(turn);
+            is_met
+        }
         None => false,
     }
 }
 
 fn turns(alloc: Global, machine: &SharedMachine, input: &Json, want: First) -> bool {
     match start(alloc, machine, input) {
-        Ok(first) => first_is(alloc, machine, &first, want),
+        Ok(first) => {
+            let is_met = first_is(alloc, machine, &first, want);
+            drop(first);
+            is_met
+        }
         Err(AllocError) => false,
     }
 }
@@ -110,7 +118,11 @@ fn turns(alloc: Global, machine: &SharedMachine, input: &Json, want: First) -> b
 /// Whether the first turn of a machine comes to that from this input.
 fn turns_from(alloc: Global, machine: &SharedMachine, input: &str, want: First) -> bool {
     match json_of(alloc, input) {
-        Some(input) => turns(alloc, machine, &input, want),
+        Some(input) => {
+            let is_met = turns(alloc, machine, &input, want);
+            drop(input);
+            is_met
+        }
         None => false,
     }
 }
@@ -118,7 +130,11 @@ fn turns_from(alloc: Global, machine: &SharedMachine, input: &str, want: First) 
 /// The same, of the machine that a text defines.
 fn comes_to(alloc: Global, machine: &str, input: &str, want: First) -> bool {
     match machine_of(alloc, machine) {
-        Some(machine) => turns_from(alloc, &machine, input, want),
+        Some(machine) => {
+            let is_met = turns_from(alloc, &machine, input, want);
+            drop(machine);
+            is_met
+        }
         None => false,
     }
 }

@@ -21,7 +21,15 @@ enum Event {
 fn next_of(outcome: Outcome) -> Option<Frame> {
     match outcome {
         Outcome::Next(next) => Some(next),
-        Outcome::Call(_) | Outcome::Fork(_, _) => None,
+        Outcome::Call(call) => {
+            drop(call);
+            None
+        }
+        Outcome::Fork(parked, frames) => {
+            drop(parked);
+            drop(frames);
+            None
+        }
     }
 }
 
@@ -93,7 +101,11 @@ fn is_last(alloc: Global, last: &Frame, row: Row) -> bool {
 
 fn goes(alloc: Global, machine: &SharedMachine, first: Frame, row: Row) -> bool {
     match last_of(alloc, machine, first, row.events) {
-        Some(last) => is_last(alloc, &last, row),
+        Some(last) => {
+            let is_met = is_last(alloc, &last, row);
+            drop(last);
+            is_met
+        }
         None => false,
     }
 }
@@ -107,14 +119,22 @@ fn goes_from(alloc: Global, machine: &SharedMachine, input: &Json, row: Row) -> 
 
 fn runs_from(alloc: Global, machine: &SharedMachine, row: Row) -> bool {
     match json_of(alloc, row.input) {
-        Some(input) => goes_from(alloc, machine, &input, row),
+        Some(input) => {
+            let is_met = goes_from(alloc, machine, &input, row);
+            drop(input);
+            is_met
+        }
         None => false,
     }
 }
 
 fn runs(alloc: Global, machine: &str, row: Row) -> bool {
     match machine_of(alloc, machine) {
-        Some(machine) => runs_from(alloc, &machine, row),
+        Some(machine) => {
+            let is_met = runs_from(alloc, &machine, row);
+            drop(machine);
+            is_met
+        }
         None => false,
     }
 }

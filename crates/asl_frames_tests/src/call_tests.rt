@@ -154,7 +154,11 @@ fn all_from(alloc: Global, machine: &Machine, input: &Json) -> Result<bool, Allo
 
 fn all_are_made(alloc: Global, machine: &Machine, input: &str) -> Result<bool, AllocError> {
     match json_of(alloc, input) {
-        Some(input) => all_from(alloc, machine, &input),
+        Some(input) => {
+            let is_met = all_from(alloc, machine, &input);
+            drop(input);
+            is_met
+        }
         None => Ok(false),
     }
 }
@@ -163,7 +167,11 @@ fn all_are_made(alloc: Global, machine: &Machine, input: &str) -> Result<bool, A
 fn makes_frames(rt: HostRuntime) -> Result<(), Fail> {
     let alloc = rt.alloc();
     let made = match machine_of(alloc, MACHINE) {
-        Some(machine) => all_are_made(alloc, &machine, INPUT),
+        Some(machine) => {
+            let is_met = all_are_made(alloc, &machine, INPUT);
+            drop(machine);
+            is_met
+        }
         None => Ok(false),
     };
     assert!(rt; made?);

@@ -76,7 +76,11 @@ pub(crate) fn comes(
     want: Want,
 ) -> bool {
     match made {
-        Ok(frame) => frame.count == moves && is_as_wanted(alloc, &frame, want),
+        Ok(frame) => {
+            let is_met = frame.count == moves && is_as_wanted(alloc, &frame, want);
+            drop(frame);
+            is_met
+        }
         Err(AllocError) => false,
     }
 }
@@ -88,21 +92,33 @@ fn moves_to(alloc: Global, machine: &Machine, first: &Frame, twice: bool, want: 
         return comes(alloc, next, 1, want);
     }
     match next {
-        Ok(next) => comes(alloc, next_of(alloc, machine, &next), 2, want),
+        Ok(next) => {
+            let is_met = comes(alloc, next_of(alloc, machine, &next), 2, want);
+            drop(next);
+            is_met
+        }
         Err(AllocError) => false,
     }
 }
 
 fn goes(alloc: Global, machine: &Machine, input: &Json, twice: bool, want: Want) -> bool {
     match start(alloc, machine, input) {
-        Ok(first) => moves_to(alloc, machine, &first, twice, want),
+        Ok(first) => {
+            let is_met = moves_to(alloc, machine, &first, twice, want);
+            drop(first);
+            is_met
+        }
         Err(AllocError) => false,
     }
 }
 
 fn goes_from(alloc: Global, machine: &Machine, input: &str, twice: bool, want: Want) -> bool {
     match json_of(alloc, input) {
-        Some(input) => goes(alloc, machine, &input, twice, want),
+        Some(input) => {
+            let is_met = goes(alloc, machine, &input, twice, want);
+            drop(input);
+            is_met
+        }
         None => false,
     }
 }
@@ -110,7 +126,11 @@ fn goes_from(alloc: Global, machine: &Machine, input: &str, twice: bool, want: W
 /// Whether a machine comes to that from this input in one or two moves.
 fn comes_to(alloc: Global, definition: &str, input: &str, twice: bool, want: Want) -> bool {
     match machine_of(alloc, definition) {
-        Some(machine) => goes_from(alloc, &machine, input, twice, want),
+        Some(machine) => {
+            let is_met = goes_from(alloc, &machine, input, twice, want);
+            drop(machine);
+            is_met
+        }
         None => false,
     }
 }

@@ -138,7 +138,11 @@ fn all_are_processed(alloc: Global, pass: &Pass) -> bool {
 fn makes_inputs_and_outputs(rt: HostRuntime) -> Result<(), Fail> {
     let alloc = rt.alloc();
     let made = match pass_of(alloc, PASS) {
-        Some(pass) => all_are_processed(alloc, &pass),
+        Some(pass) => {
+            let is_met = all_are_processed(alloc, &pass);
+            drop(pass);
+            is_met
+        }
         None => false,
     };
     assert!(rt; made);
@@ -252,7 +256,11 @@ fn goes_with(alloc: Global, choice: &Choice, input: &str, want: Result<&str, Sta
 
 fn is_chosen(alloc: Global, state: &str, input: &str, want: Result<&str, StateError>) -> bool {
     match choice_of(alloc, state) {
-        Some(choice) => goes_with(alloc, &choice, input, want),
+        Some(choice) => {
+            let is_met = goes_with(alloc, &choice, input, want);
+            drop(choice);
+            is_met
+        }
         None => false,
     }
 }

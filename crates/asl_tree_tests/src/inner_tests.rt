@@ -66,7 +66,11 @@ fn is_inner(
 
 fn is_found(alloc: Global, state: &str, branch: u32, name: &str, want: char) -> bool {
     match machine_of(alloc, NESTED) {
-        Some(machine) => is_inner(alloc, &machine, state, branch, name, want),
+        Some(machine) => {
+            let is_met = is_inner(alloc, &machine, state, branch, name, want);
+            drop(machine);
+            is_met
+        }
         None => false,
     }
 }
@@ -111,7 +115,11 @@ fn has_branches(alloc: Global, machine: &Machine) -> bool {
 fn lends_branches(rt: HostRuntime) -> Result<(), Fail> {
     let alloc = rt.alloc();
     let lent = match machine_of(alloc, NESTED) {
-        Some(machine) => has_branches(alloc, &machine),
+        Some(machine) => {
+            let is_met = has_branches(alloc, &machine);
+            drop(machine);
+            is_met
+        }
         None => false,
     };
     assert!(rt; lent);

@@ -79,7 +79,10 @@ fn finds_named(
 fn is_found(alloc: Global, name: &str, want: Option<(&str, Option<i64>)>) -> bool {
     match machine_of(alloc, TWO) {
         Some(machine) => {
-            finds_named(alloc, &machine, name, want) && machine.start().as_str() == "A"
+            let is_met = finds_named(alloc, &machine, name, want)
+                && machine.start().as_str() == "A";
+            drop(machine);
+            is_met
         }
         None => false,
     }
@@ -137,7 +140,11 @@ const UNLIKE: &[&str] = &[
 
 fn is_one_with(alloc: Global, machine: &Machine, other: &str) -> bool {
     match machine_of(alloc, other) {
-        Some(another) => *machine == another,
+        Some(another) => {
+            let is_met = *machine == another;
+            drop(another);
+            is_met
+        }
         None => false,
     }
 }
@@ -145,7 +152,11 @@ fn is_one_with(alloc: Global, machine: &Machine, other: &str) -> bool {
 /// Whether two texts define one machine.
 fn are_one(alloc: Global, text: &str, other: &str) -> bool {
     match machine_of(alloc, text) {
-        Some(machine) => is_one_with(alloc, &machine, other),
+        Some(machine) => {
+            let is_met = is_one_with(alloc, &machine, other);
+            drop(machine);
+            is_met
+        }
         None => false,
     }
 }
@@ -191,7 +202,11 @@ fn failing(alloc: Global) -> Result<States, AllocError> {
 /// Whether a machine starts there, or that name is no state's.
 fn is_started(made: Result<Machine, MachineFault>, want: Result<&str, &str>) -> bool {
     match (made, want) {
-        (Ok(machine), Ok(start)) => machine.start().as_str() == start,
+        (Ok(machine), Ok(start)) => {
+            let is_met = machine.start().as_str() == start;
+            drop(machine);
+            is_met
+        }
         (Err(MachineFault::NoTarget(missing)), Err(name)) => missing.as_str() == name,
         _ => false,
     }
