@@ -99,7 +99,9 @@ fn finds_states(rt: HostRuntime) -> Result<(), Fail> {
 fn is_shared(shared: &SharedMachine) -> bool {
     match shared.share() {
         Ok(again) => {
-            shared.machine().start().as_str() == "A" && *again.machine() == *shared.machine()
+            let is_met = again.machine().start().as_str() == "A";
+            drop(again);
+            is_met && shared.machine().start().as_str() == "A"
         }
         Err(AllocError) => false,
     }
@@ -107,7 +109,11 @@ fn is_shared(shared: &SharedMachine) -> bool {
 
 fn is_kept(alloc: Global, machine: Machine) -> bool {
     match SharedMachine::new(alloc, machine) {
-        Ok(shared) => is_shared(&shared),
+        Ok(shared) => {
+            let is_met = is_shared(&shared);
+            drop(shared);
+            is_met
+        }
         Err(AllocError) => false,
     }
 }
@@ -186,42 +192,77 @@ fn compares_machines(rt: HostRuntime) -> Result<(), Fail> {
 
 fn failing_state(alloc: Global) -> Result<State, AllocError> {
     let error = Text::new(alloc, "X")?;
-    let cause = Text::new(alloc, "")?;
+    let Ok(cause) = Text::new(alloc, "") else {
+        drop(error);
+        return Err(AllocError);
+    };
     Ok(State::Fail(FailState { error, cause }))
 }
 
 /// The states of a machine that only fails, in the state F.
 fn failing(alloc: Global) -> Result<States, AllocError> {
     let state = failing_state(alloc)?;
-    let name = Text::new(alloc, "F")?;
+    let Ok(name) = Text::new(alloc, "F") else {
+        drop(state);
+        return Err(AllocError);
+    };
     let mut states = States::new(alloc);
-    states.insert(name, state)?;
+    let Ok(()) = states.insert(name, state) else {
+        drop(states);
+        return Err(AllocError);
+    };
     Ok(states)
 }
 
-/// Whether a machine starts there, or that name is no state's.
-fn is_started(made: Result<Machine, MachineFault>, want: Result<&str, &str>) -> bool {
-    match (made, want) {
-        (Ok(machine), Ok(start)) => {
+fn starts_at(made: Result<Machine, MachineFault>, start: &str) -> bool {
+    match made {
+        Ok(machine) => {
             let is_met = machine.start().as_str() == start;
             drop(machine);
             is_met
         }
-        (Err(MachineFault::NoTarget(missing)), Err(name)) => missing.as_str() == name,
+        Err(fault) => {
+            drop(fault);
+            false
+        }
+    }
+}
+
+fn is_missing(fault: &MachineFault, name: &str) -> bool {
+    match fault {
+        MachineFault::NoTarget(missing) => missing.as_str() == name,
         _ => false,
     }
 }
 
-fn starts(alloc: Global, start: &str, want: Result<&str, &str>) -> Result<bool, AllocError> {
+fn misses(made: Result<Machine, MachineFault>, name: &str) -> bool {
+    match made {
+        Ok(machine) => {
+            drop(machine);
+            false
+        }
+        Err(fault) => {
+            let is_met = is_missing(&fault, name);
+            drop(fault);
+            is_met
+        }
+    }
+}
+
+/// The machine with that one state, that is to start here.
+fn started(alloc: Global, start: &str) -> Result<Machine, MachineFault> {
     let start = Text::new(alloc, start)?;
-    let states = failing(alloc)?;
-    Ok(is_started(Machine::new(start, states), want))
+    let Ok(states) = failing(alloc) else {
+        drop(start);
+        return Err(MachineFault::Memory);
+    };
+    Machine::new(start, states)
 }
 
 #[test]
 fn starts_at_a_state(rt: HostRuntime) -> Result<(), Fail> {
     let alloc = rt.alloc();
-    assert!(rt; starts(alloc, "F", Ok("F"))?);
-    assert!(rt; starts(alloc, "G", Err("G"))?);
+    assert!(rt; starts_at(started(alloc, "F"), "F"));
+    assert!(rt; misses(started(alloc, "G"), "G"));
     Ok(())
 }
