@@ -21,7 +21,7 @@ fn machine_in(alloc: Global, definition: &Value) -> Option<Machine> {
 }
 
 /// The machine that a text defines.
-pub fn machine_of(alloc: Global, text: &str) -> Option<Machine> {
+pub(crate) fn machine_of(alloc: Global, text: &str) -> Option<Machine> {
     match Value::from_str(alloc, text) {
         Ok(definition) => machine_in(alloc, &definition),
         Err(_) => None,
@@ -36,7 +36,7 @@ fn told_in(alloc: Global, definition: &Value) -> u32 {
 }
 
 /// What a text's refusal is told as, and 0 where it defines a machine.
-pub fn told_of(alloc: Global, text: &str) -> Option<u32> {
+pub(crate) fn told_of(alloc: Global, text: &str) -> Option<u32> {
     match Value::from_str(alloc, text) {
         Ok(definition) => Some(told_in(alloc, &definition)),
         Err(_) => None,

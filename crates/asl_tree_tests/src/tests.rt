@@ -12,7 +12,7 @@ fn machine_in(alloc: Global, definition: &Value) -> Option<Machine> {
 }
 
 /// The machine that a text defines.
-pub fn machine_of(alloc: Global, text: &str) -> Option<Machine> {
+pub(crate) fn machine_of(alloc: Global, text: &str) -> Option<Machine> {
     match Value::from_str(alloc, text) {
         Ok(definition) => machine_in(alloc, &definition),
         Err(_) => None,
