@@ -11,10 +11,9 @@ use Rattle.saved_steps.specs.Steps.{name_of}
 use Rattle.saved_steps.specs.World.{Setting, World}
 use Rattle.saved_steps.specs.declared.fact.Fact.{Fact}
 use Rattle.depends.specs.Dependence.{depends_directly}
-use Rattle.depends.specs.Instance.{steps}
+use Rattle.depends.specs.Instance.{Past, steps}
 use Rattle.depends.specs.Laws.{facts_of}
 use Rattle.depends.proofs.Named.{steps_have_names}
-use Rattle.step_history.specs.History.{Past}
 use Rattle.book_log.specs.Answers.{from_step, free_answer, found_answer, undo_answer}
 use Rattle.book_log.specs.Laws.{IsFirstDependent, UndoAnswersAreExact}
 use Rattle.book_log.specs.Story.{Story, base_of, setting_of, world_of, past_of}

@@ -20,15 +20,13 @@ use Rattle.saved_steps.specs.Steps.{Step, started, moved, name_of}
 use Rattle.saved_steps.specs.World.{Setting, World, is_same_thread, is_same_step}
 use Rattle.saved_steps.specs.declared.fact.Fact.{Fact}
 use Rattle.saved_steps.specs.declared.fact.Kind.{Kind}
-use Rattle.depends.specs.Instance.{steps}
-use Rattle.depends.specs.Laws.{HasNoFrames}
+use Rattle.depends.specs.Instance.{Past, steps, taken_in}
+use Rattle.depends.specs.Laws.{Extends, HasNoFrames}
 use Rattle.depends.proofs.Lawful.{steps_are_lawful}
 use Rattle.depends.proofs.Named.{steps_have_names}
 use Rattle.depends.proofs.Planned.{planned}
 use Rattle.depends.proofs.Worlds.{deed_taken}
-use Rattle.step_history.specs.History.{Past, taken_in}
-use Rattle.step_history.specs.Laws.{Extends}
-use Rattle.step_history.proofs.Extended.{runs_more}
+use Rattle.depends.proofs.Extended.{runs_more}
 use Rattle.book_log.specs.Story.{Story, Remainder, accepted, setting_in, base_of, run_in, world_in, past_in, consequences_in, but, rolled_back, with_machine, after_entry, nothing, remainder, remaining, setting_of, run_of, world_of, past_of, consequences_of}
 use Rattle.book_log.specs.declared.begin.Begin.{Begin}
 use Rattle.book_log.specs.declared.entry.Entry.{Entry}

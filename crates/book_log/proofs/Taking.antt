@@ -20,7 +20,7 @@ use Rattle.saved_steps.specs.declared.fact.Kind.{Kind}
 use Rattle.saved_steps.specs.declared.fact.Kind.TheVariants as kind
 use Rattle.depends.proofs.Planned.{planned, numbered}
 use Rattle.depends.proofs.Worlds.{deed_taken}
-use Rattle.step_history.specs.History.{Past}
+use Rattle.depends.specs.Instance.{Past}
 use Rattle.book_log.specs.Answers.{start_answer, moved_answer, thread_answer, step_answer, is_full_for_step}
 use Rattle.book_log.specs.Story.{Story, machine_of, setting_of, world_of}
 use Rattle.book_log.specs.declared.moved.Moved.{Moved}

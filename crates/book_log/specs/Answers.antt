@@ -18,8 +18,7 @@ use Rattle.saved_steps.specs.Steps.{Step, started, moved, name_of, start_name}
 use Rattle.saved_steps.specs.World.{is_same_step}
 use Rattle.saved_steps.specs.declared.fact.Fact.{Fact}
 use Rattle.depends.specs.Dependence.{depends_directly}
-use Rattle.depends.specs.Instance.{steps}
-use Rattle.step_history.specs.History.{Past}
+use Rattle.depends.specs.Instance.{Past, steps}
 use Rattle.book_log.specs.Story.{Story, accepted, base_of, remaining, machine_of, setting_of, world_of, facts_of, consequences_of}
 use Rattle.book_log.specs.declared.entry.Entry.{Entry}
 use Rattle.book_log.specs.declared.entry.Entry.TheVariants.{Define, Start, Step as Stepped, Undo, Rollback}

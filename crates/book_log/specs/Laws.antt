@@ -7,8 +7,7 @@ use Rattle.trace_theory.specs.Traces.{In, Before, needs, run, IsFree, IsLeast, I
 use Rattle.saved_steps.specs.Steps.{Step, name_of, start_name}
 use Rattle.saved_steps.specs.World.{Setting, World}
 use Rattle.saved_steps.specs.declared.fact.Kind.{Kind}
-use Rattle.depends.specs.Instance.{steps}
-use Rattle.step_history.specs.History.{Past}
+use Rattle.depends.specs.Instance.{Past, steps}
 use Rattle.book_log.specs.Answers.{undo_answer, order_answer, plan_answer, rerun_answer, is_full_for_step, names_of_facts, entry_of}
 use Rattle.book_log.specs.Legal.{IsAccepted, IsLegal}
 use Rattle.book_log.specs.Story.{Story, accepted, base_of, remaining, machine_of, setting_of, run_of, world_of, past_of, consequences_of}

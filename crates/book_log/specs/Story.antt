@@ -8,8 +8,7 @@ use Rattle.trace_theory.specs.Traces.{run, after, without, names_of}
 use Rattle.saved_steps.specs.Steps.{Step, started, moved, name_of}
 use Rattle.saved_steps.specs.World.{Setting, World, is_same_step}
 use Rattle.saved_steps.specs.declared.fact.Fact.{Fact}
-use Rattle.depends.specs.Instance.{steps}
-use Rattle.step_history.specs.History.{Past}
+use Rattle.depends.specs.Instance.{Past, steps}
 use Rattle.book_log.specs.Beginning.{first_items}
 use Rattle.book_log.specs.declared.begin.Begin.{Begin}
 use Rattle.book_log.specs.declared.entry.Entry.{Entry}

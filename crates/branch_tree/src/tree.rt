@@ -10,7 +10,7 @@ ghost use Rattle.branch_tree.specs.Tree.{frame_at, node_at, IsNode};
 
 use crate::branch::Branch;
 use crate::readiness::Readiness;
-use asl_forward::Frame;
+use asl_frames::Frame;
 use std::alloc::{AllocError, Global};
 use std::collections::BTreeSet;
 use std::marker::Model;
