@@ -7,9 +7,9 @@ use Rattle.trace_theory.specs.Traces.{In, IsFree}
 use Rattle.trace_theory.proofs.Lists.{by_bool, here, place, In-front}
 use Rattle.trace_theory.proofs.Least.{not_in_front, Once}
 use Rattle.trace_theory.proofs.Records.{free_record, record_free}
-use Rattle.saved_steps.specs.Steps.{name_of}
-use Rattle.saved_steps.specs.World.{Setting, World, is_same_step}
-use Rattle.saved_steps.specs.declared.fact.Fact.{Fact}
+use Rattle.depends.specs.Steps.{name_of}
+use Rattle.depends.specs.World.{Setting, World, is_same_step}
+use Rattle.depends.specs.Fact.{Fact}
 use Rattle.depends.specs.Dependence.{depends_directly}
 use Rattle.depends.specs.Instance.{Past, steps}
 use Rattle.depends.specs.Laws.{facts_of}

@@ -5,8 +5,8 @@ use Rattle.std.specs.Cmp.Lexicographic.{same_text}
 use Rattle.std.proofs.lemmas.Bool.{and_parts, eqb-true}
 use Rattle.std.proofs.lemmas.List.Sums.{fold-append}
 use Rattle.json_tree.specs.declared.tree.Json.{Json}
-use Rattle.asl_fields.specs.Fields.{is_text}
-use Rattle.asl_tree.specs.Definition.{Definition}
+use Rattle.asl_machine.specs.Fields.{is_text}
+use Rattle.asl_machine.specs.Definition.{Definition}
 use Rattle.step_names.specs.Thread.{Thread}
 use Rattle.step_names.specs.declared.step.StepName.{StepName}
 use Rattle.step_names.proofs.OrderLaws.{thread_same, thread_itself}
@@ -15,11 +15,11 @@ use Rattle.trace_theory.proofs.Lists.{by_bool, filter-same}
 use Rattle.trace_theory.proofs.Runs.{Runs, from_run, to_run}
 use Rattle.trace_theory.proofs.Records.{run_names, run_is, run_then, names-without}
 use Rattle.trace_theory.proofs.Orders.{undo_free, after_undoes}
-use Rattle.saved_steps.specs.Run.{take_step}
-use Rattle.saved_steps.specs.Steps.{Step, started, moved, name_of}
-use Rattle.saved_steps.specs.World.{Setting, World, is_same_thread, is_same_step}
-use Rattle.saved_steps.specs.declared.fact.Fact.{Fact}
-use Rattle.saved_steps.specs.declared.fact.Kind.{Kind}
+use Rattle.depends.specs.Run.{take_step}
+use Rattle.depends.specs.Steps.{Step, started, moved, name_of}
+use Rattle.depends.specs.World.{Setting, World, is_same_thread, is_same_step}
+use Rattle.depends.specs.Fact.{Fact}
+use Rattle.depends.specs.Kind.{Kind}
 use Rattle.depends.specs.Instance.{Past, steps, taken_in}
 use Rattle.depends.specs.Laws.{Extends, HasNoFrames}
 use Rattle.depends.proofs.Lawful.{steps_are_lawful}

@@ -2,9 +2,9 @@
 use Rattle.std.proofs.Common.{◌≡◌, ℕ, List, [], ◌∷◌, refl, ap, ap₂, sym, subst, ◌∙◌, Option, None, Some}
 use Rattle.std.specs.Prelude.{option_map, option_and_then, is_some, if◌then◌else◌}
 use Rattle.attr_values.specs.declared.key.KeySchema.{KeySchema}
-use Rattle.asl_tree.specs.Definition.{Definition}
-use Rattle.asl_frames.specs.Turn.{Standing, standing, first_frame}
-use Rattle.asl_frames.specs.declared.frame.Frame.{Frame}
+use Rattle.saved_steps.specs.Definition.{Definition}
+use Rattle.saved_steps.specs.Turn.{Standing, standing, first_frame}
+use Rattle.saved_steps.specs.Frame.{Frame}
 use Rattle.step_names.specs.Thread.{execution}
 use Rattle.saved_steps.specs.Deeds.{Deed, deed, deed_of, deed_in, frame_deed, if_numbered}
 use Rattle.saved_steps.specs.Run.{carried_out, take_step}

@@ -1,6 +1,6 @@
 -- What is true of the steps of executions, in every setting, from every world without executions.
 use Rattle.std.specs.Prelude.{◌≡◌, ◌↔◌, ℕ, List, map, reverse, None, Some, slice_get, option_map}
-use Rattle.asl_tree.specs.Definition.{Definition}
+use Rattle.saved_steps.specs.Definition.{Definition}
 use Rattle.step_names.specs.Thread.{Thread}
 use Rattle.trace_theory.specs.Traces as theory
 use Rattle.trace_theory.specs.Traces.{IsRun, after, IsFree, IsLawful, HasNames, NeighboursSwap, FreeStepsUndo, AfterIsLeast, OrdersUndo, ArrangementsAgree, HeldIsLeft}

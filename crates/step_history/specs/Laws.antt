@@ -1,7 +1,7 @@
 -- What is true of histories.
 use Rattle.std.specs.Prelude.{◌≡◌, ◌≤◌, ℕ, true, List, [], ◌∷◌, ◌++◌, length, Some}
 use Rattle.asl_frames.specs.declared.frame.Frame.{Frame}
-use Rattle.branch_tree.specs.FlatMap.{is_parked}
+use Rattle.saved_steps.specs.FlatMap.{is_parked}
 use Rattle.step_names.specs.Thread.{Thread}
 use Rattle.trace_theory.specs.Traces.{IsRun, IsFree, IsAllowed, In, Takes, undone, undo_each, without, after}
 use Rattle.saved_steps.specs.Held.{frames_of, seen}
