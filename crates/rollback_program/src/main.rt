@@ -64,7 +64,7 @@ fn run_asked<W: Write>(rt: &HostRuntime, asked: Result<Mode, ModeRefusal>, write
 fn main(rt: HostRuntime) -> ExitCode {
     let status = match BufWriter::new(rt.alloc(), rt.stdout()) {
         Ok(mut writer) => run_asked(&rt, asked(&rt), &mut writer),
-        Err(_) => run_asked(&rt, Err(ModeRefusal::Memory), &mut rt.stdout()),
+        Err(_) => refuse(ModeRefusal::Memory, &mut rt.stdout(), &mut rt.stderr()),
     };
     ExitCode::from(status)
 }
