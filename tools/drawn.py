@@ -235,11 +235,11 @@ ERRORS = (["States.ALL"], ["States.TaskFailed"], ["DynamoDB.ConditionalCheckFail
 
 
 def drawn_kind(chance, depth, last):
-    if last and chance.random() < 0.35:
-        return chance.choice(("succeed", "fail"))
-    kinds = ["get"] * 4 + ["put"] * 5 + ["delete"] * 2 + ["pass"] * 3 + ["wait", "choice", "choice", "wrong"]
+    if last and chance.random() < 0.25:
+        return chance.choice(("succeed", "succeed", "fail"))
+    kinds = ["get"] * 8 + ["put"] * 10 + ["delete"] * 4 + ["pass"] * 6 + ["wait", "choice"] * 3 + ["wrong"]
     if depth > 0:
-        kinds += ["parallel"] * 3 + ["map"] * 3
+        kinds += ["parallel"] * 6 + ["map"] * 6
     kind = chance.choice(kinds)
     return "pass" if last and kind == "choice" else kind
 
@@ -257,7 +257,7 @@ def drawn_machine(chance, table, depth):
         name = f"s{at} {kind}"
         if kind in CALLS:
             name += " " + chance.choice(("0", "0", "1", "2", "own", "own"))
-            if kind != "get" and chance.random() < 0.5:
+            if kind != "get" and chance.random() < 0.35:
                 name += chance.choice((" if id", " unless id", " if v", " unless v"))
         names.append(name)
     states = {}
@@ -275,14 +275,15 @@ def drawn_machine(chance, table, depth):
 def drawn_state(chance, table, depth, kind, name, names):
     if kind in CALLS or kind == "wrong":
         state = {"Type": "Task", **drawn_call(chance, table, kind, name)}
-        state.update(chance.choice(({"ResultPath": None}, {"ResultPath": "$.found"}, {"ResultPath": "$.found"}, {"ResultPath": "$.v.no"}, {})))
-        if "ResultPath" in state and chance.random() < 0.15:
+        state.update(chance.choice(({"ResultPath": None}, {"ResultPath": "$.found"}) * 4 + ({"ResultPath": "$.v.no"}, {})))
+        if "ResultPath" in state and chance.random() < 0.1:
             state["ResultSelector"] = chance.choice(({"Item.$": "$.Item"}, {"all.$": "$", "n": 1}))
     elif kind == "pass":
         state = {"Type": "Pass", "Result": chance.randrange(9), "ResultPath": "$.r"}
-        if chance.random() < 0.4:
+        if chance.random() < 0.3:
             state = {"Type": "Pass", **chance.choice((
                 {}, {"Parameters": {"v.$": "$.v", "l": [1, {"n.$": "$.n"}]}, "ResultPath": "$.p"}, {"InputPath": "$.found", "ResultPath": "$.was"},
+                {"InputPath": "$.v", "ResultPath": "$.was"},
                 {"Result": 7}, {"OutputPath": "$.found"}))}
     elif kind == "wait":
         state = {"Type": "Wait", "Seconds": 3}
@@ -600,7 +601,7 @@ class Drawer:
         chance = self.chance
         free = [name for name in self.names if name not in session.shown]
         ready = [thread for thread in session.shown if can_move(thread, session.shown)]
-        if not session.history or (free and chance.random() < (0.1 if ready else 0.4)):
+        if not session.history or (free and chance.random() < (0.08 if ready else 0.4)):
             return self.start(chance.choice(free))
         kind = chance.random()
         if kind < 0.62 and ready:
