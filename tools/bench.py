@@ -1,0 +1,297 @@
+#!/usr/bin/env python3
+"""Says what lines cost, of the program that is there. A maintainer's tool: no test runs it.
+
+usage: bench.py [--program PATH] [--scale F] [--instructions | --clock] [--jobs N] [--runs N] [--folder F] [NAME ..]
+
+Prints rows `name<TAB>value<TAB>unit`, of each NAME or of all. Without --instructions or --clock both kinds are printed.
+
+--instructions counts by valgrind's callgrind (Debian's package valgrind), and comes to the same each time: the instructions a line of
+each workload of tools/workloads.py, what four times the work makes of them (about 1 where a line doesn't cost more for what came
+before), and single calls, as the difference of two runs with and without them. What an empty input takes is left out. --scale says how
+large the workloads are (0.1 where nothing is said), --jobs how many are counted at a time.
+
+--clock takes the best of --runs runs (3): lines a second of the same workloads, in memory, and of kinds of lines alone; and a journal on
+a file in the folder --folder (the system's for temporary files), beside as many inserts by Python's sqlite3 in the same folder.
+Nothing else should run meanwhile.
+"""
+import argparse
+import concurrent.futures
+import os
+import re
+import shutil
+import sqlite3
+import subprocess
+import sys
+import tempfile
+import time
+
+import workloads
+from workloads import TABLE, define, text_of
+
+HERE = os.path.dirname(os.path.abspath(__file__))
+PROGRAM = os.path.join(HERE, "..", "crates", "rollback_program", "out", "rollback_program")
+
+
+def row(name, value, unit):
+    print(f"{name}\t{value:,.2f}\t{unit}" if value < 10 else f"{name}\t{value:,.0f}\t{unit}", flush=True)
+
+
+# ---- Instructions ----
+
+
+class Counter:
+    """Counts what the program spends on lines, each list of them once."""
+
+    def __init__(self, program, room, jobs):
+        self.program, self.room = program, room
+        self.pool = concurrent.futures.ThreadPoolExecutor(jobs)
+        self.running, self.made = {}, 0
+
+    def start(self, name, lines):
+        """Begins to count a list of lines under a name, and tells how many they are."""
+        if name not in self.running:
+            file = os.path.join(self.room, f"{len(self.running)}.txt")
+            count = workloads.write(file, lines)
+            self.running[name] = self.pool.submit(self.count, file), count
+        return self.running[name]
+
+    def count(self, file):
+        with open(file, "rb") as stdin:
+            done = subprocess.run(["valgrind", "--tool=callgrind", f"--callgrind-out-file={file}.out", self.program],
+                                  stdin=stdin, stdout=subprocess.DEVNULL, stderr=subprocess.PIPE, text=True, check=False)
+        found = re.search(r"Collected : (\d+)", done.stderr)
+        if done.returncode != 0 or not found:
+            sys.exit(f"bench: {os.path.basename(file)} ended with status {done.returncode}: {done.stderr[-400:]}")
+        os.remove(file)
+        os.remove(file + ".out")
+        return int(found.group(1))
+
+    def spent(self, name):
+        return self.running[name][0].result()
+
+
+def many_threads(count):
+    """Executions that have two steps each, a read of one of a hundred items and a Pass that isn't taken."""
+    machine = workloads.states("Read", Read={**workloads.call("getItem", Key={"id": {"S.$": "$.key"}}), "ResultPath": None, "Next": "Then"},
+                               Then={"Type": "Pass", "End": True})
+    yield TABLE
+    yield define("two", machine)
+    for at in range(count // 2):
+        yield f'start run-{at} two {{"key":"key-{at % 100}"}}'
+        yield f"step run-{at}"
+
+
+def with_dependents(count):
+    """A step with ten dependents, a write of an item and nine reads of it, among as many later steps of others."""
+    yield TABLE
+    yield define("write", workloads.WRITE)
+    yield define("read", workloads.READ)
+    yield from ('start first write {"key":"hot","value":"v"}', "step first")
+    for at in range(10):
+        yield f'start reader-{at} read {{"key":"hot"}}'
+        yield f"step reader-{at}"
+    for at in range(count // 2):
+        yield f'start run-{at} read {{"key":"key-{at % 100}"}}'
+        yield f"step run-{at}"
+
+
+def single_calls():
+    """Each call as its name, its unit, the lines before it, the lines that are it, and how many they are."""
+    for remain in (600, 6_000):
+        base, middle = f"among {remain:,} steps", remain // 4
+        some = range(middle, middle + 50)
+
+        def first(remain=remain):
+            return many_threads(remain)
+
+        yield f"undo of a middle step {base}", "instructions", first, [f"undo run-{at}#1" for at in some], 50
+        yield f"undo of the latest steps {base}", "instructions", first, [f"undo run-{remain // 2 - 1 - at}#1" for at in range(50)], 50
+        yield f"undo refused for its dependent {base}", "instructions", first, [f"undo run-{at}#0" for at in some], 50
+        yield f"step of a Pass {base}", "instructions", first, [f"step run-{at}" for at in some], 50
+        yield f"start {base}", "instructions", first, [f'start new-{at} two {{"key":"key-7"}}' for at in some], 50
+        yield f"show {base}", "instructions", first, [f"show run-{at}" for at in some], 50
+        yield f"plan of a middle step {base}", "instructions", first, [f"plan run-{at}#1" for at in some], 50
+        yield f"rollback of a step and ten dependents {base}", "instructions", lambda remain=remain: with_dependents(remain), ["rollback first#1"], 1
+        yield f"plan of a step and ten dependents {base}", "instructions", lambda remain=remain: with_dependents(remain), ["plan first#1"] * 20, 20
+    for count in (60, 600, 6_000):
+        def waiting(count=count):
+            yield TABLE
+            yield define("three", workloads.chain(3))
+            for at in range(count):
+                yield f"start run-{at} three {{}}"
+        yield f"step by drive, {count:,} executions", "instructions", waiting, ["drive 60"], 60
+    for size, said in ((2, "an empty input"), (10_000, "an input of 10,000 bytes")):
+        value = "{}" if size == 2 else text_of(workloads.large_input(size))
+
+        def given(value=value):
+            yield TABLE
+            yield define("three", workloads.chain(3))
+            for at in range(100):
+                yield f"start run-{at} three {value}"
+        yield f"step over {said}", "instructions", given, [f"step run-{at}" for at in range(100)], 100
+        yield f"start with {said}", "instructions", given, [f"start new-{at} three {value}" for at in range(100)], 100
+
+
+def instructions(program, names, scale, jobs):
+    if not shutil.which("valgrind"):
+        sys.exit("bench: no valgrind is installed")
+    with tempfile.TemporaryDirectory() as room:
+        counter = Counter(program, room, jobs)
+        counter.start("nothing", [])
+        calls = [call for call in single_calls() if not names or any(name in call[0] for name in names)]
+        works = [name for name in workloads.WORKLOADS if not names or name in names]
+        for name in works:
+            for part in (scale, scale / 4):
+                counter.start((name, part), workloads.WORKLOADS[name](part))
+        for name, _, before, lines, _ in calls:
+            counter.start(list_of(before), before())
+            counter.start(name, [*before(), *lines])
+        nothing = counter.spent("nothing")
+        if not names or "nothing" in names:
+            row("an empty input", nothing, "instructions")
+        for name in works:
+            each = [(counter.spent((name, part)) - nothing) / counter.running[(name, part)][1] for part in (scale, scale / 4)]
+            row(name, each[0], "instructions a line")
+            row(f"{name}, four times the work", each[0] / each[1], "times")
+        for name, unit, before, _, count in calls:
+            row(name, (counter.spent(name) - counter.spent(list_of(before))) / count, unit)
+
+
+def list_of(before):
+    """What tells the lines before a call from others: how many, and the last."""
+    count, last = 0, ""
+    for line in before():
+        count, last = count + 1, line
+    return count, last
+
+
+# ---- The clock ----
+
+
+def taken(program, file, words=()):
+    """Seconds that the program takes to answer a file's lines."""
+    with open(file, "rb") as stdin:
+        began = time.perf_counter()
+        done = subprocess.run([program, *words], stdin=stdin, stdout=subprocess.DEVNULL, check=False)
+        ended = time.perf_counter()
+    if done.returncode != 0:
+        sys.exit(f"bench: {os.path.basename(file)} ended with status {done.returncode}")
+    return ended - began
+
+
+def kinds_of_lines(count):
+    """Of each kind, the lines before it and as many lines of it."""
+    table = [TABLE, define("one", workloads.ONE_PASS)]
+    starts = [f'start run-{at} one {{"n":7}}' for at in range(count)]
+    steps = [f"step run-{at}" for at in range(count)]
+    shows = [f"show run-{at}" for at in range(count)]
+    undos = [f"undo run-{at}#1" for at in range(count)]
+    yield "start", table, starts
+    yield "step", table + starts, steps
+    yield "show", table + starts + steps, shows
+    yield "undo from the end", table + starts + steps, undos[::-1]
+    yield "undo from the start", table + starts + steps, undos
+
+
+def remove_journal(file):
+    for end in ("", "-wal", "-shm"):
+        if os.path.exists(file + end):
+            os.remove(file + end)
+
+
+def inserted(file, lines):
+    """Seconds that Python's sqlite3 takes for as many lines in a table of its own: one prepared insert and one commit each."""
+    remove_journal(file)
+    connection = sqlite3.connect(file, isolation_level=None)
+    connection.execute("PRAGMA journal_mode=WAL")
+    connection.execute("PRAGMA synchronous=FULL")
+    connection.execute("CREATE TABLE entry(no INTEGER PRIMARY KEY, line TEXT NOT NULL) STRICT")
+    began = time.perf_counter()
+    for no, line in enumerate(lines):
+        connection.execute("INSERT INTO entry VALUES (?, ?)", (no, line))
+    ended = time.perf_counter()
+    connection.close()
+    return ended - began
+
+
+def clock(program, names, scale, runs, folder):
+    with tempfile.TemporaryDirectory(dir=folder) as room:
+        file = os.path.join(room, "lines.txt")
+
+        def best(lines, words=(), before=lambda: None):
+            workloads.write(file, lines)
+            times = []
+            for _ in range(runs):
+                before()
+                times.append(taken(program, file, words))
+            return min(times)
+
+        nothing = best([])
+        if not names or "nothing" in names:
+            row("an empty input", nothing * 1_000_000, "microseconds")
+        for name, work in workloads.WORKLOADS.items():
+            if not names or name in names:
+                count = workloads.write(file, work(scale))
+                row(name, count / (best(work(scale)) - nothing), "lines a second")
+        count = max(100, int(30_000 * scale))
+        for name, before, lines in kinds_of_lines(count):
+            if not names or name in names:
+                row(name, count / max(best(before + lines) - best(before), 1e-6), "lines a second")
+        if names and "journal" not in names:
+            return
+        count = max(100, int(20_000 * scale))
+        lines = [TABLE, define("one", workloads.ONE_PASS)] + [f"{word} run-{at}{rest}" for at in range(count // 2) for word, rest in (("start", " one {}"), ("step", ""))]
+        journal, plain = os.path.join(room, "journal.db"), os.path.join(room, "plain.db")
+        # One after another, run by run, so that a disk that is slow for a while is slow for both.
+        times = []
+        workloads.write(file, lines)
+        for _ in range(runs):
+            remove_journal(journal)
+            times.append((taken(program, file, ("--journal", journal)), inserted(plain, lines)))
+        row("journal on a file", len(lines) / (min(ours for ours, _ in times) - nothing), "lines a second")
+        row("inserts by Python's sqlite3", len(lines) / min(theirs for _, theirs in times), "lines a second")
+        row("journal, time beside sqlite3", min(ours for ours, _ in times) / min(theirs for _, theirs in times), "times")
+        found = sqlite3.connect(journal)
+        same = found.execute("SELECT line FROM entry ORDER BY no").fetchall() == [(line,) for line in lines]
+        sound = found.execute("PRAGMA integrity_check").fetchall() == [("ok",)]
+        found.close()
+        if not (same and sound):
+            sys.exit("bench: sqlite3 reads other lines in the journal than were given, or finds it unsound")
+        # Many more lines to open again: those of a session in memory are written by sqlite3 at once.
+        many = [TABLE, define("one", workloads.ONE_PASS)]
+        for at in range(max(100, int(25_000 * scale))):
+            many += [f"start run-{at} one {{}}", f"step run-{at}", f"undo run-{at}#1", f"undo run-{at}#0"]
+        remove_journal(journal)
+        written = sqlite3.connect(journal, isolation_level=None)
+        written.execute("PRAGMA journal_mode=WAL")
+        written.execute("CREATE TABLE entry(no INTEGER PRIMARY KEY, line TEXT NOT NULL) STRICT")
+        written.execute("BEGIN")
+        written.executemany("INSERT INTO entry VALUES (?, ?)", enumerate(many))
+        written.execute("COMMIT")
+        written.close()
+        row("the same lines in memory", len(many) / (best(many) - nothing), "lines a second")
+        row("a journal opened again", len(many) / (best([], ("--check", journal)) - nothing), "lines a second")
+
+
+def main():
+    parser = argparse.ArgumentParser(description="Says what lines cost, of the program that is there.")
+    parser.add_argument("names", nargs="*", metavar="NAME")
+    parser.add_argument("--program", default=PROGRAM)
+    parser.add_argument("--scale", type=float)
+    parser.add_argument("--instructions", action="store_true")
+    parser.add_argument("--clock", action="store_true")
+    parser.add_argument("--jobs", type=int, default=os.cpu_count() or 1)
+    parser.add_argument("--runs", type=int, default=3)
+    parser.add_argument("--folder")
+    asked = parser.parse_args()
+    if not os.access(asked.program, os.X_OK):
+        sys.exit(f"bench: no program {os.path.relpath(asked.program)}: run rt run in crates/rollback_program first")
+    program = os.path.abspath(asked.program)
+    if asked.instructions or not asked.clock:
+        instructions(program, asked.names, asked.scale or 0.1, asked.jobs)
+    if asked.clock or not asked.instructions:
+        clock(program, asked.names, asked.scale or 1.0, asked.runs, asked.folder)
+
+
+if __name__ == "__main__":
+    main()
