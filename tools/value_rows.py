@@ -119,11 +119,10 @@ def refuse_each(program, library, rows):
         with tempfile.TemporaryFile() as count:
             fd = count.fileno()
             told = subprocess.run(
-                ["sh", "-c", f"exec 3>&{fd} && exec \"$0\" again", program],
+                ["sh", "-c", f"exec 3>&{fd} && exec env \"$@\"", "sh", f"LD_PRELOAD={library}", f"REFUSE={number}", program, "again"],
                 input=sent,
                 capture_output=True,
                 pass_fds=[fd],
-                env=os.environ | {"LD_PRELOAD": library, "REFUSE": str(number)},
             )
             count.seek(0)
             asked = int(count.read() or 0)
