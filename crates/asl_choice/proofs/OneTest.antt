@@ -2,7 +2,7 @@
 use Rattle.std.proofs.Common.{◌≡◌, ℕ, List, [], ◌∷◌, ◌++◌, Option, Some, None, false, refl, sym, ap, ap₂, subst, ◌∙◌, codes, option_and_then}
 use Rattle.serde_json.specs.Data.{Data as Source, Items, no_items, item}
 use Rattle.serde_json.specs.Find.{get, as_str, as_array}
-use Rattle.ref_paths.specs.declared.path.PathStep.{PathStep}
+use Rattle.asl_fields.specs.PathStep.{PathStep}
 use Rattle.asl_fields.proofs.OneField.{one_path}
 use Rattle.asl_fields.specs.declared.fields.Place.{Place}
 use Rattle.asl_fields.specs.declared.fields.Place.TheVariants as at

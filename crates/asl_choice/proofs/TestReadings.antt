@@ -8,7 +8,7 @@ use Rattle.serde_json.specs.Data.{Data as Source, null, boolean, number, string,
 use Rattle.serde_json.specs.Find.{get, get_member, as_array, as_object}
 use Rattle.serde_json.specs.View.{view, items_view}
 use Rattle.serde_json.specs.declared.value.Value.{Value}
-use Rattle.ref_paths.specs.declared.path.PathStep.{PathStep}
+use Rattle.asl_fields.specs.PathStep.{PathStep}
 use Rattle.asl_fields.proofs.OneField.{one_path}
 use Rattle.asl_fields.specs.FieldFaults.{FieldsFault}
 use Rattle.asl_fields.specs.Refusal.{Refuses}

@@ -5,7 +5,7 @@ use Rattle.std.specs.Ordering.{nat_cmp}
 use Rattle.std.specs.declared.cmp.Ordering.{Ordering}
 use Rattle.std.specs.declared.cmp.Ordering.TheVariants.{Less, Equal, Greater}
 use Rattle.json_tree.specs.Data.{Data, null, boolean, whole, text, list, fields}
-use Rattle.ref_paths.specs.Picking.{pick_at}
+use Rattle.asl_fields.specs.Picking.{pick_at}
 use Rattle.asl_choice.specs.TestTree.{TestTree, TestTrees, all_of, any_of, negation, compare, no_tests, test}
 use Rattle.asl_choice.specs.TestView.{test_of}
 use Rattle.asl_choice.specs.declared.choice.Comparison.{Comparison}

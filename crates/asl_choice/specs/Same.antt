@@ -6,7 +6,7 @@ use Rattle.std.specs.Cmp.{unsigned_Decides, signed_Decides, booleans_Decides}
 use Rattle.std.specs.Cmp.Derive.{both_true}
 use Rattle.std.specs.Ordering.{int_eq}
 use lib.Pointwise.{pointwise}
-use Rattle.ref_paths.specs.Same.{same_text, same_path, IsExact, exact, first_true, second_true, text_exact, path_exact, list_exact}
+use Rattle.asl_fields.specs.Same.{same_text, same_path, IsExact, exact, first_true, second_true, text_exact, path_exact, list_exact}
 use Rattle.asl_choice.specs.TestTree.{TestTree, all_of, any_of, negation, compare, TestTrees, no_tests, test, test_trees}
 use Rattle.asl_choice.specs.TestView.{test_of}
 use Rattle.asl_choice.specs.declared.choice.Comparison.{Comparison}

@@ -3,7 +3,7 @@ use base.Stored.{Gv, gnil, gnum, gcons}
 use Rattle.std.specs.Prelude.{◌≡◌, List, refl}
 use Rattle.std.specs.Coded.{Coded, coded_list}
 use Rattle.std.proofs.Common.{ap, ap₂}
-use Rattle.ref_paths.specs.PayloadCode.{steps_code}
+use Rattle.asl_fields.specs.PayloadCode.{steps_code}
 use Rattle.asl_choice.specs.TestTree.{TestTree, all_of, any_of, negation, compare, TestTrees, no_tests, test}
 use Rattle.asl_choice.specs.contracts.choice.Comparison as comparison
 use Rattle.asl_choice.specs.declared.choice.Comparison.{Comparison}

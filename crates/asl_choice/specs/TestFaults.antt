@@ -2,7 +2,7 @@
 use Rattle.std.specs.Prelude.{◌≡◌, ℕ, zero, suc, List, ◌⊎◌, Option, None, Some, option_and_then, codes}
 use Rattle.serde_json.specs.Data.{Data as Source, Items, no_items, item, Members}
 use Rattle.serde_json.specs.Find.{get, as_array, as_object}
-use Rattle.ref_paths.specs.declared.path.PathStep.{PathStep}
+use Rattle.asl_fields.specs.PathStep.{PathStep}
 use Rattle.asl_fields.specs.FieldFaults.{FieldsFault, required_text_fault}
 use Rattle.asl_fields.specs.Values.{IsPathField}
 use Rattle.asl_fields.specs.declared.fault.MachineFault.{MachineFault}

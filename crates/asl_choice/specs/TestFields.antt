@@ -2,7 +2,7 @@
 use Rattle.std.specs.Prelude.{◌≡◌, ℕ, Bool, true, false, List, [], ◌∷◌, ◌++◌, Option, None, Some, is_some, option_map, option_and_then, if◌then◌else◌, codes, ⊤}
 use Rattle.serde_json.specs.Data.{Data as Source, Items, no_items, item, Members, no_members, member}
 use Rattle.serde_json.specs.Find.{get, as_str, as_bool, as_number, as_i64, as_array, as_object}
-use Rattle.ref_paths.specs.declared.path.PathStep.{PathStep}
+use Rattle.asl_fields.specs.PathStep.{PathStep}
 use Rattle.asl_fields.specs.Fields.{is_text}
 use Rattle.asl_fields.specs.Values.{HasFields, IsPathField}
 use Rattle.asl_fields.specs.declared.fields.Place.{Place}

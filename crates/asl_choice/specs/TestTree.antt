@@ -1,6 +1,6 @@
 -- The tests of a Choice rule, as a tree.
 use Rattle.std.specs.Prelude.{ℕ, suc, max, List, [], ◌∷◌}
-use Rattle.ref_paths.specs.declared.path.PathStep.{PathStep}
+use Rattle.asl_fields.specs.PathStep.{PathStep}
 use Rattle.asl_choice.specs.declared.choice.Comparison.{Comparison}
 
 mutual

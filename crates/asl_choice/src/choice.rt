@@ -2,8 +2,8 @@
 ghost use Rattle.std.specs.Prelude.{◌≡◌};
 ghost use Rattle.asl_choice.specs.TestView.{test_of, tests_of};
 
+use asl_fields::paths::RefPath;
 use json_tree::Text;
-use ref_paths::RefPath;
 use std::marker::Model;
 
 /// How two texts, or two numbers, are to stand to each other, the one that is picked first.

@@ -8,7 +8,7 @@ use crate::choice::{Comparison, Relation, Rule, Rules, Test, Tests};
 
 impl PartialEq for Comparison {
     ghost use Rattle.std.specs.Cmp.{partial_equiv_from_equiv};
-    ghost use Rattle.ref_paths.specs.Same.{exact_equiv};
+    ghost use Rattle.asl_fields.specs.Same.{exact_equiv};
     ghost use Rattle.asl_choice.specs.Same.{same_comparison, comparison_exact};
 
     ghost eq = { same_comparison };
@@ -21,7 +21,7 @@ impl PartialEq for Comparison {
 }
 
 impl Eq for Comparison {
-    ghost use Rattle.ref_paths.specs.Same.{exact_equiv};
+    ghost use Rattle.asl_fields.specs.Same.{exact_equiv};
     ghost use Rattle.asl_choice.specs.Same.{same_comparison, comparison_exact};
 
     ghost laws = { exact_equiv same_comparison comparison_exact };
@@ -29,7 +29,7 @@ impl Eq for Comparison {
 
 impl PartialEq for Rule {
     ghost use Rattle.std.specs.Cmp.{partial_equiv_from_equiv};
-    ghost use Rattle.ref_paths.specs.Same.{exact_equiv};
+    ghost use Rattle.asl_fields.specs.Same.{exact_equiv};
     ghost use Rattle.asl_choice.specs.Same.{same_rule, rule_exact};
 
     ghost eq = { same_rule };
@@ -42,7 +42,7 @@ impl PartialEq for Rule {
 }
 
 impl Eq for Rule {
-    ghost use Rattle.ref_paths.specs.Same.{exact_equiv};
+    ghost use Rattle.asl_fields.specs.Same.{exact_equiv};
     ghost use Rattle.asl_choice.specs.Same.{same_rule, rule_exact};
 
     ghost laws = { exact_equiv same_rule rule_exact };
@@ -50,7 +50,7 @@ impl Eq for Rule {
 
 impl PartialEq for Rules {
     ghost use Rattle.std.specs.Cmp.{partial_equiv_from_equiv};
-    ghost use Rattle.ref_paths.specs.Same.{exact_equiv};
+    ghost use Rattle.asl_fields.specs.Same.{exact_equiv};
     ghost use Rattle.asl_choice.specs.Same.{same_rule, rules_exact};
     ghost use lib.Pointwise.{pointwise};
 
@@ -64,7 +64,7 @@ impl PartialEq for Rules {
 }
 
 impl Eq for Rules {
-    ghost use Rattle.ref_paths.specs.Same.{exact_equiv};
+    ghost use Rattle.asl_fields.specs.Same.{exact_equiv};
     ghost use Rattle.asl_choice.specs.Same.{same_rule, rules_exact};
     ghost use lib.Pointwise.{pointwise};
 

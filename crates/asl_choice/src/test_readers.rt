@@ -11,9 +11,9 @@ ghost use Rattle.asl_choice.specs.TestView.{test_of};
 
 use crate::choice::{Comparison, InnerTest, Test, Tests};
 use crate::kind::{ComparisonKind, comparison_named};
+use asl_fields::paths::RefPath;
 use asl_fields::{MachineFault, Place, bool_of, check_fields, integer_of, read_path, text_of};
 use json_tree::Text;
-use ref_paths::RefPath;
 use serde_json::{Map, Value};
 use std::alloc::Global;
 

@@ -2,7 +2,7 @@
 use Rattle.std.proofs.Common.{◌≡◌, ℕ, List, [], ◌∷◌, ◌++◌, Option, Some, None, sym, ap, subst, ◌∙◌, codes, option_and_then}
 use Rattle.serde_json.specs.Data.{Data as Source, Items, no_items, item}
 use Rattle.serde_json.specs.Find.{get, as_str, as_array}
-use Rattle.ref_paths.specs.declared.path.PathStep.{PathStep}
+use Rattle.asl_fields.specs.PathStep.{PathStep}
 use Rattle.asl_fields.proofs.OneField.{one_path}
 use Rattle.asl_errors.specs.ErrorFields.{NamesAre, SomeNamesAre, AreErrorNames, attempts_of, IsRetrier, IsCatcher, RetriersAre, CatchersAre, ItemsRetry, ItemsCatch, IsRetry, IsCatch, IsErrorHandling}
 use Rattle.asl_errors.specs.declared.errors.Catcher.{Catcher}

@@ -4,7 +4,7 @@ use Rattle.std.specs.Cmp.{unsigned_Decides}
 use Rattle.std.specs.Cmp.Derive.{both_true}
 use Rattle.std.specs.Option.{option_eq}
 use lib.Pointwise.{pointwise}
-use Rattle.ref_paths.specs.Same.{same_text, same_path, IsExact, exact, first_true, second_true, text_exact, path_exact, list_exact, option_exact}
+use Rattle.asl_fields.specs.Same.{same_text, same_path, IsExact, exact, first_true, second_true, text_exact, path_exact, list_exact, option_exact}
 use Rattle.asl_errors.specs.declared.errors.Catcher.{Catcher}
 use Rattle.asl_errors.specs.declared.errors.ErrorHandling.{ErrorHandling}
 use Rattle.asl_errors.specs.declared.errors.Retrier.{Retrier}

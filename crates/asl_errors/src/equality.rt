@@ -3,7 +3,7 @@ use crate::errors::{Catcher, Catchers, ErrorHandling, ErrorNames, Retrier, Retri
 
 impl PartialEq for ErrorNames {
     ghost use Rattle.std.specs.Cmp.{partial_equiv_from_equiv};
-    ghost use Rattle.ref_paths.specs.Same.{exact_equiv};
+    ghost use Rattle.asl_fields.specs.Same.{exact_equiv};
     ghost use Rattle.asl_errors.specs.Same.{same_names, names_exact};
 
     ghost eq = { same_names };
@@ -16,7 +16,7 @@ impl PartialEq for ErrorNames {
 }
 
 impl Eq for ErrorNames {
-    ghost use Rattle.ref_paths.specs.Same.{exact_equiv};
+    ghost use Rattle.asl_fields.specs.Same.{exact_equiv};
     ghost use Rattle.asl_errors.specs.Same.{same_names, names_exact};
 
     ghost laws = { exact_equiv same_names names_exact };
@@ -24,7 +24,7 @@ impl Eq for ErrorNames {
 
 impl PartialEq for Retrier {
     ghost use Rattle.std.specs.Cmp.{partial_equiv_from_equiv};
-    ghost use Rattle.ref_paths.specs.Same.{exact_equiv};
+    ghost use Rattle.asl_fields.specs.Same.{exact_equiv};
     ghost use Rattle.asl_errors.specs.Same.{same_retrier, retrier_exact};
 
     ghost eq = { same_retrier };
@@ -37,7 +37,7 @@ impl PartialEq for Retrier {
 }
 
 impl Eq for Retrier {
-    ghost use Rattle.ref_paths.specs.Same.{exact_equiv};
+    ghost use Rattle.asl_fields.specs.Same.{exact_equiv};
     ghost use Rattle.asl_errors.specs.Same.{same_retrier, retrier_exact};
 
     ghost laws = { exact_equiv same_retrier retrier_exact };
@@ -45,7 +45,7 @@ impl Eq for Retrier {
 
 impl PartialEq for Retriers {
     ghost use Rattle.std.specs.Cmp.{partial_equiv_from_equiv};
-    ghost use Rattle.ref_paths.specs.Same.{exact_equiv};
+    ghost use Rattle.asl_fields.specs.Same.{exact_equiv};
     ghost use Rattle.asl_errors.specs.Same.{same_retrier, retriers_exact};
     ghost use lib.Pointwise.{pointwise};
 
@@ -59,7 +59,7 @@ impl PartialEq for Retriers {
 }
 
 impl Eq for Retriers {
-    ghost use Rattle.ref_paths.specs.Same.{exact_equiv};
+    ghost use Rattle.asl_fields.specs.Same.{exact_equiv};
     ghost use Rattle.asl_errors.specs.Same.{same_retrier, retriers_exact};
     ghost use lib.Pointwise.{pointwise};
 
@@ -68,7 +68,7 @@ impl Eq for Retriers {
 
 impl PartialEq for Catcher {
     ghost use Rattle.std.specs.Cmp.{partial_equiv_from_equiv};
-    ghost use Rattle.ref_paths.specs.Same.{exact_equiv};
+    ghost use Rattle.asl_fields.specs.Same.{exact_equiv};
     ghost use Rattle.asl_errors.specs.Same.{same_catcher, catcher_exact};
 
     ghost eq = { same_catcher };
@@ -83,7 +83,7 @@ impl PartialEq for Catcher {
 }
 
 impl Eq for Catcher {
-    ghost use Rattle.ref_paths.specs.Same.{exact_equiv};
+    ghost use Rattle.asl_fields.specs.Same.{exact_equiv};
     ghost use Rattle.asl_errors.specs.Same.{same_catcher, catcher_exact};
 
     ghost laws = { exact_equiv same_catcher catcher_exact };
@@ -91,7 +91,7 @@ impl Eq for Catcher {
 
 impl PartialEq for Catchers {
     ghost use Rattle.std.specs.Cmp.{partial_equiv_from_equiv};
-    ghost use Rattle.ref_paths.specs.Same.{exact_equiv};
+    ghost use Rattle.asl_fields.specs.Same.{exact_equiv};
     ghost use Rattle.asl_errors.specs.Same.{same_catcher, catchers_exact};
     ghost use lib.Pointwise.{pointwise};
 
@@ -105,7 +105,7 @@ impl PartialEq for Catchers {
 }
 
 impl Eq for Catchers {
-    ghost use Rattle.ref_paths.specs.Same.{exact_equiv};
+    ghost use Rattle.asl_fields.specs.Same.{exact_equiv};
     ghost use Rattle.asl_errors.specs.Same.{same_catcher, catchers_exact};
     ghost use lib.Pointwise.{pointwise};
 
@@ -114,7 +114,7 @@ impl Eq for Catchers {
 
 impl PartialEq for ErrorHandling {
     ghost use Rattle.std.specs.Cmp.{partial_equiv_from_equiv};
-    ghost use Rattle.ref_paths.specs.Same.{exact_equiv};
+    ghost use Rattle.asl_fields.specs.Same.{exact_equiv};
     ghost use Rattle.asl_errors.specs.Same.{same_handling, handling_exact};
 
     ghost eq = { same_handling };
@@ -127,7 +127,7 @@ impl PartialEq for ErrorHandling {
 }
 
 impl Eq for ErrorHandling {
-    ghost use Rattle.ref_paths.specs.Same.{exact_equiv};
+    ghost use Rattle.asl_fields.specs.Same.{exact_equiv};
     ghost use Rattle.asl_errors.specs.Same.{same_handling, handling_exact};
 
     ghost laws = { exact_equiv same_handling handling_exact };

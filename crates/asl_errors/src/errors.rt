@@ -1,8 +1,8 @@
 // What a state does with errors (Amazon States Language, "Errors").
 ghost use Rattle.std.specs.Prelude.{◌≡◌};
 
+use asl_fields::paths::RefPath;
 use json_tree::Text;
-use ref_paths::RefPath;
 use std::marker::Model;
 
 /// Names of errors, in the order in which they stood. Contracts see their list.

@@ -1,17 +1,13 @@
 -- Which fields an object of a definition may have ("State Machine Structure", "State Types").
 use Rattle.std.specs.List.{list_any}
-use Rattle.std.specs.Prelude.{ℕ, ◌==◌, List, [], ◌∷◌, Bool, true, false, ◌&&◌, ◌||◌, if◌then◌else◌, Option, Some, None, codes}
-use lib.Pointwise.{pointwise}
+use Rattle.std.specs.Prelude.{ℕ, List, [], ◌∷◌, Bool, true, false, ◌&&◌, ◌||◌, if◌then◌else◌, Option, Some, None, codes}
+pub use Rattle.json_tree.specs.Fields.{is_text}
 use Rattle.serde_json.specs.Data.{Data, Members, no_members, member}
 use Rattle.serde_json.specs.Find.{get, as_str, as_object}
 use Rattle.asl_fields.specs.declared.fields.Standing.{Standing}
 use Rattle.asl_fields.specs.declared.fields.Standing.TheVariants.{Known, Unsupported, Unknown}
 use Rattle.asl_fields.specs.declared.fields.Place.{Place}
 use Rattle.asl_fields.specs.declared.fields.Place.TheVariants.{Top, Branch, Processor, Pass, Task, Choice, Wait, Succeed, Fail, Parallel, Map, Retrier, Catcher, Rule, Test}
-
--- whether two texts have the same bytes
-abbrev pub is_text : List ℕ → List ℕ → Bool
-is_text = pointwise ◌==◌
 
 -- the names of the fields that are read, or are stepped over unread
 abbrev pub names_at : Place → List (List ℕ)

@@ -1,19 +1,19 @@
 -- The frames with which the branches of a Parallel or a Map state begin (Amazon States Language, "Parallel State", "Map State").
 use Rattle.std.specs.Prelude.{ℕ, ◌+◌, nat_le, List, [], ◌∷◌, ◌++◌, length, Option, None, Some, Result, Ok, Err, ok_or, if◌then◌else◌, codes}
 use Rattle.json_tree.specs.Data.{Data, list, null, boolean, whole, text, fields}
-use Rattle.asl_tree.specs.Definition.{Definition}
-use Rattle.asl_states.specs.Reading.{json_of, items_in}
-use Rattle.asl_tree.specs.declared.level.Level.{Level}
-use Rattle.asl_tree.specs.declared.state.Map.{Map}
-use Rattle.asl_tree.specs.declared.state.Parallel.{Parallel}
-use Rattle.ref_paths.specs.Filling.{filled}
-use Rattle.ref_paths.specs.Picking.{pick_at}
-use Rattle.ref_paths.specs.Templates.{Payload}
-use Rattle.ref_paths.specs.declared.path.PathStep.{PathStep}
+use Rattle.asl_results.specs.Definition.{Definition}
+use Rattle.asl_processing.specs.Reading.{json_of, items_in, most_branches}
+use Rattle.asl_results.specs.Level.{Level}
+use Rattle.asl_results.specs.Map.{Map}
+use Rattle.asl_results.specs.Parallel.{Parallel}
+use Rattle.asl_processing.specs.Filling.{filled}
+use Rattle.asl_processing.specs.Picking.{pick_at}
+use Rattle.asl_processing.specs.Templates.{Payload}
+use Rattle.asl_processing.specs.PathStep.{PathStep}
 use Rattle.asl_processing.specs.Processing.{and_then, held}
-use Rattle.asl_frames.specs.Turn.{counters_at}
-use Rattle.asl_frames.specs.declared.frame.Frame.{Frame}
-use Rattle.asl_frames.specs.declared.frame.Phase.TheVariants.{Ready}
+use Rattle.asl_results.specs.Turn.{counters_at}
+use Rattle.asl_results.specs.Frame.{Frame}
+use Rattle.asl_results.specs.Phase.TheVariants.{Ready}
 
 -- the `States` object of a state's branch; a Map's one processor is branch 0
 abbrev pub inward : Level → List ℕ → ℕ → Level
@@ -69,7 +69,7 @@ element_frames s f input index (x ∷ xs) =
 
 -- a Map has at most 4,096 branches, which are counted before any of them begins
 abbrev pub counted_frames : Map → Frame → Data → Result (List Data) (List ℕ) → Result (List Frame) (List ℕ)
-counted_frames s f input (Ok xs) = if nat_le (length xs) 4096 then element_frames s f input 0 xs else Err (codes "States.Runtime")
+counted_frames s f input (Ok xs) = if nat_le (length xs) most_branches then element_frames s f input 0 xs else Err (codes "States.Runtime")
 counted_frames s f input (Err error) = Err error
 
 abbrev pub map_frames : Map → Frame → Data → Result (List Frame) (List ℕ)

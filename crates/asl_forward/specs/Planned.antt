@@ -1,9 +1,9 @@
 -- The turn of a frame that stands in a machine.
 use Rattle.std.specs.Prelude.{Bool, true, false, Option, option_map}
-use Rattle.asl_tree.specs.Definition.{Definition}
+use Rattle.asl_results.specs.Definition.{Definition}
 use Rattle.asl_forward.specs.Outcomes.{turn}
-use Rattle.asl_frames.specs.Turn.{standing}
-use Rattle.asl_frames.specs.declared.frame.Frame.{Frame}
+use Rattle.asl_results.specs.Turn.{standing}
+use Rattle.asl_results.specs.Frame.{Frame}
 use Rattle.asl_forward.specs.declared.prepared.Outcome.{Outcome}
 use Rattle.asl_forward.specs.declared.prepared.Outcome.TheVariants as outcome
 

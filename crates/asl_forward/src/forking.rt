@@ -1,20 +1,20 @@
 // The frames with which the branches of a Parallel or a Map begin ("Parallel State", "Map State").
 ghost use Rattle.std.specs.Prelude.{◌≡◌, ◌≤◌, ◌++◌, ◌∷◌, [], length, Ok, IfOk, IfErr, OnOk, Some, ok_or, option_copied, codes};
-ghost use Rattle.json_tree.specs.Data.{depth as nesting};
+ghost use Rattle.json_tree.specs.Data.{depth as nesting, most_levels};
 ghost use Rattle.json_tree.specs.View.{data_of};
 ghost use Rattle.asl_processing.specs.Errors.{Tells};
 ghost use Rattle.asl_forward.specs.Forks.{inward, branch_frame, frames_from, parallel_frames, elements, element_input, element_frames, map_frames};
 ghost use Rattle.asl_forward.specs.Outcomes.{fork_of};
 ghost use Rattle.asl_processing.specs.Processing.{held, effective};
-ghost use Rattle.asl_frames.specs.Turn.{counters_at};
+ghost use Rattle.asl_results.specs.Turn.{counters_at};
 
 use crate::frames::Frames;
-use asl_frames::{
+use asl_processing::paths::{FillFault, RefPath, Template};
+use asl_results::frame_turns::{
     Frame, LEVELS, Phase, Retries, StateError, TurnFault, counters_at, effective_input, held,
 };
-use asl_tree::{Branches, Level, Machine, Map, Parallel};
+use asl_results::machine_tree::{Branches, Level, Machine, Map, Parallel};
 use json_tree::{Json, JsonList, Text, depth};
-use ref_paths::{FillFault, RefPath, Template};
 use std::alloc::{AllocError, Global};
 
 /// The branches that a Map may have.
@@ -102,7 +102,7 @@ fn begin_branches(
     frame: &Frame,
     input: &Json,
 ) -> Result<Frames, AllocError>
-    requires { nesting (data_of input.now) ≤ 127 }
+    requires { nesting (data_of input.now) ≤ most_levels }
     ensures { IfOk result (λ fs. frames_from frame.now 0 branches.now (data_of input.now) ≡ Ok fs) }
 {
     let mut frames = Frames::new(alloc);

@@ -7,7 +7,9 @@ mod outcomes;
 mod prepared;
 mod work;
 
-pub use asl_frames::{Fault, Frame, Origin, Phase, Retries, first_frame, next_frame, standing};
+pub use asl_results::frame_turns::{
+    Fault, Frame, Origin, Phase, Retries, first_frame, next_frame, standing,
+};
 pub use asl_results::{after_branch, after_error, joined, work_of};
 pub use frames::Frames;
 pub use prepared::{Outcome, Prepared, prepare};

@@ -2,21 +2,22 @@
 ghost use Rattle.std.specs.Prelude.{◌≡◌, ◌+◌, ◌^◌, ◌<◌, List, ℕ, length, Result, IfOk, IfErr};
 ghost use Rattle.json_tree.specs.View.{data_of};
 ghost use Rattle.item_store.specs.Calls.{call_of};
+ghost use Rattle.item_store.specs.Faults.{validation};
 ghost use Rattle.asl_processing.specs.Errors.{Tells};
 ghost use Rattle.asl_forward.specs.Outcomes.{action_of, asks, fails, forks, parks, task_turn, turn};
 ghost use Rattle.asl_processing.specs.Processing.{effective};
-ghost use Rattle.asl_frames.specs.declared.frame.Frame.{Frame};
+ghost use Rattle.asl_results.specs.Frame.{Frame};
 
 use crate::forking::{count_of, fork_map, fork_parallel};
 use crate::frames::Frames;
 use crate::prepared::Outcome;
-use asl_errors::ErrorHandling;
-use asl_frames::{
+use asl_processing::error_handling::ErrorHandling;
+use asl_processing::state_parts::{Resource, Task};
+use asl_results::frame_turns::{
     Fault, Frame, Phase, TurnFault, effective_input, next_frame, own_fault, with_phase,
 };
+use asl_results::machine_tree::{Machine, State};
 use asl_results::{call_fault, handle};
-use asl_states::{Resource, Task};
-use asl_tree::{Machine, State};
 use item_store::{Action, Call, CallFault};
 use json_tree::{Json, Text};
 use std::alloc::{AllocError, Global};
@@ -45,6 +46,16 @@ fn fails(
     Ok(Outcome::Next(handle(alloc, level, errors, frame, fault)?))
 }
 
+/// The error that the table tells of a call that is malformed.
+fn malformed(alloc: Global) -> Result<Text, AllocError>
+    ensures { IfOk result (λ error. error ≡ validation) }
+{
+    match CallFault::Malformed.error_name() {
+        Some(name) => Text::new(alloc, name),
+        None => Err(AllocError),
+    }
+}
+
 /// The call that the effective input is; one that is malformed is refused at once.
 fn asks(
     alloc: Global,
@@ -62,8 +73,7 @@ fn asks(
         Ok(call) => Ok(Outcome::Call(call)),
         Err(CallFault::Memory) => Err(AllocError),
         Err(_malformed) => {
-            let error = Text::new(alloc, "DynamoDB.ValidationException")?;
-            let fault = call_fault(alloc, error)?;
+            let fault = call_fault(alloc, malformed(alloc)?)?;
             fails(alloc, level, &task.errors, frame, fault)
         }
     }

@@ -3,11 +3,11 @@ ghost use Rattle.std.specs.Prelude.{◌≡◌, Some, IfOk, IsTrue};
 ghost use Rattle.item_store.specs.Deciding.{reply_of};
 ghost use Rattle.asl_results.specs.Results.{Work, work_of, after_answer};
 ghost use Rattle.asl_forward.specs.Planned.{asks_table};
-ghost use Rattle.asl_frames.specs.Turn.{Standing, standing};
+ghost use Rattle.asl_results.specs.Turn.{Standing, standing};
 
 use crate::prepared::Prepared;
-use asl_frames::{Frame, standing};
 use asl_results::after_answer;
+use asl_results::frame_turns::{Frame, standing};
 use item_store::Answer;
 use std::alloc::{AllocError, Global};
 

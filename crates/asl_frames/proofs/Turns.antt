@@ -7,12 +7,12 @@ use Rattle.asl_tree.specs.Complete.{IsState, LeadsInto, StaysInside}
 use Rattle.asl_tree.specs.Definition.{Definition}
 use Rattle.asl_tree.specs.declared.state.State.{State}
 use Rattle.asl_tree.specs.declared.state.State.TheVariants.{Pass, Task, Choice as ChoiceState, Wait, Succeed, Fail, Parallel, Map}
-use Rattle.asl_states.specs.declared.state.Transition.{Transition}
-use Rattle.asl_states.specs.declared.state.Transition.TheVariants.{Next, End}
-use Rattle.asl_choice.specs.TestView.{test_of}
-use Rattle.asl_choice.specs.declared.choice.Rule.{Rule}
-use Rattle.asl_states.specs.declared.state.Choice.{Choice}
-use Rattle.asl_choice.specs.Holding.{holds, first_rule}
+use Rattle.asl_processing.specs.Transition.{Transition}
+use Rattle.asl_processing.specs.Transition.TheVariants.{Next, End}
+use Rattle.asl_processing.specs.TestView.{test_of}
+use Rattle.asl_processing.specs.Rule.{Rule}
+use Rattle.asl_processing.specs.Choice.{Choice}
+use Rattle.asl_processing.specs.Holding.{holds, first_rule}
 use Rattle.asl_processing.specs.Choosing.{or_default, goes_to, chosen}
 use Rattle.asl_processing.specs.Processing.{effective, passed_on}
 use Rattle.asl_frames.specs.Turn.{ends, has_failed, own_fault, goes_where, choice_frame, next_frame, pass_output, idle_output}

@@ -6,16 +6,16 @@ use Rattle.json_tree.specs.declared.tree.Json.{Json}
 use Rattle.asl_tree.specs.Complete.{state_of}
 use Rattle.asl_tree.specs.Definition.{Definition}
 use Rattle.asl_tree.specs.Find.{machine_at}
-use Rattle.asl_states.specs.Reading.{json_of}
-use Rattle.asl_errors.specs.declared.errors.Retrier.{Retrier}
-use Rattle.asl_states.specs.declared.state.Choice.{Choice}
-use Rattle.asl_states.specs.declared.state.Fail.{Fail}
-use Rattle.asl_states.specs.declared.state.Pass.{Pass}
-use Rattle.asl_states.specs.declared.state.Processing.{Processing}
+use Rattle.asl_processing.specs.Reading.{json_of}
+use Rattle.asl_processing.specs.Retrier.{Retrier}
+use Rattle.asl_processing.specs.Choice.{Choice}
+use Rattle.asl_processing.specs.Fail.{Fail}
+use Rattle.asl_processing.specs.Pass.{Pass}
+use Rattle.asl_processing.specs.StateProcessing.{Processing}
 use Rattle.asl_tree.specs.declared.state.State.{State}
 use Rattle.asl_tree.specs.declared.state.State.TheVariants as state
-use Rattle.asl_states.specs.declared.state.Transition.{Transition}
-use Rattle.asl_states.specs.declared.state.Transition.TheVariants.{Next, End}
+use Rattle.asl_processing.specs.Transition.{Transition}
+use Rattle.asl_processing.specs.Transition.TheVariants.{Next, End}
 use Rattle.asl_processing.specs.Choosing.{chosen}
 use Rattle.asl_processing.specs.Processing.{and_then, effective, passed_on}
 use Rattle.asl_frames.specs.declared.frame.Fault.{Fault}

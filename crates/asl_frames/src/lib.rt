@@ -5,8 +5,10 @@ mod frame;
 mod turn;
 
 pub use asl_processing::{
-    LEVELS, StateError, TurnFault, effective_input, held, output_of, place_held,
+    LEVELS, StateError, TurnFault, effective_input, error_handling as error_handling, held,
+    output_of, place_held, state_parts as state_parts,
 };
+pub use asl_tree as machine_tree;
 pub use frame::{Fault, Frame, Origin, Phase, Retries};
 pub use turn::{
     counters_at, enter, failed, first_frame, go_on, next_frame, own_fault, same_place, standing,

@@ -9,9 +9,9 @@ ghost use Rattle.asl_processing.specs.Choosing.{chosen};
 ghost use Rattle.asl_processing.specs.Processing.{effective};
 
 use crate::frame::{Fault, Frame, Origin, Phase, Retries};
-use asl_errors::Retrier;
+use asl_processing::error_handling::Retrier;
+use asl_processing::state_parts::{Choice, Fail, Pass, Processing, Transition};
 use asl_processing::{StateError, TurnFault, choose, effective_input, output_of};
-use asl_states::{Choice, Fail, Pass, Processing, Transition};
 use asl_tree::{Level, LevelPath, Machine, State};
 use json_tree::{Json, Text};
 use std::alloc::{AllocError, Global};

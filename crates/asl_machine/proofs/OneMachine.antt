@@ -10,7 +10,7 @@ use Rattle.ref_paths.specs.declared.path.PathStep.{PathStep}
 use Rattle.asl_fields.proofs.OneField.{one_path, one_template}
 use Rattle.asl_fields.specs.declared.fields.Place.{Place}
 use Rattle.asl_fields.specs.declared.fields.Place.TheVariants as at
-use Rattle.asl_errors.specs.declared.errors.ErrorHandling.{ErrorHandling}
+use Rattle.asl_states.specs.ErrorHandling.{ErrorHandling}
 use Rattle.asl_tree.specs.Definition.{StateTree, Definition}
 use Rattle.asl_states.specs.Profile.{IsPass, IsWait, IsSucceed, IsFail, IsTask, IsChoice}
 use Rattle.asl_machine.specs.Profile.{BranchesAre, ListedBranches, IsParallel, IsProcessor, NamedProcessor, IsMap, IsPassState, IsWaitState, IsSucceedState, IsFailState, IsTaskState, IsChoiceState, IsParallelState, IsMapState, IsOfKind, kind_of, IsState, StatesAre, MembersAre, states_in, MachineOver, StatesWithin, Defines}

@@ -10,7 +10,7 @@ use Rattle.asl_fields.specs.declared.fields.Place.TheVariants as at
 use Rattle.asl_tree.specs.Definition.{StateTree}
 use Rattle.asl_states.specs.Profile.{kind_named}
 use Rattle.asl_machine.specs.Profile.{MembersAre, StatesWithin, start_in, states_in}
-use Rattle.asl_states.specs.Reading.{config_fault, concurrency_fault, name_of_two, count_items}
+use Rattle.asl_states.specs.Reading.{config_fault, concurrency_fault, name_of_two, count_items, most_branches}
 use Rattle.asl_tree.specs.Targets.{target_fault}
 use Rattle.asl_states.specs.declared.kind.StateKind.{StateKind}
 use Rattle.asl_states.specs.declared.kind.StateKind.TheVariants as kind
@@ -28,7 +28,7 @@ BranchesFault F (item d ds) e = BranchFault F d (as_object d) e ⊎ BranchesFaul
 
 abbrev pub ListedBranchesFault : (Place → Source → MachineFault → Type 0) → Option Items → MachineFault → Type 0
 ListedBranchesFault F None e = e ≡ BadField (codes "Branches")
-ListedBranchesFault F (Some ds) e = BranchesFault F ds e ⊎ ((e ≡ BadField (codes "Branches")) × (4096 < count_items ds))
+ListedBranchesFault F (Some ds) e = BranchesFault F ds e ⊎ ((e ≡ BadField (codes "Branches")) × (most_branches < count_items ds))
 
 abbrev pub BranchesFieldFault : (Place → Source → MachineFault → Type 0) → Option Source → MachineFault → Type 0
 BranchesFieldFault F None e = e ≡ Missing (codes "Branches")

@@ -9,7 +9,7 @@ use Rattle.asl_fields.specs.Values.{HasFields, IsPathField}
 use Rattle.asl_fields.specs.declared.fields.Place.{Place}
 use Rattle.asl_fields.specs.declared.fields.Place.TheVariants as at
 use Rattle.asl_tree.specs.Definition.{StateTree, Definition}
-use Rattle.asl_states.specs.Reading.{config_fault, concurrency_fault, name_of_two, count_items}
+use Rattle.asl_states.specs.Reading.{config_fault, concurrency_fault, name_of_two, count_items, most_branches}
 use Rattle.asl_tree.specs.Targets.{target_fault}
 use Rattle.asl_tree.specs.TreeView.{tree_of}
 use Rattle.asl_states.specs.declared.kind.StateKind.{StateKind}
@@ -35,7 +35,7 @@ BranchesAre P (item d ds) before ms = (m : Definition) × P at.Branch d m × Bra
 -- at most 4,096
 abbrev pub ListedBranches : (Place → Source → Definition → Type 0) → Option Items → List Definition → Type 0
 ListedBranches P None ms = ⊥
-ListedBranches P (Some ds) ms = BranchesAre P ds [] ms × (count_items ds ≤ 4096)
+ListedBranches P (Some ds) ms = BranchesAre P ds [] ms × (count_items ds ≤ most_branches)
 
 abbrev pub IsParallel : (Place → Source → Definition → Type 0) → Source → Parallel → Type 0
 IsParallel P d s =

@@ -1,8 +1,8 @@
 -- Where a Choice state goes (Amazon States Language, "Choice State"): to the state of its first rule whose test holds.
 use Rattle.std.specs.Prelude.{ℕ, List, Option, Some, None, Result, Ok, Err, codes}
 use Rattle.json_tree.specs.Data.{Data}
-use Rattle.asl_choice.specs.Holding.{first_rule}
-use Rattle.asl_choice.specs.declared.choice.Rule.{Rule}
+use Rattle.asl_states.specs.Holding.{first_rule}
+use Rattle.asl_states.specs.Rule.{Rule}
 
 abbrev pub or_default : Option (List ℕ) → Option (List ℕ) → Result (List ℕ) (List ℕ)
 or_default (Some name) default = Ok name

@@ -2,12 +2,12 @@
 -- InputPath, Parameters, the state's work, ResultSelector, ResultPath, OutputPath, one after another. The first of them that
 -- fails gives the name of an error.
 use Rattle.std.specs.Prelude.{ℕ, List, Option, Some, None, Result, Ok, Err, ok_or, nat_le, if◌then◌else◌, codes}
-use Rattle.json_tree.specs.Data.{Data, fields, no_members, depth}
-use Rattle.ref_paths.specs.Filling.{filled}
-use Rattle.ref_paths.specs.Picking.{pick_at}
-use Rattle.ref_paths.specs.Placing.{place_at}
-use Rattle.ref_paths.specs.Templates.{Payload}
-use Rattle.ref_paths.specs.declared.path.PathStep.{PathStep}
+use Rattle.json_tree.specs.Data.{Data, fields, no_members, depth, most_levels}
+use Rattle.asl_states.specs.Filling.{filled}
+use Rattle.asl_states.specs.Picking.{pick_at}
+use Rattle.asl_states.specs.Placing.{place_at}
+use Rattle.asl_states.specs.Templates.{Payload}
+use Rattle.asl_states.specs.PathStep.{PathStep}
 use Rattle.asl_states.specs.declared.state.Processing.{Processing}
 
 -- what follows, unless an error came before
@@ -32,7 +32,7 @@ placed_in (Some path) raw result = ok_or (place_at path result raw) (codes "Stat
 
 -- a frame holds values of at most 127 levels
 abbrev pub held : Data → Result Data (List ℕ)
-held d = if nat_le (depth d) 127 then Ok d else Err (codes "States.Runtime")
+held d = if nat_le (depth d) most_levels then Ok d else Err (codes "States.Runtime")
 
 -- what a state works on
 abbrev pub effective : Processing → Data → Result Data (List ℕ)

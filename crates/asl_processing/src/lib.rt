@@ -5,6 +5,8 @@ mod choosing;
 mod error;
 mod processing;
 
+pub use asl_states as state_parts;
+pub use asl_states::{error_handling as error_handling, paths as paths};
 pub use choosing::choose;
 pub use error::{StateError, TurnFault};
 pub use processing::{LEVELS, effective_input, held, output_of, place_held};

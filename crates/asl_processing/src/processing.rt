@@ -7,8 +7,8 @@ ghost use Rattle.asl_processing.specs.Processing.{and_then, picked, filled_from,
 
 use crate::error::{StateError, TurnFault};
 use asl_states::Processing;
+use asl_states::paths::{FillFault, PickRefusal, RefPath, Template, pick_placed};
 use json_tree::{Json, JsonFields, depth};
-use ref_paths::{FillFault, PickRefusal, RefPath, Template, pick_placed};
 use std::alloc::Global;
 
 /// The levels that a value in a frame may have.

@@ -1,1 +1,2 @@
 pub mod NextFrames
+pub use Rattle.asl_frames.proofs.Turns

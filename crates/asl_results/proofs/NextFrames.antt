@@ -4,16 +4,16 @@ use Rattle.std.specs.List.{AllByRecursion, find}
 use Rattle.json_tree.specs.Data.{Data, list, items_of}
 use Rattle.json_tree.specs.View.{data_of}
 use Rattle.item_store.specs.Deciding.{Reply, given, refused}
-use Rattle.asl_errors.specs.declared.errors.Catcher.{Catcher}
-use Rattle.asl_errors.specs.declared.errors.ErrorHandling.{ErrorHandling}
-use Rattle.asl_tree.specs.Complete.{IsState, LeadsInto, StaysInside}
-use Rattle.asl_tree.specs.Definition.{StateTree, Definition}
-use Rattle.asl_tree.specs.declared.state.State.{State}
-use Rattle.asl_tree.specs.declared.state.State.TheVariants as state
-use Rattle.asl_states.specs.declared.state.Transition.TheVariants.{Next}
+use Rattle.asl_frames.specs.Catcher.{Catcher}
+use Rattle.asl_frames.specs.ErrorHandling.{ErrorHandling}
+use Rattle.asl_frames.specs.Complete.{IsState, LeadsInto, StaysInside}
+use Rattle.asl_frames.specs.Definition.{StateTree, Definition}
+use Rattle.asl_frames.specs.State.{State}
+use Rattle.asl_frames.specs.State.TheVariants as state
+use Rattle.asl_frames.specs.Transition.TheVariants.{Next}
 use Rattle.asl_results.specs.Handling.{stand_for, retried, catcher_for, error_object}
 use Rattle.asl_results.specs.Results.{tries_again, on_catch, on_retry, handled, errors_of, after_error, taken_by, after_branch, call_fault, Work, work_of, comes_to, after_result, after_answer, after_join}
-use Rattle.asl_processing.specs.Processing.{and_then, held, passed_on, placed_in}
+use Rattle.asl_frames.specs.Processing.{and_then, held, passed_on, placed_in}
 use Rattle.asl_frames.specs.Turn.{Standing, ends, go_on, has_failed, own_fault}
 use Rattle.asl_frames.specs.declared.frame.Fault.{Fault}
 use Rattle.asl_frames.specs.declared.frame.Frame.{Frame}

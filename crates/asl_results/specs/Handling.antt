@@ -3,9 +3,9 @@
 use Rattle.std.specs.Prelude.{ℕ, nat_lt, List, Bool, true, false, ◌&&◌, ◌||◌, not, if◌then◌else◌, Option, Some, None, slice_get, option_and_then, codes}
 use Rattle.std.specs.List.{list_any, position, find}
 use Rattle.json_tree.specs.Data.{Data, text, fields, no_members, member}
-use Rattle.asl_fields.specs.Fields.{is_text}
-use Rattle.asl_errors.specs.declared.errors.Retrier.{Retrier}
-use Rattle.asl_errors.specs.declared.errors.Catcher.{Catcher}
+use Rattle.asl_frames.specs.Fields.{is_text}
+use Rattle.asl_frames.specs.Retrier.{Retrier}
+use Rattle.asl_frames.specs.Catcher.{Catcher}
 use Rattle.asl_frames.specs.declared.frame.Fault.{Fault}
 use Rattle.asl_frames.specs.declared.frame.Origin.{Origin}
 use Rattle.asl_frames.specs.declared.frame.Origin.TheVariants.{Call, Branch, Other}

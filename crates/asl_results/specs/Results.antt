@@ -4,16 +4,16 @@ use Rattle.std.specs.Prelude.{ℕ, ◌+◌, List, [], Option, None, Some, option
 use Rattle.json_tree.specs.Data.{Data, list, items_of}
 use Rattle.json_tree.specs.View.{data_of}
 use Rattle.item_store.specs.Deciding.{Reply, given, refused}
-use Rattle.asl_errors.specs.declared.errors.Catcher.{Catcher}
-use Rattle.asl_errors.specs.declared.errors.ErrorHandling.{ErrorHandling}
-use Rattle.asl_tree.specs.Definition.{Definition}
-use Rattle.asl_states.specs.declared.state.Processing.{Processing}
-use Rattle.asl_tree.specs.declared.state.State.{State}
-use Rattle.asl_tree.specs.declared.state.State.TheVariants as state
-use Rattle.asl_states.specs.declared.state.Transition.{Transition}
-use Rattle.asl_states.specs.declared.state.Transition.TheVariants.{Next}
+use Rattle.asl_frames.specs.Catcher.{Catcher}
+use Rattle.asl_frames.specs.ErrorHandling.{ErrorHandling}
+use Rattle.asl_frames.specs.Definition.{Definition}
+use Rattle.asl_frames.specs.StateProcessing.{Processing}
+use Rattle.asl_frames.specs.State.{State}
+use Rattle.asl_frames.specs.State.TheVariants as state
+use Rattle.asl_frames.specs.Transition.{Transition}
+use Rattle.asl_frames.specs.Transition.TheVariants.{Next}
 use Rattle.asl_results.specs.Handling.{retried, catcher_for, error_object}
-use Rattle.asl_processing.specs.Processing.{and_then, held, passed_on, placed_in}
+use Rattle.asl_frames.specs.Processing.{and_then, held, passed_on, placed_in}
 use Rattle.asl_frames.specs.Turn.{Standing, standing, ends, go_on, has_failed, own_fault}
 use Rattle.asl_frames.specs.declared.frame.Fault.{Fault}
 use Rattle.asl_frames.specs.declared.frame.Frame.{Frame}

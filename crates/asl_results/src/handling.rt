@@ -1,18 +1,18 @@
 // What a state does with an error ("Errors").
 ghost use Rattle.std.specs.Prelude.{◌≡◌, ◌+◌, ◌^◌, ◌<◌, nat_lt, true, Some, IfOk, IsSome, IfSome, option_copied};
 ghost use Rattle.std.specs.List.{list_any, position};
-ghost use Rattle.asl_errors.specs.declared.errors.Retrier.{Retrier};
+ghost use Rattle.asl_frames.specs.Retrier.{Retrier};
 ghost use Rattle.json_tree.specs.View.{data_of};
 ghost use Rattle.asl_results.specs.Handling.{is_call, is_branch, means, stand_for, may_try, retried, catcher_for, error_object};
 ghost use Rattle.asl_results.specs.Results.{tries_again, on_catch, handled, after_error, taken_by, after_branch};
 ghost use Rattle.asl_frames.specs.Turn.{Standing, standing};
 
-use asl_errors::{Catcher, Catchers, ErrorHandling, ErrorNames, Retrier, Retriers};
+use asl_frames::error_handling::{Catcher, Catchers, ErrorHandling, ErrorNames, Retrier, Retriers};
+use asl_frames::machine_tree::{Machine, State};
 use asl_frames::{
     Fault, Frame, Origin, Phase, Retries, TurnFault, enter, failed, own_fault, place_held,
     same_place, standing,
 };
-use asl_tree::{Machine, State};
 use json_tree::{Json, JsonFields, Text};
 use std::alloc::{AllocError, Global};
 

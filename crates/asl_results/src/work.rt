@@ -6,10 +6,10 @@ ghost use Rattle.asl_results.specs.Results.{Work, work_of, work_at, handled, cal
 ghost use Rattle.asl_frames.specs.Turn.{Standing, standing};
 
 use crate::handling::handle;
-use asl_errors::ErrorHandling;
+use asl_frames::error_handling::ErrorHandling;
+use asl_frames::machine_tree::{Machine, State};
+use asl_frames::state_parts::{Processing, Transition};
 use asl_frames::{Fault, Frame, Origin, TurnFault, go_on, output_of, own_fault, standing};
-use asl_states::{Processing, Transition};
-use asl_tree::{Machine, State};
 use item_store::Answer;
 use json_tree::{Json, JsonList, Text};
 use std::alloc::{AllocError, Global};

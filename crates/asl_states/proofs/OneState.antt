@@ -3,9 +3,9 @@ use Rattle.std.proofs.Common.{◌≡◌, ℕ, List, Option, Some, None, false, t
 use Rattle.serde_json.specs.Data.{Data as Source}
 use Rattle.serde_json.specs.Find.{get}
 use Rattle.json_tree.specs.declared.tree.Json.{Json}
-use Rattle.ref_paths.specs.Templates.{Payload}
-use Rattle.ref_paths.specs.declared.path.PathStep.{PathStep}
-use Rattle.asl_fields.proofs.OneField.{one_path, one_template}
+use Rattle.asl_choice.specs.Templates.{Payload}
+use Rattle.asl_choice.specs.PathStep.{PathStep}
+use Rattle.asl_choice.proofs.OneField.{one_path, one_template}
 use Rattle.asl_choice.proofs.OneTest.{rules_are_one}
 use Rattle.asl_choice.specs.declared.choice.Rule.{Rule}
 use Rattle.asl_errors.proofs.OneErrors.{one_error_handling}

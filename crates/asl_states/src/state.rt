@@ -1,8 +1,8 @@
 // What all states are made of, and the states that hold no machines (Amazon States Language, "State Types").
 use asl_choice::Rules;
+use asl_choice::paths::{RefPath, Template};
 use asl_errors::ErrorHandling;
 use json_tree::{Json, Text};
-use ref_paths::{RefPath, Template};
 
 /// Where the execution goes after a state ("Transitions").
 #[derive(Debug, Drop)]

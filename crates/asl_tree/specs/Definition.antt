@@ -1,8 +1,8 @@
 -- Machines and their states, as trees: a state's branches and its processor are machines in it.
 use Rattle.std.specs.Prelude.{ℕ, suc, max, List, [], ◌∷◌, Option}
-use Rattle.ref_paths.specs.Templates.{Payload}
-use Rattle.ref_paths.specs.declared.path.PathStep.{PathStep}
-use Rattle.asl_errors.specs.declared.errors.ErrorHandling.{ErrorHandling}
+use Rattle.asl_states.specs.Templates.{Payload}
+use Rattle.asl_states.specs.PathStep.{PathStep}
+use Rattle.asl_states.specs.ErrorHandling.{ErrorHandling}
 use Rattle.asl_states.specs.declared.state.Choice.{Choice}
 use Rattle.asl_states.specs.declared.state.Fail.{Fail}
 use Rattle.asl_states.specs.declared.state.Pass.{Pass}

@@ -1,5 +1,5 @@
 -- Laws of machines.
-use Rattle.ref_paths.specs.Same.{IsExact}
+use Rattle.asl_states.specs.PathSame.{IsExact}
 use Rattle.asl_tree.specs.Same.{same_definition}
 
 -- what `==` says of machines holds exactly where they are one

@@ -3,8 +3,8 @@ use Rattle.std.specs.Prelude.{◌≡◌, ℕ, Bool, true, false, ◌&&◌, List,
 use Rattle.std.proofs.Common.{ap, sym, ◌∙◌}
 use Rattle.std.specs.Cmp.Derive.{both_true}
 use Rattle.std.specs.Option.{option_eq}
-use Rattle.ref_paths.specs.Same.{same_text, same_path, same_payload, IsExact, exact, first_true, second_true, text_exact, path_exact, payload_exact, option_exact}
-use Rattle.asl_errors.specs.Same.{same_handling, handling_exact}
+use Rattle.asl_states.specs.PathSame.{same_text, same_path, same_payload, IsExact, exact, first_true, second_true, text_exact, path_exact, payload_exact, option_exact}
+use Rattle.asl_states.specs.ErrorSame.{same_handling, handling_exact}
 use Rattle.asl_tree.specs.Definition.{StateTree, pass, task, choice, wait, succeed, fail, parallel, map_over, MachineTree, machine, MachineTrees, no_machines, branch, NamedStates, no_states, named, Definition, states_in, named_states, definition_in, machine_tree}
 use Rattle.asl_states.specs.Same.{same_transition, same_processing, same_pass, same_task, same_choice, same_wait, same_succeed, same_fail, transition_exact, processing_exact, pass_exact, task_exact, choice_exact, wait_exact, succeed_exact, fail_exact}
 

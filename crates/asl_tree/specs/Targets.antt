@@ -3,10 +3,10 @@ use Rattle.std.specs.Prelude.{ℕ, List, [], ◌∷◌, Bool, Option, Some, None
 use Rattle.asl_tree.specs.Complete.{state_of}
 use Rattle.asl_tree.specs.Definition.{StateTree}
 use Rattle.asl_tree.specs.TreeView.{state_in}
-use Rattle.asl_choice.specs.declared.choice.Rule.{Rule}
-use Rattle.asl_errors.specs.declared.errors.Catcher.{Catcher}
-use Rattle.asl_fields.specs.declared.fault.MachineFault.{MachineFault}
-use Rattle.asl_fields.specs.declared.fault.MachineFault.TheVariants.{NoTarget}
+use Rattle.asl_states.specs.Rule.{Rule}
+use Rattle.asl_states.specs.Catcher.{Catcher}
+use Rattle.asl_states.specs.MachineFault.{MachineFault}
+use Rattle.asl_states.specs.MachineFault.TheVariants.{NoTarget}
 use Rattle.asl_tree.specs.declared.state.State.{State}
 use Rattle.asl_tree.specs.declared.state.State.TheVariants.{Pass, Task, Choice, Wait, Succeed, Fail, Parallel, Map}
 use Rattle.asl_states.specs.declared.state.Transition.{Transition}

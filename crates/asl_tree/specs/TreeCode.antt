@@ -3,10 +3,10 @@ use base.Stored.{Gv, gnil, gnum, gcons}
 use Rattle.std.specs.Prelude.{◌≡◌, ℕ, List, [], ◌∷◌, Option, refl}
 use Rattle.std.specs.Coded.{Coded, coded_ℕ, coded_list, coded_option, coded×, code_by}
 use Rattle.std.proofs.Common.{ap, ap₂}
-use Rattle.ref_paths.specs.PayloadCode.{payload_code, steps_code}
-use Rattle.ref_paths.specs.Templates.{Payload}
+use Rattle.asl_states.specs.PayloadCode.{payload_code, steps_code}
+use Rattle.asl_states.specs.Templates.{Payload}
 use Rattle.asl_tree.specs.Definition.{StateTree, pass, task, choice, wait, succeed, fail, parallel, map_over, MachineTree, machine, MachineTrees, no_machines, branch, NamedStates, no_states, named, Definition}
-use Rattle.asl_errors.specs.contracts.errors.ErrorHandling as error_handling
+use Rattle.asl_states.specs.ErrorHandlingContract as error_handling
 use Rattle.asl_states.specs.contracts.state.Choice as choice_state
 use Rattle.asl_states.specs.contracts.state.Fail as fail_state
 use Rattle.asl_states.specs.contracts.state.Pass as pass_state

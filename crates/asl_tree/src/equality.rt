@@ -8,7 +8,7 @@ use crate::state::{Branches, Machine, Map, Parallel, State, States};
 
 impl PartialEq for Machine {
     ghost use Rattle.std.specs.Cmp.{partial_equiv_from_equiv};
-    ghost use Rattle.ref_paths.specs.Same.{exact_equiv};
+    ghost use Rattle.asl_states.specs.PathSame.{exact_equiv};
     ghost use Rattle.asl_tree.specs.Same.{same_definition, definition_exact};
 
     ghost eq = { same_definition };
@@ -21,7 +21,7 @@ impl PartialEq for Machine {
 }
 
 impl Eq for Machine {
-    ghost use Rattle.ref_paths.specs.Same.{exact_equiv};
+    ghost use Rattle.asl_states.specs.PathSame.{exact_equiv};
     ghost use Rattle.asl_tree.specs.Same.{same_definition, definition_exact};
 
     ghost laws = { exact_equiv same_definition definition_exact };

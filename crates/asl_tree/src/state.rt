@@ -1,10 +1,10 @@
 // The states of a machine (Amazon States Language, "States"), and the machine that holds them.
 ghost use Rattle.std.specs.Prelude.{◌≡◌, length, option_copied, slice_get};
 
-use asl_errors::ErrorHandling;
+use asl_states::error_handling::ErrorHandling;
+use asl_states::paths::{RefPath, Template};
 use asl_states::{Choice, Fail, Pass, Processing, Succeed, Task, Transition, Wait};
 use json_tree::Text;
-use ref_paths::{RefPath, Template};
 use std::collections::BTreeMap;
 use std::marker::Model;
 

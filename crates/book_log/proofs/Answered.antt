@@ -7,14 +7,13 @@ use Rattle.trace_theory.specs.Traces.{In, IsFree}
 use Rattle.trace_theory.proofs.Lists.{by_bool, here, place, In-front}
 use Rattle.trace_theory.proofs.Least.{not_in_front, Once}
 use Rattle.trace_theory.proofs.Records.{free_record, record_free}
-use Rattle.saved_steps.specs.Steps.{name_of}
-use Rattle.saved_steps.specs.World.{Setting, World, is_same_step}
-use Rattle.saved_steps.specs.declared.fact.Fact.{Fact}
+use Rattle.depends.specs.Steps.{name_of}
+use Rattle.depends.specs.World.{Setting, World, is_same_step}
+use Rattle.depends.specs.Fact.{Fact}
 use Rattle.depends.specs.Dependence.{depends_directly}
-use Rattle.depends.specs.Instance.{steps}
+use Rattle.depends.specs.Instance.{Past, steps}
 use Rattle.depends.specs.Laws.{facts_of}
 use Rattle.depends.proofs.Named.{steps_have_names}
-use Rattle.step_history.specs.History.{Past}
 use Rattle.book_log.specs.Answers.{from_step, free_answer, found_answer, undo_answer}
 use Rattle.book_log.specs.Story.{Story, base_of, past_of}
 use Rattle.book_log.proofs.Standing.{StandsAt, step_same, step_itself, no_frames, past_there, is_run, fact_named}

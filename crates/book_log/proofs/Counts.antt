@@ -12,11 +12,10 @@ use Rattle.trace_theory.proofs.Least.{Once, at_place, without_one, least_of, Onc
 use Rattle.trace_theory.proofs.Orders.{without_none, without_more, without_alike, after_allowed}
 use Rattle.trace_theory.proofs.Arranged.{length-middle}
 use Rattle.trace_theory.proofs.Records.{names-without}
-use Rattle.saved_steps.specs.Steps.{Step, started, moved, start_name}
-use Rattle.saved_steps.specs.World.{Setting, World}
-use Rattle.depends.specs.Instance.{steps}
+use Rattle.depends.specs.Steps.{Step, started, moved, start_name}
+use Rattle.depends.specs.World.{Setting, World}
+use Rattle.depends.specs.Instance.{Past, steps}
 use Rattle.depends.proofs.Named.{steps_have_names}
-use Rattle.step_history.specs.History.{Past}
 use Rattle.book_log.specs.Answers.{is_full_for_step, is_full_for_define, undo_answer, plan_answer, defines}
 use Rattle.book_log.specs.Laws.{LegalLogsHaveRoom}
 use Rattle.book_log.specs.Legal.{IsAccepted, IsLegal}

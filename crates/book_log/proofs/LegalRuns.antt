@@ -6,12 +6,11 @@ use Rattle.item_store.specs.Table.{Table}
 use Rattle.step_names.specs.declared.step.StepName.{StepName}
 use Rattle.trace_theory.specs.Traces.{In, after}
 use Rattle.trace_theory.proofs.Lists.{here}
-use Rattle.saved_steps.specs.Steps.{moved, name_of, start_name}
-use Rattle.saved_steps.specs.World.{Setting, World}
-use Rattle.saved_steps.specs.declared.fact.Fact.{Fact}
-use Rattle.depends.specs.Instance.{steps}
+use Rattle.depends.specs.Steps.{moved, name_of, start_name}
+use Rattle.depends.specs.World.{Setting, World}
+use Rattle.depends.specs.Fact.{Fact}
+use Rattle.depends.specs.Instance.{Past, steps}
 use Rattle.depends.specs.Laws.{facts_of}
-use Rattle.step_history.specs.History.{Past}
 use Rattle.book_log.specs.Answers.{from_step, names_of_facts, remains, plan_answer}
 use Rattle.book_log.specs.Beginning.{table_of}
 use Rattle.book_log.specs.Laws.{LegalLogsRun, AcceptedIsLegal}

@@ -6,12 +6,11 @@ use Rattle.trace_theory.specs.Traces.{In, after, without, undo_each, IsLeast, Is
 use Rattle.trace_theory.proofs.Least.{one_step, least_of}
 use Rattle.trace_theory.proofs.Lists.{In-reverse, reverse-In}
 use Rattle.trace_theory.proofs.Orders.{without_none, without_more, without_alike, allowed_in, after_allowed, orders_agree, orders_hold_after}
-use Rattle.saved_steps.specs.Steps.{moved, name_of}
-use Rattle.saved_steps.specs.World.{Setting, World, is_same_step}
-use Rattle.depends.specs.Instance.{steps}
+use Rattle.depends.specs.Steps.{moved, name_of}
+use Rattle.depends.specs.World.{Setting, World, is_same_step}
+use Rattle.depends.specs.Instance.{Past, steps}
 use Rattle.depends.proofs.Lawful as lawful
 use Rattle.depends.proofs.Named.{steps_have_names}
-use Rattle.step_history.specs.History.{Past}
 use Rattle.book_log.specs.Answers.{undo_answer, once_undone, order_answer, names_of_facts}
 use Rattle.book_log.specs.Laws as laws
 use Rattle.book_log.specs.Legal.{IsLegal}

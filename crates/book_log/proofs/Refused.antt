@@ -7,14 +7,13 @@ use Rattle.trace_theory.specs.Traces.{In, Before}
 use Rattle.trace_theory.proofs.Arranged.{named_place, In-names}
 use Rattle.trace_theory.proofs.Least.{Once, never_twice}
 use Rattle.trace_theory.proofs.Lists.{by_bool, place, here, In-front, In-split, Before-back, Before-across, Before-first, behind_place, never_both}
-use Rattle.saved_steps.specs.Steps.{name_of}
-use Rattle.saved_steps.specs.World.{Setting, World}
-use Rattle.saved_steps.specs.declared.fact.Fact.{Fact}
+use Rattle.depends.specs.Steps.{name_of}
+use Rattle.depends.specs.World.{Setting, World}
+use Rattle.depends.specs.Fact.{Fact}
 use Rattle.depends.specs.Dependence.{depends_directly}
-use Rattle.depends.specs.Instance.{steps}
+use Rattle.depends.specs.Instance.{Past, steps}
 use Rattle.depends.specs.Laws.{facts_of}
 use Rattle.depends.proofs.Named.{steps_have_names}
-use Rattle.step_history.specs.History.{Past}
 use Rattle.book_log.specs.Answers.{from_step, free_answer, found_answer, undo_answer}
 use Rattle.book_log.specs.Laws.{IsFirstDependent, UndoAnswersAreExact}
 use Rattle.book_log.specs.Story.{Story, base_of, setting_of, world_of, past_of}

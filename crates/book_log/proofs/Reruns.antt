@@ -10,12 +10,11 @@ use Rattle.trace_theory.proofs.Least.{Once, not_backward}
 use Rattle.trace_theory.proofs.Lists.{by_bool, place, In-middle, here}
 use Rattle.trace_theory.proofs.Records.{run_names, run_is}
 use Rattle.trace_theory.proofs.Runs.{Runs, from_run, and_then_some, map_some}
-use Rattle.saved_steps.specs.Steps.{Step, name_of}
-use Rattle.saved_steps.specs.World.{Setting, World, is_same_step}
-use Rattle.depends.specs.Instance.{steps}
+use Rattle.depends.specs.Steps.{Step, name_of}
+use Rattle.depends.specs.World.{Setting, World, is_same_step}
+use Rattle.depends.specs.Instance.{Past, steps}
 use Rattle.depends.proofs.Lawful as lawful
 use Rattle.depends.proofs.Named.{steps_have_names}
-use Rattle.step_history.specs.History.{Past}
 use Rattle.book_log.specs.Answers.{step_named, steps_named, defines, entry_of, retold, or_no_step, rerun_answer}
 use Rattle.book_log.specs.Laws as laws
 use Rattle.book_log.specs.Legal.{IsAccepted, IsLegal}

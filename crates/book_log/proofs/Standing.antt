@@ -5,8 +5,8 @@ use Rattle.std.specs.Cmp.Lexicographic.{same_text}
 use Rattle.std.proofs.lemmas.Bool.{and_parts, eqb-true}
 use Rattle.std.proofs.lemmas.List.Sums.{fold-append}
 use Rattle.json_tree.specs.declared.tree.Json.{Json}
-use Rattle.asl_fields.specs.Fields.{is_text}
-use Rattle.asl_tree.specs.Definition.{Definition}
+use Rattle.asl_machine.specs.Fields.{is_text}
+use Rattle.asl_machine.specs.Definition.{Definition}
 use Rattle.step_names.specs.Thread.{Thread}
 use Rattle.step_names.specs.declared.step.StepName.{StepName}
 use Rattle.step_names.proofs.OrderLaws.{thread_same, thread_itself}
@@ -15,20 +15,18 @@ use Rattle.trace_theory.proofs.Lists.{by_bool, filter-same}
 use Rattle.trace_theory.proofs.Runs.{Runs, from_run, to_run}
 use Rattle.trace_theory.proofs.Records.{run_names, run_is, run_then, names-without}
 use Rattle.trace_theory.proofs.Orders.{undo_free, after_undoes}
-use Rattle.saved_steps.specs.Run.{take_step}
-use Rattle.saved_steps.specs.Steps.{Step, started, moved, name_of}
-use Rattle.saved_steps.specs.World.{Setting, World, is_same_thread, is_same_step}
-use Rattle.saved_steps.specs.declared.fact.Fact.{Fact}
-use Rattle.saved_steps.specs.declared.fact.Kind.{Kind}
-use Rattle.depends.specs.Instance.{steps}
-use Rattle.depends.specs.Laws.{HasNoFrames}
+use Rattle.depends.specs.Run.{take_step}
+use Rattle.depends.specs.Steps.{Step, started, moved, name_of}
+use Rattle.depends.specs.World.{Setting, World, is_same_thread, is_same_step}
+use Rattle.depends.specs.Fact.{Fact}
+use Rattle.depends.specs.Kind.{Kind}
+use Rattle.depends.specs.Instance.{Past, steps, taken_in}
+use Rattle.depends.specs.Laws.{Extends, HasNoFrames}
 use Rattle.depends.proofs.Lawful.{steps_are_lawful}
 use Rattle.depends.proofs.Named.{steps_have_names}
 use Rattle.depends.proofs.Planned.{planned}
 use Rattle.depends.proofs.Worlds.{deed_taken}
-use Rattle.step_history.specs.History.{Past, taken_in}
-use Rattle.step_history.specs.Laws.{Extends}
-use Rattle.step_history.proofs.Extended.{runs_more}
+use Rattle.depends.proofs.Extended.{runs_more}
 use Rattle.book_log.specs.Story.{Story, Remainder, accepted, setting_in, base_of, run_in, world_in, past_in, consequences_in, but, rolled_back, with_machine, after_entry, nothing, remainder, remaining, setting_of, run_of, world_of, past_of, consequences_of}
 use Rattle.book_log.specs.declared.begin.Begin.{Begin}
 use Rattle.book_log.specs.declared.entry.Entry.{Entry}

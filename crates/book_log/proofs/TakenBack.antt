@@ -9,16 +9,15 @@ use Rattle.trace_theory.proofs.Least.{without_one}
 use Rattle.trace_theory.proofs.Lists.{place}
 use Rattle.trace_theory.proofs.Orders.{unneeded_behind}
 use Rattle.trace_theory.proofs.Records.{free_record}
-use Rattle.saved_steps.specs.Keeping.{Kept}
-use Rattle.saved_steps.specs.Run.{take_step}
-use Rattle.saved_steps.specs.Steps.{Step, started, moved, name_of, start_name}
-use Rattle.saved_steps.specs.World.{Setting, World}
-use Rattle.saved_steps.specs.declared.fact.Fact.{Fact}
-use Rattle.depends.specs.Instance.{steps}
+use Rattle.depends.specs.Keeping.{Kept}
+use Rattle.depends.specs.Run.{take_step}
+use Rattle.depends.specs.Steps.{Step, started, moved, name_of, start_name}
+use Rattle.depends.specs.World.{Setting, World}
+use Rattle.depends.specs.Fact.{Fact}
+use Rattle.depends.specs.Instance.{Past, steps, taken_in}
 use Rattle.depends.specs.Laws.{HasNoFrames}
 use Rattle.depends.proofs.Lawful.{steps_are_lawful}
 use Rattle.depends.proofs.Named.{steps_have_names}
-use Rattle.step_history.specs.History.{Past, taken_in}
 use Rattle.book_log.specs.Answers.{undo_answer, is_full_for_step, entry_for, entry_of}
 use Rattle.book_log.specs.Laws.{LeavesTheSame, UndoTakesBack, UndoTakesBackStart, AgainGivesBack}
 use Rattle.book_log.specs.Legal.{IsAccepted}

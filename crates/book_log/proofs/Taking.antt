@@ -2,25 +2,25 @@
 use Rattle.std.proofs.Common.{◌≡◌, ◌==◌, Bool, true, false, cond, List, [], refl, ap, ap₂, sym, ◌∙◌, eq-eqb, Option, None, Some, Ok, Err}
 use Rattle.std.specs.Prelude.{ℕ, is_some, option_map, option_and_then, if◌then◌else◌}
 use Rattle.json_tree.specs.declared.tree.Json.{Json}
-use Rattle.asl_tree.specs.Definition.{Definition}
-use Rattle.asl_frames.specs.Turn.{first_frame}
-use Rattle.asl_frames.specs.declared.frame.Frame.{Frame}
-use Rattle.branch_tree.specs.Ready.{readiness_at}
-use Rattle.branch_tree.specs.declared.readiness.Readiness.{Readiness}
+use Rattle.asl_machine.specs.Definition.{Definition}
+use Rattle.depends.specs.Turn.{first_frame}
+use Rattle.depends.specs.Frame.{Frame}
+use Rattle.depends.specs.Ready.{readiness_at}
+use Rattle.depends.specs.Readiness.{Readiness}
 use Rattle.step_names.specs.Thread.{Thread, execution}
 use Rattle.step_names.specs.declared.step.StepName.{StepName}
 use Rattle.trace_theory.proofs.Runs.{and_then_some}
-use Rattle.saved_steps.specs.Deeds.{Deed, deed, deed_of, frame_deed, move_deed, if_numbered}
-use Rattle.saved_steps.specs.Held.{paths_of}
-use Rattle.saved_steps.specs.Run.{carried_out, take_step}
-use Rattle.saved_steps.specs.Steps.{Step, started, moved, start_name}
-use Rattle.saved_steps.specs.World.{Setting, World}
-use Rattle.saved_steps.specs.declared.fact.Fact.{Fact}
-use Rattle.saved_steps.specs.declared.fact.Kind.{Kind}
-use Rattle.saved_steps.specs.declared.fact.Kind.TheVariants as kind
+use Rattle.depends.specs.Deeds.{Deed, deed, deed_of, frame_deed, move_deed, if_numbered}
+use Rattle.depends.specs.Held.{paths_of}
+use Rattle.depends.specs.Run.{carried_out, take_step}
+use Rattle.depends.specs.Steps.{Step, started, moved, start_name}
+use Rattle.depends.specs.World.{Setting, World}
+use Rattle.depends.specs.Fact.{Fact}
+use Rattle.depends.specs.Kind.{Kind}
+use Rattle.depends.specs.Kind.TheVariants as kind
 use Rattle.depends.proofs.Planned.{planned, numbered}
 use Rattle.depends.proofs.Worlds.{deed_taken}
-use Rattle.step_history.specs.History.{Past}
+use Rattle.depends.specs.Instance.{Past}
 use Rattle.book_log.specs.Answers.{start_answer, moved_answer, thread_answer, step_answer, is_full_for_step}
 use Rattle.book_log.specs.Story.{Story, machine_of, setting_of, world_of}
 use Rattle.book_log.specs.declared.moved.Moved.{Moved}

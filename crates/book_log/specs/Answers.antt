@@ -2,24 +2,23 @@
 use Rattle.std.specs.Prelude.{◌≡◌, ℕ, ◌+◌, ◌||◌, List, [], ◌∷◌, ◌++◌, length, map, reverse, Bool, Option, None, Some, Result, Ok, Err, is_some, IsSome, IsTrue, ◌⊎◌, nat_le, nat_lt, if◌then◌else◌, option_map, option_and_then}
 use Rattle.std.specs.List.{find}
 use Rattle.serde_json.specs.Data.{Data}
-use Rattle.asl_fields.specs.Refusal.{Names}
-use Rattle.asl_tree.specs.Definition.{Definition}
+use Rattle.asl_machine.specs.Refusal.{Names}
+use Rattle.asl_machine.specs.Definition.{Definition}
 use Rattle.asl_machine.specs.Faults.{DefinitionFault}
 use Rattle.asl_machine.specs.Profile.{Defines, DefinesNone}
-use Rattle.branch_tree.specs.Ready.{readiness_at}
-use Rattle.branch_tree.specs.declared.readiness.Readiness.{Readiness}
+use Rattle.depends.specs.Ready.{readiness_at}
+use Rattle.depends.specs.Readiness.{Readiness}
 use Rattle.step_names.specs.Thread.{Thread}
 use Rattle.step_names.specs.declared.step.StepName.{StepName}
 use Rattle.trace_theory.specs.Traces.{run}
-use Rattle.asl_frames.specs.declared.frame.Frame.{Frame}
-use Rattle.saved_steps.specs.Deeds.{Deed, move_deed}
-use Rattle.saved_steps.specs.Held.{paths_of}
-use Rattle.saved_steps.specs.Steps.{Step, started, moved, name_of, start_name}
-use Rattle.saved_steps.specs.World.{is_same_step}
-use Rattle.saved_steps.specs.declared.fact.Fact.{Fact}
+use Rattle.depends.specs.Frame.{Frame}
+use Rattle.depends.specs.Deeds.{Deed, move_deed}
+use Rattle.depends.specs.Held.{paths_of}
+use Rattle.depends.specs.Steps.{Step, started, moved, name_of, start_name}
+use Rattle.depends.specs.World.{is_same_step}
+use Rattle.depends.specs.Fact.{Fact}
 use Rattle.depends.specs.Dependence.{depends_directly}
-use Rattle.depends.specs.Instance.{steps}
-use Rattle.step_history.specs.History.{Past}
+use Rattle.depends.specs.Instance.{Past, steps}
 use Rattle.book_log.specs.Story.{Story, accepted, base_of, remaining, machine_of, setting_of, world_of, facts_of, consequences_of}
 use Rattle.book_log.specs.declared.entry.Entry.{Entry}
 use Rattle.book_log.specs.declared.entry.Entry.TheVariants.{Define, Start, Step as Stepped, Undo, Rollback}
@@ -41,13 +40,24 @@ Refuses (Err e) (Err f) = e ≡ f
 
 -- ---- room
 
--- no start or step is taken where 65,536 steps remain, or where entries and remaining steps leave no room for two more below a
--- million
+-- so many steps may remain
+abbrev pub most_steps : ℕ
+most_steps = 65536
+
+-- so many may entries and remaining steps be together
+abbrev pub most_places : ℕ
+most_places = 1000000
+
+-- so many may they be before a step, which needs two places: its entry's, and that of its undoing
+abbrev pub most_before_a_step : ℕ
+most_before_a_step = 999998
+
+-- no start or step is taken where the most steps remain, or where two more places would be too many
 unfoldable pub is_full_for_step : Story → Bool
-is_full_for_step story = nat_le 65536 (length (remaining story)) || nat_lt 999998 (length story.log + length (remaining story))
+is_full_for_step story = nat_le most_steps (length (remaining story)) || nat_lt most_before_a_step (length story.log + length (remaining story))
 
 unfoldable pub is_full_for_define : Story → Bool
-is_full_for_define story = nat_le 1000000 (length story.log + length (remaining story))
+is_full_for_define story = nat_le most_places (length story.log + length (remaining story))
 
 -- ---- define
 

@@ -4,12 +4,11 @@ use Rattle.json_tree.specs.declared.tree.Json.{Json}
 use Rattle.step_names.specs.Thread.{Thread}
 use Rattle.step_names.specs.declared.step.StepName.{StepName}
 use Rattle.trace_theory.specs.Traces.{In, Before, needs, run, IsFree, IsLeast, IsAllowed, IsArrangement, without}
-use Rattle.saved_steps.specs.Steps.{Step, name_of, start_name}
-use Rattle.saved_steps.specs.World.{Setting, World}
-use Rattle.saved_steps.specs.declared.fact.Kind.{Kind}
-use Rattle.depends.specs.Instance.{steps}
-use Rattle.step_history.specs.History.{Past}
-use Rattle.book_log.specs.Answers.{undo_answer, order_answer, plan_answer, rerun_answer, is_full_for_step, names_of_facts, entry_of}
+use Rattle.depends.specs.Steps.{Step, name_of, start_name}
+use Rattle.depends.specs.World.{Setting, World}
+use Rattle.depends.specs.Kind.{Kind}
+use Rattle.depends.specs.Instance.{Past, steps}
+use Rattle.book_log.specs.Answers.{undo_answer, order_answer, plan_answer, rerun_answer, is_full_for_step, names_of_facts, entry_of, most_steps, most_places}
 use Rattle.book_log.specs.Legal.{IsAccepted, IsLegal}
 use Rattle.book_log.specs.Story.{Story, accepted, base_of, remaining, machine_of, setting_of, run_of, world_of, past_of, consequences_of}
 use Rattle.book_log.specs.declared.entry.Entry.{Entry}
@@ -29,7 +28,7 @@ AcceptedIsLegal = (story : Story) (entry : Entry) → IsLegal story → IsAccept
 
 -- a legal log keeps to its limits: there is room for an entry that undoes each of the remaining steps
 abbrev pub LegalLogsHaveRoom : Type 0
-LegalLogsHaveRoom = (story : Story) → IsLegal story → (length (remaining story) ≤ 65536) × (length story.log + length (remaining story) ≤ 1000000)
+LegalLogsHaveRoom = (story : Story) → IsLegal story → (length (remaining story) ≤ most_steps) × (length story.log + length (remaining story) ≤ most_places)
 
 -- ---- what is undone
 

@@ -1,15 +1,14 @@
 -- A book as contracts see it: what it began with, and the commands that it accepted. What remains of them, and the world that
 -- this gives, are functions of these two: a list is filtered and run from the start, and nothing is undone.
 use Rattle.std.specs.Prelude.{ℕ, List, [], ◌∷◌, ◌++◌, not, fold, filter, map, Option, None, Some, unwrap_or, if◌then◌else◌}
-use Rattle.asl_fields.specs.Fields.{is_text}
-use Rattle.asl_tree.specs.Definition.{Definition}
+use Rattle.asl_machine.specs.Fields.{is_text}
+use Rattle.asl_machine.specs.Definition.{Definition}
 use Rattle.step_names.specs.declared.step.StepName.{StepName}
 use Rattle.trace_theory.specs.Traces.{run, after, without, names_of}
-use Rattle.saved_steps.specs.Steps.{Step, started, moved, name_of}
-use Rattle.saved_steps.specs.World.{Setting, World, is_same_step}
-use Rattle.saved_steps.specs.declared.fact.Fact.{Fact}
-use Rattle.depends.specs.Instance.{steps}
-use Rattle.step_history.specs.History.{Past}
+use Rattle.depends.specs.Steps.{Step, started, moved, name_of}
+use Rattle.depends.specs.World.{Setting, World, is_same_step}
+use Rattle.depends.specs.Fact.{Fact}
+use Rattle.depends.specs.Instance.{Past, steps}
 use Rattle.book_log.specs.Beginning.{first_items}
 use Rattle.book_log.specs.declared.begin.Begin.{Begin}
 use Rattle.book_log.specs.declared.entry.Entry.{Entry}

@@ -1,8 +1,8 @@
 // The commands that were accepted.
 use crate::step_names_list::StepNames;
-use asl_tree::SharedMachine;
+use asl_machine::machine_tree::SharedMachine;
+use depends::steps::Kind;
 use json_tree::{Json, Text};
-use saved_steps::Kind;
 use step_names::{StepName, ThreadName};
 
 /// A command that was accepted, with its reply: a start's is the name `E#0`, a step's its name and kind, a rollback's the

@@ -10,7 +10,9 @@ mod opening;
 mod refusal;
 mod step_names_list;
 
+pub use asl_machine as machines;
 pub use begin::Begin;
+pub use depends::{branches as branches, steps as steps, turns as turns};
 pub use entry::Entry;
 pub use laws::{
     legal_logs_run, orders_undo, reruns_agree, rollback_is_exact, undo_answers_are_exact,

@@ -1,5 +1,5 @@
 // What a step is answered.
-use saved_steps::Kind;
+use depends::steps::Kind;
 use step_names::StepName;
 
 /// The answer of a step: its name and its kind.

@@ -1,6 +1,6 @@
 // Why a command is refused.
 use asl_machine::MachineFault;
-use branch_tree::Readiness;
+use depends::branches::Readiness;
 use std::alloc::{AllocError, AllocFailed};
 use step_names::StepName;
 

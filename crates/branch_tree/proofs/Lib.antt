@@ -8,3 +8,4 @@ mod Leaves
 mod FirstOf
 mod Names
 mod Below
+pub use Rattle.asl_frames.proofs.Turns

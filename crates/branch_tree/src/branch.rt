@@ -7,7 +7,7 @@ ghost use Rattle.branch_tree.specs.Ready.{frame_is, is_done, has_failed, progres
 ghost use Rattle.branch_tree.specs.Tree.{leaf, frame_at, node_at, IsNode};
 
 use crate::readiness::Readiness;
-use asl_forward::{Frame, Phase};
+use asl_frames::{Frame, Phase};
 use std::alloc::{AllocError, Global};
 use std::marker::Model;
 use std::mem;

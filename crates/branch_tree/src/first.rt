@@ -9,7 +9,7 @@ ghost use Rattle.branch_tree.specs.Paths.{Path};
 ghost use Rattle.branch_tree.specs.Tree.{frame_at};
 
 use crate::branch::Branch;
-use asl_forward::Phase;
+use asl_frames::Phase;
 use std::alloc::{AllocError, Global};
 use std::collections::BTreeSet;
 use step_names::{NameFault, ThreadName};

@@ -10,7 +10,7 @@ ghost use Rattle.branch_tree.specs.Tree.{frame_at, node_at, IsNode};
 
 use crate::branch::Branch;
 use crate::readiness::Readiness;
-use asl_forward::Frame;
+use asl_frames::Frame;
 use std::alloc::{AllocError, Global};
 use std::collections::BTreeSet;
 use std::marker::Model;
@@ -112,7 +112,7 @@ impl Tree {
         ensures frames { (q : Path) → frame_at self.new q ≡ grafted (frame_at self.old) path.now (node_at frame branches.items) q }
         ensures tree { IsTree (frame_at self.new) }
     {
-        self.root.give(path, frame, branches)
+        self.give_kids(path, frame, branches)
     }
 
     /// Takes out the branches of the frame at a path, with all under them, and puts a frame without branches in its place.

@@ -70,9 +70,13 @@ table_name_in word = if is_table_name word then Some word else None
 abbrev pub execution_in : List ℕ → Option Thread
 execution_in word = if is_name word then Some (execution word) else None
 
+-- a drive takes at most so many steps
+abbrev pub most_driven : ℕ
+most_driven = 65536
+
 -- K: a number from 1 to 65,536
 abbrev pub within_drive : ℕ → Option ℕ
-within_drive number = if nat_le 1 number && nat_le number 65536 then Some number else None
+within_drive number = if nat_le 1 number && nat_le number most_driven then Some number else None
 
 abbrev pub count_in : List ℕ → Option ℕ
 count_in word = read_number word >>= within_drive

@@ -8,7 +8,7 @@ use Rattle.attr_values.specs.declared.key.KeyAttribute.{KeyAttribute}
 use Rattle.attr_values.specs.declared.key.KeyType.{KeyType}
 use Rattle.attr_values.specs.declared.key.KeyType.TheVariants.{S, N}
 use Rattle.asl_fields.specs.Fields.{is_text}
-use Rattle.command_lines.specs.Grammar.{Spoken, table, define, start, step, undo, plan, rollback, drive, show, items, history, is_table_name, first_word, key_in}
+use Rattle.command_lines.specs.Grammar.{Spoken, table, define, start, step, undo, plan, rollback, drive, show, items, history, is_table_name, first_word, key_in, most_driven}
 
 abbrev pub type_text : KeyType → List ℕ
 type_text S = codes "S"
@@ -58,7 +58,7 @@ IsProper (step thread) = IsThread thread
 IsProper (undo named) = IsStep named.thread named.no
 IsProper (plan named) = IsStep named.thread named.no
 IsProper (rollback named) = IsStep named.thread named.no
-IsProper (drive count) = (1 ≤ count) × (count ≤ 65536)
+IsProper (drive count) = (1 ≤ count) × (count ≤ most_driven)
 IsProper (show thread) = IsThread thread
 IsProper items = Unit {0}
 IsProper history = Unit {0}

@@ -241,12 +241,15 @@ fn read_step(alloc: Global, word: &str) -> Result<StepName, CommandFault>
     }
 }
 
-/// A number of steps, from 1 to 65,536.
+/// A drive takes at most so many steps.
+const MOST_DRIVEN: u32 = 65_536;
+
+/// A number of steps, from 1 to the most that a drive takes.
 fn read_count(word: &str) -> Result<u32, CommandFault>
     ensures { MatchResult result (λ n. count_in word.now ≡ Some n) (λ e. (e ≡ CommandFault.BadLine) × (count_in word.now ≡ None)) }
 {
     match read_number(word) {
-        Some(count) if 1 <= count && count <= 65_536 => Ok(count),
+        Some(count) if 1 <= count && count <= MOST_DRIVEN => Ok(count),
         _ => Err(CommandFault::BadLine),
     }
 }

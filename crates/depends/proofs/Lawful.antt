@@ -13,15 +13,15 @@ use Rattle.item_store.specs.declared.access.AccessMode.{AccessMode}
 use Rattle.item_store.specs.declared.access.AccessMode.TheVariants.{Read, Write}
 use Rattle.item_store.specs.declared.call.Request.{Request}
 use Rattle.item_store.specs.declared.fault.CallFault.{CallFault}
-use Rattle.asl_tree.specs.Definition.{Definition}
-use Rattle.asl_forward.specs.Outcomes.{turn}
-use Rattle.asl_results.specs.Results.{Work, work_of, after_answer}
-use Rattle.asl_frames.specs.Turn.{Standing, first_frame}
-use Rattle.asl_frames.specs.declared.frame.Frame.{Frame}
-use Rattle.asl_frames.specs.declared.frame.Phase.{Phase}
-use Rattle.asl_frames.specs.declared.frame.Phase.TheVariants.{Ready, Parked, Done, Failed}
-use Rattle.asl_forward.specs.declared.prepared.Outcome.{Outcome}
-use Rattle.asl_forward.specs.declared.prepared.Outcome.TheVariants as outcome
+use Rattle.saved_steps.specs.Definition.{Definition}
+use Rattle.saved_steps.specs.Outcomes.{turn}
+use Rattle.saved_steps.specs.Results.{Work, work_of, after_answer}
+use Rattle.saved_steps.specs.Turn.{Standing, first_frame}
+use Rattle.saved_steps.specs.Frame.{Frame}
+use Rattle.saved_steps.specs.Phase.{Phase}
+use Rattle.saved_steps.specs.Phase.TheVariants.{Ready, Parked, Done, Failed}
+use Rattle.saved_steps.specs.Outcome.{Outcome}
+use Rattle.saved_steps.specs.Outcome.TheVariants as outcome
 use Rattle.step_names.specs.Thread.{Thread, execution, child_of}
 use Rattle.step_names.specs.Under.{is_under}
 use Rattle.step_names.specs.declared.step.StepName.{StepName}

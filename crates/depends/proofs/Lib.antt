@@ -6,3 +6,4 @@ pub mod Worlds
 pub mod Lawful
 pub mod Named
 pub mod Consequences
+pub mod Extended

@@ -4,9 +4,9 @@ use Rattle.std.specs.Prelude.{◌⊎◌, is_some, option_map}
 use Rattle.std.proofs.lemmas.Bool.{eqb-true}
 use Rattle.std.proofs.lemmas.Option.{same_Some}
 use Rattle.json_tree.specs.declared.tree.Json.{Json}
-use Rattle.asl_tree.specs.Definition.{Definition}
-use Rattle.asl_frames.specs.Turn.{first_frame}
-use Rattle.asl_frames.specs.declared.frame.Frame.{Frame}
+use Rattle.saved_steps.specs.Definition.{Definition}
+use Rattle.saved_steps.specs.Turn.{first_frame}
+use Rattle.saved_steps.specs.Frame.{Frame}
 use Rattle.step_names.specs.Thread.{Thread, execution}
 use Rattle.step_names.specs.declared.step.StepName.{StepName}
 use Rattle.saved_steps.specs.Deeds.{Deed, next_step, deed_of, move_deed, frame_deed, start_deed, if_numbered, deed}

@@ -3,7 +3,7 @@ use Rattle.std.proofs.Common.{arith, ◌≡◌, ◌+◌, ◌==◌, ℕ, suc, Boo
 use Rattle.std.specs.Prelude.{◌⊎◌, ◌||◌}
 use Rattle.std.proofs.lemmas.Bool.{and_parts, eqb-true}
 use Rattle.std.proofs.lemmas.Option.{same_Some}
-use Rattle.branch_tree.specs.Paths.{Path, same_branch, rest_after}
+use Rattle.saved_steps.specs.Paths.{Path, same_branch, rest_after}
 use Rattle.step_names.specs.Thread.{Thread, child_of}
 use Rattle.step_names.specs.Under.{IsUnder, is_under}
 use Rattle.step_names.proofs.UnderFacts as law

@@ -10,27 +10,27 @@ use Rattle.item_store.specs.Faults.{validation}
 use Rattle.item_store.specs.Table as table
 use Rattle.item_store.specs.declared.access.AccessMode.{AccessMode}
 use Rattle.item_store.specs.declared.call.Call as call
-use Rattle.asl_errors.specs.declared.errors.Catcher.{Catcher}
-use Rattle.asl_errors.specs.declared.errors.ErrorHandling.{ErrorHandling}
-use Rattle.asl_tree.specs.Definition.{Definition}
-use Rattle.asl_tree.specs.declared.state.State.{State}
-use Rattle.asl_tree.specs.declared.state.State.TheVariants as state
-use Rattle.asl_states.specs.declared.state.Task.{Task}
-use Rattle.asl_states.specs.declared.state.Transition.{Transition}
-use Rattle.asl_states.specs.declared.state.Transition.TheVariants.{Next, End}
-use Rattle.asl_forward.specs.Forks.{parallel_frames, map_frames}
-use Rattle.asl_results.specs.Handling.{retried, catcher_for, error_object}
-use Rattle.asl_forward.specs.Outcomes.{action_of, asks, task_turn, forks, fork_of, turn_of, turn}
-use Rattle.asl_results.specs.Results.{Work, work_of, on_catch, on_retry, handled, errors_of, taken_by, after_branch, call_fault, comes_to, after_result, after_answer, after_join}
-use Rattle.asl_processing.specs.Processing.{and_then, effective, held, passed_on, placed_in}
-use Rattle.asl_frames.specs.Turn.{Standing, ends, go_on, own_fault}
-use Rattle.asl_frames.specs.declared.frame.Fault.{Fault}
-use Rattle.asl_frames.specs.declared.frame.Frame.{Frame}
-use Rattle.asl_frames.specs.declared.frame.Phase.{Phase}
-use Rattle.asl_frames.specs.declared.frame.Phase.TheVariants.{Ready, Parked, Done, Failed}
-use Rattle.asl_forward.specs.declared.prepared.Outcome.{Outcome}
-use Rattle.asl_forward.specs.declared.prepared.Outcome.TheVariants as outcome
-use Rattle.asl_frames.proofs.Turns.{next_frame-count}
+use Rattle.saved_steps.specs.Catcher.{Catcher}
+use Rattle.saved_steps.specs.ErrorHandling.{ErrorHandling}
+use Rattle.saved_steps.specs.Definition.{Definition}
+use Rattle.saved_steps.specs.State.{State}
+use Rattle.saved_steps.specs.State.TheVariants as state
+use Rattle.saved_steps.specs.Task.{Task}
+use Rattle.saved_steps.specs.Transition.{Transition}
+use Rattle.saved_steps.specs.Transition.TheVariants.{Next, End}
+use Rattle.saved_steps.specs.Forks.{parallel_frames, map_frames}
+use Rattle.saved_steps.specs.Handling.{retried, catcher_for, error_object}
+use Rattle.saved_steps.specs.Outcomes.{action_of, asks, task_turn, forks, fork_of, turn_of, turn}
+use Rattle.saved_steps.specs.Results.{Work, work_of, on_catch, on_retry, handled, errors_of, taken_by, after_branch, call_fault, comes_to, after_result, after_answer, after_join}
+use Rattle.saved_steps.specs.Processing.{and_then, effective, held, passed_on, placed_in}
+use Rattle.saved_steps.specs.Turn.{Standing, ends, go_on, own_fault}
+use Rattle.saved_steps.specs.Fault.{Fault}
+use Rattle.saved_steps.specs.Frame.{Frame}
+use Rattle.saved_steps.specs.Phase.{Phase}
+use Rattle.saved_steps.specs.Phase.TheVariants.{Ready, Parked, Done, Failed}
+use Rattle.saved_steps.specs.Outcome.{Outcome}
+use Rattle.saved_steps.specs.Outcome.TheVariants as outcome
+use Rattle.saved_steps.proofs.Turns.{next_frame-count}
 use Rattle.step_names.specs.Thread.{Thread}
 use Rattle.step_names.specs.declared.step.StepName.{StepName}
 use Rattle.saved_steps.specs.Deeds.{Deed, next_step, deed_of, called, call_deed, deed_of_turn, kids, first_fault, outputs, join_deed, close_deed, deed_in, stands, frame_deed}

@@ -3,8 +3,8 @@ use Rattle.std.proofs.Common.{◌≡◌, ℕ, ◌-◌, Bool, true, false, cond, 
 use Rattle.std.specs.Prelude.{◌||◌}
 use Rattle.std.proofs.lemmas.Bool.{and_parts}
 use Rattle.std.proofs.lemmas.Option.{same_Some}
-use Rattle.asl_frames.specs.declared.frame.Frame.{Frame}
-use Rattle.branch_tree.specs.Paths.{Path, rest_after}
+use Rattle.saved_steps.specs.Frame.{Frame}
+use Rattle.saved_steps.specs.Paths.{Path, rest_after}
 use Rattle.step_names.specs.Thread.{Thread, child_of}
 use Rattle.step_names.specs.Under.{is_under}
 use Rattle.step_names.proofs.OrderLaws.{thread_same, thread_itself}

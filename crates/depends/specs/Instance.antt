@@ -2,10 +2,10 @@
 use Rattle.std.specs.Prelude.{Bool, ◌||◌, Option, None, Some, if◌then◌else◌}
 use Rattle.attr_values.specs.declared.key.Key.{Key}
 use Rattle.item_store.specs.Deciding.{Attributes}
-use Rattle.asl_frames.specs.declared.frame.Frame.{Frame}
+use Rattle.saved_steps.specs.Frame.{Frame}
 use Rattle.step_names.specs.Thread.{Thread}
 use Rattle.trace_theory.specs.Footprints.{Plans}
-use Rattle.trace_theory.specs.Traces.{Machine}
+use Rattle.trace_theory.specs.Traces.{Machine, Taken}
 use Rattle.saved_steps.specs.Deeds.{Deed, deed}
 use Rattle.saved_steps.specs.Keeping.{Kept, kept, undo}
 use Rattle.saved_steps.specs.Run.{begun, carried_out, take_step}
@@ -20,6 +20,14 @@ is_one_step a b = is_same_step (name_of a) (name_of b)
 
 abbrev pub steps : Setting → Machine World Step Fact Kept
 steps s = record { take = take_step s; is_same = is_one_step; depends = depends_directly; saved = kept; undo = undo }
+
+-- a step that was taken, with its fact and what it kept
+abbrev pub Past : Type 0
+Past = Taken Step Fact Kept
+
+-- a step that is taken in a world, with its fact and what it keeps of that world
+abbrev pub taken_in : World → Step → Fact → Past
+taken_in w step fact = record { step = step; fact = fact; saved = kept w fact }
 
 -- ---- footprints
 

@@ -1,21 +1,27 @@
 -- What is true of the steps of executions, in every setting, from every world without executions.
 use Rattle.std.specs.Prelude.{◌≡◌, ◌↔◌, ℕ, List, map, reverse, None, Some, slice_get, option_map}
+use Rattle.saved_steps.specs.Definition.{Definition}
 use Rattle.step_names.specs.Thread.{Thread}
 use Rattle.trace_theory.specs.Traces as theory
-use Rattle.trace_theory.specs.Traces.{Taken, IsRun, after, IsFree, IsLawful, HasNames, NeighboursSwap, FreeStepsUndo, AfterIsLeast, OrdersUndo, ArrangementsAgree, HeldIsLeft}
-use Rattle.saved_steps.specs.Keeping.{Kept}
+use Rattle.trace_theory.specs.Traces.{IsRun, after, IsFree, IsLawful, HasNames, NeighboursSwap, FreeStepsUndo, AfterIsLeast, OrdersUndo, ArrangementsAgree, HeldIsLeft}
 use Rattle.saved_steps.specs.Run.{run}
 use Rattle.saved_steps.specs.Steps.{Step}
 use Rattle.saved_steps.specs.World.{Setting, World}
 use Rattle.saved_steps.specs.declared.fact.Fact.{Fact}
-use Rattle.depends.specs.Instance.{steps}
+use Rattle.depends.specs.Instance.{Past, steps}
 use Rattle.depends.specs.Plans.{first_dependent, plan}
+
+-- of the same table, with the machines that there are in the first and perhaps more
+pub record Extends (s more : Setting) : Type 0 where
+  pub table : more.table ≡ s.table
+  pub schema : more.schema ≡ s.schema
+  pub machines : (name : List ℕ) (d : Definition) → s.machines name ≡ Some d → more.machines name ≡ Some d
 
 -- no thread has a frame; the items are as they may be
 abbrev pub HasNoFrames : World → Type 0
 HasNoFrames base = (t : Thread) → base.frames t ≡ None
 
-abbrev pub facts_of : List (Taken Step Fact Kept) → List Fact
+abbrev pub facts_of : List Past → List Fact
 facts_of ts = map (λ t. t.fact) ts
 
 -- the theory's runs are runs, seen with what each step kept
@@ -53,13 +59,13 @@ HeldStepsAreLeft = (s : Setting) (base : World) → HasNoFrames base → HeldIsL
 -- The plan of a step is its consequences, from the last to the first.
 abbrev pub PlansAreConsequences : Type 0
 PlansAreConsequences =
-    (s : Setting) (base v : World) (ts : List (Taken Step Fact Kept)) (place : ℕ) (t : Taken Step Fact Kept)
+    (s : Setting) (base v : World) (ts : List Past) (place : ℕ) (t : Past)
     → HasNoFrames base → IsRun (steps s) base ts v → slice_get ts place ≡ Some t
     → map (slice_get ts) (plan (facts_of ts) place) ≡ map Some (reverse (after (steps s) ts t.step))
 
 -- A step has no dependent just where it is free.
 abbrev pub FreeStepsHaveNoDependent : Type 0
 FreeStepsHaveNoDependent =
-    (s : Setting) (base v : World) (ts : List (Taken Step Fact Kept)) (place : ℕ) (t : Taken Step Fact Kept)
+    (s : Setting) (base v : World) (ts : List Past) (place : ℕ) (t : Past)
     → HasNoFrames base → IsRun (steps s) base ts v → slice_get ts place ≡ Some t
     → (first_dependent (facts_of ts) place ≡ None) ↔ IsFree (steps s) ts t

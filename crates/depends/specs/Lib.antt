@@ -3,3 +3,19 @@ pub mod Instance
 pub mod Laws
 pub mod Plans
 pub mod Rows
+-- what stands below and is named by the crates above
+pub use Rattle.saved_steps.specs.Turn
+pub use Rattle.saved_steps.specs.Fault
+pub use Rattle.saved_steps.specs.Frame
+pub use Rattle.saved_steps.specs.Phase
+pub use Rattle.saved_steps.specs.Ready
+pub use Rattle.saved_steps.specs.Readiness
+pub use Rattle.saved_steps.specs.Deeds
+pub use Rattle.saved_steps.specs.Held
+pub use Rattle.saved_steps.specs.Keeping
+pub use Rattle.saved_steps.specs.Run
+pub use Rattle.saved_steps.specs.Steps
+pub use Rattle.saved_steps.specs.World
+pub use Rattle.saved_steps.specs.declared.fact.Fact
+pub use Rattle.saved_steps.specs.declared.fact.Kind
+pub use Rattle.saved_steps.specs.declared.record.StepRecord

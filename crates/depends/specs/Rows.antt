@@ -7,13 +7,13 @@ use Rattle.attr_values.specs.declared.key.KeyType.TheVariants.{S as TextType}
 use Rattle.attr_values.specs.declared.key_part.KeyPart.TheVariants.{S as text_part}
 use Rattle.item_store.specs.declared.access.AccessMode.{AccessMode}
 use Rattle.item_store.specs.declared.access.AccessMode.TheVariants.{Read, Write}
-use Rattle.asl_errors.specs.declared.errors.ErrorHandling.{ErrorHandling}
-use Rattle.asl_tree.specs.Definition.{Definition, pass, fail, parallel, machine_trees}
-use Rattle.asl_states.specs.declared.state.Processing.{Processing}
-use Rattle.asl_states.specs.declared.state.Transition.TheVariants.{End}
-use Rattle.asl_frames.specs.declared.frame.Frame.{Frame}
-use Rattle.asl_frames.specs.declared.frame.Phase.{Phase}
-use Rattle.asl_frames.specs.declared.frame.Phase.TheVariants.{Ready, Parked, Done, Failed}
+use Rattle.saved_steps.specs.ErrorHandling.{ErrorHandling}
+use Rattle.saved_steps.specs.Definition.{Definition, pass, fail, parallel, machine_trees}
+use Rattle.saved_steps.specs.StateProcessing.{Processing}
+use Rattle.saved_steps.specs.Transition.TheVariants.{End}
+use Rattle.saved_steps.specs.Frame.{Frame}
+use Rattle.saved_steps.specs.Phase.{Phase}
+use Rattle.saved_steps.specs.Phase.TheVariants.{Ready, Parked, Done, Failed}
 use Rattle.step_names.specs.Thread.{Thread}
 use Rattle.trace_theory.specs.Traces.{run, names_of, after, undo_each}
 use Rattle.saved_steps.specs.Steps.{Step, started, moved}

@@ -13,3 +13,5 @@ pub use laws::{
 };
 pub use places::Plan;
 pub use planning::plan;
+pub use saved_steps as steps;
+pub use saved_steps::{branches as branches, turns as turns};

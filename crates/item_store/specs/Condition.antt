@@ -4,16 +4,12 @@ use Rattle.std.specs.Prelude.{ℕ, ◌==◌, List, [], ◌∷◌, Bool, true, fa
 use Rattle.std.specs.Char.{is_ascii_alphabetic, is_ascii_alphanumeric}
 use Rattle.std.specs.List.{list_all}
 use Rattle.std.specs.Option.{option_map_or}
-use lib.Pointwise.{pointwise}
+pub use Rattle.json_tree.specs.Fields.{is_text}
 use Rattle.attr_values.specs.Datum.{Datum}
 use Rattle.attr_values.specs.Item.{get_attribute}
 use Rattle.item_store.specs.declared.call.Condition.{Condition}
 use Rattle.item_store.specs.declared.call.ConditionKind.{ConditionKind}
 use Rattle.item_store.specs.declared.call.ConditionKind.TheVariants.{Exists, NotExists}
-
--- whether two texts have the same bytes
-abbrev pub is_text : List ℕ → List ℕ → Bool
-is_text = pointwise ◌==◌
 
 abbrev pub is_space : ℕ → Bool
 is_space c = c == 32

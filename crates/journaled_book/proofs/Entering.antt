@@ -4,7 +4,7 @@ use Rattle.std.specs.Prelude.{IfSome, IsSome}
 use Rattle.serde_json.specs.Data as source
 use Rattle.sqlite.specs.State.{State}
 use Rattle.asl_tree.specs.Definition.{Definition}
-use Rattle.asl_machine.specs.Profile.{Defines}
+use Rattle.rollback_book.specs.Profile.{Defines}
 use Rattle.step_names.specs.Thread.{Thread}
 use Rattle.book_log.specs.Answers.{step_answer}
 use Rattle.book_log.specs.declared.entry.Entry.TheVariants.{Define, Step as Stepped}

@@ -2,3 +2,4 @@ pub mod Said
 pub mod Given
 pub mod Kept
 pub mod Entering
+pub use Rattle.rollback_book.proofs.Threads

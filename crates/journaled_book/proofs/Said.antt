@@ -12,12 +12,12 @@ use Rattle.json_tree.specs.Reading.{read_json}
 use Rattle.json_tree.specs.View.{data_of}
 use Rattle.json_tree.specs.declared.tree.Json.{Json}
 use Rattle.asl_tree.specs.Definition.{Definition}
-use Rattle.asl_machine.specs.Profile.{Defines}
+use Rattle.rollback_book.specs.Profile.{Defines}
 use Rattle.step_names.specs.Thread.{Thread}
 use Rattle.step_names.specs.declared.step.StepName.{StepName}
-use Rattle.saved_steps.specs.declared.fact.Kind.{Kind}
-use Rattle.saved_steps.specs.declared.fact.Fact.{Fact}
-use Rattle.depends.specs.Dependence.{depends_directly}
+use Rattle.rollback_book.specs.Kind.{Kind}
+use Rattle.rollback_book.specs.Fact.{Fact}
+use Rattle.rollback_book.specs.Dependence.{depends_directly}
 use Rattle.book_log.specs.Answers.{free_answer, found_answer, from_step, IsDefineRefusal, is_full_for_define, start_answer, step_answer, undo_answer, plan_answer}
 use Rattle.book_log.specs.Beginning.{table_of}
 use Rattle.book_log.specs.Legal.{IsAccepted}

@@ -2,7 +2,7 @@
 use Rattle.std.specs.Prelude.{◌≡◌, ◌⊎◌, ◌<◌, ℕ, List, [], ◌∷◌, ◌++◌, length, Option, None, Some, Result, Ok, Err, IsTrue, IsOk, OnOk, OnErr}
 use Rattle.serde_json.specs.Data as source
 use Rattle.asl_tree.specs.Definition.{Definition}
-use Rattle.asl_machine.specs.Profile.{Defines}
+use Rattle.rollback_book.specs.Profile.{Defines}
 use Rattle.attr_values.specs.declared.fault.ItemFault.TheVariants as item
 use Rattle.sqlite.specs.State.{State, HasCleanDisk, Survives}
 use Rattle.sqlite.specs.declared.error.Error.{Error}

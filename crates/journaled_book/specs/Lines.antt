@@ -8,7 +8,7 @@ use Rattle.json_tree.specs.Reading.{read_json}
 use Rattle.json_tree.specs.View.{data_of}
 use Rattle.json_tree.specs.declared.tree.Json.{Json}
 use Rattle.asl_tree.specs.Definition.{Definition}
-use Rattle.asl_machine.specs.Profile.{Defines}
+use Rattle.rollback_book.specs.Profile.{Defines}
 use Rattle.step_names.specs.Thread.{Thread}
 use Rattle.book_log.specs.Beginning.{table_of}
 use Rattle.book_log.specs.Legal.{IsAccepted}

@@ -2,10 +2,10 @@
 ghost use Rattle.std.specs.Prelude.{◌≡◌, ◌≤◌, List, [], Some, IfOk, IfErr, IfSome, IsSome, OnOk, OnErr};
 ghost use Rattle.sqlite.specs.Held.{state};
 ghost use Rattle.serde_json.specs.View.{view};
-ghost use Rattle.json_tree.specs.Data.{depth};
+ghost use Rattle.json_tree.specs.Data.{depth, most_levels};
 ghost use Rattle.json_tree.specs.View.{data_of};
 ghost use Rattle.asl_tree.specs.Definition.{Definition};
-ghost use Rattle.asl_machine.specs.Profile.{Defines};
+ghost use Rattle.rollback_book.specs.Profile.{Defines};
 ghost use Rattle.book_log.specs.Answers.{start_answer, step_answer};
 ghost use Rattle.command_lines.specs.Grammar as grammar;
 ghost use Rattle.command_lines.specs.Grammar.{command_of};
@@ -69,7 +69,7 @@ impl<S: Alter> JournaledBook<S> {
     ) -> Result<StepName, ChangeFault>
         requires open { IsSome self.old.book }
         requires execution { exec.now.path ≡ [] }
-        requires shallow { depth (data_of input) ≤ 127 }
+        requires shallow { depth (data_of input) ≤ most_levels }
         requires line { IsStartLine line.now exec.now machine.now input }
         ensures answer { IfSome self.old.book (λ b. AnswersChange (start_answer b.story exec.now machine.now) result) }
         ensures ok { OnOk result (story_of self.new.book ≡ with_entry (story_of self.old.book) (Entry.Start exec.now machine.now input)) }

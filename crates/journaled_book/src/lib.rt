@@ -14,3 +14,4 @@ mod parts;
 
 pub use book::JournaledBook;
 pub use fault::{BeginRefusal, ChangeFault, OpenFault};
+pub use rollback_book as books;

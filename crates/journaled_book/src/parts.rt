@@ -2,7 +2,7 @@
 ghost use Rattle.std.specs.Prelude.{◌≡◌, ◌≤◌, List, [], Err, IfOk, IsOk, None, Some};
 ghost use Rattle.serde_json.specs.Read as source_text;
 ghost use Rattle.serde_json.specs.View.{view};
-ghost use Rattle.json_tree.specs.Data.{depth, list, items_of};
+ghost use Rattle.json_tree.specs.Data.{depth, list, items_of, most_levels};
 ghost use Rattle.json_tree.specs.Reading.{read_json};
 ghost use Rattle.json_tree.specs.View.{data_of};
 ghost use Rattle.json_tree.specs.Data.{Data};
@@ -19,7 +19,7 @@ use std::alloc::Global;
 /// A value whose numbers are whole.
 pub(crate) fn read_value(alloc: Global, text: &str) -> Result<Json, LineFault>
     ensures ok { IfOk result (λ json. read_json text.now ≡ Some (data_of json)) }
-    ensures shallow { IfOk result (λ json. depth (data_of json) ≤ 127) }
+    ensures shallow { IfOk result (λ json. depth (data_of json) ≤ most_levels) }
     ensures damaged { result ≡ Err LineFault.Damaged → read_json text.now ≡ None }
 {
     match read(alloc, text.as_bytes()) {

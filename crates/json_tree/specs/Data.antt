@@ -46,6 +46,10 @@ abbrev mutual
   members_depth no_members = 0
   members_depth (member k d ms) = max (depth d) (members_depth ms)
 
+-- how deep the values of a text, and those that a frame holds, may nest
+abbrev pub most_levels : ℕ
+most_levels = 127
+
 -- the depth of the deepest value of a list, and of some fields
 abbrev pub list_depth : List Data → ℕ
 list_depth ds = items_depth (items_of ds)

@@ -1,16 +1,21 @@
 -- Fields as a list of names and values, in the order of the names' bytes.
-use Rattle.std.specs.Prelude.{ℕ, List, Option}
+use Rattle.std.specs.Prelude.{ℕ, ◌==◌, List, Bool, Option}
 use Rattle.std.specs.declared.cmp.Ordering.{Ordering}
 use Rattle.std.specs.BTreeMap.{insert_entry, is_at}
 use Rattle.std.specs.Cmp.Lexicographic.{slice_cmp}
 use Rattle.std.specs.List.Sorted.{IsStrictlySortedBy}
 use Rattle.std.specs.Map.{keys_of, lookup, remove_entry}
 use Rattle.std.specs.Ordering.{nat_cmp}
+use lib.Pointwise.{pointwise}
 use Rattle.json_tree.specs.Data.{Data}
 
 -- the order of texts: the first byte that differs decides, and else the shorter text is less
 abbrev pub text_cmp : List ℕ → List ℕ → Ordering
 text_cmp = slice_cmp nat_cmp
+
+-- whether two texts have the same bytes
+abbrev pub is_text : List ℕ → List ℕ → Bool
+is_text = pointwise ◌==◌
 
 -- each name stands once, and the names rise
 abbrev pub IsInNameOrder : List (List ℕ × Data) → Type 0

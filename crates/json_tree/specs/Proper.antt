@@ -2,7 +2,7 @@
 use Rattle.std.specs.Prelude.{◌≡◌, ◌≤◌, ℕ, List, [], ◌∷◌, Some, FitsSigned, IsUtf8, ⊤}
 use Rattle.std.specs.Int.{w64}
 use Rattle.std.specs.List.Sorted.{IsStrictlySortedBy}
-use Rattle.json_tree.specs.Data.{Data, null, boolean, whole, text, list, fields, Items, no_items, item, Members, no_members, member, depth}
+use Rattle.json_tree.specs.Data.{Data, null, boolean, whole, text, list, fields, Items, no_items, item, Members, no_members, member, depth, most_levels}
 use Rattle.json_tree.specs.Fields.{text_cmp}
 use Rattle.json_tree.specs.Reading.{read_json}
 use Rattle.json_tree.specs.Written.{text_of}
@@ -31,8 +31,8 @@ abbrev mutual
 
 -- what is written for a value that nests at most 127 deep is read as that value
 abbrev pub ReadsBack : Type 0
-ReadsBack = (d : Data) → IsProper d → depth d ≤ 127 → read_json (text_of d) ≡ Some d
+ReadsBack = (d : Data) → IsProper d → depth d ≤ most_levels → read_json (text_of d) ≡ Some d
 
 -- such values have one text only where they are one
 abbrev pub TextsTellApart : Type 0
-TextsTellApart = (d e : Data) → IsProper d → IsProper e → depth d ≤ 127 → depth e ≤ 127 → text_of d ≡ text_of e → d ≡ e
+TextsTellApart = (d e : Data) → IsProper d → IsProper e → depth d ≤ most_levels → depth e ≤ most_levels → text_of d ≡ text_of e → d ≡ e

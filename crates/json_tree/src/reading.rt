@@ -1,6 +1,6 @@
 // From text, or from a value of `serde_json`, to a value whose numbers are whole.
 ghost use Rattle.std.specs.Prelude.{◌≡◌, ◌<◌, ◌≤◌, ◌↔◌, length, IsTrue, IsSome, is_some, IfOk, IfErr, None, Some};
-ghost use Rattle.json_tree.specs.Data.{depth, items_of, members_of};
+ghost use Rattle.json_tree.specs.Data.{depth, items_of, members_of, most_levels};
 ghost use Rattle.json_tree.specs.View.{data_of};
 ghost use Rattle.json_tree.specs.Reading.{source_of, read_json, whole_of, whole_items, whole_members, holds_memory};
 ghost use Rattle.serde_json.specs.View.{view, number_view, items_view, members_view};
@@ -17,7 +17,7 @@ use std::alloc::Global;
 /// 22 bytes.
 pub fn read(alloc: Global, bytes: &[u8]) -> Result<Json, JsonFault>
     ensures ok { IfOk result (λ j. read_json bytes.now ≡ Some (data_of j)) }
-    ensures nests { IfOk result (λ j. depth (data_of j) ≤ 127) }
+    ensures nests { IfOk result (λ j. depth (data_of j) ≤ most_levels) }
     ensures not_json { result ≡ Err JsonFault.NotJson → source_of bytes.now ≡ None }
     ensures not_whole { result ≡ Err JsonFault.NotWhole
         → IsSome (source_of bytes.now) × (read_json bytes.now ≡ None) }

@@ -1,6 +1,6 @@
 // From a value to its text.
 ghost use Rattle.std.specs.Prelude.{◌≡◌, ◌≤◌, ◌++◌, Some, IfOk, OnOk, string_bytes};
-ghost use Rattle.json_tree.specs.Data.{items_of, members_of, depth, fields as data_fields};
+ghost use Rattle.json_tree.specs.Data.{items_of, members_of, depth, most_levels, fields as data_fields};
 ghost use Rattle.json_tree.specs.Proper.{IsProper, ItemsAreProper};
 ghost use Rattle.json_tree.specs.Reading.{read_json};
 ghost use Rattle.json_tree.specs.View.{data_of};
@@ -19,7 +19,7 @@ const FIRST_ROOM: usize = 128;
 pub fn write_text(alloc: Global, json: &Json) -> Result<String, AllocError>
     ensures text { IfOk result (λ s. string_bytes s ≡ text_of (data_of json.now)) }
     ensures proper { OnOk result (IsProper (data_of json.now)) }
-    ensures reads_back { IfOk result (λ s. depth (data_of json.now) ≤ 127
+    ensures reads_back { IfOk result (λ s. depth (data_of json.now) ≤ most_levels
         → read_json (string_bytes s) ≡ Some (data_of json.now)) }
 {
     let mut out = Writer::new(Vec::with_capacity(alloc, FIRST_ROOM)?);

@@ -10,7 +10,7 @@ use Rattle.step_names.specs.declared.step.StepName.{StepName}
 use Rattle.book_log.specs.Story.{Story, world_of}
 use Rattle.book_log.specs.Answers.{start_answer, step_answer, undo_answer, plan_answer}
 use Rattle.book_log.specs.declared.begin.Begin.{Begin}
-use Rattle.asl_frames.specs.declared.frame.Frame.{Frame}
+use Rattle.journaled_book.specs.Frame.{Frame}
 use Rattle.book_log.specs.declared.entry.Entry.{Entry}
 use Rattle.attr_values.specs.declared.fault.ItemFault.{ItemFault}
 use Rattle.attr_values.specs.declared.key.KeySchema.{KeySchema}

@@ -7,8 +7,8 @@ use Rattle.std.proofs.lemmas.Result.{on_ok_weaker}
 use Rattle.step_names.specs.declared.step.StepName.{StepName}
 use Rattle.step_names.specs.Thread.{Thread}
 use Rattle.step_names.specs.Written.{step_text}
-use Rattle.saved_steps.specs.Steps.{Step, name_of}
-use Rattle.saved_steps.specs.declared.record.StepRecord.{StepRecord}
+use Rattle.journaled_book.specs.Steps.{Step, name_of}
+use Rattle.journaled_book.specs.StepRecord.{StepRecord}
 use Rattle.book_log.specs.Story.{Story, accepted}
 use Rattle.book_log.specs.Answers.{step_answer}
 use Rattle.book_log.specs.declared.entry.Entry.{Entry}
@@ -16,8 +16,8 @@ use Rattle.book_log.specs.declared.entry.Entry.TheVariants.{Step as Stepped}
 use Rattle.book_log.specs.declared.refusal.Refusal.{Refusal}
 use Rattle.book_log.specs.declared.refusal.Refusal.TheVariants.{Memory}
 use Rattle.book_log.specs.declared.moved.Moved.{Moved}
-use Rattle.rollback_book.specs.Book.{Volume}
-use Rattle.rollback_book.specs.Making.{OrMemory}
+use Rattle.journaled_book.specs.Book.{Volume}
+use Rattle.journaled_book.specs.Making.{OrMemory}
 use Rattle.journaled_book.specs.Changes.{RefusesChange, RefusesDefine as Refuses}
 use Rattle.journaled_book.specs.Journaled.{story_of}
 use Rattle.journaled_book.specs.declared.fault.ChangeFault.{ChangeFault}

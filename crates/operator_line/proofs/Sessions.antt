@@ -6,7 +6,7 @@ use Rattle.std.specs.declared.alloc.AllocError.{AllocError}
 use Rattle.book_log.specs.Story.{Story}
 use Rattle.book_log.specs.declared.entry.Entry.{Entry}
 use Rattle.command_lines.specs.Grammar.{Spoken, command_of, text_command}
-use Rattle.rollback_book.specs.Book.{Volume}
+use Rattle.journaled_book.specs.Book.{Volume}
 use Rattle.journaled_book.specs.Journaled.{story_of, with_entry}
 use Rattle.reply_lines.specs.Replies.{refused}
 use Rattle.operator_line.specs.Answers.{AnswersOpen, AnswersClosed, AnswersCommand, AnswersSpoken}

@@ -8,7 +8,7 @@ use Rattle.journaled_book.specs.declared.fault.ChangeFault.{ChangeFault}
 use Rattle.reply_lines.specs.Replies.{names_reply}
 use Rattle.reply_lines.specs.Replying.{AreLines}
 use Rattle.reply_lines.specs.declared.lines.Lines.{Lines}
-use Rattle.rollback_book.specs.Ready.{IsFirstToMove}
+use Rattle.journaled_book.specs.Ready.{IsFirstToMove}
 use Rattle.book_log.specs.Answers.{has_move}
 use Rattle.step_names.specs.Thread.{Thread}
 use Rattle.operator_line.specs.Answers.{Drives, MovesFirst, NoneMoves, drive_reply}

@@ -4,8 +4,8 @@ use Rattle.std.specs.Fmt.{digits}
 use Rattle.step_names.specs.Thread.{execution}
 use Rattle.step_names.specs.declared.step.StepName.{StepName}
 use Rattle.book_log.specs.declared.refusal.Refusal.TheVariants.{NoThread, NotReady, HasDependents, Full}
-use Rattle.saved_steps.specs.declared.fact.Kind.TheVariants.{Plain}
-use Rattle.branch_tree.specs.declared.readiness.Readiness.TheVariants.{Done}
+use Rattle.journaled_book.specs.Kind.TheVariants.{Plain}
+use Rattle.journaled_book.specs.Readiness.TheVariants.{Done}
 use Rattle.asl_fields.specs.declared.fault.MachineFault.TheVariants.{Missing}
 use Rattle.book_log.specs.declared.refusal.Refusal.TheVariants.{BadMachine}
 use Rattle.reply_lines.specs.Replies.{step_reply, moved_reply, list_reply, refused, refused_by, refusal_reply}

@@ -15,14 +15,14 @@ use Rattle.attr_values.specs.declared.key.KeySchema.{KeySchema}
 use Rattle.item_store.specs.Deciding.{Attributes}
 use Rattle.item_store.specs.Listing.{IsListing}
 use Rattle.item_store.specs.Table.{Table}
-use Rattle.asl_tree.specs.Definition.{Definition}
-use Rattle.asl_machine.specs.Profile.{Defines as DefinesMachine}
-use Rattle.asl_frames.specs.declared.frame.Frame.{Frame}
+use Rattle.journaled_book.specs.Definition.{Definition}
+use Rattle.book_log.specs.Profile.{Defines as DefinesMachine}
+use Rattle.journaled_book.specs.Frame.{Frame}
 use Rattle.step_names.specs.Order.{thread_cmp}
 use Rattle.step_names.specs.Thread.{Thread, IsThread}
 use Rattle.step_names.specs.Written.{step_text}
 use Rattle.step_names.specs.declared.step.StepName.{StepName}
-use Rattle.saved_steps.specs.Steps.{name_of}
+use Rattle.journaled_book.specs.Steps.{name_of}
 use Rattle.book_log.specs.Answers.{IsDefineRefusal, start_answer, step_answer, undo_answer, plan_answer, has_move}
 use Rattle.book_log.specs.Beginning.{table_of}
 use Rattle.book_log.specs.Story.{Story, accepted, remaining, world_of}

@@ -6,3 +6,7 @@ pub mod Serving
 pub mod Driving
 pub mod Sessions
 mod AnswerRows
+-- what stands below and is named by the crates above
+pub use Rattle.book_log.specs.Story
+pub use Rattle.journaled_book.specs.Opening
+pub use Rattle.journaled_book.specs.declared.fault.OpenFault

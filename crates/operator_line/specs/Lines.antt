@@ -13,9 +13,13 @@ grown more (Some bytes) = if nat_le (length bytes + length more) 1048577 then So
 abbrev pub kept : List ℕ → Option (List ℕ)
 kept front = if nat_le (length front) 1048577 then Some front else None
 
+-- a line has at most so many bytes, without its end
+abbrev pub longest_line : ℕ
+longest_line = 1048576
+
 -- a line has at most 1,048,576 bytes
 abbrev pub within_limit : List ℕ → Option (List ℕ)
-within_limit bytes = if nat_le (length bytes) 1048576 then Some bytes else None
+within_limit bytes = if nat_le (length bytes) longest_line then Some bytes else None
 
 -- the bytes without one carriage return at their end
 abbrev pub without_return : List ℕ → List ℕ

@@ -8,6 +8,8 @@ mod serving;
 mod session;
 
 pub use command_lines::{Command, CommandFault, Execution, lines_are_spelled};
+pub use journaled_book as journaled;
+pub use journaled_book::books as books;
 pub use laws::refused_lines_change_nothing;
 pub use line::{Line, LineBuffer};
 pub use serving::{ServeFault, serve};

@@ -22,10 +22,10 @@ use attr_values::{ItemFault, KeySchema};
 use book_journal::Journal;
 use book_log::Refusal;
 use command_lines::{Command, CommandFault, Execution};
+use journaled_book::books::{Begin, Book, Room};
 use journaled_book::{BeginRefusal, ChangeFault, JournaledBook, OpenFault};
 use json_tree::{Json, JsonFault, Text, read};
 use reply_lines::Reply;
-use rollback_book::{Begin, Book, Room};
 use serde_json::Value;
 use sqlite::Alter;
 use std::alloc::{AllocError, Global};
@@ -52,7 +52,7 @@ pub struct Session<S: Alter> {
 
 impl<S: Alter> Model for Session<S> {
     ghost use Rattle.std.specs.Coded.{coded_option};
-    ghost use Rattle.rollback_book.specs.contracts.book.Book as book_row;
+    ghost use Rattle.journaled_book.specs.BookContract as book_row;
     ghost use Rattle.journaled_book.specs.Journaled.{Journaled, journaled_code};
 
     ghost Value = { Journaled S };

@@ -11,14 +11,14 @@ use Rattle.attr_values.specs.declared.fault.ItemFault.{ItemFault}
 use Rattle.attr_values.specs.declared.fault.ItemFault.TheVariants as item_faults
 use Rattle.step_names.specs.Written.{step_text}
 use Rattle.step_names.specs.declared.step.StepName.{StepName}
-use Rattle.asl_frames.specs.declared.frame.Fault.{Fault}
-use Rattle.asl_frames.specs.declared.frame.Frame.{Frame}
-use Rattle.asl_frames.specs.declared.frame.Phase.{Phase}
-use Rattle.asl_frames.specs.declared.frame.Phase.TheVariants as phases
-use Rattle.branch_tree.specs.declared.readiness.Readiness.{Readiness}
-use Rattle.branch_tree.specs.declared.readiness.Readiness.TheVariants as phase
-use Rattle.saved_steps.specs.declared.fact.Kind.{Kind}
-use Rattle.saved_steps.specs.declared.fact.Kind.TheVariants.{Start, Plain, Call, Fork, Join, Terminate}
+use Rattle.book_log.specs.Fault.{Fault}
+use Rattle.book_log.specs.Frame.{Frame}
+use Rattle.book_log.specs.Phase.{Phase}
+use Rattle.book_log.specs.Phase.TheVariants as phases
+use Rattle.book_log.specs.Readiness.{Readiness}
+use Rattle.book_log.specs.Readiness.TheVariants as phase
+use Rattle.book_log.specs.Kind.{Kind}
+use Rattle.book_log.specs.Kind.TheVariants.{Start, Plain, Call, Fork, Join, Terminate}
 use Rattle.book_log.specs.declared.moved.Moved.{Moved}
 use Rattle.book_log.specs.declared.refusal.Refusal.{Refusal}
 use Rattle.book_log.specs.declared.refusal.Refusal.TheVariants as refusals

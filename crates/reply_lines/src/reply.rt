@@ -11,14 +11,14 @@ ghost use Rattle.reply_lines.specs.Replies.{done_reply, step_reply, moved_reply,
 ghost use Rattle.reply_lines.specs.Replying.{Writes, AreLines, has_room_for_step, has_room_for_lines};
 
 use crate::lines::Lines;
-use asl_forward::{Fault, Frame, Phase};
-use asl_machine::MachineFault;
 use attr_values::{Item, write_item};
+use book_log::branches::Readiness;
+use book_log::machines::MachineFault;
+use book_log::steps::{Kind, StepRecord};
+use book_log::turns::{Fault, Frame, Phase};
 use book_log::{Moved, Refusal};
-use branch_tree::Readiness;
 use item_store::Items;
 use json_tree::{Json, Text, write_text};
-use saved_steps::{Kind, StepRecord};
 use std::alloc::{AllocError, Global};
 use step_names::{LONGEST_STEP, StepName, decimal_len, push_decimal};
 

@@ -6,7 +6,7 @@ use Rattle.json_tree.specs.Data.{depth}
 use Rattle.json_tree.specs.View.{data_of}
 use Rattle.json_tree.specs.declared.tree.Json.{Json}
 use Rattle.asl_fields.specs.Fields.{is_text}
-use Rattle.asl_frames.specs.declared.frame.Frame.{Frame}
+use Rattle.step_history.specs.Frame.{Frame}
 use Rattle.asl_tree.specs.Definition.{Definition}
 use Rattle.asl_tree.specs.Levels.{IsWhole}
 use Rattle.step_names.specs.Thread.{Thread}

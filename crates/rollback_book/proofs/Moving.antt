@@ -2,7 +2,7 @@
 use Rattle.std.proofs.Common.{◌≡◌, ◌<◌, ◌+◌, arith, ◌==◌, eq-eqb, Bool, true, false, cond, List, refl, ap, ap₂, sym, subst, ◌∙◌, Option, None, Some, Result, Ok, Err}
 use Rattle.std.specs.Prelude.{◌&&◌, not, is_some, option_and_then, ◌^◌}
 use Rattle.std.proofs.lemmas.Option.{same_Some}
-use Rattle.asl_frames.specs.declared.frame.Frame.{Frame}
+use Rattle.step_history.specs.Frame.{Frame}
 use Rattle.asl_tree.specs.Definition.{Definition}
 use Rattle.branch_tree.specs.First.{has_move}
 use Rattle.branch_tree.specs.Ready.{readiness_at}

@@ -6,8 +6,8 @@ use Rattle.json_tree.specs.declared.tree.Json.{Json}
 use Rattle.asl_fields.specs.Refusal.{Refuses}
 use Rattle.asl_fields.specs.declared.fault.MachineFault.{MachineFault}
 use Rattle.asl_fields.specs.declared.fault.MachineFault.TheVariants.{Missing, UnknownField, Unsupported, BadField, NoTarget, NextAndEnd, StatesAllPlace, TooDeep, Memory as NoMemory}
-use Rattle.asl_frames.specs.Turn.{first_frame}
-use Rattle.asl_frames.specs.declared.frame.Frame.{Frame}
+use Rattle.step_history.specs.Turn.{first_frame}
+use Rattle.step_history.specs.Frame.{Frame}
 use Rattle.asl_tree.specs.Definition.{Definition}
 use Rattle.asl_machine.specs.Faults.{DefinitionFault}
 use Rattle.asl_machine.specs.Profile.{Defines, DefinesNone}

@@ -1,7 +1,7 @@
 -- The step that a thread is answered is its own.
 use Rattle.std.proofs.Common.{◌≡◌, Bool, true, false, Option, None, Some, Result, Ok, Err, cond, refl, sym, ap, ◌∙◌}
 use Rattle.trace_theory.proofs.Runs.{and_then_some}
-use Rattle.asl_frames.specs.declared.frame.Frame.{Frame}
+use Rattle.step_history.specs.Frame.{Frame}
 use Rattle.branch_tree.specs.Ready.{readiness_at}
 use Rattle.branch_tree.specs.declared.readiness.Readiness.{Readiness}
 use Rattle.saved_steps.specs.Deeds.{Deed, frame_deed, move_deed}

@@ -12,7 +12,7 @@ use Rattle.saved_steps.specs.World.{is_same_step}
 use Rattle.step_names.specs.declared.step.StepName.{StepName}
 use Rattle.step_history.specs.History.{IsHistory}
 use Rattle.step_history.specs.declared.history.History.{History}
-use Rattle.book_log.specs.Answers.{undo_answer}
+use Rattle.book_log.specs.Answers.{undo_answer, most_steps, most_places}
 use Rattle.book_log.specs.Legal.{IsLegal}
 use Rattle.book_log.specs.declared.begin.Begin.{Begin}
 use Rattle.book_log.specs.declared.entry.Entry.{Entry}
@@ -50,8 +50,8 @@ pub record IsTied (b : Volume) : Type 0 where
   pub machines : (name : List ℕ) → placed (place_in b.places name) ≡ machine_of b.story name
   -- there is room for the entry of each remaining step's undoing
   pub room : length b.story.log + length b.history.records.items ≤ b.capacity
-  pub few : length b.history.records.items ≤ 65536
-  pub bounded : length b.story.log + length b.history.records.items ≤ 1000000
+  pub few : length b.history.records.items ≤ most_steps
+  pub bounded : length b.story.log + length b.history.records.items ≤ most_places
 
 -- the step of this name stands at a place
 abbrev pub IsAt : Volume → StepName → ℕ → Type 0

@@ -1,6 +1,6 @@
 -- What is made ready of a command before it is entered.
 use Rattle.std.specs.Prelude.{◌≡◌, ◌+◌, ◌≤◌, ℕ, List, [], ◌++◌, length, slice_get, Some, None, option_map, Result, Ok, Err}
-use Rattle.json_tree.specs.Data.{depth}
+use Rattle.json_tree.specs.Data.{depth, most_levels}
 use Rattle.json_tree.specs.View.{data_of}
 use Rattle.serde_json.specs.View.{view}
 use Rattle.asl_tree.specs.Definition.{Definition}
@@ -60,7 +60,7 @@ Answers story (change.Step thread) result = AnswersStep (step_answer story threa
 -- a start's execution has no branches, and its input nests at most 127 deep
 abbrev pub IsProper : Change → Type 0
 IsProper (change.Define name d) = Unit {0}
-IsProper (change.Start exec machine input) = (exec.now.path ≡ []) × (depth (data_of input) ≤ 127)
+IsProper (change.Start exec machine input) = (exec.now.path ≡ []) × (depth (data_of input) ≤ most_levels)
 IsProper (change.Step thread) = Unit {0}
 
 -- ---- what can be entered

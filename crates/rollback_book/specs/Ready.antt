@@ -2,7 +2,7 @@
 use Rattle.std.specs.Prelude.{◌≡◌, ◌+◌, ◌<◌, ◌^◌, ◌&&◌, ℕ, List, Bool, not, true, false, Option, None, Some, Ok}
 use Rattle.std.specs.declared.cmp.Ordering.TheVariants.{Less}
 use Rattle.json_tree.specs.declared.tree.Json.{Json}
-use Rattle.asl_frames.specs.declared.frame.Frame.{Frame}
+use Rattle.step_history.specs.Frame.{Frame}
 use Rattle.asl_tree.specs.Definition.{Definition}
 use Rattle.saved_steps.specs.Deeds as deeds
 use Rattle.saved_steps.specs.Held.{frames_of}

@@ -1,7 +1,7 @@
 -- Steps of a book that are taken again in another.
 use Rattle.std.specs.Prelude.{◌≡◌, ◌⊎◌, ℕ, ◌-◌, ◌==◌, Bool, false, List, [], ◌∷◌, Option, None, Some, Result, Ok, Err, if◌then◌else◌}
 use Rattle.json_tree.specs.declared.tree.Json.{Json}
-use Rattle.asl_frames.specs.declared.frame.Frame.{Frame}
+use Rattle.step_history.specs.Frame.{Frame}
 use Rattle.saved_steps.specs.Steps.{Step, started, moved, start_name}
 use Rattle.saved_steps.specs.World.{is_same_thread}
 use Rattle.saved_steps.specs.declared.fact.Kind.{Kind}

@@ -15,7 +15,6 @@ ghost use Rattle.rollback_book.specs.Making.{IsPlanned, WasPlanned};
 use crate::lists::{names_at, push_with_room};
 use crate::machines::Machines;
 use crate::room::{PlanRoom, Room};
-use asl_forward::Frame;
 use attr_values::ItemFault;
 use book_log::{Begin, Entry, Refusal, StepNames, first_store};
 use item_store::Items;
@@ -24,6 +23,7 @@ use std::alloc::{AllocError, Global};
 use std::collections::BTreeMap;
 use std::marker::Model;
 use step_history::History;
+use step_history::turns::Frame;
 use step_names::{StepName, ThreadName};
 
 /// Executions of state machines over one table, and the steps that were taken and not taken back.

@@ -2,27 +2,34 @@
 ghost use Rattle.std.specs.Prelude.{◌≡◌, ◌+◌, ◌≤◌, ◌||◌, nat_le, nat_lt, IfOk, IfErr};
 ghost use Rattle.serde_json.specs.View.{view};
 ghost use Rattle.asl_machine.specs.Profile.{Defines};
-ghost use Rattle.book_log.specs.Answers.{IsReadRefusal};
+ghost use Rattle.book_log.specs.Answers.{IsReadRefusal, most_steps, most_places, most_before_a_step};
 
 use asl_machine::{Machine, MachineFault, ReadMachine};
 use book_log::Refusal;
 use serde_json::Value;
 use std::alloc::Global;
 
-/// Whether no step can be taken more: 65,536 remain, or a million would be passed by its entry and that of its undoing.
+/// So many steps may remain.
+pub const MOST_STEPS: usize = 65_536;
+
+/// So many may entries and remaining steps be together.
+pub const MOST_PLACES: usize = 1_000_000;
+
+/// Whether no step can be taken more: the most remain, or its entry and that of its undoing would take more places than there
+/// are.
 pub fn is_full_for_step(entries: usize, steps: usize) -> bool
-    requires { entries + steps ≤ 1000000 }
-    ensures { result ≡ (nat_le 65536 steps || nat_lt 999998 (entries + steps)) }
+    requires { entries + steps ≤ most_places }
+    ensures { result ≡ (nat_le most_steps steps || nat_lt most_before_a_step (entries + steps)) }
 {
-    65536 <= steps || 999_998 < entries + steps
+    MOST_STEPS <= steps || MOST_PLACES - 2 < entries + steps
 }
 
 /// Whether no machine can be defined more.
 pub fn is_full_for_define(entries: usize, steps: usize) -> bool
-    requires { entries + steps ≤ 1000000 }
-    ensures { result ≡ nat_le 1000000 (entries + steps) }
+    requires { entries + steps ≤ most_places }
+    ensures { result ≡ nat_le most_places (entries + steps) }
 {
-    1_000_000 <= entries + steps
+    MOST_PLACES <= entries + steps
 }
 
 /// The machine of a definition.

@@ -1,6 +1,6 @@
 // Commands that add to a book: everything is made for one, and then it is entered.
 ghost use Rattle.std.specs.Prelude.{◌≡◌, ◌≤◌, ◌⊎◌, [], IfOk, IfErr, IsTrue, OnOk, OnErr, MatchResult, Some, None, Ok, Err, is_some};
-ghost use Rattle.json_tree.specs.Data.{depth};
+ghost use Rattle.json_tree.specs.Data.{depth, most_levels};
 ghost use Rattle.json_tree.specs.View.{data_of};
 ghost use Rattle.serde_json.specs.View.{view};
 ghost use Rattle.asl_tree.specs.Definition.{Definition};
@@ -21,13 +21,13 @@ use crate::checks::{is_full_for_define, is_full_for_step, read_machine};
 use crate::lists::{push_with_room, reserve_entries};
 use crate::machines::{fill_place, machine_in, make_place};
 use crate::making::{Change, Entered, Made, MadeChange, make_define, start_entry};
-use asl_forward::{Frame, first_frame};
 use asl_machine::{Machine, SharedMachine};
 use book_log::{Entry, Refusal};
 use json_tree::{Json, Text};
 use saved_steps::Next;
 use serde_json::Value;
 use std::alloc::{AllocError, Global};
+use step_history::turns::{Frame, first_frame};
 use step_names::{StepName, ThreadName};
 
 impl Book {
@@ -61,7 +61,7 @@ impl Book {
         input: Json,
     ) -> Result<StepName, Refusal>
         requires execution { exec.now.path ≡ [] }
-        requires shallow { depth (data_of input) ≤ 127 }
+        requires shallow { depth (data_of input) ≤ most_levels }
         ensures answer { Gives result (start_answer self.old.story exec.now machine.now) }
         ensures ok { OnOk result (self.new.story ≡ accepted self.old.story (Entry.Start exec.now machine.now input)) }
         ensures err { OnErr result (self.new.story ≡ self.old.story) }
@@ -206,7 +206,7 @@ impl Book {
         input: Json,
     ) -> Result<Made, Refusal>
         requires execution { exec.now.path ≡ [] }
-        requires shallow { depth (data_of input) ≤ 127 }
+        requires shallow { depth (data_of input) ≤ most_levels }
         ensures answer { AnswersStart (start_answer self.old.story exec.now machine.now) (Entry.Start exec.now machine.now input) result }
         ensures ready { IfOk result (λ m. CanEnter self.new m) }
         ensures story { self.new.story ≡ self.old.story }

@@ -1,6 +1,7 @@
 // What the book does to the lists that it keeps.
 ghost use Rattle.std.specs.Prelude.{◌≡◌, ◌+◌, ◌<◌, ◌≤◌, ◌∷◌, ◌++◌, [], Some, IfOk, OnOk, map, length, option_map, slice_get, vec_len, vec_capacity};
 ghost use Rattle.std.specs.List.{All};
+ghost use Rattle.book_log.specs.Answers.{most_steps};
 
 use book_log::{Entry, StepNames};
 use saved_steps::StepRecord;
@@ -8,7 +9,7 @@ use std::alloc::{AllocError, Global};
 
 /// Makes room for one more entry, and for those of the undoing of it and of so many steps.
 pub fn reserve_entries(log: &mut Vec<Entry>, steps: usize) -> Result<(), AllocError>
-    requires { steps ≤ 65536 }
+    requires { steps ≤ most_steps }
     ensures items { log.new.items ≡ log.old.items }
     ensures kept { vec_capacity log.old ≤ vec_capacity log.new }
     ensures room { OnOk result (length log.new.items + steps + 2 ≤ vec_capacity log.new) }

@@ -1,6 +1,6 @@
 // A book whose steps are taken again in another order.
 ghost use Rattle.std.specs.Prelude.{◌≡◌, ◌⊎◌, ◌≤◌, ◌++◌, ◌∷◌, [], Some, Ok, Err, IfOk, IfErr, IsSome, MatchResult, OnOk, option_map, option_copied};
-ghost use Rattle.json_tree.specs.Data.{depth};
+ghost use Rattle.json_tree.specs.Data.{depth, most_levels};
 ghost use Rattle.json_tree.specs.View.{data_of};
 ghost use Rattle.saved_steps.specs.Held.{frames_of, seen};
 ghost use Rattle.saved_steps.specs.Steps.{started, moved};
@@ -12,11 +12,11 @@ ghost use Rattle.rollback_book.specs.Rerunning.{MayDefine, Retakes, is_numbered,
 
 use crate::book::Book;
 use crate::making::{Entered, Made, MadeChange};
-use asl_forward::Frame;
 use asl_machine::SharedMachine;
 use book_log::{Begin, Entry, Refusal};
 use json_tree::{Json, Text};
 use std::alloc::{AllocError, Global};
+use step_history::turns::Frame;
 use step_names::{StepName, ThreadName};
 
 impl Book {
@@ -132,7 +132,7 @@ impl Book {
         input: Json,
     ) -> Result<(), Refusal>
         requires execution { exec.now.path ≡ [] }
-        requires shallow { depth (data_of input) ≤ 127 }
+        requires shallow { depth (data_of input) ≤ most_levels }
         ensures { Retakes self.old.story (Some (started exec.now.exec machine.now input)) result self.new.story }
     {
         match self.start(alloc, exec, machine, input) {

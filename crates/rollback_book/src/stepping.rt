@@ -14,13 +14,13 @@ use crate::book::Book;
 use crate::checks::is_full_for_step;
 use crate::machines::machine_in;
 use crate::making::{Entered, Made, MadeChange};
-use asl_forward::Frame;
 use asl_machine::SharedMachine;
 use book_log::{Entry, Moved, Refusal};
 use branch_tree::Readiness;
 use saved_steps::Next;
 use std::alloc::{AllocError, Global};
 use std::collections::BTreeSet;
+use step_history::turns::Frame;
 use step_names::{StepName, ThreadName};
 
 /// Whether a thread has a move.

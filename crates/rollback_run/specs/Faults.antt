@@ -3,8 +3,8 @@ use Rattle.std.specs.Prelude.{ℕ, List, [], ◌∷◌, ◌++◌, Result, Ok, Er
 use Rattle.std.specs.Fmt.{decimal}
 use Rattle.book_journal.specs.declared.fault.JournalFault.{JournalFault}
 use Rattle.book_journal.specs.declared.fault.JournalFault.TheVariants as journal_fault
-use Rattle.journaled_book.specs.declared.fault.OpenFault.{OpenFault}
-use Rattle.journaled_book.specs.declared.fault.OpenFault.TheVariants as open_fault
+use Rattle.operator_line.specs.OpenFault.{OpenFault}
+use Rattle.operator_line.specs.OpenFault.TheVariants as open_fault
 use Rattle.operator_line.specs.declared.serving.ServeFault.{ServeFault}
 use Rattle.operator_line.specs.declared.serving.ServeFault.TheVariants as serve_fault
 use Rattle.rollback_run.specs.declared.fault.Fault.{Fault}

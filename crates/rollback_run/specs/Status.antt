@@ -4,11 +4,11 @@ use Rattle.std.specs.Fmt.{decimal}
 use Rattle.std.specs.Io.KnownBytes.{Appends, Keeps}
 use Rattle.sqlite.specs.State.{State, HasCleanDisk}
 use Rattle.sqlite.specs.declared.error.Error.{Error}
-use Rattle.book_log.specs.Story.{Story, remaining}
+use Rattle.operator_line.specs.Story.{Story, remaining}
 use Rattle.book_journal.specs.Faults.{fault_of}
 use Rattle.book_journal.specs.Kept.{lines_in, IsOpened}
-use Rattle.journaled_book.specs.Opening.{OpensTo, RefusesOpen}
-use Rattle.journaled_book.specs.declared.fault.OpenFault.{OpenFault}
+use Rattle.operator_line.specs.Opening.{OpensTo, RefusesOpen}
+use Rattle.operator_line.specs.OpenFault.{OpenFault}
 use Rattle.operator_line.specs.Serving.{Serves}
 use Rattle.operator_line.specs.declared.serving.ServeFault.{ServeFault}
 use Rattle.rollback_run.specs.Faults.{of_journal, of_open, outcome_status, served}

@@ -5,8 +5,8 @@ ghost use Rattle.book_journal.specs.Faults.{fault_of};
 ghost use Rattle.rollback_run.specs.Faults.{fault_text, fault_status, outcome_status, of_journal, of_open, of_serve};
 
 use book_journal::JournalFault;
-use journaled_book::OpenFault;
 use operator_line::ServeFault;
+use operator_line::journaled::OpenFault;
 use sqlite::Error;
 use std::io;
 use std::io::Write;

@@ -12,8 +12,8 @@ ghost use Rattle.rollback_run.specs.Status.{GivesNone, Gives, HasOutcome, IsChec
 use crate::fault::{ENDED, FAILED, Fault, USAGE, end};
 use crate::mode::{Mode, ModeRefusal};
 use book_journal::Journal;
+use operator_line::books::Book;
 use operator_line::{Session, serve};
-use rollback_book::Book;
 use sqlite::{Alter, Connection, Error};
 use std::alloc::Global;
 use std::io;

@@ -13,7 +13,7 @@ use Rattle.item_store.specs.Store.{Store, items_of, slot_key}
 use Rattle.item_store.specs.Deciding.{Attributes}
 use Rattle.item_store.specs.Table.{is_same_key}
 use Rattle.item_store.specs.declared.slot.SlotNo.{SlotNo}
-use Rattle.asl_frames.specs.declared.frame.Frame.{Frame}
+use Rattle.branch_tree.specs.Frame.{Frame}
 use Rattle.branch_tree.specs.FlatMap.{FrameMap, IsTree, is_parked, alone}
 use Rattle.branch_tree.specs.Paths.{Path, same_path, rest_after}
 use Rattle.branch_tree.specs.Tree.{Rows, leaf, frame_at, node_at, IsNode}

@@ -13,9 +13,9 @@ use Rattle.std.proofs.lemmas.Cmp.{nat_list_cmp_total}
 use Rattle.std.proofs.lemmas.Map.Text.{is_eq-slice_cmp}
 use Rattle.std.proofs.lemmas.Slice.Eq.{bytes_eq-Decides}
 use Rattle.json_tree.specs.declared.tree.Json.{Json}
-use Rattle.asl_frames.specs.declared.frame.Fault.{Fault}
-use Rattle.asl_frames.specs.declared.frame.Frame.{Frame}
-use Rattle.asl_frames.specs.declared.frame.Phase.TheVariants.{Done, Failed}
+use Rattle.branch_tree.specs.Fault.{Fault}
+use Rattle.branch_tree.specs.Frame.{Frame}
+use Rattle.branch_tree.specs.Phase.TheVariants.{Done, Failed}
 use Rattle.branch_tree.specs.First.{IsFirst, is_free, thread_under, path_cmp, has_move}
 use Rattle.branch_tree.specs.FlatMap.{FrameMap, IsTree, branch_count}
 use Rattle.branch_tree.specs.Laws.{BelowIsParked}

@@ -7,14 +7,14 @@ use Rattle.attr_values.specs.declared.key.Key.{Key}
 use Rattle.item_store.specs.Table as table
 use Rattle.item_store.specs.Table.{Table}
 use Rattle.item_store.specs.declared.access.AccessMode.{AccessMode}
-use Rattle.asl_tree.specs.Definition.{Definition}
+use Rattle.branch_tree.specs.Definition.{Definition}
 use Rattle.asl_forward.specs.Outcomes.{turn}
-use Rattle.asl_results.specs.Results.{work_of, after_answer}
-use Rattle.asl_frames.specs.Turn.{Standing}
-use Rattle.asl_frames.specs.declared.frame.Fault.{Fault}
-use Rattle.asl_frames.specs.declared.frame.Frame.{Frame}
-use Rattle.asl_frames.specs.declared.frame.Phase.{Phase}
-use Rattle.asl_frames.specs.declared.frame.Phase.TheVariants as phase
+use Rattle.asl_forward.specs.Results.{work_of, after_answer}
+use Rattle.branch_tree.specs.Turn.{Standing}
+use Rattle.branch_tree.specs.Fault.{Fault}
+use Rattle.branch_tree.specs.Frame.{Frame}
+use Rattle.branch_tree.specs.Phase.{Phase}
+use Rattle.branch_tree.specs.Phase.TheVariants as phase
 use Rattle.asl_forward.specs.declared.prepared.Outcome.{Outcome}
 use Rattle.asl_forward.specs.declared.prepared.Outcome.TheVariants as outcome
 use Rattle.branch_tree.specs.FlatMap.{is_parked}

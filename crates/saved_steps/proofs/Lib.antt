@@ -10,3 +10,4 @@ pub mod Ready
 pub mod Moves
 pub mod Left
 pub mod Earliest
+pub use Rattle.branch_tree.proofs.Turns

@@ -11,10 +11,10 @@ use Rattle.item_store.specs.Table.{Table, is_same_key}
 use Rattle.item_store.specs.declared.access.AccessMode.{AccessMode}
 use Rattle.item_store.proofs.Slots.{same_key}
 use Rattle.asl_forward.specs.Outcomes.{turn}
-use Rattle.asl_results.specs.Results.{Work, work_of, after_answer}
-use Rattle.asl_frames.specs.Turn.{Standing, standing}
-use Rattle.asl_frames.specs.declared.frame.Frame.{Frame}
-use Rattle.asl_frames.specs.declared.frame.Phase.TheVariants.{Ready}
+use Rattle.asl_forward.specs.Results.{Work, work_of, after_answer}
+use Rattle.branch_tree.specs.Turn.{Standing, standing}
+use Rattle.branch_tree.specs.Frame.{Frame}
+use Rattle.branch_tree.specs.Phase.TheVariants.{Ready}
 use Rattle.asl_forward.specs.declared.prepared.Outcome.{Outcome}
 use Rattle.asl_forward.specs.declared.prepared.Outcome.TheVariants as outcome
 use Rattle.asl_forward.specs.declared.prepared.Prepared.{Prepared}

@@ -11,9 +11,9 @@ use Rattle.item_store.specs.Store.{items_of}
 use Rattle.item_store.specs.Table as table
 use Rattle.item_store.specs.declared.access.AccessMode.{AccessMode}
 use Rattle.item_store.specs.declared.call.Call as calls
-use Rattle.asl_results.specs.Results.{Work, work_of, after_answer}
-use Rattle.asl_frames.specs.Turn.{Standing, standing}
-use Rattle.asl_frames.specs.declared.frame.Frame.{Frame}
+use Rattle.asl_forward.specs.Results.{Work, work_of, after_answer}
+use Rattle.branch_tree.specs.Turn.{Standing, standing}
+use Rattle.branch_tree.specs.Frame.{Frame}
 use Rattle.asl_forward.specs.declared.prepared.Outcome.{Outcome}
 use Rattle.asl_forward.specs.declared.prepared.Outcome.TheVariants as outcome
 use Rattle.asl_forward.specs.declared.prepared.Prepared.{Prepared}

@@ -13,7 +13,7 @@ use Rattle.item_store.specs.Store.{Store, items_of}
 use Rattle.item_store.specs.Table.{Table, with_item}
 use Rattle.item_store.specs.declared.access.AccessMode.TheVariants.{Write}
 use Rattle.item_store.specs.declared.slot.SlotNo.{SlotNo}
-use Rattle.asl_frames.specs.declared.frame.Frame.{Frame}
+use Rattle.branch_tree.specs.Frame.{Frame}
 use Rattle.branch_tree.specs.FlatMap.{IsTree, is_parked, alone}
 use Rattle.branch_tree.specs.Paths.{Path, same_path, rest_after}
 use Rattle.branch_tree.specs.Tree.{Rows, node_at}

@@ -8,7 +8,7 @@ use Rattle.std.specs.String.{string_bytes, string_cmp}
 use Rattle.std.specs.declared.string.String.{String}
 use Rattle.std.proofs.lemmas.Map.Text.{btree_map_updates_text}
 use Rattle.std.proofs.lemmas.Slice.Eq.{bytes_eq-Decides}
-use Rattle.asl_frames.specs.declared.frame.Frame.{Frame}
+use Rattle.branch_tree.specs.Frame.{Frame}
 use Rattle.branch_tree.specs.FlatMap.{FrameMap, IsTree, with_frame, grafted, grafted_at}
 use Rattle.branch_tree.specs.Paths.{Path, same_path, rest_after}
 use Rattle.branch_tree.specs.Tree.{Rows}

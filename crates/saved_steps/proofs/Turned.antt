@@ -10,28 +10,28 @@ use Rattle.item_store.specs.Calls.{call_of}
 use Rattle.item_store.specs.Deciding.{Reply, given, refused}
 use Rattle.item_store.specs.Faults.{validation}
 use Rattle.item_store.specs.declared.call.Call as call
-use Rattle.asl_errors.specs.declared.errors.Catcher.{Catcher}
-use Rattle.asl_errors.specs.declared.errors.ErrorHandling.{ErrorHandling}
-use Rattle.asl_tree.specs.Definition.{Definition}
-use Rattle.asl_states.specs.declared.state.Choice.{Choice}
-use Rattle.asl_tree.specs.declared.state.Map.{Map}
-use Rattle.asl_states.specs.declared.state.Processing.{Processing}
-use Rattle.asl_tree.specs.declared.state.State.{State}
-use Rattle.asl_tree.specs.declared.state.State.TheVariants as state
-use Rattle.asl_states.specs.declared.state.Task.{Task}
-use Rattle.asl_states.specs.declared.state.Transition.{Transition}
-use Rattle.asl_states.specs.declared.state.Transition.TheVariants.{Next, End}
-use Rattle.asl_processing.specs.Choosing.{chosen}
+use Rattle.asl_forward.specs.Catcher.{Catcher}
+use Rattle.asl_forward.specs.ErrorHandling.{ErrorHandling}
+use Rattle.branch_tree.specs.Definition.{Definition}
+use Rattle.asl_forward.specs.Choice.{Choice}
+use Rattle.branch_tree.specs.Map.{Map}
+use Rattle.asl_forward.specs.StateProcessing.{Processing}
+use Rattle.branch_tree.specs.State.{State}
+use Rattle.branch_tree.specs.State.TheVariants as state
+use Rattle.asl_forward.specs.Task.{Task}
+use Rattle.asl_forward.specs.Transition.{Transition}
+use Rattle.asl_forward.specs.Transition.TheVariants.{Next, End}
+use Rattle.asl_forward.specs.Choosing.{chosen}
 use Rattle.asl_forward.specs.Forks.{with_others, begins, frames_from, parallel_frames, element_frames, element_input, counted_frames, elements, map_frames}
-use Rattle.asl_results.specs.Handling.{retried, catcher_for}
+use Rattle.asl_forward.specs.Handling.{retried, catcher_for}
 use Rattle.asl_forward.specs.Outcomes.{asks, task_turn, forks, fork_of, turn_of, turn, action_of}
-use Rattle.asl_results.specs.Results.{Work, call_fault, on_catch, on_retry, handled, comes_to, after_answer, after_join, after_branch, errors_of, taken_by}
+use Rattle.asl_forward.specs.Results.{Work, call_fault, on_catch, on_retry, handled, comes_to, after_answer, after_join, after_branch, errors_of, taken_by}
 use Rattle.asl_forward.specs.Planned.{turn_at}
-use Rattle.asl_processing.specs.Processing.{effective, held, passed_on}
-use Rattle.asl_frames.specs.Turn.{Standing, standing, go_on, ends, own_fault, goes_where, choice_frame, next_frame}
-use Rattle.asl_frames.specs.declared.frame.Fault.{Fault}
-use Rattle.asl_frames.specs.declared.frame.Frame.{Frame}
-use Rattle.asl_frames.specs.declared.frame.Phase.TheVariants.{Parked}
+use Rattle.asl_forward.specs.Processing.{effective, held, passed_on}
+use Rattle.branch_tree.specs.Turn.{Standing, standing, go_on, ends, own_fault, goes_where, choice_frame, next_frame}
+use Rattle.branch_tree.specs.Fault.{Fault}
+use Rattle.branch_tree.specs.Frame.{Frame}
+use Rattle.branch_tree.specs.Phase.TheVariants.{Parked}
 use Rattle.asl_forward.specs.declared.prepared.Outcome.{Outcome}
 use Rattle.asl_forward.specs.declared.prepared.Outcome.TheVariants as outcome
 use Rattle.saved_steps.specs.Made.{is_open}

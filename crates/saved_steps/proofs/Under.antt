@@ -8,9 +8,9 @@ use Rattle.std.proofs.lemmas.Bool.{eqb-true, eq-eqb, ltb-true}
 use Rattle.std.proofs.lemmas.Bool.Decides.{same_from_decides}
 use Rattle.std.proofs.lemmas.List.{append-nil}
 use Rattle.std.proofs.lemmas.Slice.Eq.{bytes_eq-Decides}
-use Rattle.asl_frames.specs.declared.frame.Frame.{Frame}
-use Rattle.asl_frames.specs.declared.frame.Phase.{Phase}
-use Rattle.asl_frames.specs.declared.frame.Phase.TheVariants.{Ready, Parked, Done, Failed}
+use Rattle.branch_tree.specs.Frame.{Frame}
+use Rattle.branch_tree.specs.Phase.{Phase}
+use Rattle.branch_tree.specs.Phase.TheVariants.{Ready, Parked, Done, Failed}
 use Rattle.branch_tree.specs.FlatMap.{FrameMap, IsTree, is_parked, branch_count, grafted_at}
 use Rattle.branch_tree.specs.Paths.{Path, same_branch, same_path, rest_after}
 use Rattle.branch_tree.specs.Tree.{Rows, frame_at, node_at}

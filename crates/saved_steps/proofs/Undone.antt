@@ -5,7 +5,7 @@ use Rattle.attr_values.specs.declared.key.Key.{Key}
 use Rattle.item_store.specs.Deciding.{Attributes}
 use Rattle.item_store.specs.Table.{Table, is_same_key}
 use Rattle.item_store.proofs.Slots.{same_key}
-use Rattle.asl_frames.specs.declared.frame.Frame.{Frame}
+use Rattle.branch_tree.specs.Frame.{Frame}
 use Rattle.step_names.specs.Thread.{Thread}
 use Rattle.step_names.proofs.OrderLaws.{thread_same}
 use Rattle.saved_steps.specs.Deeds.{Deed}

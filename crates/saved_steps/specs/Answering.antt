@@ -5,7 +5,7 @@ use Rattle.item_store.specs.Deciding.{Decision, reply_of}
 use Rattle.item_store.specs.Store.{Store, slot_key}
 use Rattle.item_store.specs.Table.{Outcome}
 use Rattle.item_store.specs.declared.slot.SlotNo.{SlotNo}
-use Rattle.asl_frames.specs.declared.frame.Frame.{Frame}
+use Rattle.branch_tree.specs.Frame.{Frame}
 use Rattle.saved_steps.specs.Steps.{is_write}
 use Rattle.saved_steps.specs.declared.answering.Answered.{Answered}
 use Rattle.saved_steps.specs.declared.answering.Touch.{Touch}

@@ -8,14 +8,14 @@ use Rattle.attr_values.specs.declared.key.Key.{Key}
 use Rattle.item_store.specs.Deciding.{Attributes}
 use Rattle.item_store.specs.Table as table
 use Rattle.item_store.specs.declared.access.AccessMode.{AccessMode}
-use Rattle.asl_tree.specs.Definition.{Definition}
+use Rattle.branch_tree.specs.Definition.{Definition}
 use Rattle.asl_forward.specs.Outcomes.{turn}
-use Rattle.asl_results.specs.Results.{Work, work_of, after_answer, after_branch, after_join}
-use Rattle.asl_frames.specs.Turn.{Standing, standing, first_frame}
-use Rattle.asl_frames.specs.declared.frame.Fault.{Fault}
-use Rattle.asl_frames.specs.declared.frame.Frame.{Frame}
-use Rattle.asl_frames.specs.declared.frame.Phase.{Phase}
-use Rattle.asl_frames.specs.declared.frame.Phase.TheVariants.{Ready, Parked, Done, Failed}
+use Rattle.asl_forward.specs.Results.{Work, work_of, after_answer, after_branch, after_join}
+use Rattle.branch_tree.specs.Turn.{Standing, standing, first_frame}
+use Rattle.branch_tree.specs.Fault.{Fault}
+use Rattle.branch_tree.specs.Frame.{Frame}
+use Rattle.branch_tree.specs.Phase.{Phase}
+use Rattle.branch_tree.specs.Phase.TheVariants.{Ready, Parked, Done, Failed}
 use Rattle.asl_forward.specs.declared.prepared.Outcome.{Outcome}
 use Rattle.asl_forward.specs.declared.prepared.Outcome.TheVariants as outcome
 use Rattle.step_names.specs.Thread.{Thread, execution, child_of}

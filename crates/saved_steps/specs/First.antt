@@ -1,7 +1,7 @@
 -- The first thread of all executions, by the order of names, that has a move and is not passed by.
 use Rattle.std.specs.Prelude.{◌≡◌, Bool, true, false, ◌&&◌, not, Option, Some, None}
 use Rattle.std.specs.declared.cmp.Ordering.TheVariants.{Less}
-use Rattle.asl_frames.specs.declared.frame.Frame.{Frame}
+use Rattle.branch_tree.specs.Frame.{Frame}
 use Rattle.branch_tree.specs.First.{has_move}
 use Rattle.branch_tree.specs.Ready.{readiness_at}
 use Rattle.step_names.specs.Order.{thread_cmp}

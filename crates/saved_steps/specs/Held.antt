@@ -3,7 +3,7 @@ use Rattle.std.specs.Prelude.{ℕ, List, Option, Some, None, if◌then◌else◌
 use Rattle.std.specs.BTreeMap.{BTreeMap, get_by_text}
 use Rattle.std.specs.Str.{bytes_eq}
 use Rattle.std.specs.declared.string.String.{String}
-use Rattle.asl_frames.specs.declared.frame.Frame.{Frame}
+use Rattle.branch_tree.specs.Frame.{Frame}
 use Rattle.branch_tree.specs.FlatMap.{FrameMap, grafted_at}
 use Rattle.branch_tree.specs.Paths.{rest_after}
 use Rattle.branch_tree.specs.Tree.{Rows, frame_at}

@@ -2,7 +2,7 @@
 use Rattle.std.specs.Prelude.{if◌then◌else◌, Option, Some, None}
 use Rattle.item_store.specs.Deciding.{Attributes}
 use Rattle.item_store.specs.Table.{Table}
-use Rattle.asl_frames.specs.declared.frame.Frame.{Frame}
+use Rattle.branch_tree.specs.Frame.{Frame}
 use Rattle.step_names.specs.Thread.{Thread}
 use Rattle.saved_steps.specs.Steps.{makes, closes, is_write, writes_key}
 use Rattle.saved_steps.specs.World.{World, is_same_thread}

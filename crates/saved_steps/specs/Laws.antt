@@ -3,12 +3,12 @@ use Rattle.std.specs.Prelude.{◌≡◌, ℕ, ◌+◌, List, Bool, true, ◌||�
 use Rattle.attr_values.specs.declared.key.Key.{Key}
 use Rattle.json_tree.specs.Data.{Data}
 use Rattle.json_tree.specs.declared.tree.Json.{Json}
-use Rattle.asl_tree.specs.Definition.{Definition}
-use Rattle.asl_results.specs.Results.{Work, work_of, after_branch, after_join}
-use Rattle.asl_frames.specs.Turn.{Standing, first_frame}
-use Rattle.asl_frames.specs.declared.frame.Fault.{Fault}
-use Rattle.asl_frames.specs.declared.frame.Frame.{Frame}
-use Rattle.asl_frames.specs.declared.frame.Phase.TheVariants.{Parked}
+use Rattle.branch_tree.specs.Definition.{Definition}
+use Rattle.asl_forward.specs.Results.{Work, work_of, after_branch, after_join}
+use Rattle.branch_tree.specs.Turn.{Standing, first_frame}
+use Rattle.branch_tree.specs.Fault.{Fault}
+use Rattle.branch_tree.specs.Frame.{Frame}
+use Rattle.branch_tree.specs.Phase.TheVariants.{Parked}
 use Rattle.asl_forward.specs.declared.prepared.Prepared.{Prepared}
 use Rattle.step_names.specs.Thread.{Thread, execution}
 use Rattle.step_names.specs.declared.step.StepName.{StepName}

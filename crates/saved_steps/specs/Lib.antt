@@ -10,3 +10,26 @@ pub mod Steps
 pub mod Undoing
 pub mod World
 pub mod First
+-- what stands below and is named by the crates above
+pub use Rattle.asl_forward.specs.Catcher
+pub use Rattle.asl_forward.specs.ErrorHandling
+pub use Rattle.asl_forward.specs.Forks
+pub use Rattle.asl_forward.specs.Outcomes
+pub use Rattle.asl_forward.specs.declared.prepared.Outcome
+pub use Rattle.branch_tree.specs.Turn
+pub use Rattle.branch_tree.specs.Fault
+pub use Rattle.branch_tree.specs.Frame
+pub use Rattle.branch_tree.specs.Phase
+pub use Rattle.asl_forward.specs.Processing
+pub use Rattle.asl_forward.specs.Handling
+pub use Rattle.asl_forward.specs.Results
+pub use Rattle.asl_forward.specs.StateProcessing
+pub use Rattle.asl_forward.specs.Task
+pub use Rattle.asl_forward.specs.Transition
+pub use Rattle.branch_tree.specs.Definition
+pub use Rattle.branch_tree.specs.State
+pub use Rattle.branch_tree.specs.First as BranchFirst
+pub use Rattle.branch_tree.specs.FlatMap
+pub use Rattle.branch_tree.specs.Paths
+pub use Rattle.branch_tree.specs.Ready
+pub use Rattle.branch_tree.specs.declared.readiness.Readiness

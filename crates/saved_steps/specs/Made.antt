@@ -5,9 +5,9 @@ use Rattle.attr_values.specs.declared.key.Key.{Key}
 use Rattle.item_store.specs.Store.{Store, items_of, slot_key}
 use Rattle.item_store.specs.Table.{in_form}
 use Rattle.item_store.specs.declared.slot.SlotNo.{SlotNo}
-use Rattle.asl_frames.specs.declared.frame.Frame.{Frame}
-use Rattle.asl_results.specs.Results.{work_of}
-use Rattle.asl_frames.specs.Turn.{standing}
+use Rattle.branch_tree.specs.Frame.{Frame}
+use Rattle.asl_forward.specs.Results.{work_of}
+use Rattle.branch_tree.specs.Turn.{standing}
 use Rattle.asl_forward.specs.declared.prepared.Outcome.{Outcome}
 use Rattle.asl_forward.specs.declared.prepared.Outcome.TheVariants as outcome
 use Rattle.asl_forward.specs.declared.prepared.Prepared.{Prepared}

@@ -1,6 +1,6 @@
 -- What a record says that its step kept.
 use Rattle.std.specs.Prelude.{List, if◌then◌else◌, Option, Some, None, option_and_then}
-use Rattle.asl_frames.specs.declared.frame.Frame.{Frame}
+use Rattle.branch_tree.specs.Frame.{Frame}
 use Rattle.branch_tree.specs.Paths.{rest_after}
 use Rattle.branch_tree.specs.Tree.{Rows, node_at}
 use Rattle.item_store.specs.Deciding.{Attributes}

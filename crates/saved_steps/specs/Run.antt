@@ -2,7 +2,7 @@
 use Rattle.std.specs.Prelude.{List, [], ◌∷◌, if◌then◌else◌, Option, Some, None, slice_get, option_map, option_and_then}
 use Rattle.attr_values.specs.declared.key.Key.{Key}
 use Rattle.item_store.specs.Deciding.{Attributes}
-use Rattle.asl_frames.specs.declared.frame.Frame.{Frame}
+use Rattle.branch_tree.specs.Frame.{Frame}
 use Rattle.branch_tree.specs.Paths.{Path, rest_after}
 use Rattle.step_names.specs.Thread.{Thread}
 use Rattle.saved_steps.specs.Deeds.{Deed, deed}

@@ -1,8 +1,8 @@
 -- The world: what there is at a moment, and what steps don't change.
 use Rattle.std.specs.Prelude.{ℕ, List, Bool, Option, ◌&&◌, ◌==◌}
 use Rattle.std.specs.Ordering.{eq_by_cmp}
-use Rattle.asl_tree.specs.Definition.{Definition}
-use Rattle.asl_frames.specs.declared.frame.Frame.{Frame}
+use Rattle.branch_tree.specs.Definition.{Definition}
+use Rattle.branch_tree.specs.Frame.{Frame}
 use Rattle.attr_values.specs.declared.key.KeySchema.{KeySchema}
 use Rattle.item_store.specs.Table.{Table}
 use Rattle.step_names.specs.Order.{thread_cmp}

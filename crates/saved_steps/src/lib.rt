@@ -14,6 +14,8 @@ mod record;
 mod undoing;
 mod world;
 
+pub use asl_forward as turns;
+pub use branch_tree as branches;
 pub use fact::{Access, Fact, Kind};
 pub use laws::{nexts_are_moves, steps_are_taken_back, steps_leave_threads, taken_back};
 pub use made::Made;

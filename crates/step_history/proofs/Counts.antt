@@ -17,8 +17,8 @@ use Rattle.asl_tree.specs.declared.state.State.TheVariants as state
 use Rattle.asl_states.specs.declared.state.Task.{Task}
 use Rattle.asl_forward.specs.Forks.{branch_frame, with_others, begins, frames_from, parallel_frames, element_frames, element_input, counted_frames, elements, map_frames}
 use Rattle.asl_forward.specs.Outcomes.{asks, task_turn, forks, fork_of, turn_of, turn, action_of}
-use Rattle.asl_results.specs.Results.{Work, work_of, after_join, after_answer}
-use Rattle.asl_processing.specs.Processing.{effective, held}
+use Rattle.asl_forward.specs.Results.{Work, work_of, after_join, after_answer}
+use Rattle.asl_forward.specs.Processing.{effective, held}
 use Rattle.asl_frames.specs.Turn.{Standing, first_frame}
 use Rattle.asl_frames.specs.declared.frame.Fault.{Fault}
 use Rattle.asl_frames.specs.declared.frame.Frame.{Frame}
@@ -26,8 +26,8 @@ use Rattle.asl_frames.specs.declared.frame.Phase.{Phase}
 use Rattle.asl_frames.specs.declared.frame.Phase.TheVariants.{Ready, Parked, Done, Failed}
 use Rattle.asl_forward.specs.declared.prepared.Outcome.{Outcome}
 use Rattle.asl_forward.specs.declared.prepared.Outcome.TheVariants as outcome
-use Rattle.branch_tree.specs.FlatMap.{is_parked}
-use Rattle.branch_tree.specs.Paths.{Path, rest_after}
+use Rattle.saved_steps.specs.FlatMap.{is_parked}
+use Rattle.saved_steps.specs.Paths.{Path, rest_after}
 use Rattle.step_names.specs.Thread.{Thread, execution}
 use Rattle.step_names.specs.declared.step.StepName.{StepName}
 use Rattle.saved_steps.specs.Deeds.{Deed, next_step, deed_of, called, call_deed, deed_of_turn, kids, first_fault, outputs, join_deed, close_deed, deed_in, stands, frame_deed, move_deed, if_numbered, deed}

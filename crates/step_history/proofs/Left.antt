@@ -6,7 +6,7 @@ use Rattle.std.proofs.lemmas.Option.{same_Some}
 use Rattle.asl_frames.specs.declared.frame.Frame.{Frame}
 use Rattle.asl_frames.specs.declared.frame.Phase.{Phase}
 use Rattle.asl_frames.specs.declared.frame.Phase.TheVariants.{Ready, Parked, Done, Failed}
-use Rattle.branch_tree.specs.FlatMap.{is_parked}
+use Rattle.saved_steps.specs.FlatMap.{is_parked}
 use Rattle.item_store.specs.Store.{Store}
 use Rattle.step_names.specs.Thread.{Thread}
 use Rattle.step_names.proofs.OrderLaws.{thread_itself}

@@ -6,7 +6,7 @@ use Rattle.std.proofs.lemmas.List.{append-nil}
 use Rattle.json_tree.specs.Data.{Data}
 use Rattle.item_store.specs.Table as table
 use Rattle.asl_forward.specs.Outcomes.{turn}
-use Rattle.asl_results.specs.Results.{Work, work_of, after_join}
+use Rattle.asl_forward.specs.Results.{Work, work_of, after_join}
 use Rattle.asl_frames.specs.Turn.{Standing}
 use Rattle.asl_frames.specs.declared.frame.Fault.{Fault}
 use Rattle.asl_frames.specs.declared.frame.Frame.{Frame}
@@ -14,10 +14,10 @@ use Rattle.asl_frames.specs.declared.frame.Phase.{Phase}
 use Rattle.asl_frames.specs.declared.frame.Phase.TheVariants.{Ready, Parked, Done, Failed}
 use Rattle.asl_forward.specs.declared.prepared.Outcome.{Outcome}
 use Rattle.asl_forward.specs.declared.prepared.Outcome.TheVariants as outcome
-use Rattle.branch_tree.specs.First.{has_move}
-use Rattle.branch_tree.specs.FlatMap.{FrameMap, is_parked}
-use Rattle.branch_tree.specs.Paths.{Path}
-use Rattle.branch_tree.specs.Ready.{readiness_of, readiness_in, progress, frame_is, has_failed, is_done}
+use Rattle.saved_steps.specs.BranchFirst.{has_move}
+use Rattle.saved_steps.specs.FlatMap.{FrameMap, is_parked}
+use Rattle.saved_steps.specs.Paths.{Path}
+use Rattle.saved_steps.specs.Ready.{readiness_of, readiness_in, progress, frame_is, has_failed, is_done}
 use Rattle.step_names.specs.Thread.{Thread, child_of}
 use Rattle.step_names.specs.declared.step.StepName.{StepName}
 use Rattle.saved_steps.specs.Deeds.{next_step, deed_of, call_deed, deed_of_turn, fault_of, output_of, or_else, first_fault, outputs, close_deed, deed_in, frame_deed}

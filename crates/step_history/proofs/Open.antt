@@ -21,12 +21,12 @@ use Rattle.asl_tree.specs.declared.state.State.TheVariants as state
 use Rattle.asl_states.specs.declared.state.Task.{Task}
 use Rattle.asl_states.specs.declared.state.Transition.{Transition}
 use Rattle.asl_states.specs.declared.state.Transition.TheVariants.{Next, End}
-use Rattle.asl_processing.specs.Choosing.{chosen}
+use Rattle.asl_forward.specs.Choosing.{chosen}
 use Rattle.asl_forward.specs.Forks.{parallel_frames, map_frames}
-use Rattle.asl_results.specs.Handling.{retried, catcher_for, error_object}
+use Rattle.asl_forward.specs.Handling.{retried, catcher_for, error_object}
 use Rattle.asl_forward.specs.Outcomes.{action_of, asks, task_turn, forks, fork_of, turn_of, turn}
-use Rattle.asl_results.specs.Results.{Work, work_of, on_catch, on_retry, handled, errors_of, taken_by, after_branch, call_fault, comes_to, after_result, after_answer, after_join}
-use Rattle.asl_processing.specs.Processing.{and_then, effective, held, passed_on, placed_in}
+use Rattle.asl_forward.specs.Results.{Work, work_of, on_catch, on_retry, handled, errors_of, taken_by, after_branch, call_fault, comes_to, after_result, after_answer, after_join}
+use Rattle.asl_forward.specs.Processing.{and_then, effective, held, passed_on, placed_in}
 use Rattle.asl_frames.specs.Turn.{Standing, go_on, ends, own_fault, goes_where, choice_frame, next_frame, pass_output, idle_output, first_frame}
 use Rattle.asl_frames.specs.declared.frame.Fault.{Fault}
 use Rattle.asl_frames.specs.declared.frame.Frame.{Frame}

@@ -23,8 +23,8 @@ use Rattle.asl_tree.specs.declared.state.State.TheVariants as state
 use Rattle.asl_states.specs.declared.state.Task.{Task}
 use Rattle.asl_forward.specs.Forks.{branch_frame, parallel_frames, map_frames}
 use Rattle.asl_forward.specs.Outcomes.{asks, task_turn, parks, forks, fork_of, turn_of, turn, action_of}
-use Rattle.asl_results.specs.Results.{Work, work_of, after_join, after_answer, after_branch}
-use Rattle.asl_processing.specs.Processing.{effective}
+use Rattle.asl_forward.specs.Results.{Work, work_of, after_join, after_answer, after_branch}
+use Rattle.asl_forward.specs.Processing.{effective}
 use Rattle.asl_frames.specs.Turn.{Standing, standing, first_frame}
 use Rattle.asl_frames.specs.declared.frame.Fault.{Fault}
 use Rattle.asl_frames.specs.declared.frame.Frame.{Frame}
@@ -34,9 +34,9 @@ use Rattle.asl_forward.specs.declared.prepared.Outcome.{Outcome}
 use Rattle.asl_forward.specs.declared.prepared.Outcome.TheVariants as outcome
 use Rattle.asl_forward.proofs.Firsts.{standing_parts, one_step_further, first_of, branches_all, OnBranches}
 use Rattle.asl_forward.proofs.NextFrames.{OnFrame, turn-level, turn-state}
-use Rattle.asl_results.proofs.NextFrames.{WorkStays, work_stays, after_answer-level, after_answer-state, after_join-level, after_join-state, after_branch-level, after_branch-state}
-use Rattle.branch_tree.specs.FlatMap.{is_parked}
-use Rattle.branch_tree.specs.Paths.{Path, rest_after}
+use Rattle.asl_forward.proofs.ResultNextFrames.{WorkStays, work_stays, after_answer-level, after_answer-state, after_join-level, after_join-state, after_branch-level, after_branch-state}
+use Rattle.saved_steps.specs.FlatMap.{is_parked}
+use Rattle.saved_steps.specs.Paths.{Path, rest_after}
 use Rattle.saved_steps.proofs.Under.{whole_is}
 use Rattle.step_names.specs.Thread.{Thread, execution}
 use Rattle.step_names.proofs.OrderLaws.{thread_same}

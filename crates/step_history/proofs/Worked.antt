@@ -3,13 +3,13 @@ use Rattle.std.proofs.Common.{◌≡◌, ◌+◌, ◌-◌, arith, ℕ, true, Lis
 use Rattle.std.specs.Prelude.{IfSome, IsSomeAnd, option_map, option_and_then}
 use Rattle.json_tree.specs.Data.{Data}
 use Rattle.asl_tree.specs.Definition.{Definition}
-use Rattle.asl_results.specs.Results.{Work, work_of, after_join}
+use Rattle.asl_forward.specs.Results.{Work, work_of, after_join}
 use Rattle.asl_frames.specs.Turn.{Standing, standing}
 use Rattle.asl_frames.specs.declared.frame.Fault.{Fault}
 use Rattle.asl_frames.specs.declared.frame.Frame.{Frame}
 use Rattle.asl_frames.specs.declared.frame.Phase.TheVariants.{Ready, Parked}
 use Rattle.asl_forward.specs.declared.prepared.Prepared.{Prepared}
-use Rattle.branch_tree.specs.FlatMap.{is_parked}
+use Rattle.saved_steps.specs.FlatMap.{is_parked}
 use Rattle.step_names.specs.Thread.{Thread}
 use Rattle.step_names.specs.declared.step.StepName.{StepName}
 use Rattle.saved_steps.specs.Deeds.{deed_of, first_fault, outputs, stands, next_step, deed_in, close_deed}

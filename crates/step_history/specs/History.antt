@@ -2,12 +2,12 @@
 use Rattle.std.specs.Prelude.{◌≡◌, ◌<◌, ℕ, List, [], ◌∷◌, None, length, map}
 use Rattle.std.specs.Vec.{vec_len, vec_capacity}
 use Rattle.item_store.specs.Store.{Store, items_of}
+pub use Rattle.depends.specs.Instance.{Past, taken_in}
 use Rattle.depends.specs.Instance.{steps}
 use Rattle.depends.specs.Laws.{HasNoFrames}
 use Rattle.depends.specs.Plans.{plan}
-use Rattle.trace_theory.specs.Traces.{Taken, IsRun}
+use Rattle.trace_theory.specs.Traces.{IsRun}
 use Rattle.saved_steps.specs.Held.{seen}
-use Rattle.saved_steps.specs.Keeping.{Kept, kept}
 use Rattle.saved_steps.specs.Records.{kept_by}
 use Rattle.saved_steps.specs.Steps.{Step}
 use Rattle.saved_steps.specs.Undoing.{IsRecord, HasSlot}
@@ -15,10 +15,6 @@ use Rattle.saved_steps.specs.World.{Setting, World}
 use Rattle.saved_steps.specs.declared.fact.Fact.{Fact}
 use Rattle.saved_steps.specs.declared.record.StepRecord.{StepRecord}
 use Rattle.step_history.specs.declared.history.History.{History}
-
--- a step that was taken, with its fact and what it kept
-abbrev pub Past : Type 0
-Past = Taken Step Fact Kept
 
 -- no executions, over the items of a store
 abbrev pub nothing_over : Store → World
@@ -46,10 +42,6 @@ pub record IsHistory (s : Setting) (base : World) (ts : List Past) (h : History)
   pub none : HasNoFrames base
   pub runs : IsRun (steps s) base ts (seen h.world)
   pub records : AreRecordsOf h.world.items h.records.items ts
-
--- a step that is taken in a world, with its fact and what it keeps of that world
-abbrev pub taken_in : World → Step → Fact → Past
-taken_in w step fact = record { step = step; fact = fact; saved = kept w fact }
 
 -- there is room for one more record
 abbrev pub HasRoom : History → Type 0

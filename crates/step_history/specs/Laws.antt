@@ -1,13 +1,13 @@
 -- What is true of histories.
 use Rattle.std.specs.Prelude.{◌≡◌, ◌≤◌, ℕ, true, List, [], ◌∷◌, ◌++◌, length, Some}
-use Rattle.asl_tree.specs.Definition.{Definition}
 use Rattle.asl_frames.specs.declared.frame.Frame.{Frame}
-use Rattle.branch_tree.specs.FlatMap.{is_parked}
+use Rattle.saved_steps.specs.FlatMap.{is_parked}
 use Rattle.step_names.specs.Thread.{Thread}
 use Rattle.trace_theory.specs.Traces.{IsRun, IsFree, IsAllowed, In, Takes, undone, undo_each, without, after}
 use Rattle.saved_steps.specs.Held.{frames_of, seen}
 use Rattle.saved_steps.specs.World.{Setting, World}
 use Rattle.depends.specs.Instance.{steps}
+pub use Rattle.depends.specs.Laws.{Extends}
 use Rattle.step_history.specs.History.{Past, IsHistory}
 use Rattle.step_history.specs.declared.history.History.{History}
 
@@ -16,12 +16,6 @@ abbrev pub FramesAreCounted : Type 0
 FramesAreCounted =
     (s : Setting) (base : World) (ts : List Past) (h : History) (t : Thread) (f : Frame)
     → IsHistory s base ts h → frames_of h.world t ≡ Some f → (f.count ≤ length ts) × (is_parked f.phase ≡ true → 1 ≤ f.count)
-
--- of the same table, with the machines that there are in the first and perhaps more
-pub record Extends (s more : Setting) : Type 0 where
-  pub table : more.table ≡ s.table
-  pub schema : more.schema ≡ s.schema
-  pub machines : (name : List ℕ) (d : Definition) → s.machines name ≡ Some d → more.machines name ≡ Some d
 
 -- a history stays one where machines are defined
 abbrev pub MoreMachinesKeepHistories : Type 0

@@ -3,8 +3,8 @@ use Rattle.std.specs.Prelude.{◌≡◌, ◌≤◌, ◌<◌, ℕ, List, length, 
 use Rattle.asl_tree.specs.Levels.{IsWhole}
 use Rattle.asl_frames.specs.declared.frame.Frame.{Frame}
 use Rattle.asl_frames.specs.declared.frame.Phase.TheVariants.{Parked}
-use Rattle.branch_tree.specs.First.{has_move}
-use Rattle.branch_tree.specs.Ready.{readiness_at}
+use Rattle.saved_steps.specs.BranchFirst.{has_move}
+use Rattle.saved_steps.specs.Ready.{readiness_at}
 use Rattle.step_names.specs.Thread.{Thread}
 use Rattle.saved_steps.specs.Deeds.{stands, move_deed}
 use Rattle.saved_steps.specs.Held.{frames_of, paths_of, seen}

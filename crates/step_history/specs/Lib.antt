@@ -3,3 +3,6 @@ pub mod Laws
 pub mod Moves
 pub mod Levels
 pub mod OneMachine
+-- what stands below and is named by the crates above
+pub use Rattle.asl_frames.specs.Turn
+pub use Rattle.asl_frames.specs.declared.frame.Frame

@@ -13,7 +13,7 @@ use Rattle.saved_steps.specs.Steps.{moved}
 use Rattle.saved_steps.specs.World.{Setting}
 use Rattle.saved_steps.specs.declared.next.Next.{Next}
 use Rattle.saved_steps.specs.declared.next.Next.TheVariants.{Begin, Work as WorkOn, Join, Terminate}
-use Rattle.asl_results.specs.Results.{Work, work_of, work_at, after_join, after_branch}
+use Rattle.asl_forward.specs.Results.{Work, work_of, work_at, after_join, after_branch}
 use Rattle.asl_frames.specs.Turn.{Standing, standing}
 use Rattle.saved_steps.specs.declared.world.World.{World}
 

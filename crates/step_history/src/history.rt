@@ -1,7 +1,7 @@
 // The steps that remain, and the world that they give.
 ghost use Rattle.std.specs.Prelude.{◌≡◌, [], None, IfOk, IfSome, length, position, option_copied, option_map};
 ghost use Rattle.std.specs.BTreeSet.{contains};
-ghost use Rattle.branch_tree.specs.Ready.{readiness_at};
+ghost use Rattle.saved_steps.specs.Ready.{readiness_at};
 ghost use Rattle.depends.specs.Plans as plans;
 ghost use Rattle.item_store.specs.Store.{items_of};
 ghost use Rattle.saved_steps.specs.First.{IsFirstReady};
@@ -11,8 +11,8 @@ ghost use Rattle.step_names.specs.Order.{thread_cmp};
 ghost use Rattle.step_history.specs.History.{IsHistory, IsSomeHistory, nothing_over};
 
 use asl_forward::Frame;
-use branch_tree::Readiness;
 use item_store::ItemStore;
+use saved_steps::branches::Readiness;
 use saved_steps::{StepRecord, World};
 use std::alloc::{AllocError, Global};
 use std::collections::BTreeSet;

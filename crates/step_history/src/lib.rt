@@ -7,6 +7,7 @@ mod making;
 mod moving;
 mod undoing;
 
+pub use asl_forward as turns;
 pub use history::History;
 pub use laws::{
     allowed_orders_undo, frames_are_counted, frames_stand, free_steps_return,

@@ -1,7 +1,7 @@
 // What a thread's move is to do.
 ghost use Rattle.std.specs.Prelude.{◌≡◌, ◌<◌, ◌≤◌, ◌+◌, ◌^◌, List, length, IfOk, IfSome, IsSome, Some, None, is_some, option_copied, option_map};
 ghost use Rattle.json_tree.specs.View.{data_of};
-ghost use Rattle.asl_results.specs.Results.{work_of, work_at};
+ghost use Rattle.asl_forward.specs.Results.{work_of, work_at};
 ghost use Rattle.asl_frames.specs.Turn.{standing};
 ghost use Rattle.step_names.specs.Thread.{child_of};
 ghost use Rattle.saved_steps.specs.Deeds.{first_fault, outputs};

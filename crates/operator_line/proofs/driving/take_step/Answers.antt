@@ -4,7 +4,7 @@ use Rattle.book_log.specs.Answers.{step_answer}
 use Rattle.book_log.specs.Story.{Story, accepted}
 use Rattle.book_log.specs.declared.entry.Entry.TheVariants.{Step as Stepped}
 use Rattle.reply_lines.specs.Replying.{AreLines}
-use Rattle.rollback_book.proofs.Threads.{step_thread}
+use Rattle.journaled_book.proofs.Threads.{step_thread}
 use Rattle.journaled_book.specs.Changes.{AnswersChange}
 use Rattle.journaled_book.specs.Journaled.{with_entry}
 use Rattle.operator_line.specs.Answers.{MovesFirst}

@@ -5,7 +5,7 @@ use Rattle.serde_json.specs.Data as source
 use Rattle.serde_json.specs.Read as source_text
 use Rattle.serde_json.specs.View.{view}
 use Rattle.command_lines.specs.Grammar as grammar
-use Rattle.rollback_book.specs.Book.{Volume}
+use Rattle.journaled_book.specs.Book.{Volume}
 use Rattle.journaled_book.specs.Changes.{RefusesDefine}
 use Rattle.journaled_book.specs.Journaled.{story_of}
 use Rattle.operator_line.specs.Answers.{AnswersDefine, change_reply}

@@ -1,7 +1,7 @@
 use Rattle.std.proofs.Common.{rules, ◌≡◌, true, Option, OnOk, string_bytes, subst}
 use Rattle.std.specs.Prelude.{is_some, IfSome}
 use Rattle.command_lines.specs.Grammar as grammar
-use Rattle.rollback_book.specs.Book.{Volume}
+use Rattle.journaled_book.specs.Book.{Volume}
 use Rattle.journaled_book.specs.Journaled.{story_of}
 use Rattle.operator_line.specs.Answers.{AnswersDrive}
 use Rattle.operator_line.specs.Sessions.{told}

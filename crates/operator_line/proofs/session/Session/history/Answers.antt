@@ -2,7 +2,7 @@ use Rattle.std.proofs.Common.{rules, ◌≡◌, ◌++◌, Some, OnOk, map, strin
 use Rattle.std.proofs.lemmas.Result.{on_ok_weaker}
 use Rattle.book_log.specs.Story.{remaining}
 use Rattle.journaled_book.specs.Journaled.{story_of}
-use Rattle.saved_steps.specs.declared.record.StepRecord.{StepRecord}
+use Rattle.journaled_book.specs.StepRecord.{StepRecord}
 use Rattle.step_names.specs.Written.{step_text}
 use Rattle.operator_line.specs.Answers.{history_reply, Tells}
 use Rattle.operator_line.specs.Sessions.{told}

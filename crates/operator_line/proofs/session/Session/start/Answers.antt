@@ -6,7 +6,7 @@ use Rattle.json_tree.specs.View.{data_of}
 use Rattle.book_log.specs.Answers.{start_answer}
 use Rattle.book_log.specs.declared.entry.Entry.TheVariants.{Start}
 use Rattle.command_lines.specs.Grammar as grammar
-use Rattle.rollback_book.specs.Book.{Volume}
+use Rattle.journaled_book.specs.Book.{Volume}
 use Rattle.journaled_book.specs.Changes.{AnswersChange}
 use Rattle.journaled_book.specs.Journaled.{story_of, with_entry}
 use Rattle.operator_line.specs.Answers.{AnswersStarted, AnswersInput, Tells, change_reply}

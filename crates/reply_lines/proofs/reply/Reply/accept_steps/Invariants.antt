@@ -1,7 +1,7 @@
 -- a line for each step so far
 use Rattle.std.proofs.Common.{◌≡◌, ◌++◌, map, flat_map, take, string_bytes}
 use Rattle.step_names.specs.Written.{step_text}
-use Rattle.saved_steps.specs.declared.record.StepRecord.{StepRecord}
+use Rattle.book_log.specs.StepRecord.{StepRecord}
 use Rattle.reply_lines.specs.Replies.{with_feed}
 use Rattle.reply_lines.proofs.reply.Reply.accept_steps.Given as goal
 

@@ -1,6 +1,6 @@
 use Rattle.std.proofs.Common.{◌≡◌, sym, subst, Option, Some}
 use Rattle.std.specs.Prelude.{IfSome}
-use Rattle.asl_frames.specs.declared.frame.Frame.{Frame}
+use Rattle.step_history.specs.Frame.{Frame}
 use Rattle.saved_steps.specs.Held.{frames_of}
 use Rattle.step_history.specs.Levels.{HasNamesBelow}
 use Rattle.rollback_book.specs.Book.{Volume, volume}

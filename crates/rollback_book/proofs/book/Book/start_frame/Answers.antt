@@ -1,5 +1,5 @@
 use Rattle.std.proofs.Common.{◌∙◌, ap}
-use Rattle.asl_frames.specs.Turn.{first_frame}
+use Rattle.step_history.specs.Turn.{first_frame}
 use Rattle.asl_tree.specs.Definition.{Definition}
 use Rattle.rollback_book.proofs.Refusing.{start_is}
 use Rattle.rollback_book.proofs.book.Book.start_frame.Goals as goal

@@ -1,5 +1,5 @@
 use Rattle.std.proofs.Common.{arith, sym, ap, subst}
-use Rattle.branch_tree.specs.FlatMap.{is_parked}
+use Rattle.saved_steps.specs.FlatMap.{is_parked}
 use Rattle.asl_tree.specs.Definition.{Definition}
 use Rattle.saved_steps.specs.Held.{frames_of}
 use Rattle.step_history.specs.Moves.{IsMachineOf}

@@ -1,8 +1,0 @@
-pub mod Lists
-pub mod Frames
-pub mod Branches
-pub mod Moves
-pub mod Defined
-pub mod Runs
-pub mod Carried
-pub mod Rolled

@@ -1,5 +1,0 @@
-pub mod Consequences
-pub mod Deeds
-pub mod Remaining
-pub mod Steps
-pub mod Worlds
