@@ -13,6 +13,7 @@ use std::alloc::Global;
 use std::marker::Model;
 
 /// A journal over a connection, which contracts see as what the connection shows. No transaction is open.
+#[derive(Drop)]
 pub struct Journal<S: Alter> {
     conn: Connection<S>,
     last: Option<i64>,
@@ -29,12 +30,6 @@ impl<S: Alter> Model for Journal<S> {
     ghost view = { λ j. j.conn };
 
     ghost invariant = { λ j. IsKept (state S.Store j.conn) j.last };
-}
-
-impl<S: Alter + Drop> Drop for Journal<S> {
-    fn drop(self) {
-        let Journal { conn: _, last: _ } = self;
-    }
 }
 
 /// Makes the table where there is none, and answers the last number.

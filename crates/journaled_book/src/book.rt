@@ -25,6 +25,7 @@ use step_names::StepName;
 ///
 /// Contracts see the book and what the journal's connection shows. While the disk is clean and the connection open, the
 /// journal's lines are those of the book's story.
+#[derive(Drop)]
 pub struct JournaledBook<S: Alter> {
     book: Option<Book>,
     journal: Journal<S>,
@@ -43,15 +44,6 @@ impl<S: Alter> Model for JournaledBook<S> {
     ghost view = { λ j. record { book = j.book; journal = j.journal } };
 
     ghost invariant = { λ j. IsJournalOf (state S.Store j.journal) (story_of j.book) };
-}
-
-impl<S: Alter + Drop> Drop for JournaledBook<S> {
-    fn drop(self) {
-        let JournaledBook {
-            book: _,
-            journal: _,
-        } = self;
-    }
 }
 
 impl<S: Alter> JournaledBook<S> {

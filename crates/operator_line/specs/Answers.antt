@@ -36,7 +36,7 @@ use Rattle.journaled_book.specs.declared.fault.ChangeFault.{ChangeFault}
 use Rattle.journaled_book.specs.declared.fault.ChangeFault.TheVariants as by
 use Rattle.command_lines.specs.Grammar as spoken
 use Rattle.command_lines.specs.Grammar.{Spoken, command_of}
-use Rattle.reply_lines.specs.Replies.{done_reply, step_reply, moved_reply, list_reply, names_reply, item_fault_reply, frame_reply, refused, refused_by, refusal_reply, memory_reply}
+use Rattle.reply_lines.specs.Replies.{done_reply, step_reply, moved_reply, list_reply, names_reply, item_fault_reply, frame_reply, refused, refused_by, refusal_reply, memory_reply, no_journal, bad_json, bad_beginning, table_taken, no_table, bad_line}
 
 -- this is told, and this is the book then: such is the reply, and the book afterwards
 abbrev pub Tells : List ℕ → Option Story → List ℕ → Option Story → Type 0
@@ -44,7 +44,7 @@ Tells told book reply after = (reply ≡ told) × (after ≡ book)
 
 -- what is told where the journal refuses a line
 abbrev pub journal_reply : List ℕ
-journal_reply = refused 24
+journal_reply = refused no_journal
 
 -- This is told, and this is the book then; or the journal refuses the line, and the book is the one from before.
 abbrev pub Enters : List ℕ → Option Story → Option Story → List ℕ → Option Story → Type 0
@@ -54,11 +54,11 @@ Enters told book before reply after = Tells told book reply after ⊎ Tells jour
 
 -- a value whose numbers are whole, or what is told where the text is none
 abbrev pub OfWhole : Option Data → (List ℕ → Type 0) → (Data → Type 0) → Type 0
-OfWhole None Refused Read = Refused (refused_by 25 2)
+OfWhole None Refused Read = Refused (refused_by bad_json 2)
 OfWhole (Some d) Refused Read = Read d
 
 abbrev pub OfSource : Option source.Data → (List ℕ → Type 0) → (Data → Type 0) → Type 0
-OfSource None Refused Read = Refused (refused_by 25 1)
+OfSource None Refused Read = Refused (refused_by bad_json 1)
 OfSource (Some d) Refused Read = OfWhole (whole_of d) Refused Read
 
 abbrev pub OfJson : List ℕ → (List ℕ → Type 0) → (Data → Type 0) → Type 0
@@ -81,11 +81,11 @@ AnswersBeginning begin = AnswersBegin begin (table_of begin)
 -- the items are a list
 abbrev pub AnswersItems : List ℕ → KeySchema → Data → List ℕ → Option Story → Type 0
 AnswersItems name schema (list ds) = AnswersBeginning (record { table = name; schema = schema; items = values_in ds })
-AnswersItems name schema null = Tells (refused_by 23 1) None
-AnswersItems name schema (boolean b) = Tells (refused_by 23 1) None
-AnswersItems name schema (whole z) = Tells (refused_by 23 1) None
-AnswersItems name schema (text s) = Tells (refused_by 23 1) None
-AnswersItems name schema (fields ms) = Tells (refused_by 23 1) None
+AnswersItems name schema null = Tells (refused_by bad_beginning 1) None
+AnswersItems name schema (boolean b) = Tells (refused_by bad_beginning 1) None
+AnswersItems name schema (whole z) = Tells (refused_by bad_beginning 1) None
+AnswersItems name schema (text s) = Tells (refused_by bad_beginning 1) None
+AnswersItems name schema (fields ms) = Tells (refused_by bad_beginning 1) None
 
 abbrev pub AnswersTable : List ℕ → KeySchema → List ℕ → List ℕ → Option Story → Type 0
 AnswersTable name schema json reply after =
@@ -103,7 +103,7 @@ pub record RefusesDefine (story : Story) (name : List ℕ) (d : source.Data) (re
   pub told : Tells (refusal_reply refusal) (Some story) reply after
 
 abbrev pub AnswersDefine : Story → List ℕ → Option source.Data → List ℕ → Option Story → Type 0
-AnswersDefine story name None reply after = Tells (refused_by 25 1) (Some story) reply after
+AnswersDefine story name None reply after = Tells (refused_by bad_json 1) (Some story) reply after
 AnswersDefine story name (Some d) reply after = Defines story name d reply after ⊎ RefusesDefine story name d reply after
 
 abbrev pub AnswersStarted : Story → Entry → Result StepName Refusal → List ℕ → Option Story → Type 0
@@ -201,7 +201,7 @@ pub record AnswersDrive (story : Story) (count : ℕ) (reply : List ℕ) (after 
 
 -- of a session with a book
 abbrev pub AnswersOpen : Story → Spoken → List ℕ → Option Story → Type 0
-AnswersOpen story (spoken.table name schema json) = Tells (refused 22) (Some story)
+AnswersOpen story (spoken.table name schema json) = Tells (refused table_taken) (Some story)
 AnswersOpen story (spoken.define name json) = AnswersDefine story name (source_text.read json)
 AnswersOpen story (spoken.start exec machine json) = AnswersStart story exec machine json
 AnswersOpen story (spoken.step thread) = AnswersStep story (step_answer story thread)
@@ -216,23 +216,23 @@ AnswersOpen story spoken.history = Tells (history_reply story) (Some story)
 -- before its table is given
 abbrev pub AnswersClosed : Spoken → List ℕ → Option Story → Type 0
 AnswersClosed (spoken.table name schema json) = AnswersTable name schema json
-AnswersClosed (spoken.define name json) = Tells (refused 21) None
-AnswersClosed (spoken.start exec machine json) = Tells (refused 21) None
-AnswersClosed (spoken.step thread) = Tells (refused 21) None
-AnswersClosed (spoken.undo name) = Tells (refused 21) None
-AnswersClosed (spoken.plan name) = Tells (refused 21) None
-AnswersClosed (spoken.rollback name) = Tells (refused 21) None
-AnswersClosed (spoken.drive count) = Tells (refused 21) None
-AnswersClosed (spoken.show thread) = Tells (refused 21) None
-AnswersClosed spoken.items = Tells (refused 21) None
-AnswersClosed spoken.history = Tells (refused 21) None
+AnswersClosed (spoken.define name json) = Tells (refused no_table) None
+AnswersClosed (spoken.start exec machine json) = Tells (refused no_table) None
+AnswersClosed (spoken.step thread) = Tells (refused no_table) None
+AnswersClosed (spoken.undo name) = Tells (refused no_table) None
+AnswersClosed (spoken.plan name) = Tells (refused no_table) None
+AnswersClosed (spoken.rollback name) = Tells (refused no_table) None
+AnswersClosed (spoken.drive count) = Tells (refused no_table) None
+AnswersClosed (spoken.show thread) = Tells (refused no_table) None
+AnswersClosed spoken.items = Tells (refused no_table) None
+AnswersClosed spoken.history = Tells (refused no_table) None
 
 abbrev pub AnswersCommand : Option Story → Spoken → List ℕ → Option Story → Type 0
 AnswersCommand None command = AnswersClosed command
 AnswersCommand (Some story) command = AnswersOpen story command
 
 abbrev pub AnswersSpoken : Option Story → Option Spoken → List ℕ → Option Story → Type 0
-AnswersSpoken before None = Tells (refused 20) before
+AnswersSpoken before None = Tells (refused bad_line) before
 AnswersSpoken before (Some command) = AnswersCommand before command
 
 -- want of memory may be told in place of what else is answered

@@ -45,6 +45,7 @@ const NO_JOURNAL: u32 = 24;
 const BAD_JSON: u32 = 25;
 
 /// The book of one session, none before its table is given, and the journal of its accepted lines. Contracts see both.
+#[derive(Drop)]
 pub struct Session<S: Alter> {
     alloc: Global,
     book: JournaledBook<S>,
@@ -60,12 +61,6 @@ impl<S: Alter> Model for Session<S> {
     ghost coded = { journaled_code (coded_option book_row.the_row.coded) S.code };
 
     ghost view = { λ s. s.book };
-}
-
-impl<S: Alter + Drop> Drop for Session<S> {
-    fn drop(self) {
-        let Session { alloc: _, book: _ } = self;
-    }
 }
 
 impl<S: Alter> Session<S> {

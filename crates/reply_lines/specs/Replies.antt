@@ -71,6 +71,25 @@ frame_reply f = phase_reply f f.phase
 
 -- ---- what is refused
 
+-- the codes of refusals that are no book's
+abbrev pub bad_line : ℕ
+bad_line = 20
+
+abbrev pub no_table : ℕ
+no_table = 21
+
+abbrev pub table_taken : ℕ
+table_taken = 22
+
+abbrev pub bad_beginning : ℕ
+bad_beginning = 23
+
+abbrev pub no_journal : ℕ
+no_journal = 24
+
+abbrev pub bad_json : ℕ
+bad_json = 25
+
 abbrev pub refused : ℕ → List ℕ
 refused code = codes "no " ++ with_feed (decimal code)
 
@@ -124,16 +143,16 @@ refusal_reply refusals.Memory = memory_reply
 -- ---- JSON that is none
 
 abbrev pub json_reply : JsonFault → List ℕ
-json_reply json_faults.NotJson = refused_by 25 1
-json_reply json_faults.NotWhole = refused_by 25 2
+json_reply json_faults.NotJson = refused_by bad_json 1
+json_reply json_faults.NotWhole = refused_by bad_json 2
 json_reply json_faults.Memory = memory_reply
 
 -- ---- items that are none
 
 abbrev pub item_fault_reply : ItemFault → List ℕ
-item_fault_reply item_faults.BadValue = refused_by 23 1
-item_fault_reply item_faults.BadNumber = refused_by 23 2
-item_fault_reply item_faults.NoKey = refused_by 23 3
-item_fault_reply item_faults.KeyType = refused_by 23 4
-item_fault_reply item_faults.EmptyKey = refused_by 23 5
+item_fault_reply item_faults.BadValue = refused_by bad_beginning 1
+item_fault_reply item_faults.BadNumber = refused_by bad_beginning 2
+item_fault_reply item_faults.NoKey = refused_by bad_beginning 3
+item_fault_reply item_faults.KeyType = refused_by bad_beginning 4
+item_fault_reply item_faults.EmptyKey = refused_by bad_beginning 5
 item_fault_reply item_faults.Memory = memory_reply
