@@ -36,7 +36,7 @@ fn appended_on(alloc: Global, files: StoppingFiles, lines: &[&str]) -> (bool, St
     }
 }
 
-fn met(alloc: Global, journal: &mut Journal<Stopping>, answered: bool, append: Append) -> Met {
+fn meeting(alloc: Global, journal: &mut Journal<Stopping>, answered: bool, append: Append) -> Met {
     Met {
         answered,
         before: holds(alloc, journal, append.before),
@@ -44,9 +44,9 @@ fn met(alloc: Global, journal: &mut Journal<Stopping>, answered: bool, append: A
     }
 }
 
-fn met_on(alloc: Global, left: StoppingFiles, answered: bool, append: Append) -> Option<Met> {
+fn meeting_on(alloc: Global, left: StoppingFiles, answered: bool, append: Append) -> Option<Met> {
     match journal_on(alloc, crashed(left)) {
-        Ok(mut journal) => Some(met(alloc, &mut journal, answered, append)),
+        Ok(mut journal) => Some(meeting(alloc, &mut journal, answered, append)),
         Err(_) => None,
     }
 }
@@ -56,7 +56,7 @@ fn run_to_stop(alloc: Global, db: &[u8], stop: Stop, append: Append) -> Option<M
     match files(alloc, &[], db, stop) {
         Some(files) => {
             let (answered, left) = appended_on(alloc, files, append.added);
-            met_on(alloc, left, answered, append)
+            meeting_on(alloc, left, answered, append)
         }
         None => None,
     }
