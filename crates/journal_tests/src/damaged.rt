@@ -96,7 +96,10 @@ const DAMAGED: &[(&[&str], usize)] = &[
 fn damaged_lines_are_named(rt: HostRuntime) {
     for &(lines, place) in DAMAGED {
         let refusal = refusal(rt.alloc(), lines);
-        assert!(rt; refusal == Some((OpenFault::Damaged(place), true)), "{place}");
+        assert!(rt;
+            refusal == Some((OpenFault::Damaged(place), true)),
+            "{place}"
+        );
     }
 }
 

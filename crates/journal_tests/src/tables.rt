@@ -129,7 +129,10 @@ fn is_refused_by(alloc: Global, sql: &str, code: ErrorCode) -> bool {
 #[test]
 fn another_table_is_refused(rt: HostRuntime) {
     for &sql in OTHERS {
-        assert!(rt; is_refused_by(rt.alloc(), sql, ErrorCode::NotADatabase), "{sql}");
+        assert!(rt;
+            is_refused_by(rt.alloc(), sql, ErrorCode::NotADatabase),
+            "{sql}"
+        );
     }
     assert!(rt; is_refused_by(rt.alloc(), "BEGIN", ErrorCode::TransactionState));
 }

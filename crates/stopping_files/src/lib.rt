@@ -73,10 +73,7 @@ pub fn connected(
 }
 
 /// The journal over these files, or the files where one stops before.
-pub fn journal_on(
-    alloc: Global,
-    files: StoppingFiles,
-) -> Result<Journal<Stopping>, StoppingFiles> {
+pub fn journal_on(alloc: Global, files: StoppingFiles) -> Result<Journal<Stopping>, StoppingFiles> {
     match connected(alloc, files) {
         Ok(conn) => match Journal::open(conn) {
             Ok(journal) => Ok(journal),

@@ -51,14 +51,7 @@ fn ran(
     faults: &mut Sink,
 ) -> u8 {
     let connection = connection(alloc, refused);
-    run(
-        alloc,
-        mode_by(alloc, way),
-        connection,
-        source,
-        sink,
-        faults,
-    )
+    run(alloc, mode_by(alloc, way), connection, source, sink, faults)
 }
 
 /// Whether a run has this status, and tells this.

@@ -1,8 +1,8 @@
 //! Attribute values, numbers and items.
 use crate::fault::RowFault;
 use crate::json::{put, value_of};
-use crate::parts::{cut, ensure, put_number, put_yes};
 use crate::lines;
+use crate::parts::{cut, ensure, put_number, put_yes};
 use attr_values::{
     Item, Number, Value, ValueMap, equality_is_of_values, numbers_are_read, numbers_have_one_form,
     numbers_read_back, read_item, read_value, write_item, write_value, written_is_read_back,
@@ -147,12 +147,7 @@ fn put_owned(alloc: Global, out: &mut String, value: Value) -> Result<(), RowFau
     told
 }
 
-fn put_field(
-    alloc: Global,
-    out: &mut String,
-    map: &ValueMap,
-    field: &str,
-) -> Result<(), RowFault> {
+fn put_field(alloc: Global, out: &mut String, map: &ValueMap, field: &str) -> Result<(), RowFault> {
     match map.get(field) {
         Some(value) => put_value(alloc, out, value),
         None => {

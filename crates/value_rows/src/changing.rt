@@ -140,12 +140,7 @@ fn set_item(
     }
 }
 
-fn put_item(
-    alloc: Global,
-    out: &mut String,
-    list: &JsonList,
-    index: &str,
-) -> Result<(), RowFault> {
+fn put_item(alloc: Global, out: &mut String, list: &JsonList, index: &str) -> Result<(), RowFault> {
     match list.get(index_in(index)?) {
         Some(item) => put(alloc, out, item),
         None => put_fault(out, ChangeFault::Absent),

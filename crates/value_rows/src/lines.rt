@@ -1,7 +1,7 @@
 //! The grammar of the operators' lines.
 use crate::fault::RowFault;
 use crate::names::thread;
-use crate::{json, keys, attrs, names, paths, templates, items};
+use crate::{attrs, items, json, keys, names, paths, templates};
 use attr_values::{KeyAttribute, KeySchema, KeyType};
 use command_lines::{Command, CommandFault, lines_are_spelled, step_line};
 use std::alloc::Global;
@@ -51,11 +51,7 @@ pub(crate) fn put_line(alloc: Global, out: &mut String, line: &[u8]) -> Result<(
     }
 }
 
-fn put_command(
-    alloc: Global,
-    out: &mut String,
-    command: &Command<'_>,
-) -> Result<(), RowFault> {
+fn put_command(alloc: Global, out: &mut String, command: &Command<'_>) -> Result<(), RowFault> {
     match command {
         Command::Table {
             name,
@@ -114,12 +110,7 @@ fn put_thread(
     put_bars(out, word, text.as_str())
 }
 
-fn put_step(
-    alloc: Global,
-    out: &mut String,
-    word: &str,
-    name: &StepName,
-) -> Result<(), RowFault> {
+fn put_step(alloc: Global, out: &mut String, word: &str, name: &StepName) -> Result<(), RowFault> {
     let text = name.write_text(alloc)?;
     put_bars(out, word, text.as_str())
 }

@@ -170,10 +170,7 @@ fn put_in(
     moved: &StepName,
     name: &StepName,
 ) -> Result<(), RowFault> {
-    ensure(
-        *moved == *name && moved.copy()? == *name,
-        "another copy",
-    )?;
+    ensure(*moved == *name && moved.copy()? == *name, "another copy")?;
     let text = moved.write_text(alloc)?;
     out.push_str(text.as_str())?;
     out.push_str(" of ")?;

@@ -91,21 +91,13 @@ fn put_order(alloc: Global, out: &mut String, rest: &str) -> Result<(), RowFault
     }
 }
 
-fn put_order_of<T: Spelled>(
-    alloc: Global,
-    out: &mut String,
-    texts: &str,
-) -> Result<(), RowFault> {
+fn put_order_of<T: Spelled>(alloc: Global, out: &mut String, texts: &str) -> Result<(), RowFault> {
     let mut values = Vec::new(alloc);
     read_all::<T>(alloc, &mut values, texts)?;
     put_ranks(alloc, out, values.as_slice())
 }
 
-fn read_all<T: Spelled>(
-    alloc: Global,
-    values: &mut Vec<T>,
-    texts: &str,
-) -> Result<(), RowFault> {
+fn read_all<T: Spelled>(alloc: Global, values: &mut Vec<T>, texts: &str) -> Result<(), RowFault> {
     for text in texts.split(PART_END) {
         values.push(T::read(alloc, text)?)?;
     }
