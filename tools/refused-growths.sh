@@ -2,7 +2,7 @@
 # Runs tests with each of their requests for memory refused in turn: the Nth, for N from 1 until there is no Nth.
 #
 #     sh tools/refused-growths.sh              the tests that are made for it
-#     sh tools/refused-growths.sh CRATE TEST   one test, as: json_tree_tests tests::answers_want_of_memory
+#     sh tools/refused-growths.sh CRATE TEST   one test, as: book_tests acts::refused_growths_change_nothing
 #
 # A run has to pass, or to end with an error that says it is out of memory: so a test ends whose own request is refused.
 # Without words, each session of session_rows without a `drive`, but for its tables of definitions, is run so too, where a line that is told want of memory is given once
@@ -91,22 +91,11 @@ for name in $(sed -n 's/^= //p' crates/session_rows/stdin | grep -v '^definition
     fi
 done
 while read -r crate test; do
-    case $test in
-        *::*) refuse_each "$crate" "$test" || failed=1 ;;
-        *) refuse_each "$crate" "tests::$test" || failed=1 ;;
-    esac
+    refuse_each "$crate" "$test" || failed=1
 done <<'TESTS'
-step_names_tests refused_growths_are_told
-json_tree_tests answers_want_of_memory
-attr_values_tests answers_want_of_memory
-item_store_tests answers_want_of_memory
-ref_paths_tests answers_want_of_memory
-ref_paths_tests answers_want_of_memory_for_templates
-saved_steps_tests undoes_forks_and_a_terminate
-saved_steps_tests undoes_a_join
-saved_steps_tests undoes_calls
-depends_tests answers_want_of_memory
-rollback_book_tests refused_growths_change_nothing
-operator_line_tests drive_tests::drive_with_a_refused_growth
+book_tests acts::refused_growths_change_nothing
+book_tests plans::histories_by_hand
+journal_tests damaged::a_refused_growth_hands_the_journal_back
 TESTS
+python3 tools/value_rows.py --refuse || failed=1
 exit $failed
