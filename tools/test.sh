@@ -27,14 +27,9 @@ part() {
     fi
 }
 
-# The rows that are read from files by a program of the tests.
-value_rows() {
-    python3 tools/rows.py --values
-}
-
 part rt ci
 part python3 tools/rows.py
-part value_rows
+part python3 tools/value_rows.py
 part python3 tools/drawn.py --sessions 400
 echo "$passed passed, $failed failed"
 exit $wrong
