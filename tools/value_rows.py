@@ -2,7 +2,7 @@
 """Gives rows to the program value_rows, and compares each answer with the one that stands there.
 
     python3 tools/value_rows.py [--program PATH] [FILE..]
-    python3 tools/value_rows.py --refuse [--program PATH] [FILE..]
+    python3 tools/value_rows.py --refuse [--most N] [--program PATH] [FILE..]
 
 Without files all of rows/values/*.txt are given. A file has rows, between them empty lines and comments, which begin with `#`:
 
@@ -13,8 +13,8 @@ A row is a word, a space and its inputs with ` | ` between them, and under it st
 answer is empty. In a row and in an answer `%(127*[%)` is 127 times `[`, `%(xff%)` is one byte, and `%(%)` is an input that is empty.
 The rows of a file are given to one run of the program. What each word does is said at its function in crates/value_rows/src.
 
-With --refuse each row is run by itself, with each of its requests for memory refused in turn. Then it is answered `memory`, is
-asked again, and has its own answer. The rows behind a `store` belong to it, up to the next. This wants a C compiler (cc, or what
+With --refuse each row is run by itself, with each of its requests for memory refused in turn, or with N of them, evenly chosen,
+where it has more (400 where no N is given). Then it is answered `memory`, is asked again, and has its own answer. The rows behind a `store` belong to it, up to the next. This wants a C compiler (cc, or what
 CC names) and the GNU C library.
 
 Each failure is printed. The last line is `N passed, M failed`, of rows, and the status is 1 where one failed or none was run.
@@ -110,48 +110,55 @@ def blocks(rows):
     return made
 
 
-def refuse_each(program, library, rows):
-    """Refuses each request of a run in turn. How many there are, and what is wrong."""
-    sent = b"".join(row.sent() for row in rows)
-    number = 0
-    while True:
-        number += 1
-        with tempfile.TemporaryFile() as count:
-            fd = count.fileno()
-            told = subprocess.run(
-                ["sh", "-c", f"exec 3>&{fd} && exec env \"$@\"", "sh", f"LD_PRELOAD={library}", f"REFUSE={number}", program, "again"],
-                input=sent,
-                capture_output=True,
-                pass_fds=[fd],
-            )
-            count.seek(0)
-            asked = int(count.read() or 0)
-        if told.returncode != 0:
-            if OWN.search(told.stderr):
-                continue
-            return number, [(rows[0], f"{rows[0].place}: request {number}: status {told.returncode}: {shown(told.stderr)}")]
-        wrong = list(failures(rows, told.stdout, ""))
+def refused_run(program, room, rows, number):
+    """A run with one request refused, none where the number is 0: how it ended, and how many requests it made."""
+    with tempfile.NamedTemporaryFile(dir=room) as count:
+        words = [f"LD_PRELOAD={room}/refusing.so", f"REFUSE={number}", program, "again"]
+        told = subprocess.run(
+            ["sh", "-c", 'exec 3>"$1" && shift && exec env "$@"', "sh", count.name, *words],
+            input=b"".join(row.sent() for row in rows),
+            capture_output=True,
+        )
+        return told, int(count.read() or 0)
+
+
+def chosen(requests, most):
+    """The numbers of the requests that are refused: all, or as many as may be, evenly from the first to the last."""
+    if requests <= most:
+        return range(1, requests + 1)
+    return sorted({1 + at * (requests - 1) // (most - 1) for at in range(most)})
+
+
+def refuse_each(program, room, rows, most):
+    """Refuses the requests of a run in turn. How many there are, how many were refused, and what is wrong."""
+    _, requests = refused_run(program, room, rows, 0)
+    if not requests:
+        return 0, 0, [(rows[0], f"{rows[0].place}: no request was counted: a program with an allocator of its own?")]
+    numbers = chosen(requests, most)
+    for number in numbers:
+        told, _ = refused_run(program, room, rows, number)
+        if told.returncode and not OWN.search(told.stderr):
+            return requests, number, [(rows[0], f"{rows[0].place}: request {number}: status {told.returncode}: {shown(told.stderr)}")]
+        wrong = [] if told.returncode else list(failures(rows, told.stdout, ""))
         if wrong:
-            return number, [(row, f"request {number} refused, {why}") for row, why in wrong]
-        if asked < number:
-            return number - 1, []
+            return requests, number, [(row, f"request {number} refused, {why}") for row, why in wrong]
+    return requests, len(numbers), []
 
 
-def compiled(room):
-    library = os.path.join(room, "refusing.so")
+def compile_library(room):
     compiler = os.environ.get("CC", "cc")
-    subprocess.run([compiler, "-O2", "-shared", "-fPIC", "-o", library, TOP / "tools/refusing_malloc.c"], check=True)
-    return library
+    words = [compiler, "-O2", "-shared", "-fPIC", "-o", f"{room}/refusing.so", TOP / "tools/refusing_malloc.c"]
+    subprocess.run(words, check=True)
 
 
-def refuse_all(program, rows):
-    requests, wrong = 0, []
+def refuse_all(program, rows, most):
+    requests, refused, wrong = 0, 0, []
     with tempfile.TemporaryDirectory() as room, concurrent.futures.ThreadPoolExecutor(os.cpu_count()) as pool:
-        library = compiled(room)
-        for count, found in pool.map(lambda block: refuse_each(program, library, block), blocks(rows)):
-            requests += count
+        compile_library(room)
+        for made, tried, found in pool.map(lambda block: refuse_each(program, room, block, most), blocks(rows)):
+            requests, refused = requests + made, refused + tried
             wrong += found
-    print(f"{requests} requests refused in turn")
+    print(f"{refused} of {requests} requests refused, one a run")
     return wrong
 
 
@@ -159,6 +166,7 @@ def main():
     parser = argparse.ArgumentParser(description=__doc__.split("\n")[0])
     parser.add_argument("--program", type=pathlib.Path, default=PROGRAM)
     parser.add_argument("--refuse", action="store_true")
+    parser.add_argument("--most", type=int, default=400)
     parser.add_argument("files", nargs="*", type=pathlib.Path)
     asked = parser.parse_args()
     program = str(asked.program.resolve())
@@ -168,7 +176,7 @@ def main():
     passed = failed = 0
     for file in files:
         rows = read_rows(file)
-        wrong, why = (refuse_all(program, rows), "") if asked.refuse else run(program, rows)
+        wrong, why = (refuse_all(program, rows, asked.most), "") if asked.refuse else run(program, rows)
         for _, text in wrong:
             print(text)
         if why and not wrong:

@@ -1,5 +1,0 @@
-//! Tests of json_tree, in a crate of their own, so that json_tree is proved once and they alone anew.
-#![tactic(auto)]
-
-#[cfg(test)]
-mod tests;
