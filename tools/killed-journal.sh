@@ -2,17 +2,17 @@
 # Serves commands on a file, each once the one before it is answered, and kills the process at a drawn moment, time after time: some
 # milliseconds after a command is given. The file is opened again then: the book has to be that of a beginning of the commands, which
 # holds every command that was answered.
-# It needs crates/rollback_program/out/rollback_program, which `rt run` in crates/rollback_program leaves.
+# The program is crates/rollback_program/out/rollback_program where no PATH is given: `rt run` in crates/rollback_program leaves it.
 #
-#     sh tools/killed-journal.sh [TIMES [SEED [PROGRAM]]]      20 times, with the moments of seed 1, where they are left out
+#     sh tools/killed-journal.sh [TIMES [SEED [PATH]]]      20 times, with the moments of seed 1, where they are left out
 set -eu
-cd "$(dirname "$0")/.."
+top=$(dirname "$0")/..
 times=${1:-20}
 seed=${2:-1}
-program=${3:-crates/rollback_program/out/rollback_program}
+program=${3:-$top/crates/rollback_program/out/rollback_program}
 commands=1000
 if [ ! -x "$program" ]; then
-    echo "killed-journal: run rt run in crates/rollback_program first" >&2
+    echo "killed-journal: no program $program: run rt run in crates/rollback_program first" >&2
     exit 2
 fi
 folder=$(mktemp -d)

@@ -14,8 +14,8 @@ answer is empty. In a row and in an answer `%(127*[%)` is 127 times `[`, `%(xff%
 The rows of a file are given to one run of the program. What each word does is said at its function in crates/value_rows/src.
 
 With --refuse each row is run by itself, with each of its requests for memory refused in turn, or with N of them, evenly chosen,
-where it has more (400 where no N is given). Then it is answered `memory`, is asked again, and has its own answer. The rows behind a `store` belong to it, up to the next. This wants a C compiler (cc, or what
-CC names) and the GNU C library.
+where it has more (400 where no N is given). Then it is answered `memory`, is asked again, and has its own answer. The rows behind a
+`store` belong to it, up to the next. This wants a C compiler (cc, or what CC names) and the GNU C library.
 
 Each failure is printed. The last line is `N passed, M failed`, of rows, and the status is 1 where one failed or none was run.
 """

@@ -1,0 +1,318 @@
+#!/usr/bin/env python3
+"""Serves the sessions of rows/*.txt while one request for memory is refused: the first, then the second, until there is none left.
+
+    tools/refused_sessions.py [--program PATH] [--files] [--only TITLE].. [--lines N] [--most N] [--seconds N] [--jobs N] [FILE..]
+
+Without files all of rows/*.txt are served. A session's lines are given to the program one by one, each once the one before it is
+answered. Where the refusal falls may be told once in a run, in one of these ways:
+
+- the reply is `no 11`, or `no 24` where it was the store's. The line is given again, and is answered as the row says;
+- a `drive` takes fewer steps. It is given again with the number of those that are left, and the steps together are those of the row;
+- the program ends with status 4 and `rollback: memory`; or, before it answers, with status 3 and `rollback: store`.
+
+Each other reply has to be the one that stands in the row, so a line that was refused has changed nothing. With --files the first half
+of a session is served on a journal's file, which is opened then, and refused memory from there on. Where the program ends, it is
+started again on the same file, which has to give the rest of the replies.
+
+Of a session with more than --most requests (1000), or which would take more than --seconds (30), only so many are refused, evenly
+spaced: long tables of definitions ask for memory as short ones do, each time behind all the lines before. Left out are sessions of more
+than --lines lines (200), for the same reason, and those of several runs, which say themselves how each of them ends. --jobs is how many
+processes serve at a time; as many as there are processors where nothing is said.
+
+It wants a C compiler (cc, or what CC names), the GNU C library, and a program without a sanitizer's allocator. What fails is told.
+The last line is `N passed, M failed`, of sessions, and the status is 1 where one failed or none was served.
+"""
+import argparse
+import collections
+import concurrent.futures
+import glob
+import multiprocessing
+import os
+import re
+import shutil
+import subprocess
+import sys
+import tempfile
+import threading
+import time
+
+sys.dont_write_bytecode = True
+import rows  # noqa: E402: beside this file
+
+COUNT = 3
+CHUNK = 50
+SECONDS = 300
+ENDS = ((4, b"rollback: memory\n"),)
+ENDS_AT_OPENING = (*ENDS, (3, b"rollback: store\n"))
+
+
+class Wrong(Exception):
+    """What is told of a run that isn't as it has to be."""
+
+
+class Served:
+    """The running program, with the request of this number refused; 0 refuses none."""
+
+    def __init__(self, program, words, library, number):
+        self.answered = False
+        self.process = subprocess.Popen(
+            [program, *words],
+            stdin=subprocess.PIPE,
+            stdout=subprocess.PIPE,
+            stderr=subprocess.PIPE,
+            pass_fds=(COUNT,),
+            env=dict(os.environ, LD_PRELOAD=library, REFUSE=str(number)),
+        )
+        self.clock = threading.Timer(SECONDS, self.process.kill)
+        self.clock.start()
+
+    def ask(self, text, has_end=True):
+        """The lines of the reply, or None where the program ended."""
+        try:
+            self.process.stdin.write(text + b"\n" if has_end else text)
+            self.process.stdin.flush()
+            if not has_end:
+                self.process.stdin.close()
+        except BrokenPipeError:
+            return None
+        if rows.Command("", 0, text, has_end).is_empty():
+            return []
+        lines = [self.process.stdout.readline()]
+        found = re.fullmatch(rb"ok (\d+)\n", lines[0])
+        if found and text.split(b" ")[0] in rows.LISTS:
+            lines += [self.process.stdout.readline() for _ in range(int(found.group(1)))]
+        if lines == [b""]:
+            return None
+        self.answered = True
+        return [line.removesuffix(b"\n") for line in lines]
+
+    def end(self):
+        """What it wrote beyond the replies, its status, and what it told on standard error, once its input ends."""
+        try:
+            self.process.stdin.close()
+        except BrokenPipeError:
+            pass
+        rest, errors = self.process.stdout.read(), self.process.stderr.read()
+        status = self.process.wait()
+        self.drop()
+        return rest, status, errors
+
+    def drop(self):
+        self.clock.cancel()
+        self.process.kill()
+        self.process.wait()
+        for stream in (self.process.stdin, self.process.stdout, self.process.stderr):
+            try:
+                stream.close()
+            except BrokenPipeError:
+                pass
+
+    def end_for_memory(self, command):
+        """Its end at this line, which has to be one for want of memory."""
+        rest, status, errors = self.end()
+        if rest or (status, errors) not in (ENDS if self.answered else ENDS_AT_OPENING):
+            raise Wrong(ended_at(command, rest, status, errors))
+
+
+def ended_at(command, rest, status, errors):
+    return (
+        f"{command.place()}: {rows.short(command.text, 120)}\n    ended with status {status}, {rows.short(errors)!r} on standard error, "
+        f"and further output {rows.short(rest)!r}"
+    )
+
+
+def joined(front, rest):
+    """The reply to a drive that was given in two parts."""
+    if rest is None or not re.fullmatch(rb"ok \d+", rest[0]):
+        return rest
+    return [b"ok %d" % (len(front) + len(rest) - 2), *front[1:], *rest[1:]]
+
+
+def asked_again(served, command, found):
+    """How the refusal is told by a reply that isn't the row's, and the reply to what is given again then."""
+    if found in ([b"no 11"], [b"no 24"]):
+        # behind a last line without its end nothing can be given
+        return "told", served.ask(command.text) if command.ended else command.wanted
+    drive = re.fullmatch(rb"drive (\d+)", command.text)
+    if drive and re.fullmatch(rb"ok \d+", found[0]) and found[1:] == command.wanted[1 : len(found)] and len(found) < len(command.wanted):
+        return "early", joined(found, served.ask(b"drive %d" % (int(drive.group(1)) - len(found) + 1)))
+    return "", found
+
+
+def run(program, library, commands, words, number):
+    """Serves these lines with the request of this number refused: how many there were, and how that one was told."""
+    os.ftruncate(COUNT, 0)
+    os.lseek(COUNT, 0, os.SEEK_SET)
+    served, told = Served(program, words, library, number), ""
+    try:
+        for command in commands:
+            found = served.ask(command.text, command.ended)
+            if number and not told and found != command.wanted:
+                if found is not None:
+                    told, found = asked_again(served, command, found)
+                else:
+                    told = "ended"
+                    served.end_for_memory(command)
+                    if not words:
+                        return counted(), told
+                    served = Served(program, words, library, 0)
+                    found = served.ask(command.text, command.ended)
+            if found is None:
+                raise Wrong(ended_at(command, *served.end()))
+            if found != command.wanted:
+                raise Wrong(
+                    f"{command.place()}: {rows.short(command.text, 120)}\n    wanted:\n{rows.lines_of(command.wanted)}\n"
+                    f"    found:\n{rows.lines_of(found)}"
+                )
+        end = served.end()
+        if end != (b"", 0, b""):
+            raise Wrong(ended_at(commands[-1], *end))
+        return counted(), told
+    finally:
+        served.drop()
+
+
+def counted():
+    """How many requests the programs of a run have told, the first of them."""
+    os.lseek(COUNT, 0, os.SEEK_SET)
+    return int((os.read(COUNT, 40).split() or [0])[0])
+
+
+# ---- many runs
+
+
+class Work:
+    """What all runs share; where sessions are served on files, `halves` has those of their first halves."""
+
+    def __init__(self, program, library, sessions, halves):
+        self.program, self.library, self.sessions, self.halves = program, library, sessions, halves
+
+    def refuse(self, index, number):
+        commands = self.sessions[index].commands
+        if self.halves is None:
+            return run(self.program, self.library, commands, [], number)
+        with tempfile.TemporaryDirectory() as folder:
+            shutil.copytree(os.path.join(self.halves, str(index)), folder, dirs_exist_ok=True)
+            words = ["--journal", os.path.join(folder, "journal.db")]
+            return run(self.program, self.library, commands[len(commands) // 2 :], words, number)
+
+    def count(self, index):
+        """How many requests a session has, after its first half; how many seconds that took; and what is wrong."""
+        commands = self.sessions[index].commands
+        try:
+            if self.halves is not None:
+                folder = os.path.join(self.halves, str(index))
+                os.mkdir(folder)
+                run(self.program, self.library, commands[: len(commands) // 2], ["--journal", os.path.join(folder, "journal.db")], 0)
+            begun = time.monotonic()
+            requests, _ = self.refuse(index, 0)
+            return requests, time.monotonic() - begun, [] if requests else ["no request for memory was counted"]
+        except (Wrong, OSError) as wrong:
+            return 0, 0, [f"with no request refused: {wrong}"]
+
+    def refuse_each(self, index, numbers):
+        """How often each way of telling was met, and what is wrong."""
+        ways, wrongs = collections.Counter(), []
+        for number in numbers:
+            try:
+                ways[self.refuse(index, number)[1]] += 1
+            except (Wrong, OSError) as wrong:
+                wrongs.append(f"with request {number} refused: {wrong}")
+                if len(wrongs) == 3:
+                    break
+        return ways, wrongs
+
+
+WORK = None
+
+
+def begin():
+    """A process that serves has its own file for the counts, open as 3."""
+    with tempfile.TemporaryFile() as file:
+        os.dup2(file.fileno(), COUNT)
+
+
+def count_of(index):
+    return WORK.count(index)
+
+
+def refused_each(index, numbers):
+    return WORK.refuse_each(index, numbers)
+
+
+def spaced(count, most):
+    """The numbers of the requests that are refused: all, or so many of them."""
+    most = max(1, min(count, most))
+    return [1 + at * count // most for at in range(most)] if count else []
+
+
+def compiled(room):
+    library = os.path.join(room, "refusing.so")
+    source = rows.TOP / "tools/refusing_malloc.c"
+    subprocess.run([os.environ.get("CC", "cc"), "-O2", "-shared", "-fPIC", "-o", library, source], check=True)
+    return library
+
+
+def serve_all(asked):
+    """How many sessions failed, each of which is told."""
+    failed = 0
+    with concurrent.futures.ProcessPoolExecutor(asked.jobs, multiprocessing.get_context("fork"), begin) as workers:
+        counts = list(workers.map(count_of, range(len(WORK.sessions))))
+        jobs = []
+        for index, (count, seconds, _) in enumerate(counts):
+            numbers = spaced(count, min(asked.most, int(asked.seconds / max(seconds, 0.001))))
+            jobs.append([workers.submit(refused_each, index, numbers[at : at + CHUNK]) for at in range(0, len(numbers), CHUNK)])
+        for session, (count, _, wrongs), chunks in zip(WORK.sessions, counts, jobs):
+            ways = collections.Counter()
+            for chunk in chunks:
+                more, wrong = chunk.result()
+                ways += more
+                wrongs += wrong
+            print(
+                f"{session.title}: {sum(ways.values())} of {count} requests refused: {ways['told']} times told, {ways['early']} times a "
+                f"drive stopped, {ways['ended']} times the program ended, {ways['']} times all was answered"
+            )
+            for wrong in wrongs[:3]:
+                print(wrong)
+            sys.stdout.flush()
+            failed += bool(wrongs)
+    return failed
+
+
+def main():
+    global WORK
+    # taken before anything else is opened, and the workers have it too
+    os.dup2(os.open(os.devnull, os.O_RDWR), COUNT)
+    words = argparse.ArgumentParser(description="Serves the sessions of rows/*.txt while requests for memory are refused.")
+    words.add_argument("--program", default=str(rows.PROGRAM), help="the program; that of rollback_program where it is left out")
+    words.add_argument("--files", action="store_true", help="on a file, opened after the first half of the session")
+    words.add_argument("--only", action="append", default=[], metavar="TITLE", help="only this session")
+    words.add_argument("--lines", type=int, default=200, help="no session of more lines")
+    words.add_argument("--most", type=int, default=1000, help="how many requests of one session are refused")
+    words.add_argument("--seconds", type=float, default=30, help="how long one session is served, by one process")
+    words.add_argument("--jobs", type=int, default=os.cpu_count(), help="how many processes serve at a time")
+    words.add_argument("rows", nargs="*", metavar="FILE", help="files of rows; all of rows/*.txt where there is none")
+    asked = words.parse_args()
+    program = shutil.which(asked.program)
+    if program is None:
+        print(f"no program: {asked.program}", file=sys.stderr)
+        return 1
+    try:
+        sessions = rows.read_all(asked.rows or sorted(glob.glob(str(rows.TOP / "rows/*.txt"))))
+    except (rows.Fault, OSError) as fault:
+        print(fault, file=sys.stderr)
+        return 1
+    sessions = [session for session in sessions if not session.parts and (not asked.only or session.title in asked.only)]
+    served = [session for session in sessions if len(session.commands) <= asked.lines]
+    for session in sessions:
+        if session not in served:
+            print(f"{session.title}: left out, for its {len(session.commands)} lines")
+    with tempfile.TemporaryDirectory() as room:
+        WORK = Work(os.path.abspath(program), compiled(room), served, room if asked.files else None)
+        failed = serve_all(asked)
+    print(f"{len(served) - failed} passed, {failed} failed")
+    return 1 if failed or not served else 0
+
+
+if __name__ == "__main__":
+    sys.exit(main())
