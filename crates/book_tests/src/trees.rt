@@ -11,7 +11,9 @@ use asl_machine::{Level, LevelPath};
 use branch_tree::{Branch, Readiness, Tree};
 use json_tree::{Json, Text};
 use std::alloc::{AllocError, Global};
+use std::collections::BTreeSet;
 use std::test::Fail;
+use step_names::ThreadName;
 
 /// Where a thread is, without its values.
 #[derive(Clone, Copy, Debug, PartialEq, Eq)]
@@ -307,6 +309,57 @@ fn shows_threads(rt: HostRuntime) -> Result<(), Fail> {
     let odd = odd_look(&tree, FORKED_LOOKS);
     drop(tree);
     assert!(rt; is_done);
+    assert_eq!(rt; odd, None);
+    Ok(())
+}
+
+/// Which thread is first, where some are passed by.
+const FIRSTS: &[(&[&str], &str)] = &[
+    (&[], "E/2.0"),
+    (&["E", "F/2.0", "E/1.0"], "E/2.0"),
+    (&["E/2.0"], "E/2.1"),
+    (&["E/2.1"], "E/2.0"),
+    (&["E/2.0", "E/2.1"], "E/2.1/1.0"),
+    (&["E/2.1/1.0", "E/2.0"], "E/2.1"),
+    (&["E/2.1/1.0", "E/2.1", "E/2.0"], ""),
+];
+
+fn threads(alloc: Global, texts: &[&str]) -> Result<BTreeSet<ThreadName>, Fail> {
+    let mut names = BTreeSet::new(alloc);
+    for &text in texts {
+        names.insert(ThreadName::read(alloc, text)?)?;
+    }
+    Ok(names)
+}
+
+/// Whether this thread is the first, or none where the text is empty.
+fn is_first(alloc: Global, tree: &Tree, passed: &[&str], text: &str) -> Result<bool, Fail> {
+    let execution = ThreadName::read(alloc, "E")?;
+    let passed = threads(alloc, passed)?;
+    match tree.first_ready(alloc, &execution, &passed)? {
+        Some(first) => Ok(first.write_text(alloc)?.as_str() == text),
+        None => Ok(text.is_empty()),
+    }
+}
+
+fn odd_first(alloc: Global, tree: &Tree) -> Result<Option<usize>, Fail> {
+    for (i, &(passed, first)) in FIRSTS.iter().enumerate() {
+        if !is_first(alloc, tree, passed, first)? {
+            return Ok(Some(i));
+        }
+    }
+    Ok(None)
+}
+
+#[test]
+fn finds_the_first(rt: HostRuntime) -> Result<(), Fail> {
+    let alloc = rt.alloc();
+    let mut tree = ready_tree(alloc)?;
+    let is_ready = is_first(alloc, &tree, &[], "E")?;
+    let is_done = acts(alloc, &mut tree, FORKED)?;
+    let odd = odd_first(alloc, &tree)?;
+    drop(tree);
+    assert!(rt; is_ready && is_done);
     assert_eq!(rt; odd, None);
     Ok(())
 }

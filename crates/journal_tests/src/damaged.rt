@@ -126,6 +126,23 @@ fn a_gap_is_told(rt: HostRuntime) {
     assert!(rt; told == Some((OpenFault::Journal(JournalFault::Gap(1)), false)));
 }
 
+const MACHINE_W: &str =
+    r#"define w {"StartAt":"W","States":{"W":{"Type":"Task","Resource":"arn:aws:states:::dynamodb:putItem","Parameters":{"TableName":"items","Item":{"id":{"S":"k"},"v":{"S.$":"$.v"}}},"End":true}}}"#;
+
+/// Lines of each kind, which leave three steps.
+const FILLING: &[&str] = &[
+    TABLE,
+    MACHINE_W,
+    r#"start a w {"v":"1"}"#,
+    r#"start b w {"v":"2"}"#,
+    "step a",
+    "step b",
+    "undo b#1",
+    "step b",
+    "rollback a#1",
+    "step b",
+];
+
 /// The journal of a book comes back from an opening that wants memory, and is opened then.
 fn opened_at_last(alloc: Global, journal: Journal<Stopping>) -> Option<JournaledBook<Stopping>> {
     match opened(alloc, journal) {
@@ -137,14 +154,14 @@ fn opened_at_last(alloc: Global, journal: Journal<Stopping>) -> Option<Journaled
 
 fn is_open(book: &JournaledBook<Stopping>) -> bool {
     match book.book() {
-        Some(book) => book.history().len() == 2,
+        Some(book) => book.history().len() == 3,
         None => false,
     }
 }
 
 fn filled(alloc: Global) -> Option<Journal<Stopping>> {
     let mut journal = new_journal(alloc, NEVER)?;
-    if appends(&mut journal, &[TABLE, MACHINE_P, "start a p {}", "step a"]) {
+    if appends(&mut journal, FILLING) {
         Some(journal)
     } else {
         None
