@@ -228,19 +228,28 @@ fn start_in<'a>(entry: &'a Entry, thread: &ThreadName) -> Option<(&'a Text, &'a 
 fn share_define(name: &Text, machine: &SharedMachine) -> Result<Made, AllocError>
     ensures { IfOk result (λ m. m ≡ record { entry = Entry.Define name.now machine.now; answer = Entered.Defined; change = MadeChange.Define name.now machine.now }) }
 {
-    let entry = Entry::Define {
-        name: name.copy()?,
-        machine: machine.share()?,
+    let (told, shared) = named_machine(name, machine)?;
+    let Ok((name, machine)) = named_machine(name, machine) else {
+        drop(told);
+        drop(shared);
+        return Err(AllocError);
     };
-    let change = MadeChange::Define {
-        name: name.copy()?,
-        machine: machine.share()?,
+    let entry = Entry::Define {
+        name: told,
+        machine: shared,
     };
     Ok(Made {
         entry,
         answer: Entered::Defined,
-        change,
+        change: MadeChange::Define { name, machine },
     })
+}
+
+/// A name and a machine, shared once more.
+fn named_machine(name: &Text, machine: &SharedMachine) -> Result<(Text, SharedMachine), AllocError>
+    ensures { IfOk result (λ p. (p.0 ≡ name.now) × (p.1 ≡ machine.now)) }
+{
+    Ok((name.copy()?, machine.share()?))
 }
 
 /// A copy of a beginning, whose items are shared.

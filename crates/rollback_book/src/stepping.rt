@@ -52,13 +52,14 @@ fn step_made(name: StepName, step: saved_steps::Made) -> Result<Made, AllocError
     ensures change { IfOk result (λ m. m.change ≡ MadeChange.Step step) }
 {
     let kind = step.kind();
-    let moved = Moved {
-        name: name.copy()?,
-        kind,
+    let Ok(told) = name.copy() else {
+        drop(name);
+        drop(step);
+        return Err(AllocError);
     };
     Ok(Made {
         entry: Entry::Step { name, kind },
-        answer: Entered::Stepped(moved),
+        answer: Entered::Stepped(Moved { name: told, kind }),
         change: MadeChange::Step(step),
     })
 }
