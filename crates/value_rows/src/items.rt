@@ -93,15 +93,28 @@ fn put_call(
     text: &str,
 ) -> Result<(), RowFault> {
     let call = call_in(alloc, action, text)?;
-    let decided = perform(alloc, store, call)?;
-    put_answer(alloc, out, decided.0, &decided.1)
+    let (slot, decided) = decided_in(alloc, store, call)?;
+    let Decided {
+        access,
+        new,
+        answer,
+    } = decided;
+    let told = put_answer(alloc, out, access, &answer);
+    drop(answer);
+    if told.is_ok() && access == AccessMode::Write && store.has_slot(slot) {
+        drop(store.swap(slot, new));
+    } else {
+        drop(new);
+    }
+    told
 }
 
-fn perform(
+/// What a call comes to, and its slot, in which nothing is changed: the answer is written first, since that may want memory.
+fn decided_in(
     alloc: Global,
     store: &mut ItemStore,
     call: Call,
-) -> Result<(AccessMode, Answer), RowFault> {
+) -> Result<(SlotNo, Decided), RowFault> {
     let slot = match slot_of(store, &call) {
         Ok(slot) => slot,
         Err(fault) => {
@@ -113,16 +126,10 @@ fn perform(
         drop(call);
         return Err(RowFault::Said("no slot"));
     }
-    let Decided {
-        access,
-        new,
-        answer,
-    } = decide(alloc, call, store.look(slot))?;
-    match access {
-        AccessMode::Write => drop(store.swap(slot, new)),
-        AccessMode::Read => drop(new),
+    match decide(alloc, call, store.look(slot)) {
+        Ok(decided) => Ok((slot, decided)),
+        Err(refused) => Err(refused.into()),
     }
-    Ok((access, answer))
 }
 
 fn slot_of(store: &mut ItemStore, call: &Call) -> Result<SlotNo, RowFault> {
