@@ -6,4 +6,5 @@ pub mod Readings
 pub mod Texts
 pub mod RoundTrip
 pub mod Same
+pub mod Commonest
 mod Rows

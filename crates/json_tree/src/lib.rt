@@ -1,6 +1,7 @@
 #![tactic(auto)]
 
 //! JSON values whose numbers are whole, read by `serde_json` and written in one spelling.
+mod common;
 mod fault;
 mod fields;
 mod laws;

@@ -6,16 +6,33 @@ ghost use Rattle.json_tree.specs.Reading.{source_of, read_json, whole_of, whole_
 ghost use Rattle.serde_json.specs.View.{view, number_view, items_view, members_view};
 ghost use Rattle.serde_json.specs.Data.{number as data_number};
 
+use crate::common::read_common;
 use crate::fault::JsonFault;
 use crate::text::Text;
 use crate::tree::{Field, Json, JsonFields, JsonList};
 use serde_json::{Map, Number, Value};
 use std::alloc::Global;
 
-/// Reads one value (RFC 8259), with white space round it. Of fields with one name the last is read. Takes memory for
-/// `serde_json`'s value of the text, which it goes through once and then drops, and for lists, fields and texts of more than
-/// 22 bytes.
+/// Reads one value (RFC 8259), with white space round it. Of fields with one name the last is read. The commonest short
+/// texts, `{}`, `[]`, `""`, `null`, `true`, `false` and whole numbers of at most 18 digits with no sign, take a few steps and
+/// no memory. Any other takes memory for `serde_json`'s value of the text, which it goes through once and then drops, and for
+/// lists, fields and texts of more than 22 bytes; and `serde_json` clears a window of 16 KB first.
 pub fn read(alloc: Global, bytes: &[u8]) -> Result<Json, JsonFault>
+    ensures ok { IfOk result (λ j. read_json bytes.now ≡ Some (data_of j)) }
+    ensures nests { IfOk result (λ j. depth (data_of j) ≤ most_levels) }
+    ensures not_json { result ≡ Err JsonFault.NotJson → source_of bytes.now ≡ None }
+    ensures not_whole { result ≡ Err JsonFault.NotWhole
+        → IsSome (source_of bytes.now) × (read_json bytes.now ≡ None) }
+    ensures memory { result ≡ Err JsonFault.Memory → 0 < length bytes.now }
+{
+    match read_common(alloc, bytes) {
+        Some(json) => Ok(json),
+        None => read_any(alloc, bytes),
+    }
+}
+
+/// The same, by `serde_json`.
+fn read_any(alloc: Global, bytes: &[u8]) -> Result<Json, JsonFault>
     ensures ok { IfOk result (λ j. read_json bytes.now ≡ Some (data_of j)) }
     ensures nests { IfOk result (λ j. depth (data_of j) ≤ most_levels) }
     ensures not_json { result ≡ Err JsonFault.NotJson → source_of bytes.now ≡ None }

@@ -10,7 +10,7 @@ use Rattle.serde_json.specs.View.{view}
 use Rattle.json_tree.proofs.Readings.{depth-whole_of}
 use Rattle.json_tree.specs.Reading.{source_of, whole_of}
 use Rattle.json_tree.specs.View.{data_of}
-use Rattle.json_tree.proofs.reading.read.Goals as goal
+use Rattle.json_tree.proofs.reading.read_any.Goals as goal
 
 source_is : (bytes : List ℕ) (d : source.Data) → IsUtf8 bytes × (source_text.read bytes ≡ Some d) → source_of bytes ≡ Some d
 source_is bytes d h = let utf8 : is_utf8 bytes ≡ true = is_utf8-from_IsUtf8 bytes h.0 in rw utf8 h.1
