@@ -174,12 +174,12 @@ branches_all P level (state.Task s) f all = on_input (effective s.processing (da
     on_input (Err error) = tt
 branches_all P level (state.Parallel s) f all = on_frames (fork_of (parallel_frames s) f (effective s.processing (data_of f.raw))) refl
   where
-    on_frames : (o : Result (List Frame) (List ℕ)) → fork_of (parallel_frames s) f (effective s.processing (data_of f.raw)) ≡ o → OnBranches P (forks level s.errors f o)
+    on_frames : (o : Result (List Frame) (List ℕ)) → fork_of (parallel_frames s) f (effective s.processing (data_of f.raw)) ≡ o → OnBranches P (forks level s.errors f 0 o)
     on_frames (Err error) is = tt
     on_frames (Ok fs) is = parallel_all P s f (effective s.processing (data_of f.raw)) fs all is
 branches_all P level (state.Map s) f all = on_frames (fork_of (map_frames s) f (effective s.processing (data_of f.raw))) refl
   where
-    on_frames : (o : Result (List Frame) (List ℕ)) → fork_of (map_frames s) f (effective s.processing (data_of f.raw)) ≡ o → OnBranches P (forks level s.errors f o)
+    on_frames : (o : Result (List Frame) (List ℕ)) → fork_of (map_frames s) f (effective s.processing (data_of f.raw)) ≡ o → OnBranches P (forks level s.errors f s.max_concurrency o)
     on_frames (Err error) is = tt
     on_frames (Ok fs) is = map_all P s f (effective s.processing (data_of f.raw)) fs (λ j. all 0 s.processor j refl) is
 

@@ -27,7 +27,7 @@ OnFrame P (outcome.Next g) = P g
 OnFrame P (outcome.Call c) = Unit {0}
 OnFrame P (outcome.Fork g fs) = P g
 
-turn_frame : (P : Frame → Type 0) (level : Definition) (s : State) (f : Frame) → ((fault : Fault) → P (handled level (errors_of s) f fault)) → ((branches : ℕ) → P (parks f branches))
+turn_frame : (P : Frame → Type 0) (level : Definition) (s : State) (f : Frame) → ((fault : Fault) → P (handled level (errors_of s) f fault)) → ((branches bound : ℕ) → P (parks f branches bound))
     → P (next_frame level s f) → OnFrame P (turn_of level s f)
 turn_frame P level (state.Pass s) f err park next = next
 turn_frame P level (state.Choice s) f err park next = next
@@ -45,22 +45,22 @@ turn_frame P level (state.Task s) f err park next = on_input (effective s.proces
     on_input (Err error) = err (own_fault error)
 turn_frame P level (state.Parallel s) f err park next = on_frames (fork_of (parallel_frames s) f (effective s.processing (data_of f.raw)))
   where
-    on_frames : (o : Result (List Frame) (List ℕ)) → OnFrame P (forks level s.errors f o)
-    on_frames (Ok fs) = park (length fs)
+    on_frames : (o : Result (List Frame) (List ℕ)) → OnFrame P (forks level s.errors f 0 o)
+    on_frames (Ok fs) = park (length fs) 0
     on_frames (Err error) = err (own_fault error)
 turn_frame P level (state.Map s) f err park next = on_frames (fork_of (map_frames s) f (effective s.processing (data_of f.raw)))
   where
-    on_frames : (o : Result (List Frame) (List ℕ)) → OnFrame P (forks level s.errors f o)
-    on_frames (Ok fs) = park (length fs)
+    on_frames : (o : Result (List Frame) (List ℕ)) → OnFrame P (forks level s.errors f s.max_concurrency o)
+    on_frames (Ok fs) = park (length fs) s.max_concurrency
     on_frames (Err error) = err (own_fault error)
 
 pub turn-count : (at : Standing) (f : Frame) → OnFrame (λ g. g.count ≡ f.count + 1) (turn at f)
-turn-count at f = turn_frame (λ g. g.count ≡ f.count + 1) at.0 at.1 f (handled-count at.0 (errors_of at.1) f) (λ n. refl) (next_frame-count at.0 at.1 f)
+turn-count at f = turn_frame (λ g. g.count ≡ f.count + 1) at.0 at.1 f (handled-count at.0 (errors_of at.1) f) (λ n m. refl) (next_frame-count at.0 at.1 f)
 
 pub turn-level : (at : Standing) (f : Frame) → OnFrame (λ g. g.level ≡ f.level) (turn at f)
-turn-level at f = turn_frame (λ g. g.level ≡ f.level) at.0 at.1 f (handled-level at.0 (errors_of at.1) f) (λ n. refl) (next_frame-level at.0 at.1 f)
+turn-level at f = turn_frame (λ g. g.level ≡ f.level) at.0 at.1 f (handled-level at.0 (errors_of at.1) f) (λ n m. refl) (next_frame-level at.0 at.1 f)
 
 pub turn-state : (at : Standing) (f : Frame) → StaysInside at.0.states at.1 → IsState at.0.states f.state → OnFrame (λ g. IsState at.0.states g.state) (turn at f)
 turn-state at f stays here =
-    turn_frame (λ g. IsState at.0.states g.state) at.0 at.1 f (λ fault. handled-state at.0 (errors_of at.1) f fault (catchers_stay at.0.states at.1 stays) here) (λ n. here)
+    turn_frame (λ g. IsState at.0.states g.state) at.0 at.1 f (λ fault. handled-state at.0 (errors_of at.1) f fault (catchers_stay at.0.states at.1 stays) here) (λ n m. here)
     (next_frame-state at.0 at.1 f stays here)

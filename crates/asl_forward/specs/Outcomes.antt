@@ -42,13 +42,13 @@ abbrev pub task_turn : Definition → Task → Frame → Result Data (List ℕ) 
 task_turn level s f (Ok input) = asks level s f (call_of (action_of s.resource) input)
 task_turn level s f (Err error) = fails level s.errors f (own_fault error)
 
--- the frame over so many branches
-abbrev pub parks : Frame → ℕ → Frame
-parks f branches = record { level = f.level; state = f.state; raw = f.raw; retries = f.retries; count = f.count + 1; phase = Parked branches }
+-- the frame over so many branches, of which so many may run at a time; 0 is no bound
+abbrev pub parks : Frame → ℕ → ℕ → Frame
+parks f branches bound = record { level = f.level; state = f.state; raw = f.raw; retries = f.retries; count = f.count + 1; phase = Parked branches bound }
 
-abbrev pub forks : Definition → ErrorHandling → Frame → Result (List Frame) (List ℕ) → Outcome
-forks level errors f (Ok frames) = outcome.Fork (parks f (length frames)) frames
-forks level errors f (Err error) = fails level errors f (own_fault error)
+abbrev pub forks : Definition → ErrorHandling → Frame → ℕ → Result (List Frame) (List ℕ) → Outcome
+forks level errors f bound (Ok frames) = outcome.Fork (parks f (length frames) bound) frames
+forks level errors f bound (Err error) = fails level errors f (own_fault error)
 
 abbrev pub fork_of : (Frame → Data → Result (List Frame) (List ℕ)) → Frame → Result Data (List ℕ) → Result (List Frame) (List ℕ)
 fork_of begin f (Ok input) = begin f input
@@ -56,8 +56,8 @@ fork_of begin f (Err error) = Err error
 
 abbrev pub turn_of : Definition → State → Frame → Outcome
 turn_of level (state.Task s) f = task_turn level s f (effective s.processing (data_of f.raw))
-turn_of level (state.Parallel s) f = forks level s.errors f (fork_of (parallel_frames s) f (effective s.processing (data_of f.raw)))
-turn_of level (state.Map s) f = forks level s.errors f (fork_of (map_frames s) f (effective s.processing (data_of f.raw)))
+turn_of level (state.Parallel s) f = forks level s.errors f 0 (fork_of (parallel_frames s) f (effective s.processing (data_of f.raw)))
+turn_of level (state.Map s) f = forks level s.errors f s.max_concurrency (fork_of (map_frames s) f (effective s.processing (data_of f.raw)))
 turn_of level s f = outcome.Next (next_frame level s f)
 
 -- what the turn of a frame that is ready comes to

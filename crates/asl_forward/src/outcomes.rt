@@ -98,16 +98,16 @@ fn task_turn(
     }
 }
 
-/// The frame parked over its branches, and these.
-fn parks(frame: &Frame, frames: Frames) -> Result<Outcome, AllocError>
+/// The frame parked over its branches with this bound, and these.
+fn parks(frame: &Frame, bound: u32, frames: Frames) -> Result<Outcome, AllocError>
     requires { frame.now.count + 1 < 2 ^ 32 }
-    ensures { IfOk result (λ o. o ≡ Outcome.Fork (parks frame.now (length frames)) frames) }
+    ensures { IfOk result (λ o. o ≡ Outcome.Fork (parks frame.now (length frames) bound) frames) }
 {
     let Ok(branches) = count_of(&frames) else {
         drop(frames);
         return Err(AllocError);
     };
-    let Ok(parked) = with_phase(frame, Phase::Parked(branches)) else {
+    let Ok(parked) = with_phase(frame, Phase::Parked(branches, bound)) else {
         drop(frames);
         return Err(AllocError);
     };
@@ -120,14 +120,15 @@ fn forks(
     level: &Machine,
     errors: &ErrorHandling,
     frame: &Frame,
+    bound: u32,
     begun: Result<Frames, TurnFault>,
 ) -> Result<Outcome, AllocError>
     requires { frame.now.count + 1 < 2 ^ 32 }
-    ensures ok { IfOk begun (λ fs. IfOk result (λ o. o ≡ Outcome.Fork (parks frame.now (length fs)) fs)) }
-    ensures fault { IfErr begun (λ e. (worked : Result (List Frame) (List ℕ)) → Tells e worked → IfOk result (λ o. o ≡ forks level.now errors.now frame.now worked)) }
+    ensures ok { IfOk begun (λ fs. IfOk result (λ o. o ≡ Outcome.Fork (parks frame.now (length fs) bound) fs)) }
+    ensures fault { IfErr begun (λ e. (worked : Result (List Frame) (List ℕ)) → Tells e worked → IfOk result (λ o. o ≡ forks level.now errors.now frame.now bound worked)) }
 {
     match begun {
-        Ok(frames) => parks(frame, frames),
+        Ok(frames) => parks(frame, bound, frames),
         Err(TurnFault::Error(error)) => {
             let fault = own_fault(alloc, error)?;
             fails(alloc, level, errors, frame, fault)
@@ -152,11 +153,11 @@ pub(crate) fn turn(
         State::Task(task) => task_turn(alloc, level, task, frame),
         State::Parallel(parallel) => {
             let begun = fork_parallel(alloc, parallel, frame);
-            forks(alloc, level, &parallel.errors, frame, begun)
+            forks(alloc, level, &parallel.errors, frame, 0, begun)
         }
         State::Map(map) => {
             let begun = fork_map(alloc, map, frame);
-            forks(alloc, level, &map.errors, frame, begun)
+            forks(alloc, level, &map.errors, frame, map.max_concurrency, begun)
         }
         _ => Ok(Outcome::Next(next_frame(alloc, level, state, frame)?)),
     }

@@ -90,7 +90,7 @@ pub fn prepare(
         unreachable!()
     };
     let outcome = turn(alloc, level, state, frame)?;
-    let (Ok(kept), Ok(machine)) = (frame.copy_ready(), machine.share()) else {
+    let (Ok(kept), Ok(machine)) = (frame.copy(), machine.share()) else {
         drop(outcome);
         return Err(AllocError);
     };

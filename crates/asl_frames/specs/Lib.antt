@@ -1,4 +1,6 @@
 pub mod Counters
+pub mod Laws
+pub mod Same
 pub mod Turn
 -- what stands below and is named by the crates above
 pub use Rattle.asl_processing.specs.Catcher

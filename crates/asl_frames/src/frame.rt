@@ -29,8 +29,8 @@ pub struct Fault {
 pub enum Phase {
     /// It stands before its state.
     Ready,
-    /// It waits for this many branches.
-    Parked(u32),
+    /// It waits for this many branches, of which at most so many run at a time; 0 is no bound.
+    Parked(u32, u32),
     /// It ended with this output.
     Done(Json),
     /// It ended with this error.
@@ -40,7 +40,7 @@ pub enum Phase {
 /// How often each retrier of the state was used at this visit. Contracts see the list of counters.
 #[derive(Debug, Drop)]
 pub struct Retries {
-    inner: Vec<u32>,
+    pub(crate) inner: Vec<u32>,
 }
 
 impl Model for Retries {
@@ -113,25 +113,4 @@ pub struct Frame {
     pub retries: Retries,
     pub count: u32,
     pub phase: Phase,
-}
-
-impl Frame {
-    /// An equal frame of one that is ready, which shares its raw input. Takes memory for long names and for the counters.
-    pub fn copy_ready(&self) -> Result<Frame, AllocError>
-        requires { self.now.phase ≡ Phase.Ready }
-        ensures { IfOk result (λ f. f ≡ self.now) }
-    {
-        let retries = self.retries.copy()?;
-        let state = self.state.copy()?;
-        let level = self.level.copy()?;
-        let raw = self.raw.copy()?;
-        Ok(Frame {
-            level,
-            state,
-            raw,
-            retries,
-            count: self.count,
-            phase: Phase::Ready,
-        })
-    }
 }

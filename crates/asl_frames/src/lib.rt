@@ -1,7 +1,10 @@
 #![tactic(auto)]
 
 //! Frames of threads, and what a state that does no work makes of one.
+mod copies;
+mod equality;
 mod frame;
+mod laws;
 mod turn;
 
 pub use asl_processing::{
@@ -10,6 +13,7 @@ pub use asl_processing::{
 };
 pub use asl_tree as machine_tree;
 pub use frame::{Fault, Frame, Origin, Phase, Retries};
+pub use laws::equality_is_of_frames;
 pub use turn::{
     counters_at, enter, failed, first_frame, go_on, next_frame, own_fault, same_place, standing,
     with_phase,

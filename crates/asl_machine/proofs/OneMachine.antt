@@ -101,12 +101,20 @@ one_map P one d s u h k =
     let paths : Some s.items_path ≡ Some u.items_path = one_path (get (codes "ItemsPath") d) (Some s.items_path) (Some u.items_path) h.2 k.2 in
     let path : s.items_path ≡ u.items_path = cc in
     let selector : s.item_selector ≡ u.item_selector = one_selector d (name_of_two (codes "ItemSelector") (codes "Parameters") d) s.item_selector u.item_selector h.3 k.3 in
+    let bounds : Some s.max_concurrency ≡ Some u.max_concurrency = sym h.1 ∙ k.1 in
+    let bound : s.max_concurrency ≡ u.max_concurrency = cc in
     let work = one_work d s.processing u.processing s.errors u.errors s.transition u.transition (h.4 ∙ sym k.4) h.5 k.5 in
     let processor : s.processor ≡ u.processor = one_named_processor P one d (name_of_two (codes "ItemProcessor") (codes "Iterator") d) s.processor u.processor h.6 k.6 in
-    let make : Definition → List PathStep → Option Payload → Processing → ErrorHandling → Transition → Map = λ m i c p e t. record { processor = m; items_path = i; item_selector = c; processing = p; errors = e; transition = t } in
-    ap (λ m. make m s.items_path s.item_selector s.processing s.errors s.transition) processor ∙ ap (λ i. make u.processor i s.item_selector s.processing s.errors s.transition) path
-    ∙ ap (λ c. make u.processor u.items_path c s.processing s.errors s.transition) selector ∙ ap (λ p. make u.processor u.items_path u.item_selector p s.errors s.transition) work.0
-    ∙ ap (λ e. make u.processor u.items_path u.item_selector u.processing e s.transition) work.1 ∙ ap (λ t. make u.processor u.items_path u.item_selector u.processing u.errors t) work.2
+    let make : Definition → List PathStep → Option Payload → ℕ → Processing → ErrorHandling → Transition → Map =
+    λ m i c k p e t. record { processor = m; items_path = i; item_selector = c; max_concurrency = k; processing = p; errors = e; transition = t }
+    in
+    ap (λ m. make m s.items_path s.item_selector s.max_concurrency s.processing s.errors s.transition) processor
+    ∙ ap (λ i. make u.processor i s.item_selector s.max_concurrency s.processing s.errors s.transition) path
+    ∙ ap (λ c. make u.processor u.items_path c s.max_concurrency s.processing s.errors s.transition) selector
+    ∙ ap (λ k. make u.processor u.items_path u.item_selector k s.processing s.errors s.transition) bound
+    ∙ ap (λ p. make u.processor u.items_path u.item_selector u.max_concurrency p s.errors s.transition) work.0
+    ∙ ap (λ e. make u.processor u.items_path u.item_selector u.max_concurrency u.processing e s.transition) work.1
+    ∙ ap (λ t. make u.processor u.items_path u.item_selector u.max_concurrency u.processing u.errors t) work.2
 
 one_of_kind : (P : Place → Source → Definition → Type 0) → IsOne P → (k : Option StateKind) (d : Source) (s u : State) → IsOfKind P k d s → IsOfKind P k d u → s ≡ u
 one_of_kind P one (Some kind.Pass) d s u h k =

@@ -13,7 +13,7 @@ use Rattle.asl_states.specs.Faults.{NamedSelectorFault}
 use Rattle.asl_machine.specs.Faults.{BranchFault, BranchesFault, ListedBranchesFault, BranchesFieldFault, ParallelFault, ProcessorObjectFault, ProcessorFault, NamedProcessorFault, MapFault, KindFault, TypeFault, StateFault, StatesFault, StatesFieldFault, RequiredStatesFault, TargetsFault, FaultOver, StatesFaultWithin, DefinitionFault}
 use Rattle.asl_states.specs.Profile.{NamedSelector, kind_named}
 use Rattle.asl_machine.specs.Profile.{BranchesAre, ListedBranches, IsParallel, IsProcessor, NamedProcessor, IsMap, IsOfKind, IsState, StatesAre, MembersAre, states_in, MachineOver, StatesWithin, Defines}
-use Rattle.asl_states.specs.Reading.{name_of_two}
+use Rattle.asl_states.specs.Reading.{name_of_two, bound_fault}
 use Rattle.asl_tree.specs.Targets.{target_fault}
 use Rattle.asl_states.specs.declared.kind.StateKind.{StateKind}
 use Rattle.asl_states.specs.declared.kind.StateKind.TheVariants as kind
@@ -94,7 +94,7 @@ module _ (F : Place → Source → MachineFault → Type 0) (P : Place → Sourc
         | inl h ↦ fields_refused at.Map d e h is.0
         | inr a ↦
             elim a [
-              | inl h ↦ let no : None ≡ Some e = sym is.1 ∙ h in cc
+              | inl h ↦ let no : None ≡ Some e = ap bound_fault (sym is.1) ∙ h in cc
               | inr b ↦
                   elim b [
                     | inl h ↦ h.1 s.items_path is.2

@@ -7,3 +7,6 @@ pub use Rattle.asl_fields.specs.Fields
 pub use Rattle.asl_fields.specs.Refusal
 pub use Rattle.asl_tree.specs.Definition
 pub use Rattle.asl_tree.specs.Levels as TreeLevels
+pub use Rattle.asl_tree.specs.PathSame
+pub use Rattle.asl_tree.specs.Same as MachineSame
+pub use Rattle.asl_tree.specs.StateSame

@@ -9,7 +9,7 @@ use Rattle.asl_fields.specs.Values.{HasFields, IsPathField}
 use Rattle.asl_fields.specs.declared.fields.Place.{Place}
 use Rattle.asl_fields.specs.declared.fields.Place.TheVariants as at
 use Rattle.asl_tree.specs.Definition.{StateTree, Definition}
-use Rattle.asl_states.specs.Reading.{config_fault, concurrency_fault, name_of_two, count_items, most_branches}
+use Rattle.asl_states.specs.Reading.{config_fault, concurrency_of, name_of_two, count_items, most_branches}
 use Rattle.asl_tree.specs.Targets.{target_fault}
 use Rattle.asl_tree.specs.TreeView.{tree_of}
 use Rattle.asl_states.specs.declared.kind.StateKind.{StateKind}
@@ -56,7 +56,7 @@ HasProcessor P d m = NamedProcessor P d (name_of_two (codes "ItemProcessor") (co
 
 abbrev pub IsMap : (Place → Source → Definition → Type 0) → Source → Map → Type 0
 IsMap P d s =
-    HasFields at.Map d × (concurrency_fault (get (codes "MaxConcurrency") d) ≡ None) × IsPathField (get (codes "ItemsPath") d) (Some s.items_path) × HasSelector d s.item_selector
+    HasFields at.Map d × (concurrency_of (get (codes "MaxConcurrency") d) ≡ Some s.max_concurrency) × IsPathField (get (codes "ItemsPath") d) (Some s.items_path) × HasSelector d s.item_selector
     × (s.processing.parameters ≡ None) × HasWork d s.processing s.errors s.transition × HasProcessor P d s.processor
 
 abbrev pub IsPassState : Source → State → Type 0

@@ -9,8 +9,8 @@ ghost use Rattle.asl_machine.specs.Profile.{Defines, DefinesNone, IsMachine, Sta
 
 use asl_fields::{MachineFault, Place, check_fields, read_template, required, text_of};
 use asl_states::{
-    StateKind, check_concurrency, check_config, kind_named, name_of_two, read_choice,
-    read_elements, read_fail, read_pass, read_succeed, read_task, read_wait, read_work,
+    StateKind, check_config, kind_named, name_of_two, read_choice, read_concurrency, read_elements,
+    read_fail, read_pass, read_succeed, read_task, read_wait, read_work,
 };
 use asl_tree::{Branches, Machine, Map, Parallel, State, States};
 use json_tree::Text;
@@ -252,7 +252,7 @@ fn read_map(
         (λ e. Refuses e (MapFault (LevelFault levels) name.now (view object.now) e)) }
 {
     check_fields(alloc, Place::Map, object, fields)?;
-    check_concurrency(alloc, object)?;
+    let max_concurrency = read_concurrency(alloc, object)?;
     let elements = read_elements(alloc, object)?;
     let work = match read_work(alloc, name, object, None) {
         Ok(work) => work,
@@ -266,6 +266,7 @@ fn read_map(
             processor,
             items_path: elements.items_path,
             item_selector: elements.item_selector,
+            max_concurrency,
             processing: work.processing,
             errors: work.errors,
             transition: work.transition,

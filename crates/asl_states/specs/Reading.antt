@@ -1,5 +1,5 @@
 -- What the fields say that only some states have.
-use Rattle.std.specs.Prelude.{ℕ, suc, ◌==◌, List, [], ◌∷◌, Bool, true, false, Option, Some, None, is_some, option_map, option_and_then, if◌then◌else◌, codes}
+use Rattle.std.specs.Prelude.{ℕ, suc, nat_le, List, [], ◌∷◌, Bool, true, false, Option, Some, None, is_some, option_map, option_and_then, if◌then◌else◌, codes}
 use Rattle.serde_json.specs.Data as source
 use Rattle.serde_json.specs.Find.{get, as_str, as_bool, as_number, as_u64, as_object}
 use Rattle.json_tree.specs.Data.{Data, null, boolean, whole, text, list, fields, Items, no_items, item, Members, no_members, member}
@@ -105,14 +105,21 @@ abbrev pub config_fault : Option source.Data → Option MachineFault
 config_fault None = None
 config_fault (Some d) = config_object_fault d (as_object d)
 
+-- a bound of the branches that run at a time has 32 bits
+abbrev pub bound_within : ℕ → Option ℕ
+bound_within n = if nat_le n 4294967295 then Some n else None
+
+-- how many branches of a Map may run at a time; 0, as where nothing is said, is no bound ("Map State")
+abbrev pub concurrency_of : Option source.Data → Option ℕ
+concurrency_of None = Some 0
+concurrency_of (Some d) = option_and_then bound_within (option_and_then as_u64 (as_number d))
+
 abbrev pub bound_fault : Option ℕ → Option MachineFault
 bound_fault None = Some (BadField (codes "MaxConcurrency"))
-bound_fault (Some n) = if n == 0 then None else Some (Unsupported (codes "MaxConcurrency"))
+bound_fault (Some n) = None
 
--- a bound of 0 is none, and any other is left out
 abbrev pub concurrency_fault : Option source.Data → Option MachineFault
-concurrency_fault None = None
-concurrency_fault (Some d) = bound_fault (option_and_then as_u64 (as_number d))
+concurrency_fault d = bound_fault (concurrency_of d)
 
 abbrev pub count_items : source.Items → ℕ
 count_items source.no_items = 0

@@ -6,7 +6,7 @@ ghost use Rattle.asl_choice.specs.Refusal.{Refuses};
 ghost use Rattle.asl_choice.specs.Values.{IsPathField};
 ghost use Rattle.asl_states.specs.Faults.{ItemsPathFault, HasSelectorFault};
 ghost use Rattle.asl_states.specs.Profile.{HasSelector};
-ghost use Rattle.asl_states.specs.Reading.{name_of_two, config_fault, concurrency_fault};
+ghost use Rattle.asl_states.specs.Reading.{name_of_two, config_fault, concurrency_of, concurrency_fault};
 
 use asl_choice::definition_fields::{MachineFault, read_path, read_template};
 use asl_choice::paths::{RefPath, Template};
@@ -82,19 +82,20 @@ fn read_selector(alloc: Global, object: &Value) -> Result<Option<Template>, Mach
     read_template(alloc, object, name, true)
 }
 
-/// Refuses a bound of the elements that run at a time; 0 is none.
-pub fn check_concurrency(alloc: Global, object: &Value) -> Result<(), MachineFault>
-    ensures ok { OnOk result (concurrency_fault (get (codes "MaxConcurrency") (view object.now)) ≡ None) }
+/// How many branches of a Map may run at a time ("Map State", `MaxConcurrency`): a whole number of 32 bits; 0, as where the
+/// field is absent, is no bound.
+pub fn read_concurrency(alloc: Global, object: &Value) -> Result<u32, MachineFault>
+    ensures ok { IfOk result
+        (λ bound. concurrency_of (get (codes "MaxConcurrency") (view object.now)) ≡ Some bound) }
     ensures fault { IfErr result
         (λ e. Refuses e (concurrency_fault (get (codes "MaxConcurrency") (view object.now)) ≡ Some e)) }
 {
     let Some(value) = object.get("MaxConcurrency") else {
-        return Ok(());
+        return Ok(0);
     };
     match value.as_u64() {
-        Some(bound) if bound == 0 => Ok(()),
-        Some(_) => Err(MachineFault::Unsupported(Text::new(alloc, "MaxConcurrency")?)),
-        None => Err(MachineFault::BadField(Text::new(alloc, "MaxConcurrency")?)),
+        Some(bound) if bound <= 4_294_967_295 => Ok(bound as u32),
+        _ => Err(MachineFault::BadField(Text::new(alloc, "MaxConcurrency")?)),
     }
 }
 

@@ -21,7 +21,7 @@ mutual
     succeed : Succeed → StateTree
     fail : Fail → StateTree
     parallel : MachineTrees → Processing → ErrorHandling → Transition → StateTree
-    map_over : MachineTree → List PathStep → Option Payload → Processing → ErrorHandling → Transition → StateTree
+    map_over : MachineTree → List PathStep → Option Payload → ℕ → Processing → ErrorHandling → Transition → StateTree
 
   pub data MachineTree : Type 0 where
     machine : List ℕ → NamedStates → MachineTree
@@ -72,7 +72,7 @@ abbrev mutual
   state_depth (succeed s) = 0
   state_depth (fail s) = 0
   state_depth (parallel branches processing errors transition) = suc (trees_depth branches)
-  state_depth (map_over processor path selector processing errors transition) = suc (tree_depth processor)
+  state_depth (map_over processor path selector bound processing errors transition) = suc (tree_depth processor)
 
   pub tree_depth : MachineTree → ℕ
   tree_depth (machine start states) = suc (named_depth states)

@@ -1,6 +1,7 @@
 -- Equality of machines and of what they are made of.
-use Rattle.std.specs.Prelude.{◌≡◌, ℕ, Bool, true, false, ◌&&◌, List, [], ◌∷◌, refl}
+use Rattle.std.specs.Prelude.{◌≡◌, ℕ, ◌==◌, Bool, true, false, ◌&&◌, List, [], ◌∷◌, refl}
 use Rattle.std.proofs.Common.{ap, sym, ◌∙◌}
+use Rattle.std.proofs.lemmas.Bool.{eqb-true, eq-eqb}
 use Rattle.std.specs.Cmp.Derive.{both_true}
 use Rattle.std.specs.Option.{option_eq}
 use Rattle.asl_states.specs.PathSame.{same_text, same_path, same_payload, IsExact, exact, first_true, second_true, text_exact, path_exact, payload_exact, option_exact}
@@ -17,8 +18,8 @@ abbrev mutual
   same_state (succeed s) (succeed t) = same_succeed s t
   same_state (fail s) (fail t) = same_fail s t
   same_state (parallel ms p e t) (parallel ns q f u) = same_machines ms ns && (same_processing p q && (same_handling e f && same_transition t u))
-  same_state (map_over m path selector p e t) (map_over n way chooser q f u) =
-      same_machine m n && (same_path path way && (option_eq same_payload selector chooser && (same_processing p q && (same_handling e f && same_transition t u))))
+  same_state (map_over m path selector k p e t) (map_over n way chooser l q f u) =
+      same_machine m n && (same_path path way && (option_eq same_payload selector chooser && ((k == l) && (same_processing p q && (same_handling e f && same_transition t u)))))
   same_state _ _ = false
 
   pub same_machine : MachineTree → MachineTree → Bool
@@ -42,6 +43,12 @@ same_definition d e = same_machine (machine_tree d) (machine_tree e)
 
 -- ---- they hold of equal values alone
 
+equal_numbers : (k l : ℕ) → (k == l) ≡ true → k ≡ l
+equal_numbers k l h = eqb-true k l h
+
+number_itself : (k : ℕ) → (k == k) ≡ true
+number_itself k = eq-eqb k k refl
+
 mutual
   state_one : (s t : StateTree) → same_state s t ≡ true → s ≡ t
   state_one (pass s) (pass t) h = ap pass ((pass_exact s t).0 h)
@@ -58,17 +65,19 @@ mutual
       let errors : e ≡ f = (handling_exact e f).0 (first_true _ _ h2) in
       let transition : t ≡ u = (transition_exact t u).0 (second_true (same_handling e f) _ h2) in
       cc
-  state_one (map_over m path selector p e t) (map_over n way chooser q f u) h =
+  state_one (map_over m path selector k p e t) (map_over n way chooser l q f u) h =
       let machines : m ≡ n = machine_one m n (first_true _ _ h) in
       let h1 = second_true (same_machine m n) _ h in
       let items : path ≡ way = (path_exact path way).0 (first_true _ _ h1) in
       let h2 = second_true (same_path path way) _ h1 in
       let selection : selector ≡ chooser = (option_exact same_payload payload_exact selector chooser).0 (first_true _ _ h2) in
       let h3 = second_true (option_eq same_payload selector chooser) _ h2 in
-      let processing : p ≡ q = (processing_exact p q).0 (first_true _ _ h3) in
-      let h4 = second_true (same_processing p q) _ h3 in
-      let errors : e ≡ f = (handling_exact e f).0 (first_true _ _ h4) in
-      let transition : t ≡ u = (transition_exact t u).0 (second_true (same_handling e f) _ h4) in
+      let bound : k ≡ l = equal_numbers k l (first_true _ _ h3) in
+      let h4 = second_true (k == l) _ h3 in
+      let processing : p ≡ q = (processing_exact p q).0 (first_true _ _ h4) in
+      let h5 = second_true (same_processing p q) _ h4 in
+      let errors : e ≡ f = (handling_exact e f).0 (first_true _ _ h5) in
+      let transition : t ≡ u = (transition_exact t u).0 (second_true (same_handling e f) _ h5) in
       cc
   state_one _ _ h = cc
 
@@ -107,11 +116,11 @@ mutual
   state_itself (succeed s) = (succeed_exact s s).1 refl
   state_itself (fail s) = (fail_exact s s).1 refl
   state_itself (parallel ms p e t) = both_true (machines_itself ms) (both_true ((processing_exact p p).1 refl) (both_true ((handling_exact e e).1 refl) ((transition_exact t t).1 refl)))
-  state_itself (map_over m path selector p e t) =
+  state_itself (map_over m path selector k p e t) =
       both_true (machine_itself m)
       (both_true ((path_exact path path).1 refl)
       (both_true ((option_exact same_payload payload_exact selector selector).1 refl)
-      (both_true ((processing_exact p p).1 refl) (both_true ((handling_exact e e).1 refl) ((transition_exact t t).1 refl)))))
+      (both_true (number_itself k) (both_true ((processing_exact p p).1 refl) (both_true ((handling_exact e e).1 refl) ((transition_exact t t).1 refl))))))
 
   machine_itself : (m : MachineTree) → same_machine m m ≡ true
   machine_itself (machine start states) = both_true ((text_exact start start).1 refl) (states_itself states)

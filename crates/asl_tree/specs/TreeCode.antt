@@ -31,11 +31,12 @@ abbrev mutual
   state_gv (succeed s) = gcons (gnum 4) (succeed_state.the_row.coded.code s)
   state_gv (fail s) = gcons (gnum 5) (fail_state.the_row.coded.code s)
   state_gv (parallel ms p e t) = gcons (gnum 6) (gcons (machines_gv ms) (gcons (processing.the_row.coded.code p) (gcons (error_handling.the_row.coded.code e) (transition.the_row.coded.code t))))
-  state_gv (map_over m path selector p e t) =
+  state_gv (map_over m path selector k p e t) =
       gcons (gnum 7)
       (gcons (machine_gv m)
       (gcons (steps_code.code path)
-      (gcons (selector_code.code selector) (gcons (processing.the_row.coded.code p) (gcons (error_handling.the_row.coded.code e) (transition.the_row.coded.code t))))))
+      (gcons (selector_code.code selector)
+      (gcons (gnum k) (gcons (processing.the_row.coded.code p) (gcons (error_handling.the_row.coded.code e) (transition.the_row.coded.code t)))))))
 
   pub machine_gv : MachineTree → Gv
   machine_gv (machine start states) = gcons (text_code.code start) (named_gv states)
@@ -74,6 +75,14 @@ from_5 g = rest_of (from_4 g)
 abbrev from_6 : Gv → Gv
 from_6 g = rest_of (from_5 g)
 
+abbrev from_7 : Gv → Gv
+from_7 g = rest_of (from_6 g)
+
+abbrev number_of : Gv → ℕ
+number_of gnil = 0
+number_of (gnum n) = n
+number_of (gcons a b) = 0
+
 mutual
   pub state_inj : (s u : StateTree) → state_gv s ≡ state_gv u → s ≡ u
   state_inj (pass s) (pass u) h = ap pass (pass_state.the_row.coded.inj s u (ap rest_of h))
@@ -88,13 +97,14 @@ mutual
       let same_errors : e ≡ f = error_handling.the_row.coded.inj e f (ap (λ g. first_of (from_3 g)) h) in
       let same_transition : t ≡ u = transition.the_row.coded.inj t u (ap from_4 h) in
       cc
-  state_inj (map_over m path selector p e t) (map_over n way chooser q f u) h =
+  state_inj (map_over m path selector k p e t) (map_over n way chooser l q f u) h =
       let same_machine : m ≡ n = machine_inj m n (ap (λ g. first_of (rest_of g)) h) in
       let same_path : path ≡ way = steps_code.inj path way (ap (λ g. first_of (from_2 g)) h) in
       let same_selector : selector ≡ chooser = selector_code.inj selector chooser (ap (λ g. first_of (from_3 g)) h) in
-      let same_processing : p ≡ q = processing.the_row.coded.inj p q (ap (λ g. first_of (from_4 g)) h) in
-      let same_errors : e ≡ f = error_handling.the_row.coded.inj e f (ap (λ g. first_of (from_5 g)) h) in
-      let same_transition : t ≡ u = transition.the_row.coded.inj t u (ap from_6 h) in
+      let same_bound : k ≡ l = ap (λ g. number_of (first_of (from_4 g))) h in
+      let same_processing : p ≡ q = processing.the_row.coded.inj p q (ap (λ g. first_of (from_5 g)) h) in
+      let same_errors : e ≡ f = error_handling.the_row.coded.inj e f (ap (λ g. first_of (from_6 g)) h) in
+      let same_transition : t ≡ u = transition.the_row.coded.inj t u (ap from_7 h) in
       cc
   state_inj _ _ h = cc
 

@@ -12,7 +12,7 @@ tree_of (Wait s) = wait s
 tree_of (Succeed s) = succeed s
 tree_of (Fail s) = fail s
 tree_of (Parallel s) = parallel (machine_trees s.branches) s.processing s.errors s.transition
-tree_of (Map s) = map_over (machine_tree s.processor) s.items_path s.item_selector s.processing s.errors s.transition
+tree_of (Map s) = map_over (machine_tree s.processor) s.items_path s.item_selector s.max_concurrency s.processing s.errors s.transition
 
 abbrev pub state_in : StateTree → State
 state_in (pass s) = Pass s
@@ -23,12 +23,13 @@ state_in (succeed s) = Succeed s
 state_in (fail s) = Fail s
 state_in (parallel branches processing errors transition) =
     Parallel (record { branches = definitions_in branches; processing = processing; errors = errors; transition = transition })
-state_in (map_over processor items_path item_selector processing errors transition) =
+state_in (map_over processor items_path item_selector max_concurrency processing errors transition) =
     Map
     (record {
       processor = definition_in processor;
       items_path = items_path;
       item_selector = item_selector;
+      max_concurrency = max_concurrency;
       processing = processing;
       errors = errors;
       transition = transition;

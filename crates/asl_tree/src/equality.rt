@@ -100,6 +100,7 @@ fn same_map(a: &Map, b: &Map) -> bool
     same_machine(&a.processor, &b.processor)
         && a.items_path == b.items_path
         && a.item_selector == b.item_selector
+        && a.max_concurrency == b.max_concurrency
         && a.processing == b.processing
         && a.errors == b.errors
         && a.transition == b.transition

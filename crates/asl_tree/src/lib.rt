@@ -4,6 +4,7 @@
 mod equality;
 mod laws;
 mod level;
+mod level_equality;
 mod machine;
 mod shared;
 mod state;

@@ -50,3 +50,24 @@ impl SharedMachine {
         &self.inner
     }
 }
+
+impl PartialEq for SharedMachine {
+    ghost use Rattle.std.specs.Cmp.{partial_equiv_from_equiv};
+    ghost use Rattle.asl_states.specs.PathSame.{exact_equiv};
+    ghost use Rattle.asl_tree.specs.Same.{same_definition, definition_exact};
+
+    ghost eq = { same_definition };
+
+    ghost laws = { partial_equiv_from_equiv (exact_equiv same_definition definition_exact) };
+
+    fn eq(&self, other: &SharedMachine) -> bool {
+        self.machine() == other.machine()
+    }
+}
+
+impl Eq for SharedMachine {
+    ghost use Rattle.asl_states.specs.PathSame.{exact_equiv};
+    ghost use Rattle.asl_tree.specs.Same.{same_definition, definition_exact};
+
+    ghost laws = { exact_equiv same_definition definition_exact };
+}

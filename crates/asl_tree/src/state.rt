@@ -41,6 +41,8 @@ pub struct Map {
     pub items_path: RefPath,
     /// What an element's input is made of, where it isn't the element.
     pub item_selector: Option<Template>,
+    /// How many branches may run at a time; 0 is no bound (`MaxConcurrency`).
+    pub max_concurrency: u32,
     pub processing: Processing,
     pub errors: ErrorHandling,
     pub transition: Transition,

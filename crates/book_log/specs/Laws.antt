@@ -15,6 +15,8 @@ use Rattle.book_log.specs.declared.entry.Entry.{Entry}
 use Rattle.book_log.specs.declared.entry.Entry.TheVariants.{Start, Step as Stepped, Undo, Rollback}
 use Rattle.book_log.specs.declared.refusal.Refusal.{Refusal}
 use Rattle.book_log.specs.declared.refusal.Refusal.TheVariants.{NoStep, HasDependents}
+use Rattle.asl_machine.specs.PathSame.{IsExact}
+use Rattle.book_log.specs.EntrySame.{same_entry}
 
 -- ---- legal logs
 
@@ -133,3 +135,9 @@ RerunsAreExact = (story : Story) (names : List StepName) → IsLegal story → I
 abbrev pub ArrangementsAgree : Type 0
 ArrangementsAgree = (story : Story) (arranged : List Step) → IsLegal story → IsArrangement (steps (setting_of story)) (past_of story) arranged
     → (again : Story) × (rerun_answer story (map name_of arranged) ≡ Ok again) × (world_of again ≡ world_of story) × ((t : Past) → In t (past_of again) ↔ In t (past_of story))
+
+-- ---- entries
+
+-- what `==` says of entries holds exactly where they are one
+abbrev pub EqualityIsOfEntries : Type 0
+EqualityIsOfEntries = IsExact same_entry

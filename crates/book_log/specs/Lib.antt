@@ -1,5 +1,6 @@
 pub mod Answers
 pub mod Beginning
+pub mod EntrySame
 pub mod Laws
 pub mod Legal
 pub mod Story

@@ -1,6 +1,6 @@
 //! Laws of logs: each function's contract is the law, and it does nothing.
 
-ghost use Rattle.book_log.specs.Laws.{LegalLogsRun, AcceptedIsLegal, LegalLogsHaveRoom, UndoTakesBack, UndoTakesBackStart, AgainGivesBack, UndoAnswersAreExact, AllowedOrdersAreAccepted, AcceptedOrdersAreWhole, OrdersAgree, RollbackIsExact, RerunsAreLegal, RerunsAreExact, ArrangementsAgree};
+ghost use Rattle.book_log.specs.Laws.{EqualityIsOfEntries, LegalLogsRun, AcceptedIsLegal, LegalLogsHaveRoom, UndoTakesBack, UndoTakesBackStart, AgainGivesBack, UndoAnswersAreExact, AllowedOrdersAreAccepted, AcceptedOrdersAreWhole, OrdersAgree, RollbackIsExact, RerunsAreLegal, RerunsAreExact, ArrangementsAgree};
 
 /// What remains of a legal log can be run from the start, a legal log with an entry that is accepted is one, and its limits leave
 /// room to undo each remaining step.
@@ -42,4 +42,9 @@ pub fn reruns_agree()
     ensures legal { RerunsAreLegal }
     ensures exact { RerunsAreExact }
     ensures arranged { ArrangementsAgree }
+{}
+
+/// `==` says whether two entries are one: what they have room for is no part of it.
+pub fn equality_is_of_entries()
+    ensures { EqualityIsOfEntries }
 {}

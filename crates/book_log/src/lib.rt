@@ -4,6 +4,8 @@
 //! what each further command is answered.
 mod begin;
 mod entry;
+mod entry_copies;
+mod entry_equality;
 mod laws;
 mod moved;
 mod opening;
@@ -15,8 +17,8 @@ pub use begin::Begin;
 pub use depends::{branches as branches, steps as steps, turns as turns};
 pub use entry::Entry;
 pub use laws::{
-    legal_logs_run, orders_undo, reruns_agree, rollback_is_exact, undo_answers_are_exact,
-    undoing_is_exact,
+    equality_is_of_entries, legal_logs_run, orders_undo, reruns_agree, rollback_is_exact,
+    undo_answers_are_exact, undoing_is_exact,
 };
 pub use moved::Moved;
 pub use opening::first_store;

@@ -7,7 +7,7 @@ use step_names::StepName;
 /// Names of steps, in the order of an answer. Contracts see their list.
 #[derive(Debug, Drop)]
 pub struct StepNames {
-    inner: Vec<StepName>,
+    pub(crate) inner: Vec<StepName>,
 }
 
 impl Model for StepNames {

@@ -7,7 +7,7 @@ use Rattle.branch_tree.specs.Paths.{Path}
 use Rattle.branch_tree.specs.FlatMap.{FrameMap, IsTree, branch_count}
 use Rattle.branch_tree.specs.Laws.{BelowIsParked}
 
-nothing_under : (frames : FrameMap) → IsTree frames → (p r : Path) → frames p ≡ None → frames (p ++ r) ≡ None
+pub nothing_under : (frames : FrameMap) → IsTree frames → (p r : Path) → frames p ≡ None → frames (p ++ r) ≡ None
 nothing_under frames tree p [] h = ap frames (append-nil p) ∙ h
 nothing_under frames tree p (b ∷ r) h =
     ap frames (sym (append_assoc p (b ∷ []) r)) ∙ nothing_under frames tree (p ++ b ∷ []) r (tree.nothing_below p h b)

@@ -12,12 +12,12 @@ use Rattle.branch_tree.specs.Tree.{Rows, flat, frame_at, branch_at, node_at, IsN
 use Rattle.branch_tree.proofs.Flat.{at_node}
 use Rattle.branch_tree.proofs.Descent.{no_steps}
 
-get_set_same : (kids : List Rows) (i : ℕ) (new : Rows) → i < length kids → slice_get (set kids i new) i ≡ Some new
+pub get_set_same : (kids : List Rows) (i : ℕ) (new : Rows) → i < length kids → slice_get (set kids i new) i ≡ Some new
 get_set_same [] i new h = absurd (omega arith)
 get_set_same (kid ∷ kids) zero new h = refl
 get_set_same (kid ∷ kids) (suc i) new h = get_set_same kids i new (omega arith)
 
-get_set_other : (kids : List Rows) (i j : ℕ) (new : Rows) → (i ≡ j → ⊥) → slice_get (set kids i new) j ≡ slice_get kids j
+pub get_set_other : (kids : List Rows) (i j : ℕ) (new : Rows) → (i ≡ j → ⊥) → slice_get (set kids i new) j ≡ slice_get kids j
 get_set_other [] zero j new h = refl
 get_set_other [] (suc i) j new h = refl
 get_set_other (kid ∷ kids) zero zero new h = absurd (h refl)

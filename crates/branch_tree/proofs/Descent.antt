@@ -52,7 +52,7 @@ own_branch fork kids b kid q f h k =
     rw (eq-eqb fork b.0 (sym f), e, ← k) refl
 
 -- where there is a frame the path goes by a branch that is there
-branch_is_there : (fork : ℕ) (kids : List Rows) (b : ℕ × ℕ) (p : Path) (P : Frame → Type 0) → IsSomeAnd (branch_at fork kids b p) P → (b.0 ≡ fork) × (b.1 < length kids)
+pub branch_is_there : (fork : ℕ) (kids : List Rows) (b : ℕ × ℕ) (p : Path) (P : Frame → Type 0) → IsSomeAnd (branch_at fork kids b p) P → (b.0 ≡ fork) × (b.1 < length kids)
 branch_is_there fork kids b p P h = found (fork == b.0) (slice_get kids b.1) refl refl h
   where
     found : (r : Bool) (o : Option Rows) → (fork == b.0) ≡ r → slice_get kids b.1 ≡ o → IsSomeAnd (cond r (option_and_then (λ k. frame_at k p) o) None) P → (b.0 ≡ fork) × (b.1 < length kids)

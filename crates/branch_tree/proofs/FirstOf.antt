@@ -1,26 +1,32 @@
 -- The first thread of a node is its own, or else that of the first branch that has one.
-use Rattle.std.proofs.Common.{arith, zero, suc, ◌≡◌, ◌<◌, ◌≤◌, ℕ, ◌+◌, Bool, true, false, cond, not, ◌&&◌, ◌||◌, inl, inr, List, [], ◌∷◌, ◌++◌, refl, sym, ap, subst, ◌∙◌, Option, Some, None, length, get_or, append_assoc, length-append, MatchOption, IsSomeAnd, take}
+use Rattle.std.proofs.Common.{arith, zero, suc, ◌≡◌, ◌<◌, ◌≤◌, ℕ, ◌+◌, Bool, true, false, cond, not, ◌&&◌, ◌||◌, inl, inr, ◌==◌, List, [], ◌∷◌, ◌++◌, refl, sym, ap, ap₂, subst, ◌∙◌, Option, Some, None, is_some, length, get_or, append_assoc, length-append, IsSomeAnd, take}
 use Rattle.std.proofs.Math.Path.{fun_ext}
 use Rattle.std.specs.List.{slice_get}
 use Rattle.std.specs.declared.cmp.Ordering.TheVariants.{Less, Equal, Greater}
 use Rattle.std.specs.Ordering.{nat_cmp, ordering_then}
 use Rattle.std.proofs.lemmas.Bool.{eq-eqb, ne_eqb, cases_order, cases_lt, cases_eq, le-ltb}
-use Rattle.std.proofs.lemmas.List.{append-nil, take_all}
-use Rattle.std.proofs.lemmas.List.Folds.{list_any_more, list_all_more}
+use Rattle.std.proofs.lemmas.List.{append-nil}
 use Rattle.std.proofs.lemmas.Option.{slice_get_past, slice_get-get_or, same_Some}
 use Rattle.step_names.specs.Thread.{Thread, IsThread, child_of}
 use Rattle.asl_frames.specs.declared.frame.Frame.{Frame}
 use Rattle.asl_frames.specs.declared.frame.Phase.{Phase}
-use Rattle.asl_frames.specs.declared.frame.Phase.TheVariants.{Ready, Parked}
+use Rattle.asl_frames.specs.declared.frame.Phase.TheVariants.{Ready, Parked, Done, Failed}
 use Rattle.branch_tree.specs.Paths.{Path}
 use Rattle.branch_tree.specs.declared.readiness.Readiness.{Readiness}
-use Rattle.branch_tree.specs.FlatMap.{FrameMap, branch_count}
-use Rattle.branch_tree.specs.Ready.{root_readiness, readiness_of, readiness_at, readiness_in, progress, frame_is, has_failed, is_done}
+use Rattle.branch_tree.specs.declared.readiness.Readiness.TheVariants as readiness
+use Rattle.branch_tree.specs.FlatMap.{FrameMap, IsTree, branch_count}
+use Rattle.branch_tree.specs.Bounds.{place_of, bound_of}
+use Rattle.branch_tree.specs.Leading.{leading_done, is_in_turn, done_at, failures}
+use Rattle.branch_tree.specs.Ready.{root_readiness, readiness_of, readiness_under, readiness_in, begins_under, may_begin, progress, frame_is, is_done}
 use Rattle.branch_tree.specs.First.{has_move, thread_under, path_cmp, is_free, IsFirst}
 use Rattle.branch_tree.specs.Tree.{Rows, under, rows_from, flat, frame_at, branch_at, IsNode}
 use Rattle.branch_tree.specs.Falls.{under_len}
+use Rattle.branch_tree.proofs.Below.{nothing_under}
+use Rattle.branch_tree.proofs.Counted.{lead_le, lead_knows, cut_short, fail_any}
 use Rattle.branch_tree.proofs.Flat.{at_node}
+use Rattle.branch_tree.proofs.Nodes.{branch_tree}
 use Rattle.branch_tree.proofs.Progress.{not_parked, parked, failed_one, all_done}
+use Rattle.branch_tree.proofs.Window.{lead_all, node_begins}
 
 -- ---- the order of paths
 
@@ -49,21 +55,72 @@ own_map fork kids i kid h q = rw (eq-eqb fork fork refl, h) refl
 below_base : (base : Thread) (fork i : ℕ) (q : Path) → thread_under base ((fork, i) ∷ q) ≡ thread_under (child_of base fork i) q
 below_base base fork i q = ap (λ (p : Path). record { exec = base.exec; path = p }) (sym (append_assoc base.path ((fork, i) ∷ []) q))
 
-module _ (frame : Frame) (kids : List Rows) (base : Thread) (passed : Thread → Bool) where
-  abbrev free : Path → Bool
-  free = is_free (frame_at (flat frame kids)) base passed
+-- a thread under a branch begins as it does in what stands at and under that branch
+begins_below : (root : Bool) (frames : FrameMap) (b : ℕ × ℕ) (q : Path) → begins_under root frames (place_of (b ∷ q)) ≡ begins_under (may_begin frames ([], b)) (λ r. frames (b ∷ r)) (place_of q)
+begins_below root frames b [] = refl
+begins_below root frames b (c ∷ q) = refl
 
-  in_kid : (i : ℕ) (kid : Rows) → slice_get kids i ≡ Some kid → (q : Path) → free ((frame.count, i) ∷ q) ≡ is_free (frame_at kid) (child_of base frame.count i) passed q
+-- ---- a thread that is done has nothing under it, and none that moves
+
+done_readiness : (begins : Bool) (frames : FrameMap) (o : Option Frame) → frame_is is_done o ≡ true → has_move (readiness_of begins frames o) ≡ false
+done_readiness begins frames None d = cc
+done_readiness begins frames (Some f) d = by f.phase d
+  where
+    by : (p : Phase) → is_done p ≡ true → has_move (readiness_in begins frames f.count p) ≡ false
+    by Ready d = cc
+    by (Parked n bound) d = cc
+    by (Done output) d = refl
+    by (Failed fault) d = cc
+
+done_kids : (p : Phase) → is_done p ≡ true → branch_count p ≡ 0
+done_kids Ready d = cc
+done_kids (Parked n bound) d = cc
+done_kids (Done output) d = refl
+done_kids (Failed fault) d = cc
+
+no_kid : (frames : FrameMap) → IsTree frames → (o : Option Frame) → frames [] ≡ o → frame_is is_done o ≡ true → (b : ℕ × ℕ) → frames (b ∷ []) ≡ None
+no_kid frames tree None e d b = cc
+no_kid frames tree (Some f) e d b =
+    is_none (frames (b ∷ [])) (tree.branches [] f e b ∙ rw (done_kids f.phase d, le-ltb b.1 0 (omega arith)) (neither (f.count == b.0)))
+  where
+    neither : (c : Bool) → (c && false) ≡ false
+    neither true = refl
+    neither false = refl
+
+    is_none : (o : Option Frame) → is_some o ≡ false → o ≡ None
+    is_none None h = refl
+    is_none (Some g) h = cc
+
+pub done_moves_not : (frames : FrameMap) → IsTree frames → frame_is is_done (frames []) ≡ true → (begins : Bool) (base : Thread) (passed : Thread → Bool) (p : Path) → is_free begins frames base passed p ≡ false
+done_moves_not frames tree d begins base passed [] = rw (done_readiness (begins_under begins frames (place_of [])) frames (frames []) d) refl
+done_moves_not frames tree d begins base passed (b ∷ p) =
+    let none : frames (b ∷ (p ++ [])) ≡ None = nothing_under frames tree (b ∷ []) (p ++ []) (no_kid frames tree (frames []) refl d b) in
+    rw none refl
+
+module _ (root : Bool) (frame : Frame) (kids : List Rows) (base : Thread) (passed : Thread → Bool) where
+  abbrev free : Path → Bool
+  free = is_free root (frame_at (flat frame kids)) base passed
+
+  -- whether the branch of this index may begin
+  abbrev begins : ℕ → Bool
+  begins i = may_begin (frame_at (flat frame kids)) ([], (frame.count, i))
+
+  in_kid : (i : ℕ) (kid : Rows) → slice_get kids i ≡ Some kid → (q : Path) → free ((frame.count, i) ∷ q) ≡ is_free (begins i) (frame_at kid) (child_of base frame.count i) passed q
   in_kid i kid h q =
       let m : ◌≡◌ {A = FrameMap} (λ r. frame_at (flat frame kids) (((frame.count, i) ∷ q) ++ r)) (λ r. frame_at kid (q ++ r)) =
       fun_ext (λ r. at_node frame kids ((frame.count, i) ∷ (q ++ r)) ∙ own_map frame.count kids i kid h (q ++ r)) in
-      ap (λ (n : FrameMap). has_move (root_readiness n) && not (passed (thread_under base ((frame.count, i) ∷ q)))) m
-      ∙ ap (λ (t : Thread). has_move (readiness_at (frame_at kid) q) && not (passed t)) (below_base base frame.count i q)
+      let k : ◌≡◌ {A = FrameMap} (λ r. frame_at (flat frame kids) ((frame.count, i) ∷ r)) (frame_at kid) =
+      fun_ext (λ r. at_node frame kids ((frame.count, i) ∷ r) ∙ own_map frame.count kids i kid h r) in
+      let b : begins_under root (frame_at (flat frame kids)) (place_of ((frame.count, i) ∷ q)) ≡ begins_under (begins i) (frame_at kid) (place_of q) =
+      begins_below root (frame_at (flat frame kids)) (frame.count, i) q ∙ ap (λ (n : FrameMap). begins_under (begins i) n (place_of q)) k in
+      ap₂ (λ (c : Bool) (n : FrameMap). has_move (root_readiness c n) && not (passed (thread_under base ((frame.count, i) ∷ q)))) b m
+      ∙ ap (λ (t : Thread). has_move (readiness_under (begins i) (frame_at kid) q) && not (passed t)) (below_base base frame.count i q)
 
   nowhere : (p : Path) → ((r : Path) → frame_at (flat frame kids) (p ++ r) ≡ None) → free p ≡ false
   nowhere p h =
-      let e : readiness_at (frame_at (flat frame kids)) p ≡ readiness_of (λ r. frame_at (flat frame kids) (p ++ r)) None =
-      ap (readiness_of (λ r. frame_at (flat frame kids) (p ++ r))) (h []) in
+      let c = begins_under root (frame_at (flat frame kids)) (place_of p) in
+      let e : readiness_under root (frame_at (flat frame kids)) p ≡ readiness_of c (λ r. frame_at (flat frame kids) (p ++ r)) None =
+      ap (readiness_of c (λ r. frame_at (flat frame kids) (p ++ r))) (h []) in
       rw e refl
 
   -- what is known of the first threads when the branches before the n-th have been gone through
@@ -77,7 +134,7 @@ module _ (frame : Frame) (kids : List Rows) (base : Thread) (passed : Thread →
   first_of_none i q h t = absurd (omega arith)
 
   pub first_of_next : (n : ℕ) (kid : Rows) (found : Option Thread) → slice_get kids n ≡ Some kid → IsFirstOf n None
-      → IsFirst (frame_at kid) (child_of base frame.count n) passed found → IsFirstOf (n + 1) found
+      → IsFirst (begins n) (frame_at kid) (child_of base frame.count n) passed found → IsFirstOf (n + 1) found
   first_of_next n kid None h before here = λ i q l t. elim (cases_eq i n) [
     | inl e ↦ last i q e t
     | inr ne ↦ before i q (omega arith) t
@@ -105,13 +162,19 @@ module _ (frame : Frame) (kids : List Rows) (base : Thread) (passed : Thread →
           (in_kid n kid h q ∙ here.3 q (subst (λ (v : Thread). IsThread v) (below_base base frame.count n q) (subst (λ (k : ℕ). IsThread (thread_under base ((frame.count, k) ∷ q))) e u))
           (same_index frame.count n q here.0 (subst (λ (k : ℕ). path_cmp ((frame.count, k) ∷ q) ((frame.count, n) ∷ here.0) ≡ Less) e less)))
 
-  pub first_of_more : (n : ℕ) (t : Thread) → IsFirstOf n (Some t) → IsFirstOf (n + 1) (Some t)
-  first_of_more n t h = h
+  pub first_of_step : (n : ℕ) (kid : Rows) (in_turn : Bool) (found : Option Thread) → n < length kids → kid ≡ get_or kids n kid → in_turn ≡ begins n → IsFirstOf n None
+      → IsFirst in_turn (frame_at kid) (child_of base frame.count n) passed found → IsFirstOf (n + 1) found
+  first_of_step n kid in_turn found l k b h m =
+      first_of_next n kid found (slice_get-get_or kids n kid l ∙ ap Some (sym k)) h (subst (λ (c : Bool). IsFirst c (frame_at kid) (child_of base frame.count n) passed found) b m)
 
-  pub first_of_step : (n : ℕ) (kid : Rows) (before found : Option Thread) → n < length kids → kid ≡ get_or kids n kid → IsFirstOf n before
-      → MatchOption before (IsFirst (frame_at kid) (child_of base frame.count n) passed found) (λ t. found ≡ Some t) → IsFirstOf (n + 1) found
-  first_of_step n kid None found l k h m = first_of_next n kid found (slice_get-get_or kids n kid l ∙ ap Some (sym k)) h m
-  first_of_step n kid (Some t) found l k h m = subst (λ (o : Option Thread). IsFirstOf (n + 1) o) (sym m) (first_of_more n t h)
+  -- of the branches that are done none has a thread that moves
+  pub first_of_leading : IsNode frame kids → IsFirstOf (leading_done kids) None
+  first_of_leading node i q l t =
+      let m = lead_le kids in
+      let e : slice_get kids i ≡ Some (get_or kids i []) = slice_get-get_or kids i [] (omega (arith, l, m)) in
+      let k : done_at kids i ≡ true = lead_knows kids i l in
+      let d : frame_is is_done (frame_at (get_or kids i []) []) ≡ true = rw e at k in
+      in_kid i (get_or kids i []) e q ∙ done_moves_not (frame_at (get_or kids i [])) (branch_tree kids i (get_or kids i []) node.trees e) d (begins i) (child_of base frame.count i) passed q
 
   branch_elsewhere : (b : ℕ × ℕ) (q : Path) → (frame.count ≡ b.0 → ⊥) → free (b ∷ q) ≡ false
   branch_elsewhere b q h =
@@ -141,18 +204,18 @@ module _ (frame : Frame) (kids : List Rows) (base : Thread) (passed : Thread →
       by_fork (λ b. IsThread (thread_under base (b ∷ q)) → path_cmp (b ∷ q) ((frame.count, below.0) ∷ below.1) ≡ Less → free (b ∷ q) ≡ false) b
       (λ i v l. below.4 i q v l) (λ ne v l. branch_elsewhere b q ne) u less
 
-  first_of_flat : (found : Option Thread) → free [] ≡ false → IsFirstOf (length kids) found → IsFirst (frame_at (flat frame kids)) base passed found
+  first_of_flat : (found : Option Thread) → free [] ≡ false → IsFirstOf (length kids) found → IsFirst root (frame_at (flat frame kids)) base passed found
   first_of_flat None here below = none_at_all here below
   first_of_flat (Some t) here below = ((frame.count, below.0) ∷ below.1, below.2, below.3, none_earlier (length kids) t here below)
 
   -- at a node seen as v
-  pub first_of_all : (v : Rows) → flat frame kids ≡ v → (found : Option Thread) → is_free (frame_at v) base passed [] ≡ false → IsFirstOf (length kids) found → IsFirst (frame_at v) base passed found
+  pub first_of_all : (v : Rows) → flat frame kids ≡ v → (found : Option Thread) → is_free root (frame_at v) base passed [] ≡ false → IsFirstOf (length kids) found → IsFirst root (frame_at v) base passed found
   first_of_all v is found =
-      subst (λ (w : Rows). is_free (frame_at w) base passed [] ≡ false → IsFirstOf (length kids) found → IsFirst (frame_at w) base passed found) is (first_of_flat found)
+      subst (λ (w : Rows). is_free root (frame_at w) base passed [] ≡ false → IsFirstOf (length kids) found → IsFirst root (frame_at w) base passed found) is (first_of_flat found)
 
 -- the thread itself comes before all under it
-pub first_here : (frames : FrameMap) (base : Thread) (passed : Thread → Bool) → is_free frames base passed [] ≡ true → IsFirst frames base passed (Some base)
-first_here frames base passed h =
+pub first_here : (root : Bool) (frames : FrameMap) (base : Thread) (passed : Thread → Bool) → is_free root frames base passed [] ≡ true → IsFirst root frames base passed (Some base)
+first_here root frames base passed h =
     ([], ap (λ (p : Path). record { exec = base.exec; path = p }) (sym (append-nil base.path)), h, λ q t less. absurd (none_before q less))
 
 -- ---- whether the thread of a node is free
@@ -160,46 +223,58 @@ first_here frames base passed h =
 base_itself : (base : Thread) → thread_under base [] ≡ base
 base_itself base = ap (λ (p : Path). record { exec = base.exec; path = p }) (append-nil base.path)
 
-pub root_free : (frames : FrameMap) (base : Thread) (passed : Thread → Bool) (r : Readiness) → root_readiness frames ≡ r → is_free frames base passed [] ≡ (has_move r && not (passed base))
-root_free frames base passed r h = rw (base_itself base, h) refl
+pub root_free : (root : Bool) (frames : FrameMap) (base : Thread) (passed : Thread → Bool) (r : Readiness) → root_readiness root frames ≡ r → is_free root frames base passed [] ≡ (has_move r && not (passed base))
+root_free root frames base passed r h = rw (base_itself base, h) refl
 
-module _ (frame : Frame) (kids : List Rows) (v : Rows) (is : flat frame kids ≡ v) (node : IsNode frame kids) (base : Thread) (passed : Thread → Bool) where
-  no_kids : branch_count frame.phase ≡ 0 → IsFirstOf frame kids base passed (length kids) None
+module _ (root : Bool) (frame : Frame) (kids : List Rows) (v : Rows) (is : flat frame kids ≡ v) (node : IsNode frame kids) (base : Thread) (passed : Thread → Bool) where
+  no_kids : branch_count frame.phase ≡ 0 → IsFirstOf root frame kids base passed (length kids) None
   no_kids h = λ i q l t. absurd (omega (arith, node.counted))
 
   -- a thread that ended
-  pub first_of_ended : (p : Phase) → frame.phase ≡ p → branch_count p ≡ 0 → has_move (readiness_in (frame_at v) frame.count p) ≡ false → IsFirst (frame_at v) base passed None
+  pub first_of_ended : (p : Phase) → frame.phase ≡ p → branch_count p ≡ 0 → has_move (readiness_in root (frame_at v) frame.count p) ≡ false → IsFirst root (frame_at v) base passed None
   first_of_ended p e none still =
-      first_of_all frame kids base passed v is None
-      (root_free (frame_at v) base passed _ (sym (not_parked frame kids v p is e)) ∙ rw still refl)
+      first_of_all root frame kids base passed v is None
+      (root_free root (frame_at v) base passed _ (sym (not_parked root frame kids v p is e)) ∙ rw still refl)
       (no_kids (ap branch_count e ∙ none))
 
   -- a thread that is ready, and passed by or not
-  pub first_of_passed : frame.phase ≡ Ready → passed base ≡ true → IsFirst (frame_at v) base passed None
+  pub first_of_passed : frame.phase ≡ Ready → ((frame.count == 0 && not root) || passed base) ≡ true → IsFirst root (frame_at v) base passed None
   first_of_passed e h =
-      first_of_all frame kids base passed v is None
-      (root_free (frame_at v) base passed _ (sym (not_parked frame kids v Ready is e)) ∙ rw h refl)
+      first_of_all root frame kids base passed v is None
+      (root_free root (frame_at v) base passed _ (sym (not_parked root frame kids v Ready is e)) ∙ still (frame.count == 0 && not root) (passed base) h)
       (no_kids (ap branch_count e))
+    where
+      still : (waits out : Bool) → (waits || out) ≡ true → (has_move (cond waits readiness.Waiting readiness.Ready) && not out) ≡ false
+      still true true h = refl
+      still true false h = refl
+      still false true h = refl
+      still false false h = cc
 
-  pub first_of_ready : frame.phase ≡ Ready → passed base ≡ false → IsFirst (frame_at v) base passed (Some base)
-  first_of_ready e h = first_here (frame_at v) base passed (root_free (frame_at v) base passed _ (sym (not_parked frame kids v Ready is e)) ∙ rw h refl)
+  pub first_of_ready : frame.phase ≡ Ready → ((frame.count == 0 && not root) || passed base) ≡ false → IsFirst root (frame_at v) base passed (Some base)
+  first_of_ready e h =
+      first_here root (frame_at v) base passed (root_free root (frame_at v) base passed _ (sym (not_parked root frame kids v Ready is e)) ∙ goes (frame.count == 0 && not root) (passed base) h)
+    where
+      goes : (waits out : Bool) → (waits || out) ≡ false → (has_move (cond waits readiness.Waiting readiness.Ready) && not out) ≡ true
+      goes true out h = cc
+      goes false true h = cc
+      goes false false h = refl
 
   -- a thread that is parked
-  parked_free : (n : ℕ) → frame.phase ≡ Parked n → is_free (frame_at v) base passed [] ≡ ((failed_one kids || all_done kids) && not (passed base))
-  parked_free n e =
-      root_free (frame_at v) base passed _ (sym (parked frame kids v n is node e)) ∙ ap (λ (b : Bool). b && not (passed base)) (moves (failed_one kids) (all_done kids))
+  parked_free : (n bound : ℕ) → frame.phase ≡ Parked n bound → is_free root (frame_at v) base passed [] ≡ ((failed_one kids || all_done kids) && not (passed base))
+  parked_free n bound e =
+      root_free root (frame_at v) base passed _ (sym (parked root frame kids v n bound is node e)) ∙ ap (λ (b : Bool). b && not (passed base)) (moves (failed_one kids) (all_done kids))
     where
       moves : (failed done : Bool) → has_move (progress failed done) ≡ (failed || done)
       moves true done = refl
       moves false true = refl
       moves false false = refl
 
-  pub first_of_parked : (n : ℕ) → frame.phase ≡ Parked n → ((failed_one kids || all_done kids) && not (passed base)) ≡ true → IsFirst (frame_at v) base passed (Some base)
-  first_of_parked n e h = first_here (frame_at v) base passed (parked_free n e ∙ h)
+  pub first_of_parked : (n bound : ℕ) → frame.phase ≡ Parked n bound → ((failed_one kids || all_done kids) && not (passed base)) ≡ true → IsFirst root (frame_at v) base passed (Some base)
+  first_of_parked n bound e h = first_here root (frame_at v) base passed (parked_free n bound e ∙ h)
 
-  pub first_under_parked : (n : ℕ) (found : Option Thread) → frame.phase ≡ Parked n → ((failed_one kids || all_done kids) && not (passed base)) ≡ false
-      → IsFirstOf frame kids base passed (length kids) found → IsFirst (frame_at v) base passed found
-  first_under_parked n found e h below = first_of_all frame kids base passed v is found (parked_free n e ∙ h) below
+  pub first_under_parked : (n bound : ℕ) (found : Option Thread) → frame.phase ≡ Parked n bound → ((failed_one kids || all_done kids) && not (passed base)) ≡ false
+      → IsFirstOf root frame kids base passed (length kids) found → IsFirst root (frame_at v) base passed found
+  first_under_parked n bound found e h below = first_of_all root frame kids base passed v is found (parked_free n bound e ∙ h) below
 
 -- ---- a branch has fewer rows than the node above it
 
@@ -217,31 +292,44 @@ kid_is_smaller frame kids v i kid is l k =
     let n : length (flat frame kids) ≡ length v = ap length is in
     omega (arith, kid_rows frame.count 0 i kids kid e)
 
--- ---- the loop over the branches
+-- ---- a fork
 
-pub more_failed : (kids : List Rows) (i : ℕ) (kid : Rows) (failed r : Bool) → i < length kids → kid ≡ get_or kids i kid → failed ≡ failed_one (take i kids)
-    → r ≡ frame_is has_failed (frame_at kid []) → (failed || r) ≡ failed_one (take (i + 1) kids)
-more_failed kids i kid failed r l k f h =
-    rw (f, h, k) (sym (list_any_more (λ k. frame_is has_failed (frame_at k [])) kids i kid l))
+pub none_of : (found : Option Thread) → is_some found ≡ false → found ≡ None
+none_of None h = refl
+none_of (Some t) h = cc
 
-pub more_done : (kids : List Rows) (i : ℕ) (kid : Rows) (done r : Bool) → i < length kids → kid ≡ get_or kids i kid → done ≡ all_done (take i kids)
-    → r ≡ frame_is is_done (frame_at kid []) → (done && r) ≡ all_done (take (i + 1) kids)
-more_done kids i kid done r l k f h =
-    rw (f, h, k) (sym (list_all_more (λ k. frame_is is_done (frame_at k [])) kids i kid l))
+pub parked_at : (frame : Frame) (kids : List Rows) (v : Rows) (n bound : ℕ) → flat frame kids ≡ v → IsSomeAnd (frame_at v []) (λ f. f.phase ≡ Parked n bound) → frame.phase ≡ Parked n bound
+parked_at frame kids v n bound is h = subst (λ (w : Rows). IsSomeAnd (frame_at w []) (λ f. f.phase ≡ Parked n bound)) (sym is) h
 
-pub parked_at : (frame : Frame) (kids : List Rows) (v : Rows) (n : ℕ) → flat frame kids ≡ v → IsSomeAnd (frame_at v []) (λ f. f.phase ≡ Parked n) → frame.phase ≡ Parked n
-parked_at frame kids v n is h = subst (λ (w : Rows). IsSomeAnd (frame_at w []) (λ f. f.phase ≡ Parked n)) (sym is) h
+-- a branch that is not before those that lead is told to begin by their number
+pub next_in_turn : (frame : Frame) (kids : List Rows) (n bound i leading : ℕ) (in_turn : Bool) → frame.phase ≡ Parked n bound → i < length kids → leading ≡ leading_done kids → leading ≤ i
+    → in_turn ≡ is_in_turn bound leading i → in_turn ≡ may_begin (frame_at (flat frame kids)) ([], (frame.count, i))
+next_in_turn frame kids n bound i leading in_turn e l f more h =
+    let same : bound_of (Parked n bound) ≡ bound_of frame.phase = ap bound_of (sym e) in
+    let cut : leading ≡ leading_done (take i kids) = f ∙ sym (cut_short kids i (omega (arith, f, more))) in
+    h ∙ ap₂ (λ m k. is_in_turn m k i) same cut ∙ node_begins frame kids i (omega (arith, l))
 
-module _ (frame : Frame) (kids : List Rows) (v : Rows) (is : flat frame kids ≡ v) (node : IsNode frame kids) (base : Thread) (passed : Thread → Bool) (n : ℕ) (parked : frame.phase ≡ Parked n) where
-  decided : (r : Bool) → ((failed_one kids || all_done kids) && not (passed base)) ≡ r → (found first : Option Thread) → IsFirstOf frame kids base passed (length kids) found
-      → first ≡ cond r (Some base) found → IsFirst (frame_at v) base passed first
-  decided true e found first below h = subst (λ (o : Option Thread). IsFirst (frame_at v) base passed o) (sym h) (first_of_parked frame kids v is node base passed n parked e)
-  decided false e found first below h = subst (λ (o : Option Thread). IsFirst (frame_at v) base passed o) (sym h) (first_under_parked frame kids v is node base passed n found parked e below)
+module _ (root : Bool) (frame : Frame) (kids : List Rows) (v : Rows) (is : flat frame kids ≡ v) (node : IsNode frame kids) (base : Thread) (passed : Thread → Bool) (n bound : ℕ) (parked : frame.phase ≡ Parked n bound)
+    (leading many failed : ℕ) (leads : leading ≡ leading_done kids) (counted : many ≡ length kids) (fails : failed ≡ failures kids) where
+  moves_is : (not (failed == 0) || (leading == many)) ≡ (failed_one kids || all_done kids)
+  moves_is =
+      let f : not (failed == 0) ≡ failed_one kids = ap (λ (m : ℕ). not (m == 0)) fails ∙ fail_any kids in
+      let d : (leading == many) ≡ all_done kids = ap₂ (λ k l. k == l) leads counted ∙ lead_all kids in
+      ap₂ (λ a b. a || b) f d
 
-  pub first_of_fork : (i : ℕ) (failed done out : Bool) (found first : Option Thread) → length kids ≤ i → i ≤ length kids → failed ≡ failed_one (take i kids) → done ≡ all_done (take i kids)
-      → out ≡ passed base → IsFirstOf frame kids base passed i found → first ≡ cond ((failed || done) && not out) (Some base) found → IsFirst (frame_at v) base passed first
-  first_of_fork i failed done out found first long short f d o below h =
-      let m : i ≡ length kids = omega arith in
-      let ff : failed ≡ failed_one kids = f ∙ ap failed_one (take_all i kids long) in
-      let dd : done ≡ all_done kids = d ∙ ap all_done (take_all i kids long) in
-      decided ((failed || done) && not out) (rw (ff, dd, o) refl) found first (subst (λ (j : ℕ). IsFirstOf frame kids base passed j found) m below) h
+  pub fork_itself : (first : Thread) → ((not (failed == 0) || (leading == many)) && not (passed base)) ≡ true → first ≡ base → IsFirst root (frame_at v) base passed (Some first)
+  fork_itself first h e =
+      subst (λ (t : Thread). IsFirst root (frame_at v) base passed (Some t)) (sym e) (first_of_parked root frame kids v is node base passed n bound parked (ap (λ c. c && not (passed base)) (sym moves_is) ∙ h))
+
+  still : ((not (failed == 0) || (leading == many)) && not (passed base)) ≡ false → ((failed_one kids || all_done kids) && not (passed base)) ≡ false
+  still h = ap (λ c. c && not (passed base)) (sym moves_is) ∙ h
+
+  -- the first of a branch, where none before it has one
+  pub fork_found : (i : ℕ) (found : Option Thread) → ((not (failed == 0) || (leading == many)) && not (passed base)) ≡ false → is_some found ≡ true
+      → IsFirstOf root frame kids base passed i found → IsFirst root (frame_at v) base passed found
+  fork_found i None h s below = cc
+  fork_found i (Some t) h s below = first_under_parked root frame kids v is node base passed n bound (Some t) parked (still h) below
+
+  pub fork_none : (i : ℕ) → ((not (failed == 0) || (leading == many)) && not (passed base)) ≡ false → length kids ≤ i → IsFirstOf root frame kids base passed i None → IsFirst root (frame_at v) base passed None
+  fork_none i h past below =
+      first_under_parked root frame kids v is node base passed n bound None parked (still h) (λ j q l t. below j q (omega (arith, l, past)) t)

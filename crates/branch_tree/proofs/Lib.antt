@@ -5,6 +5,8 @@ mod Changes
 mod Progress
 mod Grafts
 mod Leaves
+pub mod Window
+mod Counted
 mod FirstOf
 mod Names
 mod Below

@@ -9,7 +9,7 @@ use Rattle.branch_tree.specs.declared.readiness.Readiness.{Readiness}
 use Rattle.branch_tree.specs.declared.readiness.Readiness.TheVariants.{Ready, Join, Terminate, Waiting, Done, Failed, NoThread}
 use Rattle.branch_tree.specs.Paths.{Path}
 use Rattle.branch_tree.specs.FlatMap.{FrameMap}
-use Rattle.branch_tree.specs.Ready.{readiness_at}
+use Rattle.branch_tree.specs.Ready.{readiness_under}
 
 abbrev pub has_move : Readiness → Bool
 has_move Ready = true
@@ -28,11 +28,13 @@ thread_under base p = record { exec = base.exec; path = base.path ++ p }
 abbrev pub path_cmp : Path → Path → Ordering
 path_cmp = slice_cmp branch_cmp
 
-abbrev pub is_free : FrameMap → Thread → (Thread → Bool) → Path → Bool
-is_free frames base passed p = has_move (readiness_at frames p) && not (passed (thread_under base p))
+-- of the threads at and under a base, which may begin or not
+abbrev pub is_free : Bool → FrameMap → Thread → (Thread → Bool) → Path → Bool
+is_free begins frames base passed p = has_move (readiness_under begins frames p) && not (passed (thread_under base p))
 
 -- Nothing, where no name of a thread at or under the base is free; or the name of one that is, with none before it.
-abbrev pub IsFirst : FrameMap → Thread → (Thread → Bool) → Option Thread → Type 0
-IsFirst frames base passed None = (p : Path) → IsThread (thread_under base p) → is_free frames base passed p ≡ false
-IsFirst frames base passed (Some t) =
-    (p : Path) × (t ≡ thread_under base p) × (is_free frames base passed p ≡ true) × ((q : Path) → IsThread (thread_under base q) → path_cmp q p ≡ Less → is_free frames base passed q ≡ false)
+abbrev pub IsFirst : Bool → FrameMap → Thread → (Thread → Bool) → Option Thread → Type 0
+IsFirst begins frames base passed None = (p : Path) → IsThread (thread_under base p) → is_free begins frames base passed p ≡ false
+IsFirst begins frames base passed (Some t) =
+    (p : Path) × (t ≡ thread_under base p) × (is_free begins frames base passed p ≡ true)
+    × ((q : Path) → IsThread (thread_under base q) → path_cmp q p ≡ Less → is_free begins frames base passed q ≡ false)

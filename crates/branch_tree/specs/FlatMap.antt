@@ -11,13 +11,13 @@ FrameMap = Path → Option Frame
 -- how many branches a frame stands over
 abbrev pub branch_count : Phase → ℕ
 branch_count Ready = 0
-branch_count (Parked n) = n
+branch_count (Parked n bound) = n
 branch_count (Done output) = 0
 branch_count (Failed fault) = 0
 
 abbrev pub is_parked : Phase → Bool
 is_parked Ready = false
-is_parked (Parked n) = true
+is_parked (Parked n bound) = true
 is_parked (Done output) = false
 is_parked (Failed fault) = false
 

@@ -2,7 +2,9 @@ pub mod Paths
 pub mod FlatMap
 pub mod Tree
 pub mod Falls
+pub mod Bounds
 pub mod Ready
+pub mod Leading
 pub mod Laws
 pub mod First
 -- what stands below and is named by the crates above

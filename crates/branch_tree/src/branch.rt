@@ -1,27 +1,33 @@
 // A frame and the branches under it.
-ghost use Rattle.std.specs.List.{All, list_any, list_all};
-ghost use Rattle.std.specs.Prelude.{◌≡◌, [], ◌∷◌, ◌++◌, ℕ, None, Some, true, false, MatchOption, IsSomeAnd, IfOk, map};
+ghost use Rattle.std.specs.List.{All};
+ghost use Rattle.std.specs.Prelude.{◌≡◌, [], ◌∷◌, ◌++◌, None, Some, true, false, MatchOption, IsSome, IsSomeAnd, IfOk, map};
 ghost use Rattle.branch_tree.specs.Paths.{Path, same_path};
 ghost use Rattle.branch_tree.specs.FlatMap.{IsTree, is_parked, with_frame, grafted, alone};
-ghost use Rattle.branch_tree.specs.Ready.{frame_is, is_done, has_failed, progress, root_readiness};
+ghost use Rattle.branch_tree.specs.Bounds.{bound_in};
+ghost use Rattle.branch_tree.specs.Leading.{IsFork};
+ghost use Rattle.branch_tree.specs.Ready.{frame_is, is_done, has_failed, is_unmoved, may_begin, progress, root_readiness};
 ghost use Rattle.branch_tree.specs.Tree.{leaf, frame_at, node_at, IsNode};
 
+use crate::counts::{Counts, NONE, count, counts_after, is_in_turn};
 use crate::readiness::Readiness;
 use asl_frames::{Frame, Phase};
 use std::alloc::{AllocError, Global};
 use std::marker::Model;
 use std::mem;
 
-/// A frame, and the branches of the fork that it is parked over. Contracts see the paths under it with their frames.
+/// A frame, and the branches of the fork that it is parked over, which are counted so that no look at each is needed. Contracts
+/// see the paths under it with their frames.
 #[derive(Drop)]
 pub struct Branch {
     pub(crate) frame: Frame,
     pub(crate) kids: Vec<Branch>,
+    pub(crate) counts: Counts,
 }
 
 impl Model for Branch {
     ghost use Rattle.std.specs.Prelude.{length};
-    ghost use Rattle.branch_tree.specs.Tree.{Rows, flat, rows_code, IsNode};
+    ghost use Rattle.branch_tree.specs.Leading.{IsFork};
+    ghost use Rattle.branch_tree.specs.Tree.{Rows, flat, rows_code};
     ghost use Rattle.std.proofs.Common.{arith};
     ghost use Rattle.branch_tree.specs.Falls.{most_le};
 
@@ -31,7 +37,7 @@ impl Model for Branch {
 
     ghost view = { λ a. flat a.frame a.kids.items };
 
-    ghost invariant = { λ a. IsNode a.frame a.kids.items };
+    ghost invariant = { λ a. IsFork a.frame a.kids.items a.counts.leading a.counts.failed };
 
     ghost size = { length };
 
@@ -48,6 +54,7 @@ impl Branch {
         Branch {
             frame,
             kids: Vec::new(alloc),
+            counts: NONE,
         }
     }
 
@@ -78,6 +85,16 @@ impl Branch {
         self.frame
     }
 
+    /// How many of its branches may run at a time; 0 is no bound.
+    pub(crate) fn bound(&self) -> u32
+        ensures { result ≡ bound_in (frame_at self.now []) }
+    {
+        match &self.frame.phase {
+            Phase::Parked(_, bound) => *bound,
+            _ => 0,
+        }
+    }
+
     pub(crate) fn is_done(&self) -> bool
         ensures { result ≡ frame_is is_done (frame_at self.now []) }
     {
@@ -90,16 +107,36 @@ impl Branch {
         matches!(&self.frame.phase, Phase::Failed(_))
     }
 
-    /// What the thread of this branch can do next.
+    /// Whether its thread is ready and has made no move.
+    pub(crate) fn is_unmoved(&self) -> bool
+        ensures { result ≡ is_unmoved (frame_at self.now []) }
+    {
+        matches!(&self.frame.phase, Phase::Ready) && self.frame.count == 0
+    }
+
+    /// What the thread of this branch can do next, where it may begin.
     pub(crate) fn readiness(&self) -> Readiness
-        ensures { result ≡ root_readiness (frame_at self.now) }
+        ensures { result ≡ root_readiness true (frame_at self.now) }
     {
         match &self.frame.phase {
             Phase::Ready => Readiness::Ready,
-            Phase::Parked(_) => progress(&self.kids),
+            Phase::Parked(_, _) => progress(
+                self.counts.failed != 0,
+                self.counts.leading == self.kids.len(),
+            ),
             Phase::Done(_) => Readiness::Done,
             Phase::Failed(_) => Readiness::Failed,
         }
+    }
+
+    /// Whether a branch that is there may begin.
+    pub(crate) fn lets_begin(&self, branch: (u32, u32)) -> bool
+        requires { IsSome (frame_at self.now (branch ∷ [])) }
+        ensures { result ≡ may_begin (frame_at self.now) ([], branch) }
+    {
+        let index = branch.1 as usize;
+        let leading = self.counts.leading;
+        index <= leading || is_in_turn(self.bound(), leading, index)
     }
 
     /// What stands at the path, with all under it.
@@ -132,8 +169,12 @@ impl Branch {
         match path {
             [] => mem::replace(&mut self.frame, frame),
             [first, rest @ ..] => {
-                let kid = &mut self.kids[first.1 as usize];
-                kid.replace(rest, frame)
+                let index = first.1 as usize;
+                let kid = &mut self.kids[index];
+                let failed = kid.has_failed();
+                let before = kid.replace(rest, frame);
+                self.counts = counts_after(&self.kids, self.counts, index, failed);
+                before
             }
         }
     }
@@ -148,12 +189,17 @@ impl Branch {
     {
         match path {
             [] => {
+                self.counts = count(&kids);
                 self.kids = kids;
                 mem::replace(&mut self.frame, frame)
             }
             [first, rest @ ..] => {
-                let kid = &mut self.kids[first.1 as usize];
-                kid.give(rest, frame, kids)
+                let index = first.1 as usize;
+                let kid = &mut self.kids[index];
+                let failed = kid.has_failed();
+                let before = kid.give(rest, frame, kids);
+                self.counts = counts_after(&self.kids, self.counts, index, failed);
+                before
             }
         }
     }
@@ -171,37 +217,30 @@ impl Branch {
             [] => {
                 let alloc = *self.kids.allocator();
                 let kids = mem::replace(&mut self.kids, Vec::new(alloc));
+                self.counts = NONE;
                 (mem::replace(&mut self.frame, frame), kids)
             }
             [first, rest @ ..] => {
-                let kid = &mut self.kids[first.1 as usize];
-                kid.take(rest, frame)
+                let index = first.1 as usize;
+                let kid = &mut self.kids[index];
+                let failed = kid.has_failed();
+                let before = kid.take(rest, frame);
+                self.counts = counts_after(&self.kids, self.counts, index, failed);
+                before
             }
         }
     }
 }
 
-/// What a thread parked over these branches can do next.
-fn progress(kids: &[Branch]) -> Readiness
-    ensures { result ≡ progress (list_any (λ k. frame_is has_failed (frame_at k [])) kids.now) (list_all (λ k. frame_is is_done (frame_at k [])) kids.now) }
+/// What a thread can do next that is parked over branches, of which one has failed or all are done.
+fn progress(failed: bool, done: bool) -> Readiness
+    ensures { result ≡ progress failed done }
 {
-    if any_failed(kids) {
+    if failed {
         Readiness::Terminate
-    } else if all_done(kids) {
+    } else if done {
         Readiness::Join
     } else {
         Readiness::Waiting
     }
-}
-
-fn any_failed(kids: &[Branch]) -> bool
-    ensures { result ≡ list_any (λ k. frame_is has_failed (frame_at k [])) kids.now }
-{
-    kids.iter().any(|kid| kid.has_failed())
-}
-
-fn all_done(kids: &[Branch]) -> bool
-    ensures { result ≡ list_all (λ k. frame_is is_done (frame_at k [])) kids.now }
-{
-    kids.iter().all(|kid| kid.is_done())
 }

@@ -9,6 +9,7 @@ ghost use Rattle.branch_tree.specs.Paths.{Path};
 ghost use Rattle.branch_tree.specs.Tree.{frame_at};
 
 use crate::branch::Branch;
+use crate::counts::is_in_turn;
 use asl_frames::Phase;
 use std::alloc::{AllocError, Global};
 use std::collections::BTreeSet;
@@ -34,96 +35,89 @@ fn child_name(
 impl Branch {
     /// Whether the thread ended, so that it has no move and nothing is under it.
     fn has_ended(&self) -> bool
-        ensures { OnTrue result ((base : Thread) (passed : Thread → Bool) → IsFirst (frame_at self.now) base passed None) }
+        ensures { OnTrue result ((begins : Bool) (base : Thread) (passed : Thread → Bool) → IsFirst begins (frame_at self.now) base passed None) }
     {
         matches!(&self.frame.phase, Phase::Done(_) | Phase::Failed(_))
     }
 
-    /// The first thread at or under this one, whose name is given, that has a move and is not passed by.
+    /// The first thread at or under this one, whose name is given and which may begin or not, that has a move and is not
+    /// passed by.
     #[cycle(first)]
     pub(crate) fn first_ready(
         &self,
         alloc: Global,
+        begins: bool,
         name: &ThreadName,
         passed: &BTreeSet<ThreadName>,
     ) -> Result<Option<ThreadName>, AllocError>
-        ensures { IfOk result (λ found. IsFirst (frame_at self.now) name.now (contains thread_cmp passed.now) found) }
+        ensures { IfOk result (λ found. IsFirst begins (frame_at self.now) name.now (contains thread_cmp passed.now) found) }
     {
         match &self.frame.phase {
             Phase::Ready => {
-                if passed.contains(name) {
+                let waits = (self.frame.count == 0) & !begins;
+                if waits | passed.contains(name) {
                     return Ok(None);
                 }
                 Ok(Some(name.copy()?))
             }
-            Phase::Parked(branches) => self.first_at_fork(alloc, name, *branches, passed),
+            Phase::Parked(branches, bound) => {
+                self.first_at_fork(alloc, name, *branches, *bound, passed)
+            }
             Phase::Done(_) => Ok(None),
             Phase::Failed(_) => Ok(None),
         }
     }
 
-    /// The same of a thread that is parked. Goes through its branches once.
+    /// The same of a thread that is parked. Looks at none of the branches that are done before the first that is not, and at none
+    /// after the one found.
     #[cycle(first)]
     fn first_at_fork(
         &self,
         alloc: Global,
         name: &ThreadName,
         branches: u32,
+        bound: u32,
         passed: &BTreeSet<ThreadName>,
     ) -> Result<Option<ThreadName>, AllocError>
-        requires { IsSomeAnd (frame_at self.now []) (λ f. f.phase ≡ Phase.Parked branches) }
-        ensures { IfOk result (λ found. IsFirst (frame_at self.now) name.now (contains thread_cmp passed.now) found) }
+        requires { IsSomeAnd (frame_at self.now []) (λ f. f.phase ≡ Phase.Parked branches bound) }
+        ensures { (begins : Bool) → IfOk result (λ found. IsFirst begins (frame_at self.now) name.now (contains thread_cmp passed.now) found) }
     {
-        let mut first = None;
-        let mut failed = false;
-        let mut done = true;
-        for (i, kid) in self.kids.iter().enumerate() {
-            failed |= kid.has_failed();
-            done &= kid.is_done();
-            first = kid.first_as_branch(alloc, first, name, self.frame.count, i, passed)?;
+        let leading = self.counts.leading;
+        let moves = (self.counts.failed != 0) | (leading == self.kids.len());
+        if moves & !passed.contains(name) {
+            return Ok(Some(name.copy()?));
         }
-        let itself = (failed | done) & !passed.contains(name);
-        itself_or(itself, name, first)
+        for index in leading..self.kids.len() {
+            let in_turn = is_in_turn(bound, leading, index);
+            let kid = &self.kids[index];
+            let found = kid.first_as_branch(alloc, in_turn, name, self.frame.count, index, passed)?;
+            if found.is_some() {
+                return Ok(found);
+            }
+        }
+        Ok(None)
     }
 
-    /// What was found before, or else the same of a branch, told by its fork.
+    /// The same of a branch, told by its fork.
     #[cycle(first)]
     fn first_as_branch(
         &self,
         alloc: Global,
-        before: Option<ThreadName>,
+        begins: bool,
         parent: &ThreadName,
         fork: u32,
         index: usize,
         passed: &BTreeSet<ThreadName>,
     ) -> Result<Option<ThreadName>, AllocError>
         requires { index < 2 ^ 32 }
-        ensures { IfOk result (λ found. MatchOption before (IsFirst (frame_at self.now) (child_of parent.now fork index) (contains thread_cmp passed.now) found) (λ t. found ≡ Some t)) }
+        ensures { IfOk result (λ found. IsFirst begins (frame_at self.now) (child_of parent.now fork index) (contains thread_cmp passed.now) found) }
     {
-        if let Some(found) = before {
-            return Ok(Some(found));
-        }
         if self.has_ended() {
             return Ok(None);
         }
         match child_name(alloc, parent, fork, index)? {
-            Some(name) => self.first_ready(alloc, &name, passed),
+            Some(name) => self.first_ready(alloc, begins, &name, passed),
             None => Ok(None),
         }
     }
-}
-
-/// A copy of a name, or what was found.
-fn itself_or(
-    itself: bool,
-    name: &ThreadName,
-    found: Option<ThreadName>,
-) -> Result<Option<ThreadName>, AllocError>
-    ensures { IfOk result (λ first. first ≡ (if itself then Some name.now else found)) }
-{
-    if itself {
-        drop(found);
-        return Ok(Some(name.copy()?));
-    }
-    Ok(found)
 }

@@ -2,6 +2,7 @@
 
 //! The frames of an execution in one tree of branches.
 mod branch;
+mod counts;
 mod first;
 mod laws;
 mod readiness;

@@ -1,11 +1,12 @@
 // The frames of an execution.
-ghost use Rattle.std.specs.Prelude.{◌≡◌, [], ◌++◌, Some, true, false, IfOk, IsSomeAnd, option_copied};
+ghost use Rattle.std.specs.Prelude.{◌≡◌, [], ◌++◌, Some, true, false, IfOk, IsSome, IsSomeAnd, option_copied};
 ghost use Rattle.std.specs.BTreeSet.{contains};
 ghost use Rattle.step_names.specs.Order.{thread_cmp};
 ghost use Rattle.branch_tree.specs.First.{IsFirst};
 ghost use Rattle.branch_tree.specs.Paths.{Path};
 ghost use Rattle.branch_tree.specs.FlatMap.{IsTree, is_parked, with_frame, grafted, alone};
-ghost use Rattle.branch_tree.specs.Ready.{readiness_at};
+ghost use Rattle.branch_tree.specs.Bounds.{place_of};
+ghost use Rattle.branch_tree.specs.Ready.{begins_under, bound_over, readiness_at};
 ghost use Rattle.branch_tree.specs.Tree.{frame_at, node_at, IsNode};
 
 use crate::branch::Branch;
@@ -65,34 +66,67 @@ impl Tree {
         Some(branch.frame())
     }
 
-    /// What the thread at a path can do next. Time of the path's length and of the number of its branches.
+    /// What the thread at a path can do next. Time of the path's length.
     pub fn ready(&self, path: &[(u32, u32)]) -> Readiness
         ensures { result ≡ readiness_at (frame_at self.now) path.now }
     {
-        match self.root.at(path) {
-            Some(branch) => branch.readiness(),
-            None => Readiness::NoThread,
+        let Some(branch) = self.root.at(path) else {
+            return Readiness::NoThread;
+        };
+        if branch.is_unmoved() && !self.lets_begin(path) {
+            Readiness::Waiting
+        } else {
+            branch.readiness()
+        }
+    }
+
+    /// Whether the thread at a path may begin.
+    fn lets_begin(&self, path: &[(u32, u32)]) -> bool
+        requires { IsSome (frame_at self.now path.now) }
+        ensures { result ≡ begins_under true (frame_at self.now) (place_of path.now) }
+    {
+        let Some((branch, above)) = path.split_last() else {
+            return true;
+        };
+        match self.root.at(above) {
+            Some(over) => over.lets_begin(*branch),
+            None => true,
+        }
+    }
+
+    /// How many branches may run at a time of the fork that the thread at a path is a branch of; 0 is no bound. Time of the
+    /// path's length.
+    pub fn bound_over(&self, path: &[(u32, u32)]) -> u32
+        ensures { result ≡ bound_over (frame_at self.now) (place_of path.now) }
+    {
+        let Some((_, above)) = path.split_last() else {
+            return 0;
+        };
+        match self.root.at(above) {
+            Some(over) => over.bound(),
+            None => 0,
         }
     }
 
     /// The least name among those that go on from this one, which is the execution's, whose thread moves (it is `Ready`, or
     /// can `Join` or `Terminate`) and is not passed by.
     ///
-    /// Goes through each thread at most once, and under those that a found one comes before only by their phase. Names share
-    /// the execution's, and each of a branch takes a block: of the threads before the one found that have not ended, and two
-    /// for that one.
+    /// Looks at no branch that is done before the first of its fork that is not, nor at one after the thread found: where nothing
+    /// is passed by, at one thread for each fork above it. Names share the execution's, and each of a branch takes a block: of the
+    /// threads before the one found that have not ended, and two for that one.
     pub fn first_ready(
         &self,
         alloc: Global,
         execution: &ThreadName,
         passed: &BTreeSet<ThreadName>,
     ) -> Result<Option<ThreadName>, AllocError>
-        ensures { IfOk result (λ found. IsFirst (frame_at self.now) execution.now (contains thread_cmp passed.now) found) }
+        ensures { IfOk result (λ found. IsFirst true (frame_at self.now) execution.now (contains thread_cmp passed.now) found) }
     {
-        self.root.first_ready(alloc, execution, passed)
+        self.root.first_ready(alloc, true, execution, passed)
     }
 
-    /// Puts a frame in the place of the one at a path, which comes back. Takes no memory, in time of the path's length.
+    /// Puts a frame in the place of the one at a path, which comes back. Takes no memory, in time of the path's length; where it
+    /// is the first of its fork that isn't done, and is done now, of those that lead by it too, each of which is looked at once.
     pub fn replace(&mut self, path: &[(u32, u32)], frame: Frame) -> Frame
         requires open { IsSomeAnd (frame_at self.old path.now) (λ f. is_parked f.phase ≡ false) }
         requires next { is_parked frame.phase ≡ false }
@@ -104,7 +138,7 @@ impl Tree {
     }
 
     /// Puts a frame that is parked over these branches in the place of the one at a path, which comes back. The branches
-    /// are moved. Takes no memory, in time of the path's length.
+    /// are moved. Takes no memory, in time of the path's length and one look at each branch.
     pub fn fork(&mut self, path: &[(u32, u32)], frame: Frame, branches: Vec<Branch>) -> Frame
         requires open { IsSomeAnd (frame_at self.old path.now) (λ f. is_parked f.phase ≡ false) }
         requires node { IsNode frame branches.items }
@@ -129,7 +163,7 @@ impl Tree {
     }
 
     /// Gives branches back that were taken out, under the frame that stood over them. The frame in whose place it comes
-    /// comes back. Takes no memory, in time of the path's length.
+    /// comes back. Takes no memory, in time of the path's length and one look at each branch.
     pub fn give_kids(&mut self, path: &[(u32, u32)], frame: Frame, kids: Vec<Branch>) -> Frame
         requires open { IsSomeAnd (frame_at self.old path.now) (λ f. is_parked f.phase ≡ false) }
         requires node { IsNode frame kids.items }

@@ -1,5 +1,6 @@
 pub mod Threads
 pub mod Searching
+pub mod Awaited
 pub mod Turned
 pub mod Planned
 pub mod Worlds

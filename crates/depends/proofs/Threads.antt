@@ -71,7 +71,7 @@ above_child above t n k i h =
 
 -- ---- what a path goes on by
 
-one_branch : (b c : ℕ × ℕ) → same_branch b c ≡ true → b ≡ c
+pub one_branch : (b c : ℕ × ℕ) → same_branch b c ≡ true → b ≡ c
 one_branch b c h =
     let s = and_parts (b.0 == c.0) (b.1 == c.1) h in
     ap₂ (λ (m n : ℕ). let p : ℕ × ℕ = (m, n) in p) (eqb-true b.0 c.0 s.0) (eqb-true b.1 c.1 s.1)

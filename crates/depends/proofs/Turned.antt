@@ -1,5 +1,6 @@
 -- What a move comes to: it counts one, a fork parks its thread, and a thread that is parked only closes its fork.
-use Rattle.std.proofs.Common.{◌≡◌, ℕ, ◌+◌, Bool, true, false, List, refl, ap, subst, Option, None, Some, Result, Ok, Err}
+use Rattle.std.proofs.Common.{◌≡◌, ℕ, ◌+◌, Bool, true, false, List, refl, ap, sym, subst, ◌∙◌, inl, inr, Option, None, Some, Result, Ok, Err}
+use Rattle.std.specs.Prelude.{◌⊎◌}
 use Rattle.std.proofs.lemmas.Option.{same_Some}
 use Rattle.json_tree.specs.Data.{Data, list, items_of}
 use Rattle.json_tree.specs.View.{data_of}
@@ -33,14 +34,16 @@ use Rattle.saved_steps.specs.Outcome.TheVariants as outcome
 use Rattle.saved_steps.proofs.Turns.{next_frame-count}
 use Rattle.step_names.specs.Thread.{Thread}
 use Rattle.step_names.specs.declared.step.StepName.{StepName}
-use Rattle.saved_steps.specs.Deeds.{Deed, next_step, deed_of, called, call_deed, deed_of_turn, kids, first_fault, outputs, join_deed, close_deed, deed_in, stands, frame_deed}
+use Rattle.saved_steps.specs.Deeds.{Deed, next_step, deed_of, called, call_deed, deed_of_turn, kids, first_fault, outputs, join_deed, close_deed, deed_in, stands, frame_deed, waits, first_bound}
 use Rattle.saved_steps.specs.Steps.{is_fork, is_close}
 use Rattle.saved_steps.specs.declared.fact.Kind.TheVariants.{Plain, Join, Terminate}
 use Rattle.saved_steps.specs.World.{Setting, World}
+use Rattle.saved_steps.specs.Ready.{is_done}
+use Rattle.saved_steps.proofs.Begun.{turn_told}
 use Rattle.trace_theory.proofs.Runs.{and_then_some, map_some}
 
 abbrev pub is_parked : Phase → Bool
-is_parked (Parked n) = true
+is_parked (Parked n bound) = true
 is_parked Ready = false
 is_parked (Done output) = false
 is_parked (Failed fault) = false
@@ -92,14 +95,14 @@ task_turned : (level : Definition) (s : Task) (f : Frame) (input : Result Data (
 task_turned level s f (Ok input) = asked level s f (call_of (action_of s.resource) input)
 task_turned level s f (Err error) = handled_count level s.errors f (own_fault error)
 
-forked : (level : Definition) (errors : ErrorHandling) (f : Frame) (frames : Result (List Frame) (List ℕ)) → IsTurn f (forks level errors f frames)
-forked level errors f (Ok frames) = (refl, refl)
-forked level errors f (Err error) = handled_count level errors f (own_fault error)
+forked : (level : Definition) (errors : ErrorHandling) (f : Frame) (bound : ℕ) (frames : Result (List Frame) (List ℕ)) → IsTurn f (forks level errors f bound frames)
+forked level errors f bound (Ok frames) = (refl, refl)
+forked level errors f bound (Err error) = handled_count level errors f (own_fault error)
 
 pub turned : (level : Definition) (s : State) (f : Frame) → IsTurn f (turn_of level s f)
 turned level (state.Task s) f = task_turned level s f (effective s.processing (data_of f.raw))
-turned level (state.Parallel s) f = forked level s.errors f (fork_of (parallel_frames s) f (effective s.processing (data_of f.raw)))
-turned level (state.Map s) f = forked level s.errors f (fork_of (map_frames s) f (effective s.processing (data_of f.raw)))
+turned level (state.Parallel s) f = forked level s.errors f 0 (fork_of (parallel_frames s) f (effective s.processing (data_of f.raw)))
+turned level (state.Map s) f = forked level s.errors f s.max_concurrency (fork_of (map_frames s) f (effective s.processing (data_of f.raw)))
 turned level (state.Pass s) f = next_frame-count level (state.Pass s) f
 turned level (state.Choice s) f = next_frame-count level (state.Choice s) f
 turned level (state.Wait s) f = next_frame-count level (state.Wait s) f
@@ -145,8 +148,11 @@ close_move name at f None outputs_there d h =
     subst (λ (e : Deed). IsMove name f e × (is_close e.fact.kind ≡ true)) m.2 (own, refl)
 
 phase_move : (s : Setting) (w : World) (t : Thread) (at : Standing) (f : Frame) (p : Phase) (d : Deed) → f.phase ≡ p → deed_in s w t at f p ≡ Some d → IsMove (next_step t f) f d
-phase_move s w t at f Ready d e h = turn_move (next_step t f) f (ap is_parked e) s w at (turn at f) d (turned at.0 at.1 f) h
-phase_move s w t at f (Parked n) d e h = (close_move (next_step t f) at f (first_fault (kids w t f n)) (outputs (kids w t f n)) d h).0
+phase_move s w t at f Ready d e h =
+    let k = turn_told w.frames t f (deed_of_turn s w (next_step t f) at f (turn at f)) d h in
+    let m = turn_move (next_step t f) f (ap is_parked e) s w at (turn at f) k.deed (turned at.0 at.1 f) k.is in
+    subst (IsMove (next_step t f) f) k.told (record { named = m.named; count = m.count; parks = m.parks; closes = m.closes })
+phase_move s w t at f (Parked n bound) d e h = (close_move (next_step t f) at f (first_fault (kids w t f n)) (outputs (kids w t f n)) d h).0
 phase_move s w t at f (Done output) d e h = cc
 phase_move s w t at f (Failed fault) d e h = cc
 
@@ -154,3 +160,42 @@ pub frame_move : (s : Setting) (w : World) (t : Thread) (f : Frame) (d : Deed) �
 frame_move s w t f d h =
     let k = and_then_some (λ at. deed_in s w t at f f.phase) (stands s f) d h in
     phase_move s w t k.0 f f.phase d refl k.2
+
+-- ---- a bound
+
+close_unbounded : (name : StepName) (at : Standing) (f : Frame) (fault : Option Fault) (outputs_there : Option (List Data)) (d : Deed) → close_deed name at f fault outputs_there ≡ Some d → d.fact.bound ≡ 0
+close_unbounded name at f (Some fault) outputs_there d h = subst (λ (e : Deed). e.fact.bound ≡ 0) (same_Some _ _ h) refl
+close_unbounded name at f None outputs_there d h =
+    let j = and_then_some (join_deed name at f) outputs_there d h in
+    let m = map_some (λ (work : Work). deed_of Join name (after_join at.0 work f j.0)) (work_of at.1) d j.2 in
+    subst (λ (e : Deed). e.fact.bound ≡ 0) m.2 refl
+
+-- a move has the bound of the fork over it, whose thread may begin; or it has none
+pub record IsBounded (w : World) (t : Thread) (f : Frame) (d : Deed) : Type 0 where
+  pub begins : waits w.frames t f ≡ false
+  pub bound : d.fact.bound ≡ first_bound w.frames t f
+
+phase_bounded : (s : Setting) (w : World) (t : Thread) (at : Standing) (f : Frame) (p : Phase) (d : Deed) → deed_in s w t at f p ≡ Some d → (d.fact.bound ≡ 0) ⊎ IsBounded w t f d
+phase_bounded s w t at f Ready d h =
+    let k = turn_told w.frames t f (deed_of_turn s w (next_step t f) at f (turn at f)) d h in
+    inr (record { begins = k.begins; bound = subst (λ (e : Deed). e.fact.bound ≡ first_bound w.frames t f) k.told refl })
+phase_bounded s w t at f (Parked n bound) d h = inl (close_unbounded (next_step t f) at f (first_fault (kids w t f n)) (outputs (kids w t f n)) d h)
+phase_bounded s w t at f (Done output) d h = cc
+phase_bounded s w t at f (Failed fault) d h = cc
+
+phase_goes : (s : Setting) (w : World) (t : Thread) (at : Standing) (f : Frame) (p : Phase) (d : Deed) → deed_in s w t at f p ≡ Some d → is_done p ≡ false
+phase_goes s w t at f Ready d h = refl
+phase_goes s w t at f (Parked n bound) d h = refl
+phase_goes s w t at f (Done output) d h = cc
+phase_goes s w t at f (Failed fault) d h = cc
+
+pub frame_bounded : (s : Setting) (w : World) (t : Thread) (f : Frame) (d : Deed) → frame_deed s w t f ≡ Some d → ((d.fact.bound ≡ 0) ⊎ IsBounded w t f d) × (is_done f.phase ≡ false)
+frame_bounded s w t f d h =
+    let k = and_then_some (λ at. deed_in s w t at f f.phase) (stands s f) d h in
+    (phase_bounded s w t k.0 f f.phase d k.2, phase_goes s w t k.0 f f.phase d k.2)
+
+-- a thread that moves from a ready frame may begin
+pub frame_begins : (s : Setting) (w : World) (t : Thread) (f : Frame) (d : Deed) → frame_deed s w t f ≡ Some d → f.phase ≡ Ready → waits w.frames t f ≡ false
+frame_begins s w t f d h e =
+    let k = and_then_some (λ at. deed_in s w t at f f.phase) (stands s f) d h in
+    (turn_told w.frames t f (deed_of_turn s w (next_step t f) k.0 f (turn k.0 f)) d (ap (deed_in s w t k.0 f) (sym e) ∙ k.2)).begins

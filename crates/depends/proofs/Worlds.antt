@@ -118,7 +118,7 @@ stays_over w d above n u a = record { frame = a.frame; stands = frame_other w d 
     unreached = by_bool (reaches d.fact above) _ (λ k. let r = reached d.fact above k in absurd (never_under_itself d.fact.name.thread r.fork (under_under d.fact.name.thread above d.fact.name.thread n r.fork u r.under))) (λ k. k)
 
 -- a move of a thread that is parked reaches all that stands there
-closes_it : (w : World) (d : Deed) (above t : Thread) (n : ℕ) → IsPlanned w d → d.fact.name.thread ≡ above → ParkedAt w above n → is_under t above n ≡ true → reaches d.fact t ≡ true
+pub closes_it : (w : World) (d : Deed) (above t : Thread) (n : ℕ) → IsPlanned w d → d.fact.name.thread ≡ above → ParkedAt w above n → is_under t above n ≡ true → reaches d.fact t ≡ true
 closes_it w d above t n p e a u =
     let k = p.follows a.frame (ap w.frames e ∙ a.stands) in
     let j = k.1 a.waits in
@@ -131,7 +131,7 @@ closes_it w d above t n p e a u =
     last false = refl
 
 -- where a thread lies under another that its step has, that one is parked over it
-over_own : (w : World) (d : Deed) (above : Thread) (n : ℕ) → Good w → IsPlanned w d → is_under d.fact.name.thread above n ≡ true → ParkedAt w above n
+pub over_own : (w : World) (d : Deed) (above : Thread) (n : ℕ) → Good w → IsPlanned w d → is_under d.fact.name.thread above n ≡ true → ParkedAt w above n
 over_own w d above n good p u = elim p.stands [ inl k ↦ good.over above d.fact.name.thread n k.0 u k.1 | inr k ↦ absurd (nothing_over d.fact.name.thread above n k.0 u) ]
 
 pub good_after : (w : World) (d : Deed) → Good w → IsPlanned w d → Good (carried_out w d)

@@ -1,5 +1,5 @@
 -- Steps of executions as steps that may commute: what they depend on, what they keep, and what they touch.
-use Rattle.std.specs.Prelude.{Bool, ◌||◌, Option, None, Some, if◌then◌else◌}
+use Rattle.std.specs.Prelude.{◌==◌, Bool, true, false, ◌||◌, [], ◌∷◌, Option, None, Some, option_map, if◌then◌else◌}
 use Rattle.attr_values.specs.declared.key.Key.{Key}
 use Rattle.item_store.specs.Deciding.{Attributes}
 use Rattle.saved_steps.specs.Frame.{Frame}
@@ -12,7 +12,9 @@ use Rattle.saved_steps.specs.Run.{begun, carried_out, take_step}
 use Rattle.saved_steps.specs.Steps.{Step, name_of, makes, closes, touches_key, writes_key}
 use Rattle.saved_steps.specs.World.{Setting, World, is_same_thread, is_same_step}
 use Rattle.saved_steps.specs.declared.fact.Fact.{Fact}
-use Rattle.depends.specs.Dependence.{depends_directly}
+use Rattle.saved_steps.specs.Bounds.{place_of}
+use Rattle.saved_steps.specs.Paths.{Path}
+use Rattle.depends.specs.Dependence.{awaited_by, depends_directly}
 
 -- two steps of one name
 abbrev pub is_one_step : Step → Step → Bool
@@ -48,12 +50,30 @@ at w (item_at key) = an_item (w.items key)
 abbrev pub reaches : Fact → Thread → Bool
 reaches s t = makes s t || closes s t
 
--- a step touches its own thread, what lies under the fork that it makes or closes, and the item of its key
+-- a branch's first move looks at the thread that forked it
+abbrev pub forked_by : Fact → Option Thread
+forked_by s = if s.name.no == 1 then option_map (λ b. record { exec = s.name.thread.exec; path = b.0 }) (place_of s.name.thread.path) else None
+
+abbrev pub is_thread : Option Thread → Thread → Bool
+is_thread None t = false
+is_thread (Some u) t = is_same_thread u t
+
+abbrev pub is_end : Option Path → Bool
+is_end None = false
+is_end (Some []) = true
+is_end (Some (b ∷ p)) = false
+
+-- and at the branches for which it waited
+abbrev pub looks : Fact → Thread → Bool
+looks s t = is_thread (forked_by s) t || is_end (awaited_by s t)
+
+-- a step touches its own thread, what lies under the fork that it makes or closes, what a first move looks at, and the item of
+-- its key
 abbrev pub touches : Deed → Cell → Bool
-touches d (frame_at t) = is_same_thread d.fact.name.thread t || reaches d.fact t
+touches d (frame_at t) = (is_same_thread d.fact.name.thread t || reaches d.fact t) || looks d.fact t
 touches d (item_at key) = touches_key d.fact key
 
--- of these it writes all but an item that it reads
+-- of these it writes all but what a first move looks at, and an item that it reads
 abbrev pub writes : Deed → Cell → Bool
 writes d (frame_at t) = is_same_thread d.fact.name.thread t || reaches d.fact t
 writes d (item_at key) = writes_key d.fact key

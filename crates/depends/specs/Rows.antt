@@ -86,7 +86,7 @@ data Look : Type 0 where
 
 abbrev phase_look : ℕ → Phase → Look
 phase_look count Ready = ready count
-phase_look count (Parked n) = parked count
+phase_look count (Parked n bound) = parked count
 phase_look count (Done output) = done
 phase_look count (Failed fault) = failed
 
@@ -151,7 +151,7 @@ abbrev key : List ℕ → Key
 key text = record { partition = text_part text; sort = None }
 
 abbrev call : List ℕ → ℕ → AccessMode → List ℕ → Fact
-call exec number mode k = record { name = record { thread = record { exec = exec; path = [] }; no = number }; kind = Call; access = Some record { key = key k; mode = mode } }
+call exec number mode k = record { name = record { thread = record { exec = exec; path = [] }; no = number }; kind = Call; access = Some record { key = key k; mode = mode }; bound = 0 }
 
 -- two reads of one key are independent, as are writes of two keys
 row_reads : depends_directly (call (codes "a") 1 Read (codes "k")) (call (codes "b") 1 Read (codes "k")) ≡ false
@@ -184,3 +184,25 @@ row_first_later = refl
 
 row_no_first : plans.first_dependent calls 4 ≡ None
 row_no_first = refl
+
+-- ---- a bound
+
+-- the first move of a branch of the fork e#1, with the bound 2
+abbrev first_move : ℕ → Fact
+first_move index = record { name = record { thread = thread ((1, index) ∷ []); no = 1 }; kind = Plain; access = None; bound = 2 }
+
+abbrev later_move : ℕ → List (ℕ × ℕ) → Fact
+later_move index under = record { name = record { thread = thread ((1, index) ∷ under); no = 2 }; kind = Plain; access = None; bound = 0 }
+
+-- that of branch 3 depends on the steps of branches 0 and 1, and of what lies under them, and on none of branch 2 or of another fork
+row_bound_before : map (λ i. depends_directly (later_move i []) (first_move 3)) (0 ∷ 1 ∷ 2 ∷ 4 ∷ []) ≡ true ∷ true ∷ false ∷ false ∷ []
+row_bound_before = refl
+
+row_bound_under : depends_directly (later_move 1 ((5, 7) ∷ [])) (first_move 3) ≡ true
+row_bound_under = refl
+
+row_bound_other : depends_directly (later_move 0 []) (record { name = record { thread = thread ((2, 3) ∷ []); no = 1 }; kind = Plain; access = None; bound = 2 }) ≡ false
+row_bound_other = refl
+
+row_no_bound : depends_directly (later_move 0 []) (later_move 3 []) ≡ false
+row_no_bound = refl

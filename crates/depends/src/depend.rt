@@ -1,8 +1,8 @@
 //! Dependence between steps (Danos and Krivine, "Reversible Communicating Systems", 2004: causality; items that steps share
 //! are added).
 
-ghost use Rattle.std.specs.Prelude.{◌≡◌, ◌<◌, length, map};
-ghost use Rattle.depends.specs.Dependence.{depends_directly, begins, conflicts};
+ghost use Rattle.std.specs.Prelude.{◌≡◌, ◌<◌, is_some, length, map};
+ghost use Rattle.depends.specs.Dependence.{depends_directly, awaited, awaits, begins, conflicts};
 ghost use Rattle.depends.specs.Plans as plans;
 ghost use Rattle.saved_steps.specs.Steps.{makes, closes, is_write};
 
@@ -20,6 +20,7 @@ pub fn depends(earlier: &Fact, later: &Fact) -> bool
         || makes(earlier, &later.name.thread)
         || closes(later, &earlier.name.thread)
         || conflict(&earlier.access, &later.access)
+        || awaits(later, &earlier.name.thread)
 }
 
 /// Whether a step is the start of a thread's execution.
@@ -53,6 +54,32 @@ fn closes(fact: &Fact, thread: &ThreadName) -> bool
         }
         _ => false,
     }
+}
+
+/// Whether a thread is a branch for which a first move waited, or lies under one.
+fn awaits(fact: &Fact, thread: &ThreadName) -> bool
+    ensures { result ≡ awaits fact.now thread.now }
+{
+    if fact.bound == 0 || fact.name.thread.exec() != thread.exec() {
+        return false;
+    }
+    is_awaited(fact.bound, fact.name.thread.path(), thread.path())
+}
+
+/// Whether a path goes on from one of the branches for which a branch waits under a bound.
+fn is_awaited(bound: u32, branch: &[(u32, u32)], path: &[(u32, u32)]) -> bool
+    ensures { result ≡ is_some (awaited bound branch.now path.now) }
+{
+    let [first, above @ ..] = branch else {
+        return false;
+    };
+    let [other, rest @ ..] = path else {
+        return false;
+    };
+    if above.is_empty() {
+        return other.0 == first.0 && other.1 as u64 + bound as u64 <= first.1 as u64;
+    }
+    first.0 == other.0 && first.1 == other.1 && is_awaited(bound, above, rest)
 }
 
 /// Whether two accesses are of one key, and not both reads.

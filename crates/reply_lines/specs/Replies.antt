@@ -62,7 +62,7 @@ fault_text fault = quoted fault.error ++ 32 ∷ quoted fault.cause
 
 abbrev pub phase_reply : Frame → Phase → List ℕ
 phase_reply f phases.Ready = codes "ok ready " ++ with_feed (place_text f)
-phase_reply f (phases.Parked branches) = codes "ok parked " ++ (place_text f ++ 32 ∷ with_feed (decimal branches))
+phase_reply f (phases.Parked branches bound) = codes "ok parked " ++ (place_text f ++ 32 ∷ with_feed (decimal branches))
 phase_reply f (phases.Done output) = codes "ok done " ++ with_feed (text_of (data_of output))
 phase_reply f (phases.Failed fault) = codes "ok failed " ++ with_feed (fault_text fault)
 

@@ -158,7 +158,7 @@ impl Reply {
                 self.place(alloc, frame)?;
                 self.word("\n")
             }
-            Phase::Parked(branches) => {
+            Phase::Parked(branches, _) => {
                 self.word("ok parked ")?;
                 self.place(alloc, frame)?;
                 self.word(" ")?;

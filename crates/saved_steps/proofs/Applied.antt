@@ -22,7 +22,7 @@ use Rattle.step_names.specs.Under.{is_under}
 use Rattle.step_names.specs.declared.step.StepName.{StepName}
 use Rattle.step_names.proofs.OrderLaws.{thread_itself}
 use Rattle.step_names.proofs.UnderLaws.{under_Decides}
-use Rattle.saved_steps.specs.Deeds.{Deed, deed_of, fork_deed}
+use Rattle.saved_steps.specs.Deeds.{Deed, deed_of, fork_deed, bounded}
 use Rattle.saved_steps.specs.Held.{placed, tree_in, rows_at, frames_of, paths_of, put_at, with_thread, seen}
 use Rattle.saved_steps.specs.Keeping.{Kept, kept, item_written, undo}
 use Rattle.saved_steps.specs.Made.{is_open, IsOpen, IsParkedSince, plain_fact, fact_made, Makes, IsMadeFor, Stands, KeepsStore}
@@ -78,20 +78,20 @@ cond_under false x y z h = refl
 with_here : (frames : Thread → Option Frame) (a : Thread) (f : Frame) → with_thread frames a f a ≡ Some f
 with_here frames a f = rw (thread_itself a) refl
 
-pub plain : (w v : World) (name : StepName) (f g : Frame) → v.items ≡ w.items → Stands w name (change.Plain f) → frames_of w name.thread ≡ Some g
+pub plain : (w v : World) (name : StepName) (bound : ℕ) (f g : Frame) → v.items ≡ w.items → Stands w name (change.Plain f) → frames_of w name.thread ≡ Some g
     → ((t : Thread) → frames_of v t ≡ with_thread (frames_of w) name.thread f t)
-    → IsApplied w (record { name = name; change = change.Plain f }) v (record { fact = plain_fact name kind.Plain; saved = Framed g })
-plain w v name f g items stands was now =
-    applied w v (record { name = name; change = change.Plain f }) (record { fact = plain_fact name kind.Plain; saved = Framed g }) refl
-    (λ d x. subst (λ (e : Deed). seen v ≡ carried_out (seen w) e) (deed_is d (plain_fact name kind.Plain) f x.fact x.change)
-    (same_world (seen v) (carried_out (seen w) (record { fact = plain_fact name kind.Plain; frame = f; branches = d.branches; item = d.item })) now (λ key. ap (λ (s : Store). items_of s key) items)))
+    → IsApplied w (record { name = name; bound = bound; change = change.Plain f }) v (record { fact = plain_fact name bound kind.Plain; saved = Framed g })
+plain w v name bound f g items stands was now =
+    applied w v (record { name = name; bound = bound; change = change.Plain f }) (record { fact = plain_fact name bound kind.Plain; saved = Framed g }) refl
+    (λ d x. subst (λ (e : Deed). seen v ≡ carried_out (seen w) e) (deed_is d (plain_fact name bound kind.Plain) f x.fact x.change)
+    (same_world (seen v) (carried_out (seen w) (record { fact = plain_fact name bound kind.Plain; frame = f; branches = d.branches; item = d.item })) now (λ key. ap (λ (s : Store). items_of s key) items)))
     (ap (λ (o : Option Frame). keeps o None) (sym was))
     (record {
       record_fits = (refl, refl, subst (λ (o : Option Frame). IsSomeAnd o is_open) was stands.0);
       slot = tt;
       thread = subst (λ (o : Option Frame). IsSomeAnd o is_open) (sym (now name.thread ∙ with_here (frames_of w) name.thread f)) stands.1;
     })
-    (same_store w.items v.items items) (deed_of kind.Plain name f) (record { fact = refl; change = refl }) (λ t h. cc)
+    (same_store w.items v.items items) (bounded bound (deed_of kind.Plain name f)) (record { fact = refl; change = refl }) (λ t h. cc)
 
 -- ---- a call
 
@@ -99,14 +99,14 @@ item_is : (w k : Bool) (item x now : Option Attributes) → (w ≡ true → x �
 item_is true k item x now h = rw (h refl) refl
 item_is false k item x now h = refl
 
-pub call : (w v : World) (name : StepName) (f g : Frame) (a : Access) (slot : SlotNo) (new old : Option Attributes) → Stands w name (change.Call f a slot new) → frames_of w name.thread ≡ Some g
+pub call : (w v : World) (name : StepName) (bound : ℕ) (f g : Frame) (a : Access) (slot : SlotNo) (new old : Option Attributes) → Stands w name (change.Call f a slot new) → frames_of w name.thread ≡ Some g
     → ((t : Thread) → frames_of v t ≡ with_thread (frames_of w) name.thread f t)
     → old ≡ item_written (items_of w.items) (Some a) → ((key : Key) → items_of v.items key ≡ cond (is_write_of (Some a) key) new (items_of w.items key)) → KeepsStore w.items v.items
-    → IsApplied w (record { name = name; change = change.Call f a slot new }) v (record { fact = record { name = name; kind = kind.Call; access = Some a }; saved = Called g slot old })
-call w v name f g a slot new old stands was now was_item items store =
-    let s : Fact = record { name = name; kind = kind.Call; access = Some a } in
+    → IsApplied w (record { name = name; bound = bound; change = change.Call f a slot new }) v (record { fact = record { name = name; kind = kind.Call; access = Some a; bound = bound }; saved = Called g slot old })
+call w v name bound f g a slot new old stands was now was_item items store =
+    let s : Fact = record { name = name; kind = kind.Call; access = Some a; bound = bound } in
     let d0 : Deed = record { fact = s; frame = f; branches = []; item = new } in
-    applied w v (record { name = name; change = change.Call f a slot new }) (record { fact = s; saved = Called g slot old }) refl
+    applied w v (record { name = name; bound = bound; change = change.Call f a slot new }) (record { fact = s; saved = Called g slot old }) refl
     (λ d x. subst (λ (e : Deed). seen v ≡ carried_out (seen w) e) (deed_is d s f x.fact x.change.0)
     (same_world (seen v) (carried_out (seen w) (record { fact = s; frame = f; branches = d.branches; item = d.item })) now
     (λ key. items key ∙ item_is (is_write a.mode) (is_same_key a.key key) d.item new (items_of w.items key) x.change.1)))
@@ -129,11 +129,11 @@ begun_frames true rows o f path q e h k = rw (e, k refl) (h q ∙ by q)
     by [] = refl
     by (b ∷ p) = refl
 
-pub begin : (w v : World) (name : StepName) (f : Frame) (rows : Rows) → v.items ≡ w.items → Stands w name (change.Begin f)
+pub begin : (w v : World) (name : StepName) (bound : ℕ) (f : Frame) (rows : Rows) → v.items ≡ w.items → Stands w name (change.Begin f)
     → ((e : List ℕ) → tree_in v.executions e ≡ cond (bytes_eq name.thread.exec e) (Some rows) (tree_in w.executions e))
     → ((q : Path) → frame_at rows q ≡ alone f q)
-    → IsApplied w (record { name = name; change = change.Begin f }) v (record { fact = plain_fact name kind.Start; saved = Started })
-begin w v name f rows items stands trees tree =
+    → IsApplied w (record { name = name; bound = bound; change = change.Begin f }) v (record { fact = plain_fact name bound kind.Start; saved = Started })
+begin w v name bound f rows items stands trees tree =
     let a = name.thread in
     let none : tree_in w.executions a.exec ≡ None = ap placed stands.0 in
     let now : (t : Thread) → frames_of v t ≡ with_thread (frames_of w) a f t =
@@ -141,16 +141,16 @@ begin w v name f rows items stands trees tree =
     ∙ begun_frames (bytes_eq a.exec t.exec) (Some rows) (tree_in w.executions t.exec) f a.path t.path stands.1 tree
     (λ e. ap (λ (x : List ℕ). tree_in w.executions x) (sym ((bytes_eq-Decides a.exec t.exec).0 e)) ∙ none)
     ∙ ap (λ (s : Bool). cond s (Some f) (frames_of w t)) (sym (same_by_parts a t)) in
-    applied w v (record { name = name; change = change.Begin f }) (record { fact = plain_fact name kind.Start; saved = Started }) refl
-    (λ d x. subst (λ (e : Deed). seen v ≡ carried_out (seen w) e) (deed_is d (plain_fact name kind.Start) f x.fact x.change)
-    (same_world (seen v) (carried_out (seen w) (record { fact = plain_fact name kind.Start; frame = f; branches = d.branches; item = d.item })) now (λ key. ap (λ (s : Store). items_of s key) items)))
+    applied w v (record { name = name; bound = bound; change = change.Begin f }) (record { fact = plain_fact name bound kind.Start; saved = Started }) refl
+    (λ d x. subst (λ (e : Deed). seen v ≡ carried_out (seen w) e) (deed_is d (plain_fact name bound kind.Start) f x.fact x.change)
+    (same_world (seen v) (carried_out (seen w) (record { fact = plain_fact name bound kind.Start; frame = f; branches = d.branches; item = d.item })) now (λ key. ap (λ (s : Store). items_of s key) items)))
     (ap (λ (o : Option Frame). keeps o None) (sym (ap (λ (o : Option Rows). rows_at o a.path) none)))
     (record {
       record_fits = (refl, refl, stands.1);
       slot = tt;
       thread = subst (λ (o : Option Frame). IsSomeAnd o is_open) (sym (now a ∙ with_here (frames_of w) a f)) stands.2;
     })
-    (same_store w.items v.items items) (deed_of kind.Start name f) (record { fact = refl; change = refl }) (λ t h. cc)
+    (same_store w.items v.items items) (bounded bound (deed_of kind.Start name f)) (record { fact = refl; change = refl }) (λ t h. cc)
 
 -- ---- what is put at a thread and under it
 
@@ -192,16 +192,16 @@ first_under a t n h = (and_parts (bytes_eq a.exec t.exec) (first_is n (rest_afte
 
 -- ---- a fork
 
-module _ (w v : World) (m : Made) (r : StepRecord) (name : StepName) (f g : Frame) (kids : List Rows) (branches : List Frame) (items : v.items ≡ w.items) where
+module _ (w v : World) (m : Made) (r : StepRecord) (name : StepName) (bound : ℕ) (f g : Frame) (kids : List Rows) (branches : List Frame) (items : v.items ≡ w.items) where
   pub fork : IsOpen (frames_of w) name.thread → IsNode f kids → is_parked f.phase ≡ true → f.count ≡ name.no → kids ≡ map leaf branches
       → frames_of w name.thread ≡ Some g → IsTree (paths_of (frames_of w) name.thread.exec)
       → ((t : Thread) → frames_of v t ≡ put_at (frames_of w) name.thread (node_at f kids) t)
-      → fact_made m ≡ plain_fact name kind.Fork → ((d : Deed) → IsMadeFor m d → (f ≡ d.frame) × (kids ≡ map leaf d.branches)) → Makes m.change (fork_deed name f branches)
-      → r ≡ record { fact = plain_fact name kind.Fork; saved = Forked g }
+      → fact_made m ≡ plain_fact name bound kind.Fork → ((d : Deed) → IsMadeFor m d → (f ≡ d.frame) × (kids ≡ map leaf d.branches)) → Makes m.change (bounded bound (fork_deed name f branches))
+      → r ≡ record { fact = plain_fact name bound kind.Fork; saved = Forked g }
       → IsApplied w m v r
   fork free node parked count leaves was tree now is_fact is_made makes_it is_record =
       let a = name.thread in
-      let s : Fact = plain_fact name kind.Fork in
+      let s : Fact = plain_fact name bound kind.Fork in
       let free_g : is_open g = subst (λ (o : Option Frame). IsSomeAnd o is_open) was free in
       let nothing : (b : ℕ × ℕ) (q : Path) → paths_of (frames_of w) a.exec (a.path ++ b ∷ q) ≡ None = nothing_at_open (paths_of (frames_of w) a.exec) tree a.path g was free_g in
       let all : (t : Thread) → frames_of v t ≡ cond (is_same_thread a t) (Some f) (cond (is_under t a name.no) (option_and_then (node_at f kids) (rest_after a.path t.path)) (frames_of w t)) =
@@ -219,7 +219,7 @@ module _ (w v : World) (m : Made) (r : StepRecord) (name : StepName) (f g : Fram
         slot = tt;
         thread = subst (λ (o : Option Frame). IsSomeAnd o (λ x. (is_parked x.phase ≡ true) × (x.count ≡ name.no))) (sym (now a ∙ put_here (frames_of w) a (node_at f kids))) (parked, count);
       }))
-      (same_store w.items v.items items) (fork_deed name f branches) (record { fact = is_fact; change = makes_it })
+      (same_store w.items v.items items) (bounded bound (fork_deed name f branches)) (record { fact = is_fact; change = makes_it })
       (λ t h. let k = below_at (frames_of w) a t name.no h in k.3 ∙ nothing k.0 k.1)
 
 -- ---- a join, and a terminate
@@ -229,16 +229,16 @@ alone_below f n None h = refl
 alone_below f n (Some []) h = cc
 alone_below f n (Some (b ∷ q)) h = refl
 
-module _ (w v : World) (m : Made) (r : StepRecord) (name : StepName) (k : Kind) (f g : Frame) (kids : Vec Rows Global) (items : v.items ≡ w.items) where
+module _ (w v : World) (m : Made) (r : StepRecord) (name : StepName) (bound : ℕ) (k : Kind) (f g : Frame) (kids : Vec Rows Global) (items : v.items ≡ w.items) where
   pub close : is_fork k ≡ false → is_close k ≡ true → IsParkedSince (frames_of w) name.thread (name.no - 1) → is_open f
       → ((q : Path) → paths_of (frames_of w) name.thread.exec (name.thread.path ++ q) ≡ node_at g kids.items q) → IsNode g kids.items → IsTree (paths_of (frames_of w) name.thread.exec)
       → ((t : Thread) → frames_of v t ≡ put_at (frames_of w) name.thread (alone f) t)
-      → fact_made m ≡ plain_fact name k → ((d : Deed) → IsMadeFor m d → f ≡ d.frame) → Makes m.change (deed_of k name f)
-      → r ≡ record { fact = plain_fact name k; saved = Closed g kids }
+      → fact_made m ≡ plain_fact name bound k → ((d : Deed) → IsMadeFor m d → f ≡ d.frame) → Makes m.change (bounded bound (deed_of k name f))
+      → r ≡ record { fact = plain_fact name bound k; saved = Closed g kids }
       → IsApplied w m v r
   close unforked closing since free was node tree now is_fact is_made makes_it is_record =
       let a = name.thread in
-      let s : Fact = plain_fact name k in
+      let s : Fact = plain_fact name bound k in
       let n : ℕ = name.no - 1 in
       let was_g : frames_of w a ≡ Some g = ap (paths_of (frames_of w) a.exec) (sym (append-nil a.path)) ∙ was [] in
       let g_is : (is_parked g.phase ≡ true) × (g.count ≡ n) = subst (λ (o : Option Frame). IsSomeAnd o (λ x. (is_parked x.phase ≡ true) × (x.count ≡ n))) was_g since in
@@ -259,5 +259,5 @@ module _ (w v : World) (m : Made) (r : StepRecord) (name : StepName) (k : Kind) 
       (λ key. ap (λ (x : Store). items_of x key) items)))
       (subst (λ (x : StepRecord). kept_by x ≡ kept (seen w) x.fact) (sym is_record) kept_is)
       (subst (λ (x : StepRecord). CanUndo v x) (sym is_record) (record { record_fits = (closing, refl, node, g_is.0, g_is.1); slot = tt; thread = thread }))
-      (same_store w.items v.items items) (deed_of k name f) (record { fact = is_fact; change = makes_it })
+      (same_store w.items v.items items) (bounded bound (deed_of k name f)) (record { fact = is_fact; change = makes_it })
       (λ t h. let e : (is_fork k && is_under t a name.no) ≡ true = h in let yes = (and_parts (is_fork k) (is_under t a name.no) e).0 in cc)

@@ -20,7 +20,8 @@ use Rattle.branch_tree.specs.First.{IsFirst, is_free, thread_under, path_cmp, ha
 use Rattle.branch_tree.specs.FlatMap.{FrameMap, IsTree, branch_count}
 use Rattle.branch_tree.specs.Laws.{BelowIsParked}
 use Rattle.branch_tree.specs.Paths.{Path}
-use Rattle.branch_tree.specs.Ready.{readiness_of, readiness_at}
+use Rattle.branch_tree.specs.Bounds.{place_of}
+use Rattle.branch_tree.specs.Ready.{readiness_of, readiness_at, begins_under}
 use Rattle.branch_tree.specs.Tree.{Rows, frame_at}
 use Rattle.step_names.specs.Order.{thread_cmp}
 use Rattle.step_names.specs.Thread.{Thread, IsThread, execution, is_name}
@@ -34,12 +35,12 @@ by_bool false P = λ yes no. no refl
 -- ---- executions that have ended
 
 -- where nothing stands under a root that has no move, no thread is free
-pub none_free : (frames : FrameMap) (f : Frame) (base : Thread) (passed : Thread → Bool) → BelowIsParked → IsTree frames → frames [] ≡ Some f → has_move (readiness_of frames (Some f)) ≡ false
-    → branch_count f.phase ≡ 0 → IsFirst frames base passed None
+pub none_free : (frames : FrameMap) (f : Frame) (base : Thread) (passed : Thread → Bool) → BelowIsParked → IsTree frames → frames [] ≡ Some f → has_move (readiness_of true frames (Some f)) ≡ false
+    → branch_count f.phase ≡ 0 → IsFirst true frames base passed None
 none_free frames f base passed parked tree root still alone [] named = rw (root, still) refl
 none_free frames f base passed parked tree root still alone (b ∷ p) named = by (frames ((b ∷ p) ++ [])) refl
   where
-    by : (o : Option Frame) → frames ((b ∷ p) ++ []) ≡ o → (has_move (readiness_of (λ q. frames ((b ∷ p) ++ q)) o) && not (passed (thread_under base (b ∷ p)))) ≡ false
+    by : (o : Option Frame) → frames ((b ∷ p) ++ []) ≡ o → (has_move (readiness_of (begins_under true frames (place_of (b ∷ p))) (λ q. frames ((b ∷ p) ++ q)) o) && not (passed (thread_under base (b ∷ p)))) ≡ false
     by None e = refl
     by (Some g) e =
         let k = parked frames [] (p ++ []) b g tree e in
@@ -49,20 +50,20 @@ none_free frames f base passed parked tree root still alone (b ∷ p) named = by
         absurd (omega (arith, many, ap (λ (x : Frame). branch_count x.phase) it ∙ alone))
 
 pub ended_free : (frames : FrameMap) (f : Frame) (base : Thread) (passed : Thread → Bool) → BelowIsParked → IsTree frames → frames [] ≡ Some f
-    → ((output : Json) × (f.phase ≡ Done output)) ⊎ ((fault : Fault) × (f.phase ≡ Failed fault)) → IsFirst frames base passed None
+    → ((output : Json) × (f.phase ≡ Done output)) ⊎ ((fault : Fault) × (f.phase ≡ Failed fault)) → IsFirst true frames base passed None
 ended_free frames f base passed parked tree root (inl d) = let e = d.1 in none_free frames f base passed parked tree root (rw e refl) (ap branch_count e)
 ended_free frames f base passed parked tree root (inr d) = let e = d.1 in none_free frames f base passed parked tree root (rw e refl) (ap branch_count e)
 
-pub nameless : (frames : FrameMap) (exec : List ℕ) (passed : Thread → Bool) → (IsTrue (is_name exec) → ⊥) → IsFirst frames (execution exec) passed None
+pub nameless : (frames : FrameMap) (exec : List ℕ) (passed : Thread → Bool) → (IsTrue (is_name exec) → ⊥) → IsFirst true frames (execution exec) passed None
 nameless frames exec passed none p named = absurd (none named.named)
 
-pub treeless : (base : Thread) (passed : Thread → Bool) → IsFirst (rows_at None) base passed None
+pub treeless : (base : Thread) (passed : Thread → Bool) → IsFirst true (rows_at None) base passed None
 treeless base passed p named = refl
 
 pub in_place : {E : Type 0} (r : Result (Option Thread) E) (place : Option Rows) (rows : Rows) (name base : Thread) (passed : Thread → Bool) → place ≡ Some rows → name ≡ base
-    → IfOk r (IsFirst (frame_at rows) name passed) → IfOk r (IsFirst (rows_at place) base passed)
+    → IfOk r (IsFirst true (frame_at rows) name passed) → IfOk r (IsFirst true (rows_at place) base passed)
 in_place r place rows name base passed there same h =
-    subst (λ (o : Option Rows). IfOk r (IsFirst (rows_at o) base passed)) (sym there) (subst (λ (t : Thread). IfOk r (IsFirst (frame_at rows) t passed)) same h)
+    subst (λ (o : Option Rows). IfOk r (IsFirst true (rows_at o) base passed)) (sym there) (subst (λ (t : Thread). IfOk r (IsFirst true (frame_at rows) t passed)) same h)
 
 -- ---- one execution after another
 
@@ -117,7 +118,7 @@ module _ (m : BTreeMap (String Global) (Option Rows)) (passed : Thread → Bool)
     tree_here : (exec : List ℕ) → is_eq (slice_cmp nat_cmp exec (string_bytes k)) ≡ true → tree_in m exec ≡ v
     tree_here exec h = ap placed (i.held exec v (rw h refl))
 
-    free_here : (t : Thread) → is_eq (slice_cmp nat_cmp t.exec (string_bytes k)) ≡ true → free (frames_in m) passed t ≡ is_free (rows_at v) (execution (string_bytes k)) passed t.path
+    free_here : (t : Thread) → is_eq (slice_cmp nat_cmp t.exec (string_bytes k)) ≡ true → free (frames_in m) passed t ≡ is_free true (rows_at v) (execution (string_bytes k)) passed t.path
     free_here t h =
         let same = same_exec t.exec (string_bytes k) h in
         let tree = tree_here t.exec h in
@@ -127,7 +128,7 @@ module _ (m : BTreeMap (String Global) (Option Rows)) (passed : Thread → Bool)
     named_here : (t : Thread) → is_eq (slice_cmp nat_cmp t.exec (string_bytes k)) ≡ true → IsThread t → IsThread (thread_under (execution (string_bytes k)) t.path)
     named_here t h named = subst (λ (exec : List ℕ). IsThread (record { exec = exec; path = t.path })) (same_exec t.exec (string_bytes k) h) named
 
-    pub goes_by : IsFirst (rows_at v) (execution (string_bytes k)) passed None → IsGone rest
+    pub goes_by : IsFirst true (rows_at v) (execution (string_bytes k)) passed None → IsGone rest
     goes_by none = record {
       ordered = after_it.1;
       held = λ exec place h.
@@ -140,8 +141,8 @@ module _ (m : BTreeMap (String Global) (Option Rows)) (passed : Thread → Bool)
           (λ e. i.gone t named (rw e h));
     }
 
-    pub is_found : (t : Thread) → IsThread t → IsFirst (rows_at v) (execution (string_bytes k)) passed (Some t) → IsFirstReady (frames_in m) passed (Some t)
-    is_found t named found = (named, free_here t at_it ∙ ap (is_free (rows_at v) (execution (string_bytes k)) passed) path ∙ found.2, before)
+    pub is_found : (t : Thread) → IsThread t → IsFirst true (rows_at v) (execution (string_bytes k)) passed (Some t) → IsFirstReady (frames_in m) passed (Some t)
+    is_found t named found = (named, free_here t at_it ∙ ap (is_free true (rows_at v) (execution (string_bytes k)) passed) path ∙ found.2, before)
       where
         exec : t.exec ≡ string_bytes k
         exec = ap (λ (x : Thread). x.exec) found.1

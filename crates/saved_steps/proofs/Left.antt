@@ -35,6 +35,7 @@ use Rattle.saved_steps.specs.declared.fact.Kind.TheVariants as kind
 use Rattle.saved_steps.specs.declared.record.Saved.{Saved}
 use Rattle.saved_steps.specs.declared.record.Saved.TheVariants.{Started, Framed, Called, Forked, Closed}
 use Rattle.saved_steps.specs.declared.world.World as held
+use Rattle.saved_steps.proofs.Begun.{turn_told}
 use Rattle.saved_steps.proofs.Turned.{Yields, turn_yields, answer_open, join_open, branch_open}
 
 -- ---- where a deed leaves its thread
@@ -56,7 +57,7 @@ called_left name g items (Some x) h = h
 
 turn_left : (s : Setting) (w : World) (t : Thread) (at : Standing) (f : Frame) (o : Outcome) (d : Deed) → Yields f o → deed_of_turn s w (next_step t f) at f o ≡ Some d → LeftBy d
 turn_left s w t at f (outcome.Next g) d y h = subst LeftBy (same_Some _ d h) y
-turn_left s w t at f (outcome.Fork g branches) d y h = subst LeftBy (same_Some _ d h) (ap is_parked y.0, y.1)
+turn_left s w t at f (outcome.Fork g branches) d y h = subst LeftBy (same_Some _ d h) (ap is_parked y.1, y.2)
 turn_left s w t at f (outcome.Call c) d y h =
     let o = table.in_form s.table s.schema w.items c in
     mapped (work_of at.1) (λ work. called (next_step t f) (after_answer at.0 work f o.answer) o.items o.access) d h
@@ -70,8 +71,10 @@ close_left name at f (Some fault) ds d h = subst LeftBy (same_Some _ d h) (branc
 close_left name at f None ds d h = each ds (join_deed name at f) d h (λ xs e k. join_left name at f xs d k)
 
 in_left : (s : Setting) (w : World) (t : Thread) (at : Standing) (f : Frame) (p : Phase) (d : Deed) → deed_in s w t at f p ≡ Some d → LeftBy d
-in_left s w t at f phase.Ready d h = turn_left s w t at f (turn at f) d (turn_yields at.0 at.1 f) h
-in_left s w t at f (phase.Parked n) d h = close_left (next_step t f) at f (first_fault (kids w t f n)) (outputs (kids w t f n)) d h
+in_left s w t at f phase.Ready d h =
+    let k = turn_told w.frames t f (deed_of_turn s w (next_step t f) at f (turn at f)) d h in
+    subst LeftBy k.told (turn_left s w t at f (turn at f) k.deed (turn_yields at.0 at.1 f) k.is)
+in_left s w t at f (phase.Parked n bound) d h = close_left (next_step t f) at f (first_fault (kids w t f n)) (outputs (kids w t f n)) d h
 in_left s w t at f (phase.Done output) d h = cc
 in_left s w t at f (phase.Failed fault) d h = cc
 

@@ -7,7 +7,9 @@ pub mod TakenBack
 pub mod Turned
 pub mod Answered
 pub mod Ready
+pub mod Begun
 pub mod Moves
 pub mod Left
 pub mod Earliest
 pub use Rattle.branch_tree.proofs.Turns
+pub use Rattle.branch_tree.proofs.Window

@@ -1,5 +1,5 @@
 -- The laws of steps taken back, and of what a step's next does.
-use Rattle.std.proofs.Common.{◌≡◌, ℕ, ◌+◌, Bool, true, false, ◌&&◌, ◌||◌, cond, refl, sym, ap, ◌∙◌, Option, Some, None}
+use Rattle.std.proofs.Common.{◌≡◌, ℕ, ◌+◌, ◌==◌, Bool, true, false, ◌&&◌, ◌||◌, cond, refl, sym, ap, ◌∙◌, Option, Some, None}
 use Rattle.std.specs.Option.{option_map, option_and_then}
 use Rattle.std.proofs.lemmas.Bool.{eq-eqb}
 use Rattle.std.proofs.lemmas.Option.{same_Some}
@@ -21,7 +21,7 @@ use Rattle.asl_forward.specs.declared.prepared.Prepared.{Prepared}
 use Rattle.step_names.specs.Thread.{Thread}
 use Rattle.step_names.specs.declared.step.StepName.{StepName}
 use Rattle.step_names.proofs.OrderLaws.{thread_same}
-use Rattle.saved_steps.specs.Deeds.{Deed, deed, deed_of_turn, if_numbered, called, stands, next_step}
+use Rattle.saved_steps.specs.Deeds.{Deed, deed, deed_of_turn, turn_deed, first_bound, bounded, if_numbered, called, stands, next_step}
 use Rattle.saved_steps.specs.Held.{frames_of, seen}
 use Rattle.saved_steps.specs.Keeping.{kept, undo, item_written}
 use Rattle.saved_steps.specs.Laws.{changes, with_places, UndoneAtOnce, UndoneLater, TakenAgain, IsOver, StartIsDeed, WorkIsDeed, JoinIsDeed, TerminateIsDeed}
@@ -31,6 +31,7 @@ use Rattle.saved_steps.specs.Steps.{makes, closes, moved, is_write, is_write_of}
 use Rattle.saved_steps.specs.World.{Setting, is_same_thread}
 use Rattle.saved_steps.specs.declared.fact.Access.{Access}
 use Rattle.saved_steps.specs.declared.world.World as held
+use Rattle.saved_steps.proofs.Begun.{turn_goes}
 use Rattle.saved_steps.proofs.Undone.{same_world, undone}
 
 -- ---- taken back, and taken again
@@ -112,20 +113,31 @@ there (Some at) f o h = (at, refl, same_Some (turn at f) o h)
 named : (name : StepName) (f : Frame) → name.no ≡ f.count + 1 → next_step name.thread f ≡ name
 named name f e = ap (λ (n : ℕ). let x : StepName = record { thread = name.thread; no = n } in x) (sym e)
 
+-- the turn of a thread that may begin, told with a bound and by its number
+bounded_as : (n number : ℕ) (o p : Option Deed) → option_and_then (if_numbered number) o ≡ p → option_and_then (if_numbered number) (option_map (bounded n) o) ≡ option_map (bounded n) p
+bounded_as n number None p h = ap (option_map (bounded n)) h
+bounded_as n number (Some d) p h = by (d.fact.name.no == number) ∙ ap (option_map (bounded n)) h
+  where
+    by : (b : Bool) → cond b (Some (bounded n d)) None ≡ option_map (bounded n) (cond b (Some d) None)
+    by true = refl
+    by false = refl
+
 ready_deed : (s : Setting) (w : held.World) (name : StepName) (f : Frame) (at : Standing) → frames_of w name.thread ≡ Some f → stands s f ≡ Some at → f.phase ≡ Ready → name.no ≡ f.count + 1
-    → deed s (seen w) (moved name) ≡ option_and_then (if_numbered name.no) (deed_of_turn s (seen w) name at f (turn at f))
+    → deed s (seen w) (moved name) ≡ option_and_then (if_numbered name.no) (turn_deed (frames_of w) name.thread f (deed_of_turn s (seen w) name at f (turn at f)))
 ready_deed s w name f at frame stand phase number = rw (frame, stand, phase, named name f number) refl
 
 pub work_is_deed : WorkIsDeed
-work_is_deed s w name p over frame known number =
+work_is_deed s w name p over frame known number begins =
     let at = there (standing p.machine p.frame) p.frame p.outcome p.turns in
     let stands_there : stands s p.frame ≡ Some at.0 = ap (option_and_then (λ d. standing d p.frame)) known ∙ at.1 in
+    let n = first_bound (frames_of w) name.thread p.frame in
     ready_deed s w name p.frame at.0 frame stands_there p.ready number
-    ∙ ap (λ (o : Outcome). option_and_then (if_numbered name.no) (deed_of_turn s (seen w) name at.0 p.frame o)) at.2
-    ∙ turned_as s w name p at.0 p.outcome over at.1
+    ∙ ap (option_and_then (if_numbered name.no)) (turn_goes (frames_of w) name.thread p.frame (deed_of_turn s (seen w) name at.0 p.frame (turn at.0 p.frame)) begins)
+    ∙ ap (λ (o : Outcome). option_and_then (if_numbered name.no) (option_map (bounded n) (deed_of_turn s (seen w) name at.0 p.frame o))) at.2
+    ∙ bounded_as n name.no (deed_of_turn s (seen w) name at.0 p.frame p.outcome) (deed_of_work w.items name p p.outcome) (turned_as s w name p at.0 p.outcome over at.1)
 
 pub join_is_deed : JoinIsDeed
-join_is_deed s w name f n at work ds frame phase stand works fault done number = rw (frame, stand, phase, named name f number, fault, done, works) (numbered name.no _ refl)
+join_is_deed s w name f n bound at work ds frame phase stand works fault done number = rw (frame, stand, phase, named name f number, fault, done, works) (numbered name.no _ refl)
 
 pub terminate_is_deed : TerminateIsDeed
-terminate_is_deed s w name f n at fault frame phase stand failed number = rw (frame, stand, phase, named name f number, failed) (numbered name.no _ refl)
+terminate_is_deed s w name f n bound at fault frame phase stand failed number = rw (frame, stand, phase, named name f number, failed) (numbered name.no _ refl)

@@ -38,7 +38,7 @@ use Rattle.saved_steps.specs.Made.{is_open}
 
 abbrev pub Yields : Frame → Outcome → Type 0
 Yields f (outcome.Next g) = is_open g
-Yields f (outcome.Fork g branches) = (g.phase ≡ Parked (length branches)) × (g.count ≡ f.count + 1) × All is_open branches
+Yields f (outcome.Fork g branches) = (bound : ℕ) × (g.phase ≡ Parked (length branches) bound) × (g.count ≡ f.count + 1) × All is_open branches
 Yields f (outcome.Call c) = Unit {0}
 
 -- ---- frames that aren't parked
@@ -129,9 +129,9 @@ counted_open s f input (Err error) = tt
 
 -- ---- turns
 
-forks_yield : (level : Definition) (errors : ErrorHandling) (f : Frame) (fs : Result (List Frame) (List ℕ)) → AllOpen fs → Yields f (forks level errors f fs)
-forks_yield level errors f (Ok fs) h = (refl, refl, h)
-forks_yield level errors f (Err error) h = handled_open level errors f (own_fault error)
+forks_yield : (level : Definition) (errors : ErrorHandling) (f : Frame) (bound : ℕ) (fs : Result (List Frame) (List ℕ)) → AllOpen fs → Yields f (forks level errors f bound fs)
+forks_yield level errors f bound (Ok fs) h = (bound, refl, refl, h)
+forks_yield level errors f bound (Err error) h = handled_open level errors f (own_fault error)
 
 fork_open : (begin : Frame → Data → Result (List Frame) (List ℕ)) (f : Frame) (worked : Result Data (List ℕ)) → ((input : Data) → AllOpen (begin f input)) → AllOpen (fork_of begin f worked)
 fork_open begin f (Ok input) h = h input
@@ -153,9 +153,9 @@ turn_yields level (state.Wait s) f = next_open level (state.Wait s) f
 turn_yields level (state.Succeed s) f = next_open level (state.Succeed s) f
 turn_yields level (state.Fail s) f = next_open level (state.Fail s) f
 turn_yields level (state.Parallel s) f =
-    forks_yield level s.errors f _ (fork_open (parallel_frames s) f (effective s.processing (data_of f.raw)) (λ input. from_open f 0 s.branches input))
+    forks_yield level s.errors f 0 _ (fork_open (parallel_frames s) f (effective s.processing (data_of f.raw)) (λ input. from_open f 0 s.branches input))
 turn_yields level (state.Map s) f =
-    forks_yield level s.errors f _ (fork_open (map_frames s) f (effective s.processing (data_of f.raw)) (λ input. counted_open s f input (elements s.items_path input)))
+    forks_yield level s.errors f s.max_concurrency _ (fork_open (map_frames s) f (effective s.processing (data_of f.raw)) (λ input. counted_open s f input (elements s.items_path input)))
 
 -- what a turn that was prepared comes to
 pub yields : (d : Definition) (f : Frame) (o : Outcome) → turn_at d f ≡ Some o → Yields f o

@@ -116,7 +116,7 @@ and_never i false = refl
 
 none_below : (i : ℕ) (phase : Phase) → is_parked phase ≡ false → (s : Bool) → (s && nat_lt i (branch_count phase)) ≡ false
 none_below i Ready h s = and_never i s
-none_below i (Parked m) h s = cc
+none_below i (Parked m bound) h s = cc
 none_below i (Done output) h s = and_never i s
 none_below i (Failed fault) h s = and_never i s
 

@@ -1,5 +1,5 @@
 -- What a step does, in the world in which it is taken (Amazon States Language: "States", "Parallel State", "Map State", "Errors").
-use Rattle.std.specs.Prelude.{ℕ, ◌+◌, ◌==◌, List, [], ◌∷◌, map, if◌then◌else◌, Option, Some, None, is_some, option_map, option_and_then}
+use Rattle.std.specs.Prelude.{ℕ, ◌+◌, ◌==◌, Bool, true, ◌&&◌, not, List, [], ◌∷◌, map, if◌then◌else◌, Option, Some, None, is_some, option_map, option_and_then}
 use Rattle.std.specs.List.{range_with_len}
 use Rattle.json_tree.specs.Data.{Data}
 use Rattle.json_tree.specs.View.{data_of}
@@ -16,11 +16,14 @@ use Rattle.branch_tree.specs.Fault.{Fault}
 use Rattle.branch_tree.specs.Frame.{Frame}
 use Rattle.branch_tree.specs.Phase.{Phase}
 use Rattle.branch_tree.specs.Phase.TheVariants.{Ready, Parked, Done, Failed}
+use Rattle.branch_tree.specs.Bounds.{place_of}
+use Rattle.branch_tree.specs.Ready.{begins_under, bound_over}
 use Rattle.asl_forward.specs.declared.prepared.Outcome.{Outcome}
 use Rattle.asl_forward.specs.declared.prepared.Outcome.TheVariants as outcome
 use Rattle.step_names.specs.Thread.{Thread, execution, child_of}
 use Rattle.step_names.specs.declared.step.StepName.{StepName}
 use Rattle.saved_steps.specs.Steps.{Step, started, moved, start_name}
+use Rattle.saved_steps.specs.Held.{paths_of}
 use Rattle.saved_steps.specs.World.{Setting, World}
 use Rattle.saved_steps.specs.declared.fact.Fact.{Fact}
 use Rattle.saved_steps.specs.declared.fact.Kind.{Kind}
@@ -40,17 +43,17 @@ next_step t f = record { thread = t; no = f.count + 1 }
 
 -- a step that gives its thread this frame, and does nothing else
 abbrev pub deed_of : Kind → StepName → Frame → Deed
-deed_of kind name g = record { fact = record { name = name; kind = kind; access = None }; frame = g; branches = []; item = None }
+deed_of kind name g = record { fact = record { name = name; kind = kind; access = None; bound = 0 }; frame = g; branches = []; item = None }
 
 abbrev pub fork_deed : StepName → Frame → List Frame → Deed
-fork_deed name g branches = record { fact = record { name = name; kind = Fork; access = None }; frame = g; branches = branches; item = None }
+fork_deed name g branches = record { fact = record { name = name; kind = Fork; access = None; bound = 0 }; frame = g; branches = branches; item = None }
 
 -- ---- a call: without an access, where it is refused for its table's name or its key, it is a plain step
 
 abbrev pub called : StepName → Frame → table.Table → Option (Key × AccessMode) → Deed
 called name g items None = deed_of Plain name g
 called name g items (Some (key, mode)) =
-    record { fact = record { name = name; kind = Call; access = Some record { key = key; mode = mode } }; frame = g; branches = []; item = items key }
+    record { fact = record { name = name; kind = Call; access = Some record { key = key; mode = mode }; bound = 0 }; frame = g; branches = []; item = items key }
 
 abbrev pub call_deed : StepName → Definition → Work → Frame → table.Outcome → Deed
 call_deed name level work f o = called name (after_answer level work f o.answer) o.items o.access
@@ -70,13 +73,13 @@ kids w t f n = map (λ i. w.frames (child_of t f.count i)) (range_with_len 0 n)
 
 abbrev pub fault_of : Phase → Option Fault
 fault_of Ready = None
-fault_of (Parked n) = None
+fault_of (Parked n bound) = None
 fault_of (Done output) = None
 fault_of (Failed fault) = Some fault
 
 abbrev pub output_of : Phase → Option Data
 output_of Ready = None
-output_of (Parked n) = None
+output_of (Parked n bound) = None
 output_of (Done output) = Some (data_of output)
 output_of (Failed fault) = None
 
@@ -105,11 +108,28 @@ close_deed name at f None ds = option_and_then (join_deed name at f) ds
 abbrev pub deed_over : StepName → Standing → Frame → List (Option Frame) → Option Deed
 deed_over name at f fs = close_deed name at f (first_fault fs) (outputs fs)
 
+-- ---- a thread that has made no move
+
+-- it waits until the fork that it is a branch of lets it begin
+abbrev pub waits : (Thread → Option Frame) → Thread → Frame → Bool
+waits frames t f = f.count == 0 && not (begins_under true (paths_of frames t.exec) (place_of t.path))
+
+-- the bound of that fork
+abbrev pub first_bound : (Thread → Option Frame) → Thread → Frame → ℕ
+first_bound frames t f = if f.count == 0 then bound_over (paths_of frames t.exec) (place_of t.path) else 0
+
+-- a deed, told with a bound
+abbrev pub bounded : ℕ → Deed → Deed
+bounded n d = record { fact = record { name = d.fact.name; kind = d.fact.kind; access = d.fact.access; bound = n }; frame = d.frame; branches = d.branches; item = d.item }
+
+abbrev pub turn_deed : (Thread → Option Frame) → Thread → Frame → Option Deed → Option Deed
+turn_deed frames t f o = if waits frames t f then None else option_map (bounded (first_bound frames t f)) o
+
 -- ---- moves
 
 abbrev pub deed_in : Setting → World → Thread → Standing → Frame → Phase → Option Deed
-deed_in s w t at f Ready = deed_of_turn s w (next_step t f) at f (turn at f)
-deed_in s w t at f (Parked n) = deed_over (next_step t f) at f (kids w t f n)
+deed_in s w t at f Ready = turn_deed w.frames t f (deed_of_turn s w (next_step t f) at f (turn at f))
+deed_in s w t at f (Parked n bound) = deed_over (next_step t f) at f (kids w t f n)
 deed_in s w t at f (Done output) = None
 deed_in s w t at f (Failed fault) = None
 

@@ -1,5 +1,5 @@
 -- Laws of what steps do and of what takes them back.
-use Rattle.std.specs.Prelude.{◌≡◌, ℕ, ◌+◌, List, Bool, true, ◌||◌, if◌then◌else◌, Some, None}
+use Rattle.std.specs.Prelude.{◌≡◌, ℕ, ◌+◌, List, Bool, true, false, ◌||◌, if◌then◌else◌, Some, None}
 use Rattle.attr_values.specs.declared.key.Key.{Key}
 use Rattle.json_tree.specs.Data.{Data}
 use Rattle.json_tree.specs.declared.tree.Json.{Json}
@@ -12,7 +12,7 @@ use Rattle.branch_tree.specs.Phase.TheVariants.{Parked}
 use Rattle.asl_forward.specs.declared.prepared.Prepared.{Prepared}
 use Rattle.step_names.specs.Thread.{Thread, execution}
 use Rattle.step_names.specs.declared.step.StepName.{StepName}
-use Rattle.saved_steps.specs.Deeds.{Deed, deed, stands, kids, first_fault, outputs}
+use Rattle.saved_steps.specs.Deeds.{Deed, deed, stands, waits, kids, first_fault, outputs}
 use Rattle.saved_steps.specs.Held.{frames_of, seen}
 use Rattle.saved_steps.specs.Keeping.{kept, undo}
 use Rattle.branch_tree.specs.FlatMap.{is_parked}
@@ -69,25 +69,25 @@ pub record IsOver (s : Setting) (w : World) : Type 0 where
 
 abbrev pub StartIsDeed : Type 0
 StartIsDeed = (s : Setting) (w : World) (exec machine : List ℕ) (input : Json) (d : Definition) → frames_of w (execution exec) ≡ None → s.machines machine ≡ Some d
-    → deed s (seen w) (started exec machine input) ≡ deed_of_next w.items (start_name exec) (next.Begin (first_frame machine d input))
+    → deed s (seen w) (started exec machine input) ≡ deed_of_next w (start_name exec) (next.Begin (first_frame machine d input))
 
--- a turn that was prepared from the thread's frame in its machine
+-- a turn that was prepared from the frame, in its machine, of a thread that may begin
 abbrev pub WorkIsDeed : Type 0
 WorkIsDeed = (s : Setting) (w : World) (name : StepName) (p : Prepared) → IsOver s w → frames_of w name.thread ≡ Some p.frame → s.machines p.frame.level.machine ≡ Some p.machine
-    → name.no ≡ p.frame.count + 1 → deed s (seen w) (moved name) ≡ deed_of_next w.items name (next.Work p)
+    → name.no ≡ p.frame.count + 1 → waits (frames_of w) name.thread p.frame ≡ false → deed s (seen w) (moved name) ≡ deed_of_next w name (next.Work p)
 
 -- a frame after its branches' outputs, where none has failed
 abbrev pub JoinIsDeed : Type 0
-JoinIsDeed = (s : Setting) (w : World) (name : StepName) (f : Frame) (n : ℕ) (at : Standing) (work : Work) (ds : List Data)
-    → frames_of w name.thread ≡ Some f → f.phase ≡ Parked n → stands s f ≡ Some at → work_of at.1 ≡ Some work
+JoinIsDeed = (s : Setting) (w : World) (name : StepName) (f : Frame) (n bound : ℕ) (at : Standing) (work : Work) (ds : List Data)
+    → frames_of w name.thread ≡ Some f → f.phase ≡ Parked n bound → stands s f ≡ Some at → work_of at.1 ≡ Some work
     → first_fault (kids (seen w) name.thread f n) ≡ None → outputs (kids (seen w) name.thread f n) ≡ Some ds → name.no ≡ f.count + 1
-    → deed s (seen w) (moved name) ≡ deed_of_next w.items name (next.Join (after_join at.0 work f ds))
+    → deed s (seen w) (moved name) ≡ deed_of_next w name (next.Join (after_join at.0 work f ds))
 
 -- a frame after the error of the first branch that has failed
 abbrev pub TerminateIsDeed : Type 0
-TerminateIsDeed = (s : Setting) (w : World) (name : StepName) (f : Frame) (n : ℕ) (at : Standing) (fault : Fault)
-    → frames_of w name.thread ≡ Some f → f.phase ≡ Parked n → stands s f ≡ Some at → first_fault (kids (seen w) name.thread f n) ≡ Some fault → name.no ≡ f.count + 1
-    → deed s (seen w) (moved name) ≡ deed_of_next w.items name (next.Terminate (after_branch at f fault))
+TerminateIsDeed = (s : Setting) (w : World) (name : StepName) (f : Frame) (n bound : ℕ) (at : Standing) (fault : Fault)
+    → frames_of w name.thread ≡ Some f → f.phase ≡ Parked n bound → stands s f ≡ Some at → first_fault (kids (seen w) name.thread f n) ≡ Some fault → name.no ≡ f.count + 1
+    → deed s (seen w) (moved name) ≡ deed_of_next w name (next.Terminate (after_branch at f fault))
 
 -- ---- where a step leaves its thread
 

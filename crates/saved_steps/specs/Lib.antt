@@ -31,5 +31,6 @@ pub use Rattle.branch_tree.specs.State
 pub use Rattle.branch_tree.specs.First as BranchFirst
 pub use Rattle.branch_tree.specs.FlatMap
 pub use Rattle.branch_tree.specs.Paths
+pub use Rattle.branch_tree.specs.Bounds
 pub use Rattle.branch_tree.specs.Ready
 pub use Rattle.branch_tree.specs.declared.readiness.Readiness

@@ -15,7 +15,7 @@ use Rattle.branch_tree.specs.FlatMap.{is_parked}
 use Rattle.branch_tree.specs.Tree.{leaf, IsNode}
 use Rattle.step_names.specs.Thread.{Thread}
 use Rattle.step_names.specs.declared.step.StepName.{StepName}
-use Rattle.saved_steps.specs.Deeds.{Deed, deed_of, fork_deed, call_deed}
+use Rattle.saved_steps.specs.Deeds.{Deed, deed_of, fork_deed, call_deed, bounded, first_bound}
 use Rattle.saved_steps.specs.Held.{frames_of}
 use Rattle.saved_steps.specs.Steps.{is_write}
 use Rattle.saved_steps.specs.declared.fact.Fact.{Fact}
@@ -38,11 +38,11 @@ deed_of_work items name p (outcome.Call c) =
     option_and_then (λ at. option_map (λ work. call_deed name at.0 work p.frame (in_form items.table items.schema (items_of items) c)) (work_of at.1)) (standing p.machine p.frame)
 
 -- what the step of this name does, with this next
-abbrev pub deed_of_next : Store → StepName → Next → Option Deed
-deed_of_next items name (Begin f) = Some (deed_of kind.Start name f)
-deed_of_next items name (Work p) = deed_of_work items name p p.outcome
-deed_of_next items name (Join f) = Some (deed_of kind.Join name f)
-deed_of_next items name (Terminate f) = Some (deed_of kind.Terminate name f)
+abbrev pub deed_of_next : World → StepName → Next → Option Deed
+deed_of_next w name (Begin f) = Some (deed_of kind.Start name f)
+deed_of_next w name (Work p) = option_map (bounded (first_bound (frames_of w) name.thread p.frame)) (deed_of_work w.items name p p.outcome)
+deed_of_next w name (Join f) = Some (deed_of kind.Join name f)
+deed_of_next w name (Terminate f) = Some (deed_of kind.Terminate name f)
 
 -- ---- where a thread is
 
@@ -69,19 +69,19 @@ Suits w name (Terminate f) = IsParkedSince (frames_of w) name.thread (name.no - 
 
 -- ---- a step that is made
 
-abbrev pub plain_fact : StepName → Kind → Fact
-plain_fact name k = record { name = name; kind = k; access = None }
+abbrev pub plain_fact : StepName → ℕ → Kind → Fact
+plain_fact name bound k = record { name = name; kind = k; access = None; bound = bound }
 
-abbrev pub fact_of_change : StepName → Change → Fact
-fact_of_change name (change.Begin f) = plain_fact name kind.Start
-fact_of_change name (change.Plain f) = plain_fact name kind.Plain
-fact_of_change name (change.Call f access slot new) = record { name = name; kind = kind.Call; access = Some access }
-fact_of_change name (change.Fork f kids) = plain_fact name kind.Fork
-fact_of_change name (change.Join f) = plain_fact name kind.Join
-fact_of_change name (change.Terminate f) = plain_fact name kind.Terminate
+abbrev pub fact_of_change : StepName → ℕ → Change → Fact
+fact_of_change name bound (change.Begin f) = plain_fact name bound kind.Start
+fact_of_change name bound (change.Plain f) = plain_fact name bound kind.Plain
+fact_of_change name bound (change.Call f access slot new) = record { name = name; kind = kind.Call; access = Some access; bound = bound }
+fact_of_change name bound (change.Fork f kids) = plain_fact name bound kind.Fork
+fact_of_change name bound (change.Join f) = plain_fact name bound kind.Join
+fact_of_change name bound (change.Terminate f) = plain_fact name bound kind.Terminate
 
 abbrev pub fact_made : Made → Fact
-fact_made m = fact_of_change m.name m.change
+fact_made m = fact_of_change m.name m.bound m.change
 
 abbrev pub Makes : Change → Deed → Type 0
 Makes (change.Begin f) d = f ≡ d.frame
@@ -115,10 +115,14 @@ pub record KeepsStore (a b : Store) : Type 0 where
   pub table : b.table ≡ a.table
   pub schema : b.schema ≡ a.schema
 
--- in the second world everything is made for a step that is to be taken in the first
-pub record IsMadeOf (w v : World) (name : StepName) (next : Next) (m : Made) : Type 0 where
+-- in a world everything is made for a step that is to do what `does` says
+pub record IsMadeBy (v : World) (name : StepName) (does : Option Deed) (m : Made) : Type 0 where
   pub named : m.name ≡ name
   pub ready : CanApply v m
   pub deed : Deed
-  pub is : deed_of_next w.items name next ≡ Some deed
+  pub is : does ≡ Some deed
   pub made : IsMadeFor m deed
+
+-- in the second world everything is made for a step that is to be taken in the first
+abbrev pub IsMadeOf : World → World → StepName → Next → Made → Type 0
+IsMadeOf w v name next m = IsMadeBy v name (deed_of_next w name next) m

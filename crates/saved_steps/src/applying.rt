@@ -19,14 +19,15 @@ use item_store::{AccessMode, ItemStore, SlotNo};
 use step_names::StepName;
 
 /// The record of a step that touches no item.
-fn record(name: StepName, kind: Kind, saved: Saved) -> StepRecord
-    ensures { result ≡ record { fact = plain_fact name kind; saved = saved } }
+fn record(name: StepName, bound: u32, kind: Kind, saved: Saved) -> StepRecord
+    ensures { result ≡ record { fact = plain_fact name bound kind; saved = saved } }
 {
     StepRecord {
         fact: Fact {
             name,
             kind,
             access: None,
+            bound,
         },
         saved,
     }
@@ -52,49 +53,54 @@ impl World {
         requires { CanApply self.old made }
         ensures { IsApplied self.old made self.new result }
     {
-        let Made { name, change } = made;
+        let Made {
+            name,
+            bound,
+            change,
+        } = made;
         match change {
-            Change::Begin(frame) => self.apply_begin(name, frame),
-            Change::Plain(frame) => self.apply_plain(name, frame),
+            Change::Begin(frame) => self.apply_begin(name, bound, frame),
+            Change::Plain(frame) => self.apply_plain(name, bound, frame),
             Change::Call {
                 frame,
                 access,
                 slot,
                 new,
-            } => self.apply_call(name, frame, access, slot, new),
-            Change::Fork(frame, kids) => self.apply_fork(name, frame, kids),
-            Change::Join(frame) => self.apply_join(name, frame),
-            Change::Terminate(frame) => self.apply_terminate(name, frame),
+            } => self.apply_call(name, bound, frame, access, slot, new),
+            Change::Fork(frame, kids) => self.apply_fork(name, bound, frame, kids),
+            Change::Join(frame) => self.apply_join(name, bound, frame),
+            Change::Terminate(frame) => self.apply_terminate(name, bound, frame),
         }
     }
 
-    fn apply_begin(&mut self, name: StepName, frame: Frame) -> StepRecord
-        requires { CanApply self.old (record { name = name; change = Change.Begin frame }) }
-        ensures { IsApplied self.old (record { name = name; change = Change.Begin frame }) self.new result }
+    fn apply_begin(&mut self, name: StepName, bound: u32, frame: Frame) -> StepRecord
+        requires { CanApply self.old (record { name = name; bound = bound; change = Change.Begin frame }) }
+        ensures { IsApplied self.old (record { name = name; bound = bound; change = Change.Begin frame }) self.new result }
     {
         let tree = Tree::new(self.alloc, frame);
         put_tree(&mut self.executions, name.thread.exec(), tree);
-        record(name, Kind::Start, Saved::Started)
+        record(name, bound, Kind::Start, Saved::Started)
     }
 
-    fn apply_plain(&mut self, name: StepName, frame: Frame) -> StepRecord
-        requires { CanApply self.old (record { name = name; change = Change.Plain frame }) }
-        ensures { IsApplied self.old (record { name = name; change = Change.Plain frame }) self.new result }
+    fn apply_plain(&mut self, name: StepName, bound: u32, frame: Frame) -> StepRecord
+        requires { CanApply self.old (record { name = name; bound = bound; change = Change.Plain frame }) }
+        ensures { IsApplied self.old (record { name = name; bound = bound; change = Change.Plain frame }) self.new result }
     {
         let before = replace(&mut self.executions, &name.thread, frame);
-        record(name, Kind::Plain, Saved::Framed(before))
+        record(name, bound, Kind::Plain, Saved::Framed(before))
     }
 
     fn apply_call(
         &mut self,
         name: StepName,
+        bound: u32,
         frame: Frame,
         access: Access,
         slot: SlotNo,
         new: Option<Item>,
     ) -> StepRecord
-        requires { CanApply self.old (record { name = name; change = Change.Call frame access slot new }) }
-        ensures { IsApplied self.old (record { name = name; change = Change.Call frame access slot new }) self.new result }
+        requires { CanApply self.old (record { name = name; bound = bound; change = Change.Call frame access slot new }) }
+        ensures { IsApplied self.old (record { name = name; bound = bound; change = Change.Call frame access slot new }) self.new result }
     {
         let before = replace(&mut self.executions, &name.thread, frame);
         let old = put_item(&mut self.items, &access, slot, new);
@@ -103,6 +109,7 @@ impl World {
                 name,
                 kind: Kind::Call,
                 access: Some(access),
+                bound,
             },
             saved: Saved::Called {
                 frame: before,
@@ -112,35 +119,41 @@ impl World {
         }
     }
 
-    fn apply_fork(&mut self, name: StepName, frame: Frame, kids: Vec<Branch>) -> StepRecord
-        requires { CanApply self.old (record { name = name; change = Change.Fork frame kids }) }
-        ensures { IsApplied self.old (record { name = name; change = Change.Fork frame kids }) self.new result }
+    fn apply_fork(
+        &mut self,
+        name: StepName,
+        bound: u32,
+        frame: Frame,
+        kids: Vec<Branch>,
+    ) -> StepRecord
+        requires { CanApply self.old (record { name = name; bound = bound; change = Change.Fork frame kids }) }
+        ensures { IsApplied self.old (record { name = name; bound = bound; change = Change.Fork frame kids }) self.new result }
     {
         let before = give(&mut self.executions, &name.thread, frame, kids);
-        record(name, Kind::Fork, Saved::Forked(before))
+        record(name, bound, Kind::Fork, Saved::Forked(before))
     }
 
-    fn apply_join(&mut self, name: StepName, frame: Frame) -> StepRecord
-        requires { CanApply self.old (record { name = name; change = Change.Join frame }) }
-        ensures { IsApplied self.old (record { name = name; change = Change.Join frame }) self.new result }
+    fn apply_join(&mut self, name: StepName, bound: u32, frame: Frame) -> StepRecord
+        requires { CanApply self.old (record { name = name; bound = bound; change = Change.Join frame }) }
+        ensures { IsApplied self.old (record { name = name; bound = bound; change = Change.Join frame }) self.new result }
     {
         let (before, kids) = take(&mut self.executions, &name.thread, frame);
         let saved = Saved::Closed {
             frame: before,
             kids,
         };
-        record(name, Kind::Join, saved)
+        record(name, bound, Kind::Join, saved)
     }
 
-    fn apply_terminate(&mut self, name: StepName, frame: Frame) -> StepRecord
-        requires { CanApply self.old (record { name = name; change = Change.Terminate frame }) }
-        ensures { IsApplied self.old (record { name = name; change = Change.Terminate frame }) self.new result }
+    fn apply_terminate(&mut self, name: StepName, bound: u32, frame: Frame) -> StepRecord
+        requires { CanApply self.old (record { name = name; bound = bound; change = Change.Terminate frame }) }
+        ensures { IsApplied self.old (record { name = name; bound = bound; change = Change.Terminate frame }) self.new result }
     {
         let (before, branches) = take(&mut self.executions, &name.thread, frame);
         let saved = Saved::Closed {
             frame: before,
             kids: branches,
         };
-        record(name, Kind::Terminate, saved)
+        record(name, bound, Kind::Terminate, saved)
     }
 }

@@ -33,4 +33,7 @@ pub struct Fact {
     pub name: StepName,
     pub kind: Kind,
     pub access: Option<Access>,
+    /// Of a branch's first move, how many branches of its fork may run at a time; 0 of every other step, and of a fork
+    /// without a bound.
+    pub bound: u32,
 }

@@ -1,5 +1,5 @@
 // The first thread that has a move.
-ghost use Rattle.std.specs.Prelude.{◌≡◌, Bool, None, Some, IfOk};
+ghost use Rattle.std.specs.Prelude.{◌≡◌, Bool, true, None, Some, IfOk};
 ghost use Rattle.std.specs.Bool.{OnTrue};
 ghost use Rattle.std.specs.BTreeSet.{contains};
 ghost use Rattle.branch_tree.specs.First.{IsFirst};
@@ -19,7 +19,7 @@ use step_names::ThreadName;
 
 /// Whether an execution is done or has failed, so that no thread of it has a move.
 fn has_ended(tree: &Tree) -> bool
-    ensures { OnTrue result ((base : Thread) (passed : Thread → Bool) → IsFirst (frame_at tree.now) base passed None) }
+    ensures { OnTrue result ((base : Thread) (passed : Thread → Bool) → IsFirst true (frame_at tree.now) base passed None) }
 {
     below_is_parked();
     match tree.find(&[]) {
@@ -35,7 +35,7 @@ fn first_in(
     place: &Option<Tree>,
     passed: &BTreeSet<ThreadName>,
 ) -> Result<Option<ThreadName>, AllocError>
-    ensures { IfOk result (λ found. IsFirst (rows_at place.now) (execution exec.now) (contains thread_cmp passed.now) found) }
+    ensures { IfOk result (λ found. IsFirst true (rows_at place.now) (execution exec.now) (contains thread_cmp passed.now) found) }
 {
     let Some(tree) = place else {
         return Ok(None);

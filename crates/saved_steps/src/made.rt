@@ -34,6 +34,7 @@ pub enum Change {
 #[derive(Drop)]
 pub struct Made {
     pub(crate) name: StepName,
+    pub(crate) bound: u32,
     pub(crate) change: Change,
 }
 

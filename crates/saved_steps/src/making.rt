@@ -1,21 +1,22 @@
 // Everything that a step needs, made before it is taken.
-ghost use Rattle.std.specs.Prelude.{◌≡◌, IfOk, IsTrue, is_some, []};
+ghost use Rattle.std.specs.Prelude.{◌≡◌, IfOk, IsTrue, is_some, [], option_map};
 ghost use Rattle.item_store.specs.Store.{items_of};
 ghost use Rattle.step_names.specs.Thread.{Thread};
 ghost use Rattle.asl_forward.specs.Planned.{asks_table};
 ghost use Rattle.saved_steps.specs.Answering.{change_from};
 ghost use Rattle.saved_steps.specs.Held.{frames_of};
-ghost use Rattle.saved_steps.specs.Made.{Suits, IsMadeOf, KeepsStore};
+ghost use Rattle.saved_steps.specs.Deeds.{bounded, first_bound};
+ghost use Rattle.saved_steps.specs.Made.{Suits, IsMadeOf, IsMadeBy, KeepsStore, deed_of_work};
 
 use crate::answering::{Answered, Touch, answer};
 use crate::made::{Change, Made};
 use crate::next::Next;
-use crate::places::{has_tree, make_place};
+use crate::places::{bound_over, has_tree, make_place};
 use crate::world::World;
 use asl_forward::{Frame, Outcome, Prepared, finish};
 use branch_tree::Branch;
 use std::alloc::{AllocError, Global};
-use step_names::StepName;
+use step_names::{StepName, ThreadName};
 
 /// The change of a thread's frame, and of the item that its call touches.
 fn change_of(frame: Frame, touch: Option<Touch>) -> Change
@@ -56,13 +57,18 @@ impl World {
         };
         match next {
             Next::Begin(frame) => self.make_begin(alloc, name, frame),
-            Next::Work(prepared) => self.make_work(alloc, name, prepared),
+            Next::Work(prepared) => {
+                let bound = self.first_bound(&name.thread, prepared.frame());
+                self.make_work(alloc, name, bound, prepared)
+            }
             Next::Join(frame) => Ok(Made {
                 name,
+                bound: 0,
                 change: Change::Join(frame),
             }),
             Next::Terminate(frame) => Ok(Made {
                 name,
+                bound: 0,
                 change: Change::Terminate(frame),
             }),
         }
@@ -88,29 +94,42 @@ impl World {
         }
         Ok(Made {
             name,
+            bound: 0,
             change: Change::Begin(frame),
         })
+    }
+
+    /// The bound of the fork over a thread that has made no move; else 0.
+    fn first_bound(&self, thread: &ThreadName, frame: &Frame) -> u32
+        ensures { result ≡ first_bound (frames_of self.now) thread.now frame.now }
+    {
+        if frame.count != 0 {
+            return 0;
+        }
+        bound_over(&self.executions, thread)
     }
 
     fn make_work(
         &mut self,
         alloc: Global,
         name: StepName,
+        bound: u32,
         prepared: Prepared,
     ) -> Result<Made, AllocError>
         requires { Suits self.old name (Next.Work prepared) }
-        ensures made { IfOk result (λ m. IsMadeOf self.old self.new name (Next.Work prepared) m) }
+        ensures made { IfOk result (λ m. IsMadeBy self.new name (option_map (bounded bound) (deed_of_work self.old.items name prepared prepared.outcome)) m) }
         ensures frames { (t : Thread) → frames_of self.new t ≡ frames_of self.old t }
         ensures items { items_of self.new.items ≡ items_of self.old.items }
         ensures store { KeepsStore self.old.items self.new.items }
     {
         if asks(prepared.outcome()) {
-            return self.make_call(alloc, name, prepared);
+            return self.make_call(alloc, name, bound, prepared);
         }
         let (_, _, outcome) = prepared.into_parts();
         match outcome {
             Outcome::Next(frame) => Ok(Made {
                 name,
+                bound,
                 change: Change::Plain(frame),
             }),
             Outcome::Fork(frame, frames) => {
@@ -121,6 +140,7 @@ impl World {
                 };
                 Ok(Made {
                     name,
+                    bound,
                     change: Change::Fork(frame, kids),
                 })
             }
@@ -132,11 +152,12 @@ impl World {
         &mut self,
         alloc: Global,
         name: StepName,
+        bound: u32,
         prepared: Prepared,
     ) -> Result<Made, AllocError>
         requires suits { Suits self.old name (Next.Work prepared) }
         requires asks { IsTrue (asks_table prepared.outcome) }
-        ensures made { IfOk result (λ m. IsMadeOf self.old self.new name (Next.Work prepared) m) }
+        ensures made { IfOk result (λ m. IsMadeBy self.new name (option_map (bounded bound) (deed_of_work self.old.items name prepared prepared.outcome)) m) }
         ensures frames { (t : Thread) → frames_of self.new t ≡ frames_of self.old t }
         ensures items { items_of self.new.items ≡ items_of self.old.items }
         ensures store { KeepsStore self.old.items self.new.items }
@@ -158,6 +179,7 @@ impl World {
         drop(prepared);
         Ok(Made {
             name,
+            bound,
             change: change_of(frame, touch),
         })
     }

@@ -4,7 +4,8 @@ ghost use Rattle.std.specs.BTreeMap.{get_by_text};
 ghost use Rattle.std.specs.Str.{bytes_eq};
 ghost use Rattle.branch_tree.specs.FlatMap.{IsTree, is_parked, with_frame, grafted, alone};
 ghost use Rattle.branch_tree.specs.Paths.{Path};
-ghost use Rattle.branch_tree.specs.Ready.{readiness_at};
+ghost use Rattle.branch_tree.specs.Bounds.{place_of};
+ghost use Rattle.branch_tree.specs.Ready.{bound_over, readiness_at};
 ghost use Rattle.branch_tree.specs.Tree.{node_at, IsNode};
 ghost use Rattle.step_names.specs.Thread.{Thread};
 ghost use Rattle.saved_steps.specs.Held.{tree_in, rows_at, frames_in, paths_of, put_at, with_thread};
@@ -48,6 +49,16 @@ pub(crate) fn look_up<'a>(
     let tree = tree_in(executions, thread.exec())?;
     let frame = tree.find(thread.path())?;
     Some((frame, tree.ready(thread.path())))
+}
+
+/// The bound of the fork that a thread is a branch of; 0 is none.
+pub(crate) fn bound_over(executions: &Executions, thread: &ThreadName) -> u32
+    ensures { result ≡ bound_over (paths_of (frames_in executions.now) thread.now.exec) (place_of thread.now.path) }
+{
+    match tree_in(executions, thread.exec()) {
+        Some(tree) => tree.bound_over(thread.path()),
+        None => 0,
+    }
 }
 
 // ---- places

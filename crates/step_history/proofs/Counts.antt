@@ -40,6 +40,7 @@ use Rattle.saved_steps.specs.declared.fact.Kind.TheVariants.{Start, Join}
 use Rattle.trace_theory.proofs.Lists.{by_bool}
 use Rattle.trace_theory.proofs.Runs.{and_then_some, map_some, Runs, from_run}
 use Rattle.depends.specs.Instance.{steps}
+use Rattle.saved_steps.proofs.Begun.{turn_told}
 use Rattle.depends.proofs.Planned.{planned, numbered}
 use Rattle.depends.proofs.Worlds.{deed_taken}
 use Rattle.step_history.specs.History.{Past, IsHistory}
@@ -92,9 +93,9 @@ TurnFresh (outcome.Next g) = Unit {0}
 TurnFresh (outcome.Call c) = Unit {0}
 TurnFresh (outcome.Fork g fs) = Fresh fs
 
-forks_fresh : (level : Definition) (errors : ErrorHandling) (f : Frame) (fs : Result (List Frame) (List ℕ)) → AllFresh fs → TurnFresh (forks level errors f fs)
-forks_fresh level errors f (Ok fs) h = h
-forks_fresh level errors f (Err error) h = tt
+forks_fresh : (level : Definition) (errors : ErrorHandling) (f : Frame) (bound : ℕ) (fs : Result (List Frame) (List ℕ)) → AllFresh fs → TurnFresh (forks level errors f bound fs)
+forks_fresh level errors f bound (Ok fs) h = h
+forks_fresh level errors f bound (Err error) h = tt
 
 asks_fresh : (level : Definition) (s : Task) (f : Frame) (c : Option call.Call) → TurnFresh (asks level s f c)
 asks_fresh level s f (Some c) = tt
@@ -107,9 +108,9 @@ task_fresh level s f (Err error) = tt
 turn_fresh : (level : Definition) (s : State) (f : Frame) → TurnFresh (turn_of level s f)
 turn_fresh level (state.Task s) f = task_fresh level s f (effective s.processing (data_of f.raw))
 turn_fresh level (state.Parallel s) f =
-    forks_fresh level s.errors f (fork_of (parallel_frames s) f (effective s.processing (data_of f.raw))) (fork_fresh (parallel_frames s) f (effective s.processing (data_of f.raw)) (λ input. from_fresh f 0 s.branches input))
+    forks_fresh level s.errors f 0 (fork_of (parallel_frames s) f (effective s.processing (data_of f.raw))) (fork_fresh (parallel_frames s) f (effective s.processing (data_of f.raw)) (λ input. from_fresh f 0 s.branches input))
 turn_fresh level (state.Map s) f =
-    forks_fresh level s.errors f (fork_of (map_frames s) f (effective s.processing (data_of f.raw))) (fork_fresh (map_frames s) f (effective s.processing (data_of f.raw)) (λ input. counted_fresh s f input (elements s.items_path input)))
+    forks_fresh level s.errors f s.max_concurrency (fork_of (map_frames s) f (effective s.processing (data_of f.raw))) (fork_fresh (map_frames s) f (effective s.processing (data_of f.raw)) (λ input. counted_fresh s f input (elements s.items_path input)))
 turn_fresh level (state.Pass s) f = tt
 turn_fresh level (state.Choice s) f = tt
 turn_fresh level (state.Wait s) f = tt
@@ -141,8 +142,10 @@ close_fresh name at f None there d h =
     subst DeedFresh m.2 none_fresh
 
 phase_fresh : (s : Setting) (w : World) (t : Thread) (at : Standing) (f : Frame) (p : Phase) (d : Deed) → deed_in s w t at f p ≡ Some d → DeedFresh d
-phase_fresh s w t at f Ready d h = step_turn_fresh s w (next_step t f) at f (turn at f) d (turn_fresh at.0 at.1 f) h
-phase_fresh s w t at f (Parked n) d h = close_fresh (next_step t f) at f (first_fault (kids w t f n)) (outputs (kids w t f n)) d h
+phase_fresh s w t at f Ready d h =
+    let k = turn_told w.frames t f (deed_of_turn s w (next_step t f) at f (turn at f)) d h in
+    subst DeedFresh k.told (step_turn_fresh s w (next_step t f) at f (turn at f) k.deed (turn_fresh at.0 at.1 f) k.is)
+phase_fresh s w t at f (Parked n bound) d h = close_fresh (next_step t f) at f (first_fault (kids w t f n)) (outputs (kids w t f n)) d h
 phase_fresh s w t at f (Done output) d h = cc
 phase_fresh s w t at f (Failed fault) d h = cc
 

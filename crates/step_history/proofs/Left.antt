@@ -47,7 +47,7 @@ use Rattle.step_history.proofs.Open.{leaves_open}
 
 parked_alike : (p : Phase) → turned.is_parked p ≡ is_parked p
 parked_alike Ready = refl
-parked_alike (Parked n) = refl
+parked_alike (Parked n bound) = refl
 parked_alike (Done output) = refl
 parked_alike (Failed fault) = refl
 

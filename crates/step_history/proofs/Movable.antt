@@ -1,6 +1,6 @@
 -- Which threads can move: those that are ready, and those whose branches are done or have failed.
-use Rattle.std.proofs.Common.{◌≡◌, ℕ, Bool, true, List, [], ◌∷◌, ◌++◌, length, refl, ap, sym, subst, ◌∙◌, Option, None, Some}
-use Rattle.std.specs.Prelude.{IsSome, ◌||◌, ◌&&◌, option_map, option_and_then, is_some, map}
+use Rattle.std.proofs.Common.{◌≡◌, ℕ, ◌==◌, Bool, true, false, cond, List, [], ◌∷◌, ◌++◌, length, refl, ap, sym, subst, ◌∙◌, Option, None, Some}
+use Rattle.std.specs.Prelude.{IsSome, ◌||◌, ◌&&◌, not, option_map, option_and_then, is_some, map}
 use Rattle.std.specs.List.{list_any, list_all, range_with_len}
 use Rattle.std.proofs.lemmas.List.{append-nil}
 use Rattle.json_tree.specs.Data.{Data}
@@ -17,11 +17,13 @@ use Rattle.asl_forward.specs.declared.prepared.Outcome.TheVariants as outcome
 use Rattle.saved_steps.specs.BranchFirst.{has_move}
 use Rattle.saved_steps.specs.FlatMap.{FrameMap, is_parked}
 use Rattle.saved_steps.specs.Paths.{Path}
-use Rattle.saved_steps.specs.Ready.{readiness_of, readiness_in, progress, frame_is, has_failed, is_done}
+use Rattle.saved_steps.specs.Bounds.{place_of}
+use Rattle.saved_steps.specs.Readiness.TheVariants as readiness
+use Rattle.saved_steps.specs.Ready.{readiness_of, readiness_in, begins_under, progress, frame_is, has_failed, is_done}
 use Rattle.step_names.specs.Thread.{Thread, child_of}
 use Rattle.step_names.specs.declared.step.StepName.{StepName}
-use Rattle.saved_steps.specs.Deeds.{next_step, deed_of, call_deed, deed_of_turn, fault_of, output_of, or_else, first_fault, outputs, close_deed, deed_in, frame_deed}
-use Rattle.saved_steps.specs.Held.{seen}
+use Rattle.saved_steps.specs.Deeds.{Deed, next_step, deed_of, turn_deed, bounded, first_bound, call_deed, deed_of_turn, fault_of, output_of, or_else, first_fault, outputs, close_deed, deed_in, frame_deed}
+use Rattle.saved_steps.specs.Held.{paths_of, seen}
 use Rattle.saved_steps.specs.World.{Setting, World}
 use Rattle.saved_steps.specs.declared.fact.Kind.TheVariants.{Join}
 use Rattle.step_history.specs.Levels.{HasWholeMachines, FramesStand, ThreadsMoveWhereReady}
@@ -41,7 +43,7 @@ frames_stand s base ts h t f whole is there =
 
 some_fault : (p : Phase) → is_some (fault_of p) ≡ has_failed p
 some_fault Ready = refl
-some_fault (Parked n) = refl
+some_fault (Parked n bound) = refl
 some_fault (Done output) = refl
 some_fault (Failed fault) = refl
 
@@ -60,7 +62,7 @@ fault_among at (i ∷ is) =
 
 some_output : (p : Phase) → is_some (output_of p) ≡ is_done p
 some_output Ready = refl
-some_output (Parked n) = refl
+some_output (Parked n bound) = refl
 some_output (Done output) = refl
 some_output (Failed fault) = refl
 
@@ -99,9 +101,20 @@ module _ (s : Setting) (w : World) (t : Thread) where
   abbrev below : FrameMap
   below q = w.frames (record { exec = t.exec; path = t.path ++ q })
 
-  moves_by : (at : Standing) (f : Frame) (p : Phase) → (is_parked p ≡ true → is_some (work_of at.1) ≡ true) → is_some (deed_in s w t at f p) ≡ has_move (readiness_in below f.count p)
-  moves_by at f Ready works = turn_moves s w (next_step t f) at f (turn at f) (turn_so at.0 at.1 f)
-  moves_by at f (Parked n) works =
+  -- whether the fork over the thread lets it begin
+  abbrev begins : Bool
+  begins = begins_under true (paths_of w.frames t.exec) (place_of t.path)
+
+  first_moves : (f : Frame) (o : Option Deed) → is_some o ≡ true → is_some (turn_deed w.frames t f o) ≡ has_move (cond (f.count == 0 && not begins) readiness.Waiting readiness.Ready)
+  first_moves f o h = by (f.count == 0 && not begins) o h
+    where
+      by : (b : Bool) (o : Option Deed) → is_some o ≡ true → is_some (cond b None (option_map (bounded (first_bound w.frames t f)) o)) ≡ has_move (cond b readiness.Waiting readiness.Ready)
+      by true o h = refl
+      by false o h = some_mapped (bounded (first_bound w.frames t f)) o h
+
+  moves_by : (at : Standing) (f : Frame) (p : Phase) → (is_parked p ≡ true → is_some (work_of at.1) ≡ true) → is_some (deed_in s w t at f p) ≡ has_move (readiness_in begins below f.count p)
+  moves_by at f Ready works = first_moves f (deed_of_turn s w (next_step t f) at f (turn at f)) (turn_moves s w (next_step t f) at f (turn at f) (turn_so at.0 at.1 f))
+  moves_by at f (Parked n bound) works =
       let kid : ℕ → Option Frame = λ i. w.frames (child_of t f.count i) in
       let is = range_with_len 0 n in
       close_moves (next_step t f) at f (first_fault (map kid is)) (outputs (map kid is)) (works refl)
@@ -110,7 +123,7 @@ module _ (s : Setting) (w : World) (t : Thread) where
   moves_by at f (Done output) works = refl
   moves_by at f (Failed fault) works = refl
 
-  moves_where : HasWholeMachines s → (o : Option Frame) → ((f : Frame) → o ≡ Some f → Placed s (length t.path) f) → is_some (option_and_then (frame_deed s w t) o) ≡ has_move (readiness_of below o)
+  moves_where : HasWholeMachines s → (o : Option Frame) → ((f : Frame) → o ≡ Some f → Placed s (length t.path) f) → is_some (option_and_then (frame_deed s w t) o) ≡ has_move (readiness_of begins below o)
   moves_where whole None all = refl
   moves_where whole (Some f) all =
       let p = all f refl in
@@ -123,4 +136,4 @@ module _ (s : Setting) (w : World) (t : Thread) where
 pub threads_move : ThreadsMoveWhereReady
 threads_move s base ts h t whole is =
     let w = seen h.world in
-    moves_where s w t whole (w.frames t) (placed s whole base ts h is t) ∙ ap (λ (o : Option Frame). has_move (readiness_of (below s w t) o)) (sym (itself s w t))
+    moves_where s w t whole (w.frames t) (placed s whole base ts h is t) ∙ ap (λ (o : Option Frame). has_move (readiness_of (begins s w t) (below s w t) o)) (sym (itself s w t))

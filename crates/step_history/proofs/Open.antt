@@ -42,6 +42,7 @@ use Rattle.saved_steps.specs.Steps.{Step, started, moved, start_name, is_fork}
 use Rattle.saved_steps.specs.World.{Setting, World}
 use Rattle.saved_steps.specs.declared.fact.Kind.TheVariants.{Start, Join}
 use Rattle.trace_theory.proofs.Runs.{and_then_some, map_some}
+use Rattle.saved_steps.proofs.Begun.{turn_told}
 use Rattle.depends.proofs.Planned.{numbered}
 
 -- ---- frames
@@ -116,14 +117,14 @@ task_open : (level : Definition) (s : Task) (f : Frame) (input : Result Data (Li
 task_open level s f (Ok input) = asks_open level s f (call_of (action_of s.resource) input)
 task_open level s f (Err error) = handled_open level s.errors f (own_fault error)
 
-forks_open : (level : Definition) (errors : ErrorHandling) (f : Frame) (frames : Result (List Frame) (List ℕ)) → GoesOn (forks level errors f frames)
-forks_open level errors f (Ok frames) = tt
-forks_open level errors f (Err error) = handled_open level errors f (own_fault error)
+forks_open : (level : Definition) (errors : ErrorHandling) (f : Frame) (bound : ℕ) (frames : Result (List Frame) (List ℕ)) → GoesOn (forks level errors f bound frames)
+forks_open level errors f bound (Ok frames) = tt
+forks_open level errors f bound (Err error) = handled_open level errors f (own_fault error)
 
 turn_open : (level : Definition) (s : State) (f : Frame) → GoesOn (turn_of level s f)
 turn_open level (state.Task s) f = task_open level s f (effective s.processing (data_of f.raw))
-turn_open level (state.Parallel s) f = forks_open level s.errors f (fork_of (parallel_frames s) f (effective s.processing (data_of f.raw)))
-turn_open level (state.Map s) f = forks_open level s.errors f (fork_of (map_frames s) f (effective s.processing (data_of f.raw)))
+turn_open level (state.Parallel s) f = forks_open level s.errors f 0 (fork_of (parallel_frames s) f (effective s.processing (data_of f.raw)))
+turn_open level (state.Map s) f = forks_open level s.errors f s.max_concurrency (fork_of (map_frames s) f (effective s.processing (data_of f.raw)))
 turn_open level (state.Pass s) f = next_open level (state.Pass s) f
 turn_open level (state.Choice s) f = next_open level (state.Choice s) f
 turn_open level (state.Wait s) f = next_open level (state.Wait s) f
@@ -155,8 +156,10 @@ close_open name at f None there d h =
     subst LeavesOpen m.2 (λ k. join_open at.0 m.0 f j.0)
 
 phase_open : (s : Setting) (w : World) (t : Thread) (at : Standing) (f : Frame) (p : Phase) (d : Deed) → deed_in s w t at f p ≡ Some d → LeavesOpen d
-phase_open s w t at f Ready d h = step_turn_open s w (next_step t f) at f (turn at f) d (turn_open at.0 at.1 f) h
-phase_open s w t at f (Parked n) d h = close_open (next_step t f) at f (first_fault (kids w t f n)) (outputs (kids w t f n)) d h
+phase_open s w t at f Ready d h =
+    let k = turn_told w.frames t f (deed_of_turn s w (next_step t f) at f (turn at f)) d h in
+    subst LeavesOpen k.told (step_turn_open s w (next_step t f) at f (turn at f) k.deed (turn_open at.0 at.1 f) k.is)
+phase_open s w t at f (Parked n bound) d h = close_open (next_step t f) at f (first_fault (kids w t f n)) (outputs (kids w t f n)) d h
 phase_open s w t at f (Done output) d h = cc
 phase_open s w t at f (Failed fault) d h = cc
 

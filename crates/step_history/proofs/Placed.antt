@@ -48,6 +48,7 @@ use Rattle.saved_steps.specs.Steps.{Step, started, moved, start_name, makes, clo
 use Rattle.saved_steps.specs.World.{Setting, World, is_same_thread}
 use Rattle.saved_steps.specs.declared.fact.Fact.{Fact}
 use Rattle.saved_steps.specs.declared.fact.Kind.TheVariants.{Start, Join}
+use Rattle.saved_steps.proofs.Begun.{turn_told}
 use Rattle.saved_steps.proofs.Turned.{Yields, turn_yields, answer_open, join_open, branch_open}
 use Rattle.trace_theory.proofs.Lists.{by_bool}
 use Rattle.trace_theory.proofs.Runs.{and_then_some, map_some, reached_good}
@@ -66,7 +67,7 @@ pub record Placed (s : Setting) (depth : ℕ) (f : Frame) : Type 0 where
   pub there : standing root f ≡ Some at
   pub deep : length f.level.path ≡ depth
   pub works : is_parked f.phase ≡ true → is_some (work_of at.1) ≡ true
-  pub over : (n : ℕ) → f.phase ≡ Parked n → 1 ≤ n → depth < 31
+  pub over : (n bound : ℕ) → f.phase ≡ Parked n bound → 1 ≤ n → depth < 31
 
 some_there : {A : Type 0} (o : Option A) → IsSome o → (a : A) × (o ≡ Some a)
 some_there (Some a) h = (a, refl)
@@ -124,7 +125,7 @@ module _ (s : Setting) (whole : HasWholeMachines s) where
           there = stands_again g level st.0 st.1;
           deep = deep_again g level st.0 st.1;
           works = λ h. let clash = sym free ∙ h in cc;
-          over = λ n h k. let clash = sym free ∙ ap is_parked h in cc;
+          over = λ n bound h k. let clash = sym free ∙ ap is_parked h in cc;
         }
 
     first_placed : (branch : ℕ) (d : Definition) (input : Data) → branch_of branch p.at.1 ≡ Some d → Placed s (depth + 1) (branch_frame f d branch input)
@@ -141,7 +142,7 @@ module _ (s : Setting) (whole : HasWholeMachines s) where
           there = first.stands;
           deep = length-append f.level.path (step ∷ []) ∙ ap (λ (n : ℕ). n + 1) p.deep;
           works = λ h. cc;
-          over = λ n h k. cc;
+          over = λ n bound h k. cc;
         }
 
     branches_placed : OnBranches (Placed s (depth + 1)) (turn_of p.at.0 p.at.1 f)
@@ -153,11 +154,11 @@ module _ (s : Setting) (whole : HasWholeMachines s) where
 abbrev pub IsForked : State → Frame → Outcome → Type 0
 IsForked st f (outcome.Next g) = Unit {0}
 IsForked st f (outcome.Call c) = is_some (work_of st) ≡ true
-IsForked st f (outcome.Fork g fs) = (g ≡ parks f (length fs)) × (is_some (work_of st) ≡ true)
+IsForked st f (outcome.Fork g fs) = (bound : ℕ) × (g ≡ parks f (length fs) bound) × (is_some (work_of st) ≡ true)
 
-forks_so : (level : Definition) (st : State) (errors : ErrorHandling) (f : Frame) (fs : Result (List Frame) (List ℕ)) → is_some (work_of st) ≡ true → IsForked st f (forks level errors f fs)
-forks_so level st errors f (Ok fs) h = (refl, h)
-forks_so level st errors f (Err error) h = tt
+forks_so : (level : Definition) (st : State) (errors : ErrorHandling) (f : Frame) (bound : ℕ) (fs : Result (List Frame) (List ℕ)) → is_some (work_of st) ≡ true → IsForked st f (forks level errors f bound fs)
+forks_so level st errors f bound (Ok fs) h = (bound, refl, h)
+forks_so level st errors f bound (Err error) h = tt
 
 asks_so : (level : Definition) (st : Task) (f : Frame) (c : Option call.Call) → IsForked (state.Task st) f (asks level st f c)
 asks_so level st f (Some c) = refl
@@ -169,8 +170,8 @@ task_so level st f (Err error) = tt
 
 pub turn_so : (level : Definition) (st : State) (f : Frame) → IsForked st f (turn_of level st f)
 turn_so level (state.Task st) f = task_so level st f (effective st.processing (data_of f.raw))
-turn_so level (state.Parallel st) f = forks_so level (state.Parallel st) st.errors f (fork_of (parallel_frames st) f (effective st.processing (data_of f.raw))) refl
-turn_so level (state.Map st) f = forks_so level (state.Map st) st.errors f (fork_of (map_frames st) f (effective st.processing (data_of f.raw))) refl
+turn_so level (state.Parallel st) f = forks_so level (state.Parallel st) st.errors f 0 (fork_of (parallel_frames st) f (effective st.processing (data_of f.raw))) refl
+turn_so level (state.Map st) f = forks_so level (state.Map st) st.errors f st.max_concurrency (fork_of (map_frames st) f (effective st.processing (data_of f.raw))) refl
 turn_so level (state.Pass st) f = tt
 turn_so level (state.Choice st) f = tt
 turn_so level (state.Wait st) f = tt
@@ -197,15 +198,15 @@ module _ (s : Setting) (whole : HasWholeMachines s) (w : World) (t : Thread) (f 
   some_room [] all h = absurd (omega (arith, h))
   some_room (g ∷ fs) all h = let e = shallow s whole (length t.path + 1) g all.0 in omega (arith, e)
 
-  parked_placed : (fs : List Frame) → AllByRecursion (Placed s (length t.path + 1)) fs → is_some (work_of p.at.1) ≡ true → Placed s (length t.path) (parks f (length fs))
-  parked_placed fs all works = record {
+  parked_placed : (fs : List Frame) (bound : ℕ) → AllByRecursion (Placed s (length t.path + 1)) fs → is_some (work_of p.at.1) ≡ true → Placed s (length t.path) (parks f (length fs) bound)
+  parked_placed fs bound all works = record {
     root = p.root;
     known = p.known;
     at = p.at;
     there = p.there;
     deep = p.deep;
     works = λ h. works;
-    over = λ n h k. let e : Parked (length fs) ≡ Parked n = h in let same : length fs ≡ n = cc in some_room fs all (omega (arith, k, same));
+    over = λ n m h k. let e : Parked (length fs) bound ≡ Parked n m = h in let same : length fs ≡ n = cc in some_room fs all (omega (arith, k, same));
   }
 
   turn_placed : (o : Outcome) (d : Deed) → OnFrame (λ g. g.level ≡ f.level) o → OnFrame (λ g. IsState p.at.0.states g.state) o → OnBranches (Placed s (length t.path + 1)) o → Yields f o → IsForked p.at.1 f o
@@ -214,7 +215,7 @@ module _ (s : Setting) (whole : HasWholeMachines s) (w : World) (t : Thread) (f 
       subst (PlacedAt s t) (same_Some _ _ h) (record { own = refl; frame = goes_on s whole (length t.path) f p g level found free; branches = tt })
   turn_placed (outcome.Fork g fs) d level found branches free so h =
       subst (PlacedAt s t) (same_Some _ _ h)
-      (record { own = refl; frame = subst (Placed s (length t.path)) (sym so.0) (parked_placed fs branches so.1); branches = branches })
+      (record { own = refl; frame = subst (Placed s (length t.path)) (sym so.1) (parked_placed fs so.0 branches so.2); branches = branches })
   turn_placed (outcome.Call c) d level found branches free so h =
       let m = map_some (λ (work : Work). call_deed (next_step t f) p.at.0 work f (table.in_form s.table s.schema w.items c)) (work_of p.at.1) d h in
       let o = table.in_form s.table s.schema w.items c in
@@ -247,9 +248,11 @@ module _ (s : Setting) (whole : HasWholeMachines s) (w : World) (t : Thread) (f 
 
   phase_placed : (phase : Phase) (d : Deed) → deed_in s w t p.at f phase ≡ Some d → PlacedAt s t d
   phase_placed Ready d h =
-      turn_placed (turn p.at f) d (turn-level p.at f) (turn-state p.at f (inside s whole (length t.path) f p) (here s whole (length t.path) f p)) (branches_placed s whole (length t.path) f p)
-      (turn_yields p.at.0 p.at.1 f) (turn_so p.at.0 p.at.1 f) h
-  phase_placed (Parked n) d h = close_placed (first_fault (kids w t f n)) (outputs (kids w t f n)) d h
+      let k = turn_told w.frames t f (deed_of_turn s w (next_step t f) p.at f (turn p.at f)) d h in
+      let it = turn_placed (turn p.at f) k.deed (turn-level p.at f) (turn-state p.at f (inside s whole (length t.path) f p) (here s whole (length t.path) f p)) (branches_placed s whole (length t.path) f p)
+      (turn_yields p.at.0 p.at.1 f) (turn_so p.at.0 p.at.1 f) k.is in
+      subst (PlacedAt s t) k.told (record { own = it.own; frame = it.frame; branches = it.branches })
+  phase_placed (Parked n bound) d h = close_placed (first_fault (kids w t f n)) (outputs (kids w t f n)) d h
   phase_placed (Done output) d h = cc
   phase_placed (Failed fault) d h = cc
 
@@ -273,7 +276,7 @@ module _ (s : Setting) (whole : HasWholeMachines s) where
         there = ap (option_map (λ (x : State). (m, x))) st.1;
         deep = refl;
         works = λ h. cc;
-        over = λ n h k. cc;
+        over = λ n bound h k. cc;
       }
 
   step_placed : (w : World) (step : Step) (d : Deed) → AllPlaced s w → deed s w step ≡ Some d → PlacedAt s d.fact.name.thread d

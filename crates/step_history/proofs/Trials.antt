@@ -48,7 +48,7 @@ starts d m h g thread text input f law path none first same goes is =
     let named : start_name thread.exec ≡ record { thread = thread; no = 0 } = ap (λ (t : Thread). let x : StepName = record { thread = t; no = 0 } in x) (sym own) in
     let nexts : next.Begin (first_frame text d input) ≡ next.Begin f = ap next.Begin (sym (first ∙ ap (λ (x : Definition). first_frame text x input) same)) in
     let all = goes s is.2 is.3 (started thread.exec text input) is.4
-    (does ∙ ap (λ (x : StepName). deed_of_next h.world.items x (next.Begin (first_frame text d input))) named ∙ ap (deed_of_next h.world.items (record { thread = thread; no = 0 })) nexts) in
+    (does ∙ ap (λ (x : StepName). deed_of_next h.world x (next.Begin (first_frame text d input))) named ∙ ap (deed_of_next h.world (record { thread = thread; no = 0 })) nexts) in
     (is.0, is.1, is.2, all.0, all.1)
 
 module _ (d : Definition) (h : History) (is : IsOfMachine d h) (t : Thread) (f : Frame) (there : frames_of h.world t ≡ Some f) where
@@ -68,7 +68,7 @@ module _ (d : Definition) (h : History) (is : IsOfMachine d h) (t : Thread) (f :
 
     pub moved_on : (g : History) → GoesOn h (next_step t f) n g → IsOfMachine d g
     moved_on g goes =
-        let does = subst (λ (x : StepName). deed (only d is.0 is.1) (seen h.world) (moved x) ≡ deed_of_next h.world.items x n) same_name move.3 in
+        let does = subst (λ (x : StepName). deed (only d is.0 is.1) (seen h.world) (moved x) ≡ deed_of_next h.world x n) same_name move.3 in
         let all = goes (only d is.0 is.1) is.2 is.3 (moved (next_step t f)) is.4 does in
         (is.0, is.1, is.2, all.0, all.1)
 

@@ -1,5 +1,5 @@
 -- What is worked out of a frame is what its thread's move does.
-use Rattle.std.proofs.Common.{◌≡◌, ◌+◌, ◌-◌, arith, ℕ, true, List, refl, ap, sym, subst, ◌∙◌, Option, None, Some, Result, Ok, Err, IfOk}
+use Rattle.std.proofs.Common.{◌≡◌, ◌+◌, ◌-◌, arith, ℕ, true, false, List, refl, ap, sym, subst, ◌∙◌, Option, None, Some, Result, Ok, Err, IfOk}
 use Rattle.std.specs.Prelude.{IfSome, IsSomeAnd, option_map, option_and_then}
 use Rattle.json_tree.specs.Data.{Data}
 use Rattle.asl_tree.specs.Definition.{Definition}
@@ -12,7 +12,7 @@ use Rattle.asl_forward.specs.declared.prepared.Prepared.{Prepared}
 use Rattle.saved_steps.specs.FlatMap.{is_parked}
 use Rattle.step_names.specs.Thread.{Thread}
 use Rattle.step_names.specs.declared.step.StepName.{StepName}
-use Rattle.saved_steps.specs.Deeds.{deed_of, first_fault, outputs, stands, next_step, deed_in, close_deed}
+use Rattle.saved_steps.specs.Deeds.{deed_of, first_fault, outputs, stands, waits, next_step, deed_in, close_deed}
 use Rattle.saved_steps.specs.Held.{frames_of, seen}
 use Rattle.saved_steps.specs.Laws.{IsOver, WorkIsDeed, JoinIsDeed, TerminateIsDeed}
 use Rattle.saved_steps.specs.Made.{is_open, IsParkedSince}
@@ -41,14 +41,14 @@ module _ (s : Setting) (w : World) (t : Thread) (f : Frame) (m : Definition) (ov
   stands_so : stands s f ≡ standing m f
   stands_so = ap (option_and_then (λ d. standing d f)) known
 
-  pub work_move : (p : Prepared) → WorkIsDeed → f.phase ≡ Ready → p.frame ≡ f → p.machine ≡ m → IsMoveOf s w t (Some (next.Work p))
-  work_move p law ready frame from =
+  pub work_move : (p : Prepared) → WorkIsDeed → f.phase ≡ Ready → waits (frames_of w) t f ≡ false → p.frame ≡ f → p.machine ≡ m → IsMoveOf s w t (Some (next.Work p))
+  work_move p law ready begins frame from =
       let number : f.count + 1 ≡ p.frame.count + 1 = ap (λ (x : Frame). x.count + 1) (sym frame) in
       let machine_there : s.machines p.frame.level.machine ≡ Some p.machine = ap (λ (x : Frame). s.machines x.level.machine) frame ∙ known ∙ ap Some (sym from) in (
         f,
         there,
         (subst (λ (o : Option Frame). IsSomeAnd o is_open) (sym there) (ap is_parked ready), number),
-        law s w (next_step t f) p over (there ∙ ap Some (sym frame)) machine_there number,
+        law s w (next_step t f) p over (there ∙ ap Some (sym frame)) machine_there number (ap (waits (frames_of w) t) frame ∙ begins),
       )
 
   no_join : (name : StepName) (at : Standing) (ds : Option (List Data)) (work : Option Work) → option_and_then (λ (x : Work). ds) work ≡ None
@@ -57,7 +57,7 @@ module _ (s : Setting) (w : World) (t : Thread) (f : Frame) (m : Definition) (ov
   no_join name at (Some d) None h = refl
   no_join name at (Some d) (Some x) h = cc
 
-  module _ (n : ℕ) (phase : f.phase ≡ Parked n) where
+  module _ (n bound : ℕ) (phase : f.phase ≡ Parked n bound) where
     parked : IsParkedSince (frames_of w) t (f.count + 1 - 1)
     parked =
         let e : f.count ≡ f.count + 1 - 1 = omega arith in
@@ -81,8 +81,8 @@ module _ (s : Setting) (w : World) (t : Thread) (f : Frame) (m : Definition) (ov
         let at = h.0 in
         let after_it = after_join at.0 h.1 f h.2 in
         subst (λ (x : Frame). IsMoveOf s w t (Some (next.Join x))) (sym h.7)
-        (f, there, (parked, join_open at.0 h.1 f h.2), join s w (next_step t f) f n at h.1 h.2 there phase (stands_so ∙ h.3) h.4 h.5 h.6 refl)
+        (f, there, (parked, join_open at.0 h.1 f h.2), join s w (next_step t f) f n bound at h.1 h.2 there phase (stands_so ∙ h.3) h.4 h.5 h.6 refl)
     close_move (Some (next.Terminate g)) join terminate h =
         let at = h.0 in
         subst (λ (x : Frame). IsMoveOf s w t (Some (next.Terminate x))) (sym h.4)
-        (f, there, (parked, branch_open at f h.1), terminate s w (next_step t f) f n at h.1 there phase (stands_so ∙ h.2) h.3 refl)
+        (f, there, (parked, branch_open at f h.1), terminate s w (next_step t f) f n bound at h.1 there phase (stands_so ∙ h.2) h.3 refl)

@@ -18,7 +18,7 @@ HasWholeMachines s = (name : List ℕ) → IfSome (s.machines name) IsWhole
 
 -- there is a name for each branch of a thread that is parked over one or more
 abbrev pub HasNamesBelow : Thread → Frame → Type 0
-HasNamesBelow t f = (n : ℕ) → f.phase ≡ Parked n → 1 ≤ n → length t.path < 31
+HasNamesBelow t f = (n bound : ℕ) → f.phase ≡ Parked n bound → 1 ≤ n → length t.path < 31
 
 -- The frame stands before a state of the setting's machine, as many levels deep as its thread has branches above it.
 pub record IsPlaced (s : Setting) (t : Thread) (f : Frame) : Type 0 where

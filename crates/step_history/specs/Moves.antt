@@ -25,7 +25,7 @@ IsMachineOf s frame machine = IfSome frame (λ f. s.machines f.level.machine ≡
 abbrev pub IsMoveOf : Setting → World → Thread → Option Next → Type 0
 IsMoveOf s w t None = move_deed s (seen w) t ≡ None
 IsMoveOf s w t (Some next) =
-    (f : Frame) × (frames_of w t ≡ Some f) × Suits w (next_step t f) next × (deed s (seen w) (moved (next_step t f)) ≡ deed_of_next w.items (next_step t f) next)
+    (f : Frame) × (frames_of w t ≡ Some f) × Suits w (next_step t f) next × (deed s (seen w) (moved (next_step t f)) ≡ deed_of_next w (next_step t f) next)
 
 -- ---- branches
 

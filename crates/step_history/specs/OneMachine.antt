@@ -22,5 +22,5 @@ IsOfMachine d h = (table : List ℕ) × (schema : KeySchema) × (base : World) �
 -- where the step is to do what its next says, the second history is one too
 abbrev pub GoesOn : History → StepName → Next → History → Type 0
 GoesOn h name next g =
-    (s : Setting) (base : World) (ts : List Past) (step : Step) → IsHistory s base ts h → deed s (seen h.world) step ≡ deed_of_next h.world.items name next
+    (s : Setting) (base : World) (ts : List Past) (step : Step) → IsHistory s base ts h → deed s (seen h.world) step ≡ deed_of_next h.world name next
     → (more : List Past) × IsHistory s base more g

@@ -1,10 +1,10 @@
 // What a thread's move is to do.
-ghost use Rattle.std.specs.Prelude.{◌≡◌, ◌<◌, ◌≤◌, ◌+◌, ◌^◌, List, length, IfOk, IfSome, IsSome, Some, None, is_some, option_copied, option_map};
+ghost use Rattle.std.specs.Prelude.{◌≡◌, ◌<◌, ◌≤◌, ◌+◌, ◌^◌, List, length, IfOk, IfSome, IsSome, Some, None, is_some, option_copied, option_map, false};
 ghost use Rattle.json_tree.specs.View.{data_of};
 ghost use Rattle.asl_forward.specs.Results.{work_of, work_at};
 ghost use Rattle.asl_frames.specs.Turn.{standing};
 ghost use Rattle.step_names.specs.Thread.{child_of};
-ghost use Rattle.saved_steps.specs.Deeds.{first_fault, outputs};
+ghost use Rattle.saved_steps.specs.Deeds.{first_fault, outputs, waits};
 ghost use Rattle.saved_steps.specs.Held.{frames_of};
 ghost use Rattle.saved_steps.specs.World.{Setting, World};
 ghost use Rattle.step_history.specs.History.{Past, IsHistory, IsSomeHistory};
@@ -27,8 +27,8 @@ fn has_work(state: &State) -> bool
 }
 
 impl History {
-    /// What the move of a thread with this frame is to do, in the machine of the frame's level; none, where it waits, is done, has
-    /// failed or stands nowhere in this machine. Takes what `prepare`, `joined` and `after_branch` take, and memory for the
+    /// What the move of a thread with this frame, which may begin, is to do, in the machine of the frame's level; none, where it
+    /// waits for its branches, is done, has failed or stands nowhere in this machine. Takes what `prepare`, `joined` and `after_branch` take, and memory for the
     /// name of each branch in turn; the outputs of branches are shared.
     pub fn next_of(
         &self,
@@ -41,6 +41,7 @@ impl History {
         requires frame { frames_of self.now.world thread.now ≡ Some frame.now }
         requires count { length self.now.records.items + 1 < 2 ^ 32 }
         requires depth { IfSome (frames_of self.now.world thread.now) (HasNamesBelow thread.now) }
+        requires begins { frame.now.phase ≡ Phase.Ready → waits (frames_of self.now.world) thread.now frame.now ≡ false }
         ensures { IfOk result (λ next. (s : Setting) (base : World) (ts : List Past) → IsHistory s base ts self.now → IsMachineOf s (frames_of self.now.world thread.now) machine.now → IsMoveOf s self.now.world thread.now next) }
     {
         nexts_are_moves();
@@ -52,7 +53,7 @@ impl History {
                 let prepared = prepare(alloc, machine, frame)?;
                 Ok(Some(Next::Work(prepared)))
             }
-            Phase::Parked(branches) => {
+            Phase::Parked(branches, _) => {
                 let works = has_work(state);
                 self.close_of(alloc, machine.machine(), thread, frame, *branches, works)
             }
@@ -127,7 +128,7 @@ impl History {
         };
         match &frame.phase {
             Phase::Failed(fault) => Ok(Some(fault)),
-            Phase::Ready | Phase::Parked(_) | Phase::Done(_) => Ok(None),
+            Phase::Ready | Phase::Parked(_, _) | Phase::Done(_) => Ok(None),
         }
     }
 
@@ -148,7 +149,7 @@ impl History {
         };
         match &frame.phase {
             Phase::Done(output) => Ok(Some(output)),
-            Phase::Ready | Phase::Parked(_) | Phase::Failed(_) => Ok(None),
+            Phase::Ready | Phase::Parked(_, _) | Phase::Failed(_) => Ok(None),
         }
     }
 

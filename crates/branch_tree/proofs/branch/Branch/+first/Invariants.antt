@@ -1,7 +1,6 @@
-use Rattle.std.proofs.Common.{◌≡◌, take, ◌+◌, ◌*◌, length}
+use Rattle.std.proofs.Common.{◌≤◌, Bool, None, ◌+◌, ◌*◌, length}
 use Rattle.std.specs.BTreeSet.{contains}
 use Rattle.step_names.specs.Order.{thread_cmp}
-use Rattle.branch_tree.proofs.Progress.{failed_one, all_done}
 use Rattle.branch_tree.proofs.FirstOf.{IsFirstOf}
 use Rattle.branch_tree.proofs.branch.Branch.+first.Given as goal
 
@@ -14,9 +13,8 @@ decreases-first_at_fork l = 3 * length l.self.now + 1
 abbrev pub decreases-first_as_branch : goal.decreases-first_as_branch
 decreases-first_as_branch l = 3 * length l.self.now + 3
 
-abbrev pub invariant-first_at_fork-loop-i : goal.invariant-first_at_fork-loop-i
-invariant-first_at_fork-loop-i l = record {
-  failed : l.failed ≡ failed_one (take l.i l.self-inside.kids.items);
-  done : l.done ≡ all_done (take l.i l.self-inside.kids.items);
-  first : IsFirstOf l.self-inside.frame l.self-inside.kids.items l.name (contains thread_cmp l.passed) l.i l.first;
+abbrev pub invariant-first_at_fork-loop-index : goal.invariant-first_at_fork-loop-index
+invariant-first_at_fork-loop-index l = record {
+  past : l.self-inside.counts.leading ≤ l.index;
+  first : (begins : Bool) → IsFirstOf begins l.self-inside.frame l.self-inside.kids.items l.name (contains thread_cmp l.passed) l.index None;
 }

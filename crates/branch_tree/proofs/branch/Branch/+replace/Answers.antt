@@ -1,5 +1,7 @@
-use Rattle.std.proofs.Common.{arith, ◌≡◌, false, ◌∙◌}
+use Rattle.std.proofs.Common.{arith, ◌≡◌, false, ◌∙◌, subst, List}
 use Rattle.branch_tree.specs.FlatMap.{is_parked}
+use Rattle.branch_tree.specs.Leading.{AreCounted}
+use Rattle.branch_tree.specs.Tree.{Rows}
 use Rattle.branch_tree.proofs.Nodes.{flat_tree}
 use Rattle.branch_tree.proofs.Descent.{first, rest, goes_by, goes_to, holds_there, first_then_rest, shorter}
 use Rattle.branch_tree.proofs.Changes.{framed, set_node}
@@ -10,23 +12,39 @@ index_mut-kid-requires t c =
     let s = goes_by c.self.inside.frame c.self.inside.kids.items c.args.self.now c.args.path.now c.self.view_is c.in-len1-up.len_at_least (λ f. is_parked f.phase ≡ false) c.requires.open in
     omega (arith, s.1, c.self.inside.kids.ok.0)
 
-pub replace-requires-in-len1-up : goal.replace-requires-in-len1-up
-replace-requires-in-len1-up t c = (omega (arith, shorter c.args.path.now c.in-len1-up.len_at_least, c.decreases), (holds_there c.self.inside.frame c.self.inside.kids.items c.args.self.now c.args.path.now c.self.view_is c.in-len1-up.len_at_least (λ f. is_parked f.phase ≡ false) c.index_mut-kid.result.now c.index_mut-kid.ensures.value c.requires.open, c.requires.next))
+pub replace-before-requires : goal.replace-before-requires
+replace-before-requires t c = (omega (arith, shorter c.args.path.now c.in-len1-up.len_at_least, c.decreases), (holds_there c.self.inside.frame c.self.inside.kids.items c.args.self.now c.args.path.now c.self.view_is c.in-len1-up.len_at_least (λ f. is_parked f.phase ≡ false) c.index_mut-kid.result.now c.index_mut-kid.ensures.value c.requires.open, c.requires.next))
+
+pub counts_after-self-inside-requires : goal.counts_after-self-inside-requires
+counts_after-self-inside-requires t c =
+    let s = goes_by c.self.inside.frame c.self.inside.kids.items c.args.self.now c.args.path.now c.self.view_is c.in-len1-up.len_at_least (λ f. is_parked f.phase ≡ false) c.requires.open in (
+      c.self.inside.kids.items,
+      c.index_mut-kid.result.now,
+      c.replace-before.new.self,
+      s.1,
+      c.index_mut-kid.ensures.value,
+      c.has_failed-failed.ensures,
+      c.deref.ensures.value,
+      c.self.invariant.counts,
+    )
 
 pub invariant_of-self-in-len1-up : goal.invariant_of-self-in-len1-up
-invariant_of-self-in-len1-up t c = set_node c.self.inside.frame c.self.inside.kids.items (first c.args.path.now).1 c.replace-in-len1-up.new.self c.self.invariant c.replace-in-len1-up.ensures.tree
+invariant_of-self-in-len1-up t c = record {
+  node = set_node c.self.inside.frame c.self.inside.kids.items (first c.args.path.now).1 c.replace-before.new.self c.self.invariant.node c.replace-before.ensures.tree;
+  counts = subst (λ (ks : List Rows). AreCounted ks c.counts_after-self-inside.result.leading c.counts_after-self-inside.result.failed) c.deref.ensures.value c.counts_after-self-inside.ensures;
+}
 
 pub returns-in-len1-up-clause-before : goal.returns-in-len1-up-clause-before
 returns-in-len1-up-clause-before t c =
     let s = goes_by c.self.inside.frame c.self.inside.kids.items c.args.self.now c.args.path.now c.self.view_is c.in-len1-up.len_at_least (λ f. is_parked f.phase ≡ false) c.requires.open in
-    goes_to c.self.inside.frame c.self.inside.kids.items c.args.self.now c.args.path.now c.self.view_is c.in-len1-up.len_at_least c.index_mut-kid.result.now s.0 s.1 c.index_mut-kid.ensures.value ∙ c.replace-in-len1-up.ensures.before
+    goes_to c.self.inside.frame c.self.inside.kids.items c.args.self.now c.args.path.now c.self.view_is c.in-len1-up.len_at_least c.index_mut-kid.result.now s.0 s.1 c.index_mut-kid.ensures.value ∙ c.replace-before.ensures.before
 
 pub returns-in-len1-up-clause-frames : goal.returns-in-len1-up-clause-frames
 returns-in-len1-up-clause-frames t c =
     let s = goes_by c.self.inside.frame c.self.inside.kids.items c.args.self.now c.args.path.now c.self.view_is c.in-len1-up.len_at_least (λ f. is_parked f.phase ≡ false) c.requires.open in
-    framed c.self.inside.frame c.self.inside.kids.items c.args.self.now c.index_mut-kid.result.now c.replace-in-len1-up.new.self c.args.path.now (first c.args.path.now) (rest c.args.path.now)
-    c.args.frame c.self.view_is (first_then_rest c.args.path.now c.in-len1-up.len_at_least) s.0 s.1 c.index_mut-kid.ensures.value c.replace-in-len1-up.ensures.frames
+    framed c.self.inside.frame c.self.inside.kids.items c.args.self.now c.index_mut-kid.result.now c.replace-before.new.self c.args.path.now (first c.args.path.now) (rest c.args.path.now)
+    c.args.frame c.self.view_is (first_then_rest c.args.path.now c.in-len1-up.len_at_least) s.0 s.1 c.index_mut-kid.ensures.value c.replace-before.ensures.frames
 
 pub returns-in-len1-up-clause-tree : goal.returns-in-len1-up-clause-tree
 returns-in-len1-up-clause-tree t c =
-    flat_tree c.self.inside.frame _ (set_node c.self.inside.frame c.self.inside.kids.items (first c.args.path.now).1 c.replace-in-len1-up.new.self c.self.invariant c.replace-in-len1-up.ensures.tree)
+    flat_tree c.self.inside.frame _ (set_node c.self.inside.frame c.self.inside.kids.items (first c.args.path.now).1 c.replace-before.new.self c.self.invariant.node c.replace-before.ensures.tree)

@@ -9,5 +9,5 @@ returns c =
     let w = c.args.self.now in
     let v : World = record { alloc = w.alloc; executions = c.give-before.new.executions; items = w.items } in
     let s = c.requires in
-    fork w v (record { name = c.args.name; change = change.Fork c.args.frame c.args.kids }) c.record.result c.args.name c.args.frame c.give-before.result c.args.kids.items s.4.0 refl
+    fork w v (record { name = c.args.name; bound = c.args.bound; change = change.Fork c.args.frame c.args.kids }) c.record.result c.args.name c.args.bound c.args.frame c.give-before.result c.args.kids.items s.4.0 refl
     s.0 s.1 s.2 s.3 s.4.1 c.give-before.ensures.was c.give-before.ensures.tree c.give-before.ensures.frames refl (λ d x. x.change) (refl, s.4.1) c.record.ensures

@@ -11,5 +11,5 @@ returns c =
     let v : World = record { alloc = w.alloc; executions = c.take-before.new.executions; items = w.items } in
     let t = c.take-before.result in
     let e = c.take-before.ensures in
-    close w v (record { name = c.args.name; change = change.Terminate c.args.frame }) c.record.result c.args.name kind.Terminate c.args.frame t.0 t.1 refl
+    close w v (record { name = c.args.name; bound = c.args.bound; change = change.Terminate c.args.frame }) c.record.result c.args.name c.args.bound kind.Terminate c.args.frame t.0 t.1 refl
     refl refl c.requires.0 c.requires.1 e.was e.node e.tree e.frames refl (λ d x. x.change) refl c.record.ensures

@@ -1,4 +1,4 @@
-use Rattle.std.proofs.Common.{ℕ, List, subst}
+use Rattle.std.proofs.Common.{ℕ, true, List, subst}
 use Rattle.std.specs.BTreeSet.{contains}
 use Rattle.std.specs.String.{string_bytes}
 use Rattle.branch_tree.specs.First.{IsFirst}
@@ -13,15 +13,15 @@ returns-in-Some-2 c =
     let m = c.args.self.now.executions in
     let passed = contains thread_cmp c.args.passed.now in
     let gone = subst (IsGone m passed) c.in-Some.ensures.steps c.loop-exec.invariant in
-    let found = subst (λ (exec : List ℕ). IsFirst (rows_at c.in-Some.place.now) (execution exec) passed c.in_ok-found.field-0) c.as_str.ensures.value c.in_ok-found.ensures in
+    let found = subst (λ (exec : List ℕ). IsFirst true (rows_at c.in-Some.place.now) (execution exec) passed c.in_ok-found.field-0) c.as_str.ensures.value c.in_ok-found.ensures in
     is_found m passed c.in-Some.exec.now c.in-Some.place.now c.next.new.self gone c.in-Some-2.found c.path.ensures.bounds
-    (subst (IsFirst (rows_at c.in-Some.place.now) (execution (string_bytes c.in-Some.exec.now)) passed) c.in-Some-2.is found)
+    (subst (IsFirst true (rows_at c.in-Some.place.now) (execution (string_bytes c.in-Some.exec.now)) passed) c.in-Some-2.is found)
 
 pub loop-exec-preserved : goal.loop-exec-preserved
 loop-exec-preserved c =
     let m = c.args.self.now.executions in
     let passed = contains thread_cmp c.args.passed.now in
     let gone = subst (IsGone m passed) c.in-Some.ensures.steps c.loop-exec.invariant in
-    let found = subst (λ (exec : List ℕ). IsFirst (rows_at c.in-Some.place.now) (execution exec) passed c.in_ok-found.field-0) c.as_str.ensures.value c.in_ok-found.ensures in
+    let found = subst (λ (exec : List ℕ). IsFirst true (rows_at c.in-Some.place.now) (execution exec) passed c.in_ok-found.field-0) c.as_str.ensures.value c.in_ok-found.ensures in
     goes_by m passed c.in-Some.exec.now c.in-Some.place.now c.next.new.self gone
-    (subst (IsFirst (rows_at c.in-Some.place.now) (execution (string_bytes c.in-Some.exec.now)) passed) c.in_default.is found)
+    (subst (IsFirst true (rows_at c.in-Some.place.now) (execution (string_bytes c.in-Some.exec.now)) passed) c.in_default.is found)

@@ -1,10 +1,9 @@
 use Rattle.std.proofs.Common.{◌≡◌, sym, ◌∙◌, subst}
 use Rattle.asl_forward.specs.declared.prepared.Outcome.TheVariants as outcome
-use Rattle.saved_steps.specs.Made.{IsMadeOf}
+use Rattle.saved_steps.specs.Made.{IsMadeBy}
 use Rattle.saved_steps.specs.declared.made.Change.{Change}
-use Rattle.saved_steps.specs.declared.next.Next.TheVariants as next
 use Rattle.saved_steps.specs.declared.world.World.{World}
-use Rattle.saved_steps.proofs.Ready.{call}
+use Rattle.saved_steps.proofs.Ready.{does, call}
 use Rattle.saved_steps.proofs.world.World.make_call.Goals as goal
 
 pub returns-clause-made : goal.returns-clause-made
@@ -14,5 +13,5 @@ returns-clause-made c =
     let p = c.args.prepared in
     let is : p.outcome ≡ outcome.Call c.in-Call.call = sym c.outcome.ensures ∙ c.in-Call.is in
     let f = c.in-Ok-finish.ensures in
-    subst (λ (x : Change). IsMadeOf w v c.args.name (next.Work p) (record { name = c.args.name; change = x })) (sym c.change_of.ensures)
-    (call w v c.args.name p c.in-Call.call c.in-Ok.field-0 c.in-Ok-finish.frame f.0 f.1 is f.2 f.3 f.4 c.in-Ok.ensures.answer c.requires.suits.0)
+    subst (λ (x : Change). IsMadeBy v c.args.name (does w c.args.name c.args.bound p) (record { name = c.args.name; bound = c.args.bound; change = x })) (sym c.change_of.ensures)
+    (call w v c.args.name c.args.bound p c.in-Call.call c.in-Ok.field-0 c.in-Ok-finish.frame f.0 f.1 is f.2 f.3 f.4 c.in-Ok.ensures.answer c.requires.suits.0)

@@ -12,16 +12,16 @@ leaves-requires c =
     let p = c.args.prepared in
     let is : p.outcome ≡ outcome.Fork c.in-Fork.frame c.in-Fork.frames = sym (ap (λ x. x.2) c.into_parts-outcome.ensures) ∙ c.in-Fork.is in
     let y = turned p (outcome.Fork c.in-Fork.frame c.in-Fork.frames) is in
-    subst (λ (fs : List Frame). All is_open fs) (sym c.into_vec.ensures) y.2
+    subst (λ (fs : List Frame). All is_open fs) (sym c.into_vec.ensures) y.3
 
 pub returns-in-Next-clause-made : goal.returns-in-Next-clause-made
 returns-in-Next-clause-made c =
     let p = c.args.prepared in
     let is : p.outcome ≡ outcome.Next c.in-Next.frame = sym (ap (λ x. x.2) c.into_parts-outcome.ensures) ∙ c.in-Next.is in
-    plain c.args.self.now c.args.name p c.in-Next.frame is c.requires
+    plain c.args.self.now c.args.name c.args.bound p c.in-Next.frame is c.requires
 
 pub returns-in-Ok-clause-made : goal.returns-in-Ok-clause-made
 returns-in-Ok-clause-made c =
     let p = c.args.prepared in
     let is : p.outcome ≡ outcome.Fork c.in-Fork.frame c.in-Fork.frames = sym (ap (λ x. x.2) c.into_parts-outcome.ensures) ∙ c.in-Fork.is in
-    fork c.args.self.now c.args.name p c.in-Fork.frame c.in-Fork.frames c.in-Ok.kids is (c.in-Ok.ensures.rows ∙ ap (λ (fs : List Frame). map leaf fs) c.into_vec.ensures) c.in-Ok.ensures.trees c.requires
+    fork c.args.self.now c.args.name c.args.bound p c.in-Fork.frame c.in-Fork.frames c.in-Ok.kids is (c.in-Ok.ensures.rows ∙ ap (λ (fs : List Frame). map leaf fs) c.into_vec.ensures) c.in-Ok.ensures.trees c.requires

@@ -33,7 +33,7 @@ pub returns-in_ok-prepared-in-Ready : goal.returns-in_ok-prepared-in-Ready
 returns-in_ok-prepared-in-Ready c = λ s base ts is machine.
     let h = c.args.self.now in
     let p = c.in_ok-prepared-in-Ready in
-    work_move s h.world c.args.thread.now c.args.frame.now c.args.machine.now (is_over s base ts h is) c.requires.frame machine p.prepared c.nexts_are_moves.ensures.work c.in-Ready.is p.ensures.frame p.ensures.machine
+    work_move s h.world c.args.thread.now c.args.frame.now c.args.machine.now (is_over s base ts h is) c.requires.frame machine p.prepared c.nexts_are_moves.ensures.work c.in-Ready.is (c.requires.begins c.in-Ready.is) p.ensures.frame p.ensures.machine
 
 pub returns-in-Parked : goal.returns-in-Parked
 returns-in-Parked c =
@@ -42,5 +42,5 @@ returns-in-Parked c =
     let m = c.machine-in-Parked.result.now in
     ok_map _ _ c.close_of.result (λ o closes. λ s base ts is machine.
     close_move s h.world c.args.thread.now f m (is_over s base ts h is) c.requires.frame
-    (subst (λ (d : Definition). IsMachineOf s (frames_of h.world c.args.thread.now) d) (sym c.machine-in-Parked.ensures) machine) c.in-Parked.branches c.in-Parked.is o c.nexts_are_moves.ensures.join c.nexts_are_moves.ensures.terminate closes)
+    (subst (λ (d : Definition). IsMachineOf s (frames_of h.world c.args.thread.now) d) (sym c.machine-in-Parked.ensures) machine) c.in-Parked.branches c.in-Parked.field-1 c.in-Parked.is o c.nexts_are_moves.ensures.join c.nexts_are_moves.ensures.terminate closes)
     c.close_of.ensures
