@@ -1,0 +1,10 @@
+pub mod Gets
+pub mod Keys
+pub mod Counts
+pub mod Updates
+pub mod Written
+pub mod Inserted
+pub mod Removed
+pub mod Members
+pub mod Back
+pub mod Neighbours

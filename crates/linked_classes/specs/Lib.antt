@@ -1,0 +1,5 @@
+pub mod Cells
+pub mod Keys
+pub mod Linked
+pub mod Classes
+pub mod Members
