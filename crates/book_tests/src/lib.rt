@@ -4,6 +4,8 @@
 #[cfg(test)]
 mod acts;
 #[cfg(test)]
+mod commits;
+#[cfg(test)]
 mod laws;
 #[cfg(test)]
 mod orders;

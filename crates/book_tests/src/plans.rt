@@ -125,6 +125,7 @@ fn record(alloc: Global, row: &Row) -> Result<StepRecord, Fail> {
                 name,
                 kind: kind(row.2),
                 access,
+                bound: 0,
             },
             saved: Saved::Started,
         }),

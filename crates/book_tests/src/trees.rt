@@ -37,7 +37,7 @@ type Look = (&'static [(u32, u32)], Option<(u32, State)>, Readiness);
 fn state_of(phase: &Phase) -> State {
     match phase {
         Phase::Ready => State::Ready,
-        Phase::Parked(n) => State::Parked(*n),
+        Phase::Parked(n, _) => State::Parked(*n),
         Phase::Done(_) => State::Done,
         Phase::Failed(_) => State::Failed,
     }
@@ -46,7 +46,7 @@ fn state_of(phase: &Phase) -> State {
 fn is_parked(phase: &Phase) -> bool
     ensures { result ≡ is_parked phase.now }
 {
-    matches!(phase, Phase::Parked(_))
+    matches!(phase, Phase::Parked(_, _))
 }
 
 fn fault(alloc: Global) -> Result<Fault, AllocError> {
@@ -60,7 +60,7 @@ fn fault(alloc: Global) -> Result<Fault, AllocError> {
 fn phase(alloc: Global, state: State) -> Result<Phase, AllocError> {
     Ok(match state {
         State::Ready => Phase::Ready,
-        State::Parked(n) => Phase::Parked(n),
+        State::Parked(n) => Phase::Parked(n, 0),
         State::Done => Phase::Done(Json::Null),
         State::Failed => Phase::Failed(fault(alloc)?),
     })
@@ -144,7 +144,7 @@ fn fork(
     count: u32,
     branches: u32,
 ) -> Result<bool, AllocError> {
-    let parked = frame_in(alloc, count, Phase::Parked(branches))?;
+    let parked = frame_in(alloc, count, Phase::Parked(branches, 0))?;
     let Ok(kids) = ready_branches(alloc, branches) else {
         drop(parked);
         return Err(AllocError);

@@ -10,6 +10,7 @@ pub mod Added
 pub mod Places
 pub mod Whole
 pub mod Moving
+pub mod Ticketed
 pub mod Looking
 pub mod Ordered
 pub mod Rerun

@@ -3,13 +3,14 @@ use Rattle.std.proofs.Common.{◌≡◌, ◌<◌, ◌+◌, arith, ◌==◌, eq-e
 use Rattle.std.specs.Prelude.{◌&&◌, not, is_some, option_and_then, ◌^◌}
 use Rattle.std.proofs.lemmas.Option.{same_Some}
 use Rattle.step_history.specs.Frame.{Frame}
+use Rattle.step_history.specs.Phase.TheVariants.{Ready}
 use Rattle.asl_tree.specs.Definition.{Definition}
 use Rattle.branch_tree.specs.First.{has_move}
 use Rattle.branch_tree.specs.Ready.{readiness_at}
 use Rattle.branch_tree.specs.declared.readiness.Readiness.{Readiness}
 use Rattle.step_names.specs.Thread.{Thread}
 use Rattle.step_names.specs.declared.step.StepName.{StepName}
-use Rattle.saved_steps.specs.Deeds.{Deed, deed, frame_deed, if_numbered, move_deed, next_step}
+use Rattle.saved_steps.specs.Deeds.{Deed, deed, frame_deed, if_numbered, move_deed, next_step, waits}
 use Rattle.saved_steps.specs.First.{IsFirstReady, free}
 use Rattle.saved_steps.specs.Held.{frames_of, paths_of, seen}
 use Rattle.saved_steps.specs.Made.{Suits, deed_of_next, fact_made}
@@ -19,7 +20,7 @@ use Rattle.saved_steps.specs.declared.fact.Fact.{Fact}
 use Rattle.saved_steps.specs.declared.fact.Kind.{Kind}
 use Rattle.saved_steps.specs.declared.made.Made.{Made as MadeStep}
 use Rattle.saved_steps.specs.declared.next.Next.{Next}
-use Rattle.depends.proofs.Turned.{frame_move}
+use Rattle.depends.proofs.Turned.{frame_move, frame_begins}
 use Rattle.step_history.specs.History.{Past, IsHistory}
 use Rattle.step_history.specs.Levels.{HasNamesBelow}
 use Rattle.step_history.specs.Moves.{IsMachineOf, IsMoveOf}
@@ -62,7 +63,7 @@ module _ (b : Volume) (tied : IsTied b) (t : Thread) where
   unfolding step_answer
   answer_by o h = ap (thread_answer b.story t) (ap (λ (w : World). w.frames t) (world_is b tied) ∙ h)
 
-  told_there : readiness_at (paths_of (world_of b.story).frames t.exec) t.path ≡ readiness_there
+  pub told_there : readiness_at (paths_of (world_of b.story).frames t.exec) t.path ≡ readiness_there
   told_there = ap (λ (w : World). readiness_at (paths_of w.frames t.exec) t.path) (world_is b tied)
 
   pub step_absent : frames_of b.history.world t ≡ None → step_answer b.story t ≡ Err NoThread
@@ -84,7 +85,7 @@ module _ (b : Volume) (tied : IsTied b) (t : Thread) where
     pub step_full : has_move readiness_there ≡ true → is_full_for_step b.story ≡ true → step_answer b.story t ≡ Err Full
     step_full h full = let d = moving h in by_move (Some d.0) d.1 ∙ ap (or_full (record { name = d.0.fact.name; kind = d.0.fact.kind })) full
 
-    few_steps : f.count + 1 < 2 ^ 32
+    pub few_steps : f.count + 1 < 2 ^ 32
     few_steps =
         let c = (counted (setting_of b.story) (base_of b.story.begin) (past_of b.story) b.history tied.history t f there).bound in
         let few = tied.few in
@@ -96,6 +97,14 @@ module _ (b : Volume) (tied : IsTied b) (t : Thread) where
         let p = frames_stand (setting_of b.story) (base_of b.story.begin) (past_of b.story) b.history t f (legal_whole b.story tied.legal) tied.history there in
         p.below
 
+    begins : has_move readiness_there ≡ true → f.phase ≡ Ready → waits (frames_of b.history.world) t f ≡ false
+    begins h e =
+        let s = setting_of b.story in
+        let w = seen b.history.world in
+        let d = moving h in
+        let by_frame : frame_deed s w t f ≡ Some d.0 = sym (ap (option_and_then (frame_deed s w t)) there) ∙ (sym moves_there ∙ d.1) in
+        frame_begins s w t f d.0 by_frame e
+
     pub ready_to : (machine : Definition) → has_move readiness_there ≡ true → is_full_for_step b.story ≡ false → placed (place_in b.places f.level.machine) ≡ Some machine → IsReadyTo b t machine f
     ready_to machine h free known =
         let d = moving h in
@@ -106,6 +115,7 @@ module _ (b : Volume) (tied : IsTied b) (t : Thread) where
           moves = d.1;
           few = few_steps;
           below = names_below;
+          begins = begins h;
           answer = by_move (Some d.0) d.1 ∙ ap (or_full (record { name = d.0.fact.name; kind = d.0.fact.kind })) free;
         }
 
@@ -127,8 +137,8 @@ module _ (b : Volume) (tied : IsTied b) (t : Thread) where
         let m = found s (base_of b.story.begin) (past_of b.story) tied.history own in
         let frame : m.0 ≡ f = same_Some m.0 f (sym m.1 ∙ there) in
         let suits : Suits b.history.world (next_step t f) next = subst (λ (g : Frame). Suits b.history.world (next_step t g) next) frame m.2 in
-        let same : deed s w (moved (next_step t f)) ≡ deed_of_next b.history.world.items (next_step t f) next =
-        subst (λ (g : Frame). deed s w (moved (next_step t g)) ≡ deed_of_next b.history.world.items (next_step t g) next) frame m.3 in
+        let same : deed s w (moved (next_step t f)) ≡ deed_of_next b.history.world (next_step t f) next =
+        subst (λ (g : Frame). deed s w (moved (next_step t g)) ≡ deed_of_next b.history.world (next_step t g) next) frame m.3 in
         let moves : move_deed s w t ≡ Some ready.deed = sym moves_there ∙ ready.moves in
         let by_frame : frame_deed s w t f ≡ Some ready.deed = sym (ap (option_and_then (frame_deed s w t)) there) ∙ moves in
         let told : ready.deed.fact.name ≡ next_step t f = (frame_move s w t f ready.deed by_frame).named in

@@ -4,6 +4,9 @@ pub mod Ready
 pub mod Ordering
 pub mod Rerunning
 pub mod Commuting
+pub mod Calls
+pub mod Tickets
+pub mod Commits
 -- what stands below and is named by the crates above
 pub use Rattle.step_history.specs.Frame
 pub use Rattle.asl_machine.specs.Profile

@@ -3,6 +3,7 @@ use Rattle.std.specs.Prelude.{◌≡◌, ◌+◌, ◌<◌, ◌^◌, ◌&&◌, �
 use Rattle.std.specs.declared.cmp.Ordering.TheVariants.{Less}
 use Rattle.json_tree.specs.declared.tree.Json.{Json}
 use Rattle.step_history.specs.Frame.{Frame}
+use Rattle.step_history.specs.Phase.TheVariants.{Ready}
 use Rattle.asl_tree.specs.Definition.{Definition}
 use Rattle.saved_steps.specs.Deeds as deeds
 use Rattle.saved_steps.specs.Held.{frames_of}
@@ -33,13 +34,13 @@ pub record IsNextOf (b : Volume) (t : Thread) (name : StepName) (next : Next) : 
   pub suits : Suits b.history.world name next
   pub deed : deeds.Deed
   pub does : deeds.deed (setting_of b.story) (world_of b.story) (moved name) ≡ Some deed
-  pub same : deed_of_next b.history.world.items name next ≡ Some deed
+  pub same : deed_of_next b.history.world name next ≡ Some deed
   pub answer : step_answer b.story t ≡ Ok (record { name = name; kind = deed.fact.kind })
 
 -- in the second book everything is made for a step that is to be taken in the first
 pub record IsMadeIn (before after : Volume) (name : StepName) (next : Next) (m : MadeStep) : Type 0 where
   pub deed : deeds.Deed
-  pub is : deed_of_next before.history.world.items name next ≡ Some deed
+  pub is : deed_of_next before.history.world name next ≡ Some deed
   pub made : IsMadeFor m deed
   pub ready : CanApply after.history.world m
   pub room : HasRoom after.history
@@ -52,6 +53,7 @@ pub record IsReadyTo (b : Volume) (t : Thread) (machine : Definition) (f : Frame
   pub moves : deeds.move_deed (setting_of b.story) (world_of b.story) t ≡ Some deed
   pub few : f.count + 1 < 2 ^ 32
   pub below : HasNamesBelow t f
+  pub begins : f.phase ≡ Ready → deeds.waits (frames_of b.history.world) t f ≡ false
   pub answer : step_answer b.story t ≡ Ok (record { name = deed.fact.name; kind = deed.fact.kind })
 
 -- the thread has a move and is not passed by

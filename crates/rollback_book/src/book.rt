@@ -1,15 +1,13 @@
 // The book: the history of its remaining steps, and the log of what was accepted.
-ghost use Rattle.std.specs.Prelude.{◌≡◌, ◌^◌, ◌<◌, ◌⊎◌, [], map, length, IfOk, IfErr, IsOk, OnOk, OnErr, MatchResult, Some, None, Ok, Err};
+ghost use Rattle.std.specs.Prelude.{◌≡◌, ◌^◌, ◌<◌, ◌⊎◌, [], map, length, IfOk, IsOk, MatchResult, Some, None, Ok, Err};
 ghost use Rattle.item_store.specs.Listing.{IsListing, items_left};
 ghost use Rattle.saved_steps.specs.Steps.{name_of};
 ghost use Rattle.step_history.specs.History.{AreRecordsOf};
-ghost use Rattle.book_log.specs.Answers.{undo_answer, plan_answer};
+ghost use Rattle.book_log.specs.Answers.{undo_answer};
 ghost use Rattle.book_log.specs.Beginning.{table_of};
-ghost use Rattle.book_log.specs.Legal.{IsLegal};
-ghost use Rattle.book_log.specs.Laws.{IsRolledBack};
-ghost use Rattle.book_log.specs.Story.{accepted, consequences_of, past_of, remaining, world_of};
+ghost use Rattle.book_log.specs.Story.{accepted, past_of, remaining, world_of};
 ghost use Rattle.rollback_book.specs.Book.{IsAt, IsFreePlace};
-ghost use Rattle.rollback_book.specs.Commuting.{IsRest};
+ghost use Rattle.rollback_book.specs.Calls.{IsLogOf, MakesRoom, PlansRollback, RollsBack, Shows, Undoes};
 ghost use Rattle.rollback_book.specs.Making.{IsPlanned, WasPlanned};
 
 use crate::lists::{names_at, push_with_room};
@@ -84,8 +82,7 @@ impl Book {
 
     /// Makes what `undo` of this step needs. Whether there is such a step is not looked at.
     pub fn room(&self, alloc: Global, step: &StepName) -> Result<Room, Refusal>
-        ensures ok { IfOk result (λ r. r.step ≡ step.now) }
-        ensures err { IfErr result (λ e. e ≡ Refusal.Memory) }
+        ensures { MakesRoom step.now result }
     {
         Ok(Room::new(alloc, step)?)
     }
@@ -103,9 +100,7 @@ impl Book {
 
     /// Takes a step back on which no remaining step depends directly, and answers its name. Takes no memory.
     pub fn undo(&mut self, room: Room) -> Result<StepName, Refusal>
-        ensures answer { result ≡ undo_answer self.old.story room.step }
-        ensures ok { OnOk result (self.new.story ≡ accepted self.old.story (Entry.Undo room.step)) }
-        ensures err { OnErr result (self.new.story ≡ self.old.story) }
+        ensures { Undoes self.old.story self.new.story room.step result }
     {
         let (at, Room { step, spare }) = self.free_place(room)?;
         let answer = spare.step(&step);
@@ -115,9 +110,7 @@ impl Book {
 
     /// Plans the rollback of a step: it and its consequences, the latest first. Takes memory for their names, twice, and places.
     pub fn plan_room(&self, alloc: Global, step: &StepName) -> Result<PlanRoom, Refusal>
-        ensures { MatchResult result
-            (λ r. (r.step ≡ step.now) × IsPlanned self.now.story r)
-            (λ e. ((e ≡ Refusal.Memory) × IsOk (plan_answer self.now.story step.now)) ⊎ (plan_answer self.now.story step.now ≡ Err e)) }
+        ensures { PlansRollback self.now.story step.now result }
     {
         let Some(at) = self.history.find(step) else {
             return Err(Refusal::NoStep);
@@ -136,11 +129,7 @@ impl Book {
     /// `Stale` where commands were accepted since the plan was made.
     pub fn rollback(&mut self, room: PlanRoom) -> Result<StepNames, Refusal>
         requires { WasPlanned self.old.story room }
-        ensures ok { IfOk result (λ names. (names ≡ room.names) × (plan_answer self.old.story room.step ≡ Ok names) × (self.new.story ≡ accepted self.old.story (Entry.Rollback room.step names))) }
-        ensures exact { IfOk result (IsRolledBack self.old.story room.step) }
-        ensures rest { OnOk result (IsRest self.old.story (consequences_of self.old.story room.step) self.new.story) }
-        ensures stale { IfErr result (λ e. (e ≡ Refusal.Stale (length self.old.story.log)) × (room.entries < length self.old.story.log)) }
-        ensures err { OnErr result (self.new.story ≡ self.old.story) }
+        ensures { RollsBack self.old.story self.new.story room result }
     {
         if self.log.len() != room.entries {
             return Err(Refusal::Stale(self.log.len()));
@@ -159,9 +148,7 @@ impl Book {
 
     /// The frame of a thread. Takes no memory, and time logarithmic in the number of executions.
     pub fn show(&self, thread: &ThreadName) -> Result<&Frame, Refusal>
-        ensures { MatchResult result
-            (λ f. (world_of self.now.story).frames thread.now ≡ Some f.now)
-            (λ e. (e ≡ Refusal.NoThread) × ((world_of self.now.story).frames thread.now ≡ None)) }
+        ensures { Shows self.now.story thread.now result }
     {
         match self.history.frame(thread) {
             Some(frame) => Ok(frame),
@@ -187,9 +174,7 @@ impl Book {
 
     /// What the book began with, and the commands that it accepted, each with its reply. Takes no memory.
     pub fn entries(&self) -> (&Begin, &[Entry])
-        ensures begin { result.0.now ≡ self.now.story.begin }
-        ensures log { result.1.now ≡ self.now.story.log }
-        ensures legal { IsLegal self.now.story }
+        ensures { IsLogOf self.now.story result.0.now result.1.now }
     {
         (&self.begin, self.log.as_slice())
     }

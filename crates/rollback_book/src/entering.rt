@@ -9,10 +9,11 @@ ghost use Rattle.asl_machine.specs.Profile.{Defines};
 ghost use Rattle.saved_steps.specs.Held.{frames_of, seen};
 ghost use Rattle.saved_steps.specs.Made.{Suits};
 ghost use Rattle.saved_steps.specs.Steps.{start_name};
-ghost use Rattle.book_log.specs.Answers.{Gives, IsDefineRefusal, is_full_for_define, start_answer};
+ghost use Rattle.book_log.specs.Answers.{IsDefineRefusal, is_full_for_define, start_answer};
 ghost use Rattle.book_log.specs.Legal.{IsAccepted};
 ghost use Rattle.book_log.specs.Story.{accepted, machine_of, world_of};
 ghost use Rattle.rollback_book.specs.Book.{place_in};
+ghost use Rattle.rollback_book.specs.Calls.{Starts};
 ghost use Rattle.rollback_book.specs.Making.{Answers, AnswersStart, CanEnter, Fits, HasLogRoom, IsProper, OrMemory, Tells};
 ghost use Rattle.rollback_book.specs.Ready.{IsMadeIn, IsStartOf};
 
@@ -62,9 +63,7 @@ impl Book {
     ) -> Result<StepName, Refusal>
         requires execution { exec.now.path ≡ [] }
         requires shallow { depth (data_of input) ≤ most_levels }
-        ensures answer { Gives result (start_answer self.old.story exec.now machine.now) }
-        ensures ok { OnOk result (self.new.story ≡ accepted self.old.story (Entry.Start exec.now machine.now input)) }
-        ensures err { OnErr result (self.new.story ≡ self.old.story) }
+        ensures { Starts self.old.story self.new.story exec.now machine.now input result }
     {
         let made = self.ready_start(alloc, exec, machine, input)?;
         let Entered::Started(name) = self.enter(made) else {

@@ -3,7 +3,9 @@
 //! The book: executions of state machines over one table, the commands that were accepted, and the taking back of their steps.
 mod book;
 mod checks;
+mod commits;
 mod entering;
+mod events;
 mod lists;
 mod machines;
 mod making;
@@ -11,10 +13,16 @@ mod ordering;
 mod rerunning;
 mod room;
 mod stepping;
+mod ticket;
+mod tickets;
 
 pub use book::Book;
 pub use book_log::{Begin, Entry, Moved, Refusal, StepNames};
 pub use branch_tree::Readiness;
+pub use commits::{CommitRefusal, Staleness};
+pub use events::Events;
 pub use making::{Change, Entered, Made};
 pub use room::{PlanRoom, Room};
 pub use saved_steps::{Access, Fact, Kind, Saved, StepRecord};
+pub use step_history::turns as turns;
+pub use ticket::Ticket;

@@ -1,14 +1,15 @@
 // Steps of threads: what is next is worked out and made, and then it is entered.
-ghost use Rattle.std.specs.Prelude.{◌≡◌, ◌+◌, ◌<◌, ◌^◌, IfOk, IfErr, MatchResult, OnErr, Err};
+ghost use Rattle.std.specs.Prelude.{◌≡◌, ◌+◌, ◌<◌, ◌^◌, IfOk, MatchResult, Err};
 ghost use Rattle.std.specs.BTreeSet.{contains};
 ghost use Rattle.branch_tree.specs.First.{has_move};
 ghost use Rattle.step_names.specs.Order.{thread_cmp};
 ghost use Rattle.saved_steps.specs.Deeds.{next_step};
 ghost use Rattle.saved_steps.specs.Made.{fact_made};
-ghost use Rattle.book_log.specs.Answers.{Gives, step_answer};
-ghost use Rattle.book_log.specs.Story.{accepted};
+ghost use Rattle.book_log.specs.Answers.{step_answer};
+ghost use Rattle.rollback_book.specs.Calls.{FindsFirst, Steps};
+ghost use Rattle.rollback_book.specs.Commits.{IsStepTold};
 ghost use Rattle.rollback_book.specs.Making.{AnswersStep, CanEnter, OrMemory};
-ghost use Rattle.rollback_book.specs.Ready.{IsFirstToMove, IsNextOf, IsReadyTo};
+ghost use Rattle.rollback_book.specs.Ready.{IsNextOf, IsReadyTo};
 
 use crate::book::Book;
 use crate::checks::is_full_for_step;
@@ -24,7 +25,7 @@ use step_history::turns::Frame;
 use step_names::{StepName, ThreadName};
 
 /// Whether a thread has a move.
-fn has_move(readiness: Readiness) -> bool
+pub(crate) fn has_move(readiness: Readiness) -> bool
     ensures { result ≡ has_move readiness }
 {
     matches!(
@@ -34,7 +35,7 @@ fn has_move(readiness: Readiness) -> bool
 }
 
 /// The name of a thread's next step.
-fn next_name(thread: &ThreadName, frame: &Frame) -> Result<StepName, AllocError>
+pub(crate) fn next_name(thread: &ThreadName, frame: &Frame) -> Result<StepName, AllocError>
     requires { frame.now.count + 1 < 2 ^ 32 }
     ensures { IfOk result (λ n. n ≡ next_step thread.now frame.now) }
 {
@@ -72,9 +73,7 @@ impl Book {
     ///
     /// `NoThread`, `NotReady`, `Full` and `Memory`, in this order.
     pub fn step(&mut self, alloc: Global, thread: &ThreadName) -> Result<Moved, Refusal>
-        ensures answer { Gives result (step_answer self.old.story thread.now) }
-        ensures ok { IfOk result (λ m. self.new.story ≡ accepted self.old.story (Entry.Step m.name m.kind)) }
-        ensures err { OnErr result (self.new.story ≡ self.old.story) }
+        ensures { Steps self.old.story self.new.story thread.now result }
     {
         let made = self.ready_step(alloc, thread)?;
         let Entered::Stepped(moved) = self.enter(made) else {
@@ -90,14 +89,29 @@ impl Book {
         ensures story { self.new.story ≡ self.old.story }
     {
         let (name, next) = self.next_of(alloc, thread)?;
-        let Ok(step) = self.make_step(alloc, &name, next) else {
-            drop(name);
-            return Err(Refusal::Memory);
-        };
-        match step_made(name, step) {
+        match self.ready_next(alloc, name, next) {
             Ok(made) => Ok(made),
             Err(AllocError) => Err(Refusal::Memory),
         }
+    }
+
+    /// Makes everything that a step needs which was worked out.
+    pub(crate) fn ready_next(
+        &mut self,
+        alloc: Global,
+        name: StepName,
+        next: Next,
+    ) -> Result<Made, AllocError>
+        requires { IsNextOf self.old name.thread name next }
+        ensures answer { IfOk result (IsStepTold (step_answer self.old.story name.thread)) }
+        ensures ready { IfOk result (λ m. CanEnter self.new m) }
+        ensures story { self.new.story ≡ self.old.story }
+    {
+        let Ok(step) = self.make_step(alloc, &name, next) else {
+            drop(name);
+            return Err(AllocError);
+        };
+        step_made(name, step)
     }
 
     /// The least thread outside a set, by the order of names, that has a move. Takes the memory and the time of
@@ -111,8 +125,7 @@ impl Book {
         alloc: Global,
         outside: &BTreeSet<ThreadName>,
     ) -> Result<Option<ThreadName>, Refusal>
-        ensures first { IfOk result (IsFirstToMove self.now.story (contains thread_cmp outside.now)) }
-        ensures memory { IfErr result (λ e. e ≡ Refusal.Memory) }
+        ensures { FindsFirst self.now.story (contains thread_cmp outside.now) result }
     {
         match self.history.first_ready(alloc, outside) {
             Ok(found) => Ok(found),

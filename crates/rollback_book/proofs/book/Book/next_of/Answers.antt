@@ -1,6 +1,7 @@
-use Rattle.std.proofs.Common.{◌≡◌, sym, subst, Option, Some}
+use Rattle.std.proofs.Common.{◌≡◌, false, sym, subst, Option, Some}
 use Rattle.std.specs.Prelude.{IfSome}
 use Rattle.step_history.specs.Frame.{Frame}
+use Rattle.saved_steps.specs.Deeds.{waits}
 use Rattle.saved_steps.specs.Held.{frames_of}
 use Rattle.step_history.specs.Levels.{HasNamesBelow}
 use Rattle.rollback_book.specs.Book.{Volume, volume}
@@ -18,6 +19,10 @@ pub next_of-requires-clause-depth : goal.next_of-requires-clause-depth
 next_of-requires-clause-depth c =
     subst (λ (b : Volume). IfSome (frames_of b.history.world c.args.thread.now) (HasNamesBelow c.args.thread.now)) (sym c.self.view_is)
     (subst (λ (o : Option Frame). IfSome o (HasNamesBelow c.args.thread.now)) (sym c.in_ok-machine.ensures.frame) c.in_ok-machine.ensures.below)
+
+pub next_of-requires-clause-begins : goal.next_of-requires-clause-begins
+next_of-requires-clause-begins c ready =
+    subst (λ (b : Volume). waits (frames_of b.history.world) c.args.thread.now c.in_ok-machine.frame.now ≡ false) (sym c.self.view_is) (c.in_ok-machine.ensures.begins ready)
 
 pub unreachable-requires : goal.unreachable-requires
 unreachable-requires c =

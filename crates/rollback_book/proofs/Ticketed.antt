@@ -1,0 +1,100 @@
+-- Which threads have a ticket, and where a prepared turn is still its thread's.
+use Rattle.std.proofs.Common.{◌≡◌, ◌+◌, Bool, true, false, refl, ap, sym, subst, ◌∙◌, Option, None, Some}
+use Rattle.std.specs.Prelude.{IsSome, not, option_and_then}
+use Rattle.std.proofs.lemmas.Option.{same_Some}
+use Rattle.asl_machine.specs.MachineSame.{same_definition, definition_exact}
+use Rattle.asl_tree.specs.Definition.{Definition}
+use Rattle.branch_tree.specs.First as first
+use Rattle.branch_tree.specs.Ready.{readiness_at}
+use Rattle.branch_tree.specs.declared.readiness.Readiness.{Readiness}
+use Rattle.step_history.specs.Frame.{Frame}
+use Rattle.step_history.specs.FrameSame.{same_frame, frame_exact}
+use Rattle.step_history.specs.Prepared.{Prepared}
+use Rattle.step_history.specs.Turn.{standing}
+use Rattle.step_history.specs.History.{Past, IsHistory}
+use Rattle.step_history.specs.Moves.{IsMachineOf, IsMoveOf}
+use Rattle.step_history.proofs.Movable.{frames_stand}
+use Rattle.step_history.proofs.Worked.{is_over, work_move}
+use Rattle.step_names.specs.Thread.{Thread}
+use Rattle.step_names.specs.declared.step.StepName.{StepName}
+use Rattle.saved_steps.specs.Deeds.{next_step}
+use Rattle.saved_steps.specs.Held.{frames_of, paths_of}
+use Rattle.saved_steps.specs.World.{Setting, World}
+use Rattle.saved_steps.specs.declared.next.Next.TheVariants.{Work}
+use Rattle.saved_steps.proofs.Moves.{work_is_deed}
+use Rattle.book_log.specs.Answers.{is_full_for_step}
+use Rattle.book_log.specs.Story.{Story, base_of, machine_of, past_of, setting_of, world_of}
+use Rattle.book_log.specs.declared.refusal.Refusal.TheVariants.{NotReady}
+use Rattle.rollback_book.specs.Book.{Volume, IsTied, place_in, placed}
+use Rattle.rollback_book.specs.Commits.{IsFresh, IsSource}
+use Rattle.rollback_book.specs.Ready.{IsNextOf, IsReadyTo}
+use Rattle.rollback_book.specs.Tickets.{IsTicketed, IsTicketRefusal, readiness_in}
+use Rattle.rollback_book.proofs.Moving.{few_steps, moves_where, next_is, ready_to, told_there}
+use Rattle.rollback_book.proofs.Tied.{world_is}
+use Rattle.rollback_book.proofs.Whole.{legal_whole}
+
+module _ (b : Volume) (tied : IsTied b) (t : Thread) where
+  pub frame_there : (o : Option Frame) → o ≡ frames_of b.history.world t → (world_of b.story).frames t ≡ o
+  frame_there o h = ap (λ (w : World). w.frames t) (world_is b tied) ∙ sym h
+
+  pub readiness_told : (readiness : Readiness) → readiness ≡ readiness_at (paths_of (frames_of b.history.world) t.exec) t.path → readiness ≡ readiness_in b.story t
+  readiness_told readiness h = h ∙ sym (told_there b tied t)
+
+  module _ (f : Frame) (there : Some f ≡ frames_of b.history.world t) where
+    pub no_ticket : (readiness : Readiness) → readiness ≡ readiness_at (paths_of (frames_of b.history.world) t.exec) t.path → first.has_move readiness ≡ false
+        → IsTicketRefusal b.story t (NotReady readiness)
+    no_ticket readiness h stuck =
+        (subst IsSome (sym (frame_there (Some f) there)) refl, moves_where b tied t ∙ sym (ap first.has_move h) ∙ stuck, readiness_told readiness h)
+
+    pub ticketed : (machine : Definition) (readiness : Readiness) → readiness ≡ readiness_at (paths_of (frames_of b.history.world) t.exec) t.path → first.has_move readiness ≡ true
+        → Some machine ≡ placed (place_in b.places f.level.machine) → IsTicketed b.story t machine f
+    ticketed machine readiness h moves known =
+        let p = frames_stand (setting_of b.story) (base_of b.story.begin) (past_of b.story) b.history t f (legal_whole b.story tied.legal) tied.history (sym there) in
+        let own : machine_of b.story f.level.machine ≡ Some machine = sym (tied.machines f.level.machine) ∙ sym known in
+        record {
+          moving = record { frame = frame_there (Some f) there; known = own; moves = moves_where b tied t ∙ sym (ap first.has_move h) ∙ moves };
+          stands = subst IsSome (ap (option_and_then (λ (d : Definition). standing d f)) own) p.stands;
+          few = few_steps b tied t f (sym there);
+        }
+
+pub fresh_by : (story : Story) (t : Thread) (p : Prepared) (f : Frame) → (world_of story).frames t ≡ Some f → IsSource story p f → first.has_move (readiness_in story t) ≡ true → IsFresh story t p
+fresh_by story t p f there source begins =
+    record { begins = begins; frame = there ∙ ap Some source.0; machine = subst (λ (g : Frame). machine_of story g.level.machine ≡ Some p.machine) source.0 source.1 }
+
+-- a turn that is fresh is what its thread's next step is to do
+pub commit_next : (b : Volume) (tied : IsTied b) (t : Thread) (p : Prepared) (name : StepName) → IsFresh b.story t p → is_full_for_step b.story ≡ false → name ≡ next_step t p.frame
+    → IsNextOf b t name (Work p)
+commit_next b tied t p name fresh free named =
+    let f = p.frame in
+    let there : frames_of b.history.world t ≡ Some f = sym (ap (λ (w : World). w.frames t) (world_is b tied)) ∙ fresh.frame in
+    let ready = ready_to b tied t f there p.machine (sym (ap first.has_move (told_there b tied t)) ∙ fresh.begins) free (tied.machines f.level.machine ∙ fresh.machine) in
+    next_is b tied t f there p.machine name (Work p) ready named
+    (λ s base ts is own. work_move s b.history.world t f p.machine (is_over s base ts b.history is) there own p work_is_deed p.ready (ready.begins p.ready) refl refl)
+
+-- ---- what is compared
+
+by_not : (x : Bool) → not x ≡ false → x ≡ true
+by_not true h = refl
+by_not false h = cc
+
+pub alike : (f g : Frame) (ne : Bool) → ne ≡ not (same_frame f g) → ne ≡ false → f ≡ g
+alike f g ne is h = (frame_exact f g).0 (by_not (same_frame f g) (sym is ∙ h))
+
+pub unlike : (f g : Frame) (ne : Bool) → ne ≡ not (same_frame f g) → ne ≡ true → f ≡ g → ⊥
+unlike f g ne is h e =
+    let clash : true ≡ false = sym h ∙ is ∙ ap not ((frame_exact f g).1 e) in
+    cc
+
+-- the book's machine of a frame's level is the one of which a turn was prepared, just where these two are compared equal
+module _ (b : Volume) (tied : IsTied b) (p : Prepared) (f : Frame) (machine : Definition) (known : Some machine ≡ placed (place_in b.places f.level.machine)) where
+  found : machine_of b.story f.level.machine ≡ Some machine
+  found = sym (tied.machines f.level.machine) ∙ sym known
+
+  pub source_by : (other : Definition) (same : Bool) → same ≡ same_definition machine other → other ≡ p.machine → f ≡ p.frame → same ≡ true → IsSource b.story p f
+  source_by other same is own frame h = (frame, found ∙ ap Some ((definition_exact machine other).0 (sym is ∙ h) ∙ own))
+
+  pub no_source : (other : Definition) (same : Bool) → same ≡ same_definition machine other → other ≡ p.machine → same ≡ false → IsSource b.story p f → ⊥
+  no_source other same is own h source =
+      let one : machine ≡ p.machine = same_Some machine p.machine (sym found ∙ source.1) in
+      let clash : true ≡ false = sym ((definition_exact machine other).1 (one ∙ sym own)) ∙ sym is ∙ h in
+      cc

@@ -1,0 +1,77 @@
+-- What the calls of a book promise, over what it began with and the commands that it accepted: `before` is that of before a call,
+-- `after` that of after it. A book and whatever stands for one in code over many callers promise the same.
+use Rattle.std.specs.Prelude.{◌≡◌, ◌<◌, ◌⊎◌, ℕ, List, length, Bool, Option, Some, None, Result, Err, Ok, IfOk, IfErr, IsOk, OnOk, OnErr, MatchResult}
+use Rattle.std.specs.Borrow.{Bor}
+use Rattle.json_tree.specs.declared.tree.Json.{Json}
+use Rattle.step_history.specs.Frame.{Frame}
+use Rattle.step_names.specs.Thread.{Thread}
+use Rattle.step_names.specs.declared.step.StepName.{StepName}
+use Rattle.book_log.specs.Answers.{Gives, plan_answer, start_answer, step_answer, undo_answer}
+use Rattle.book_log.specs.Laws.{IsRolledBack}
+use Rattle.book_log.specs.Legal.{IsLegal}
+use Rattle.book_log.specs.Story.{Story, accepted, consequences_of, world_of}
+use Rattle.book_log.specs.declared.begin.Begin.{Begin}
+use Rattle.book_log.specs.declared.entry.Entry.{Entry}
+use Rattle.book_log.specs.declared.entry.Entry.TheVariants.{Start, Step as Stepped, Undo, Rollback}
+use Rattle.book_log.specs.declared.moved.Moved.{Moved}
+use Rattle.book_log.specs.declared.refusal.Refusal.{Refusal}
+use Rattle.book_log.specs.declared.refusal.Refusal.TheVariants.{Memory, NoThread, Stale}
+use Rattle.rollback_book.specs.Commuting.{IsRest}
+use Rattle.rollback_book.specs.Making.{IsPlanned}
+use Rattle.rollback_book.specs.Ready.{IsFirstToMove}
+use Rattle.rollback_book.specs.declared.room.PlanRoom.{PlanRoom}
+use Rattle.rollback_book.specs.declared.room.Room.{Room}
+
+-- a start is answered as the log has it, and is the next entry where it is accepted
+pub record Starts (before after : Story) (exec : Thread) (machine : List ℕ) (input : Json) (result : Result StepName Refusal) : Type 0 where
+  pub answer : Gives result (start_answer before exec machine)
+  pub ok : OnOk result (after ≡ accepted before (Start exec machine input))
+  pub err : OnErr result (after ≡ before)
+
+-- so is a step, with its name and kind
+pub record Steps (before after : Story) (thread : Thread) (result : Result Moved Refusal) : Type 0 where
+  pub answer : Gives result (step_answer before thread)
+  pub ok : IfOk result (λ m. after ≡ accepted before (Stepped m.name m.kind))
+  pub err : OnErr result (after ≡ before)
+
+-- room for the undoing of this step, refused for memory alone
+pub record MakesRoom (step : StepName) (result : Result Room Refusal) : Type 0 where
+  pub ok : IfOk result (λ r. r.step ≡ step)
+  pub err : IfErr result (λ e. e ≡ Memory)
+
+-- an undoing is answered exactly as the log has it, since it takes no memory
+pub record Undoes (before after : Story) (step : StepName) (result : Result StepName Refusal) : Type 0 where
+  pub answer : result ≡ undo_answer before step
+  pub ok : OnOk result (after ≡ accepted before (Undo step))
+  pub err : OnErr result (after ≡ before)
+
+-- a plan of a step's rollback, where the step remains
+abbrev pub PlansRollback : Story → StepName → Result PlanRoom Refusal → Type 0
+PlansRollback story step result = MatchResult result
+    (λ r. (r.step ≡ step) × IsPlanned story r)
+    (λ e. ((e ≡ Memory) × IsOk (plan_answer story step)) ⊎ (plan_answer story step ≡ Err e))
+
+-- what was planned is taken back, and no other step, and the rest runs on; it is refused only where the log has grown since
+pub record RollsBack (before after : Story) (room : PlanRoom) (result : Result (List StepName) Refusal) : Type 0 where
+  pub ok : IfOk result (λ names. (names ≡ room.names) × (plan_answer before room.step ≡ Ok names) × (after ≡ accepted before (Rollback room.step names)))
+  pub exact : IfOk result (IsRolledBack before room.step)
+  pub rest : OnOk result (IsRest before (consequences_of before room.step) after)
+  pub stale : IfErr result (λ e. (e ≡ Stale (length before.log)) × (room.entries < length before.log))
+  pub err : OnErr result (after ≡ before)
+
+-- the least thread that has a move and is not passed by, refused for memory alone
+pub record FindsFirst (story : Story) (passed : Thread → Bool) (result : Result (Option Thread) Refusal) : Type 0 where
+  pub first : IfOk result (IsFirstToMove story passed)
+  pub memory : IfErr result (λ e. e ≡ Memory)
+
+-- a thread's frame in the world that the remaining steps give
+abbrev pub Shows : Story → Thread → Result (Bor Frame) Refusal → Type 0
+Shows story thread result = MatchResult result
+    (λ f. (world_of story).frames thread ≡ Some f.now)
+    (λ e. (e ≡ NoThread) × ((world_of story).frames thread ≡ None))
+
+-- the beginning and the entries, each of which was accepted at its place
+pub record IsLogOf (story : Story) (beginning : Begin) (entries : List Entry) : Type 0 where
+  pub begin : beginning ≡ story.begin
+  pub log : entries ≡ story.log
+  pub legal : IsLegal story

@@ -1,0 +1,71 @@
+-- Turns that were prepared apart from the book, and are taken where nothing has changed that they were prepared of.
+use Rattle.std.specs.Prelude.{◌≡◌, ◌⊎◌, Bool, true, false, Option, Some, None, Result, Ok, Err}
+use Rattle.branch_tree.specs.First as first
+use Rattle.step_history.specs.Frame.{Frame}
+use Rattle.step_history.specs.Phase.{Phase}
+use Rattle.step_history.specs.Phase.TheVariants.{Ready, Parked, Done, Failed}
+use Rattle.step_history.specs.Prepared.{Prepared}
+use Rattle.step_names.specs.Thread.{Thread}
+use Rattle.book_log.specs.Answers.{is_full_for_step, step_answer}
+use Rattle.book_log.specs.Story.{Story, accepted, machine_of, world_of}
+use Rattle.book_log.specs.declared.entry.Entry.TheVariants.{Step as Stepped}
+use Rattle.book_log.specs.declared.moved.Moved.{Moved}
+use Rattle.book_log.specs.declared.refusal.Refusal.{Refusal}
+use Rattle.book_log.specs.declared.refusal.Refusal.TheVariants.{Full, Memory}
+use Rattle.rollback_book.specs.Making.{AnswersStep}
+use Rattle.rollback_book.specs.Tickets.{readiness_in}
+use Rattle.rollback_book.specs.declared.commits.CommitRefusal.{CommitRefusal}
+use Rattle.rollback_book.specs.declared.commits.CommitRefusal.TheVariants.{Stale, Refused}
+use Rattle.rollback_book.specs.declared.commits.Staleness.{Staleness}
+use Rattle.rollback_book.specs.declared.commits.Staleness.TheVariants as stale
+use Rattle.rollback_book.specs.declared.making.Made.{Made}
+
+abbrev pub is_ready : Phase → Bool
+is_ready Ready = true
+is_ready _ = false
+
+-- the book's machine of this frame's level is the one of which the turn was prepared, and so is the frame
+abbrev pub IsSource : Story → Prepared → Frame → Type 0
+IsSource story p f = (f ≡ p.frame) × (machine_of story f.level.machine ≡ Some p.machine)
+
+-- the thread has the frame, and the book the machine, of which the turn was prepared, and the thread may begin
+pub record IsFresh (story : Story) (t : Thread) (p : Prepared) : Type 0 where
+  pub begins : first.has_move (readiness_in story t) ≡ true
+  pub frame : (world_of story).frames t ≡ Some p.frame
+  pub machine : machine_of story p.frame.level.machine ≡ Some p.machine
+
+-- Why a turn is stale: the thread is gone; it isn't ready, or it is as it was prepared of and is a branch that may not begin now; it
+-- has made another number of moves; or as many, and its frame or the machine is another.
+abbrev pub IsStale : Story → Thread → Prepared → Staleness → Type 0
+IsStale story t p stale.Gone = (world_of story).frames t ≡ None
+IsStale story t p (stale.NotReady readiness) =
+    (f : Frame) × ((world_of story).frames t ≡ Some f) × ((is_ready f.phase ≡ false) ⊎ (IsSource story p f × (first.has_move (readiness_in story t) ≡ false))) × (readiness ≡ readiness_in story t)
+IsStale story t p (stale.Moved count) = (f : Frame) × ((world_of story).frames t ≡ Some f) × (is_ready f.phase ≡ true) × (count ≡ f.count) × (f.count ≡ p.frame.count → ⊥)
+IsStale story t p stale.Other = (f : Frame) × ((world_of story).frames t ≡ Some f) × (is_ready f.phase ≡ true) × (f.count ≡ p.frame.count) × (IsSource story p f → ⊥)
+
+abbrev pub IsStaleness : Story → Thread → Prepared → Option Staleness → Type 0
+IsStaleness story t p None = IsFresh story t p
+IsStaleness story t p (Some why) = IsStale story t p why
+
+-- there is no room for a step; or there is, and memory is wanting
+abbrev pub IsRoomRefusal : Story → Refusal → Type 0
+IsRoomRefusal story Full = is_full_for_step story ≡ true
+IsRoomRefusal story Memory = is_full_for_step story ≡ false
+IsRoomRefusal story _ = ⊥
+
+-- A turn that is fresh is the thread's step, and is refused for want of room alone; one that isn't is handed back, with the reason.
+abbrev pub AnswersCommit : Story → Thread → Prepared → Result Moved CommitRefusal → Type 0
+AnswersCommit story t p (Ok moved) = IsFresh story t p × (step_answer story t ≡ Ok moved)
+AnswersCommit story t p (Err (Stale why prepared)) = IsStale story t p why × (prepared ≡ p)
+AnswersCommit story t p (Err (Refused e)) = IsFresh story t p × IsRoomRefusal story e
+
+-- the log has the step more, or is the same where it is refused
+abbrev pub Commits : Story → Result Moved CommitRefusal → Story → Type 0
+Commits before (Ok moved) after = after ≡ accepted before (Stepped moved.name moved.kind)
+Commits before (Err e) after = after ≡ before
+
+-- ---- inside
+
+-- everything is made for the step that is answered
+abbrev pub IsStepTold : Result Moved Refusal → Made → Type 0
+IsStepTold answer m = AnswersStep answer (Ok m)

@@ -1,0 +1,141 @@
+// Turns that were prepared apart from the book, and are taken where they are still their threads'.
+ghost use Rattle.std.specs.Prelude.{◌≡◌, true, false, IfOk, MatchResult};
+ghost use Rattle.book_log.specs.Answers.{step_answer};
+ghost use Rattle.rollback_book.specs.Commits.{AnswersCommit, Commits, IsFresh, IsRoomRefusal, IsSource, IsStaleness, IsStepTold, is_ready};
+ghost use Rattle.rollback_book.specs.Making.{CanEnter};
+
+use crate::book::Book;
+use crate::checks::is_full_for_step;
+use crate::machines::machine_in;
+use crate::making::{Entered, Made};
+use crate::stepping::{has_move, next_name};
+use book_log::{Moved, Refusal};
+use branch_tree::Readiness;
+use saved_steps::Next;
+use std::alloc::{AllocError, Global};
+use step_history::turns::{Frame, Phase, Prepared};
+use step_names::ThreadName;
+
+/// Why a turn that was prepared is no longer its thread's.
+#[derive(Debug, Drop)]
+pub enum Staleness {
+    /// There is no such thread.
+    Gone,
+    /// The thread isn't ready: it is parked, done or failed; or it is a branch that may not begin now. This is what it can do
+    /// next.
+    NotReady(Readiness),
+    /// The thread is ready after another number of moves: this one.
+    Moved(u32),
+    /// It is ready after as many moves, and its frame, or the book's machine of that name, is another.
+    Other,
+}
+
+/// Why a turn isn't taken. Each refusal leaves the book as it was.
+#[derive(Debug, Drop)]
+pub enum CommitRefusal {
+    /// 9: the turn is no longer its thread's, and comes back.
+    Stale(Staleness, Prepared),
+    /// 10 and 11: `Full` or `Memory`; the turn is dropped.
+    Refused(Refusal),
+}
+
+/// Whether a thread stands before its state.
+fn is_ready(phase: &Phase) -> bool
+    ensures { result ≡ is_ready phase.now }
+{
+    matches!(phase, Phase::Ready)
+}
+
+impl Book {
+    /// Takes a turn that was prepared of a thread's frame, where the thread still has that frame and the book that machine, and
+    /// answers the step's name and kind. Both are compared whole, which takes no memory, and time linear in what they hold at
+    /// most. Takes what `History::make` takes: the turn is not prepared again.
+    ///
+    /// # Errors
+    ///
+    /// `Stale`, then `Refused` with `Full` or `Memory`, in this order.
+    pub fn commit(
+        &mut self,
+        alloc: Global,
+        thread: &ThreadName,
+        prepared: Prepared,
+    ) -> Result<Moved, CommitRefusal>
+        ensures answer { AnswersCommit self.old.story thread.now prepared result }
+        ensures story { Commits self.old.story result self.new.story }
+    {
+        if let Some(why) = self.staleness(thread, &prepared) {
+            return Err(CommitRefusal::Stale(why, prepared));
+        }
+        match self.ready_commit(alloc, thread, prepared) {
+            Ok(made) => {
+                let Entered::Stepped(moved) = self.enter(made) else {
+                    unreachable!()
+                };
+                Ok(moved)
+            }
+            Err(refusal) => Err(CommitRefusal::Refused(refusal)),
+        }
+    }
+
+    /// Why a turn isn't the thread's next, if it isn't.
+    fn staleness(&self, thread: &ThreadName, prepared: &Prepared) -> Option<Staleness>
+        ensures { IsStaleness self.now.story thread.now prepared.now result }
+    {
+        let Some((frame, readiness)) = self.history.look_up(thread) else {
+            return Some(Staleness::Gone);
+        };
+        if !is_ready(&frame.phase) {
+            return Some(Staleness::NotReady(readiness));
+        }
+        if frame.count != prepared.frame().count {
+            return Some(Staleness::Moved(frame.count));
+        }
+        if !self.is_source(prepared, frame) {
+            return Some(Staleness::Other);
+        }
+        if !has_move(readiness) {
+            return Some(Staleness::NotReady(readiness));
+        }
+        None
+    }
+
+    /// Whether a turn was prepared of this frame, in the book's machine of its level.
+    fn is_source(&self, prepared: &Prepared, frame: &Frame) -> bool
+        ensures same { result ≡ true → IsSource self.now.story prepared.now frame.now }
+        ensures other { result ≡ false → IsSource self.now.story prepared.now frame.now → ⊥ }
+    {
+        if frame != prepared.frame() {
+            return false;
+        }
+        match machine_in(&self.machines, &frame.level.machine) {
+            Some(machine) => machine == prepared.machine(),
+            None => false,
+        }
+    }
+
+    /// Makes everything that a turn needs which is still its thread's.
+    fn ready_commit(
+        &mut self,
+        alloc: Global,
+        thread: &ThreadName,
+        prepared: Prepared,
+    ) -> Result<Made, Refusal>
+        requires { IsFresh self.old.story thread.now prepared }
+        ensures answer { MatchResult result (IsStepTold (step_answer self.old.story thread.now)) (IsRoomRefusal self.old.story) }
+        ensures ready { IfOk result (λ m. CanEnter self.new m) }
+        ensures story { self.new.story ≡ self.old.story }
+    {
+        if is_full_for_step(self.log.len(), self.history.len()) {
+            drop(prepared);
+            return Err(Refusal::Full);
+        }
+        let Ok(name) = next_name(thread, prepared.frame()) else {
+            drop(prepared);
+            return Err(Refusal::Memory);
+        };
+        match self.ready_next(alloc, name, Next::Work(prepared)) {
+            Ok(made) => Ok(made),
+            Err(AllocError) => Err(Refusal::Memory),
+        }
+    }
+}

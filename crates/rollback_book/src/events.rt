@@ -1,0 +1,125 @@
+// The calls of a book that many callers may share.
+ghost use Rattle.std.specs.Prelude.{◌≡◌, ◌≤◌, []};
+ghost use Rattle.std.specs.BTreeSet.{contains};
+ghost use Rattle.json_tree.specs.Data.{depth, most_levels};
+ghost use Rattle.json_tree.specs.View.{data_of};
+ghost use Rattle.step_names.specs.Order.{thread_cmp};
+ghost use Rattle.book_log.specs.Story.{Story};
+ghost use Rattle.rollback_book.specs.Calls.{FindsFirst, IsLogOf, MakesRoom, PlansRollback, RollsBack, Shows, Starts, Steps, Undoes};
+ghost use Rattle.rollback_book.specs.Making.{WasPlanned};
+
+use crate::book::Book;
+use crate::room::{PlanRoom, Room};
+use book_log::{Begin, Entry, Moved, Refusal, StepNames};
+use json_tree::{Json, Text};
+use std::alloc::Global;
+use std::collections::BTreeSet;
+use step_history::turns::Frame;
+use step_names::{StepName, ThreadName};
+
+/// What executes commands one after another and keeps each accepted one as the next entry of its log, as `Book` does; its calls
+/// promise what `Book`'s do. Code over any such type can add entries by these calls alone: it can neither make a book nor take one
+/// out, so what is in a log stays there.
+pub trait Events {
+    /// What it began with, and the commands that it accepted.
+    ghost story: { Self → Story };
+
+    /// As `Book::start`.
+    fn start(
+        &mut self,
+        alloc: Global,
+        exec: &ThreadName,
+        machine: &Text,
+        input: Json,
+    ) -> Result<StepName, Refusal>
+        requires execution { exec.now.path ≡ [] }
+        requires shallow { depth (data_of input) ≤ most_levels }
+        ensures { Starts (story self.old) (story self.new) exec.now machine.now input result };
+
+    /// As `Book::step`.
+    fn step(&mut self, alloc: Global, thread: &ThreadName) -> Result<Moved, Refusal>
+        ensures { Steps (story self.old) (story self.new) thread.now result };
+
+    /// As `Book::room`.
+    fn room(&self, alloc: Global, step: &StepName) -> Result<Room, Refusal>
+        ensures { MakesRoom step.now result };
+
+    /// As `Book::undo`.
+    fn undo(&mut self, room: Room) -> Result<StepName, Refusal>
+        ensures { Undoes (story self.old) (story self.new) room.step result };
+
+    /// As `Book::plan_room`.
+    fn plan_room(&self, alloc: Global, step: &StepName) -> Result<PlanRoom, Refusal>
+        ensures { PlansRollback (story self.now) step.now result };
+
+    /// As `Book::rollback`.
+    fn rollback(&mut self, room: PlanRoom) -> Result<StepNames, Refusal>
+        requires { WasPlanned (story self.old) room }
+        ensures { RollsBack (story self.old) (story self.new) room result };
+
+    /// As `Book::first_ready`.
+    fn first_ready(
+        &self,
+        alloc: Global,
+        outside: &BTreeSet<ThreadName>,
+    ) -> Result<Option<ThreadName>, Refusal>
+        ensures { FindsFirst (story self.now) (contains thread_cmp outside.now) result };
+
+    /// As `Book::show`.
+    fn show(&self, thread: &ThreadName) -> Result<&Frame, Refusal>
+        ensures { Shows (story self.now) thread.now result };
+
+    /// As `Book::entries`.
+    fn entries(&self) -> (&Begin, &[Entry])
+        ensures { IsLogOf (story self.now) result.0.now result.1.now };
+}
+
+impl Events for Book {
+    ghost story = { λ b. b.story };
+
+    fn start(
+        &mut self,
+        alloc: Global,
+        exec: &ThreadName,
+        machine: &Text,
+        input: Json,
+    ) -> Result<StepName, Refusal> {
+        Book::start(self, alloc, exec, machine, input)
+    }
+
+    fn step(&mut self, alloc: Global, thread: &ThreadName) -> Result<Moved, Refusal> {
+        Book::step(self, alloc, thread)
+    }
+
+    fn room(&self, alloc: Global, step: &StepName) -> Result<Room, Refusal> {
+        Book::room(self, alloc, step)
+    }
+
+    fn undo(&mut self, room: Room) -> Result<StepName, Refusal> {
+        Book::undo(self, room)
+    }
+
+    fn plan_room(&self, alloc: Global, step: &StepName) -> Result<PlanRoom, Refusal> {
+        Book::plan_room(self, alloc, step)
+    }
+
+    fn rollback(&mut self, room: PlanRoom) -> Result<StepNames, Refusal> {
+        Book::rollback(self, room)
+    }
+
+    fn first_ready(
+        &self,
+        alloc: Global,
+        outside: &BTreeSet<ThreadName>,
+    ) -> Result<Option<ThreadName>, Refusal> {
+        Book::first_ready(self, alloc, outside)
+    }
+
+    fn show(&self, thread: &ThreadName) -> Result<&Frame, Refusal> {
+        Book::show(self, thread)
+    }
+
+    fn entries(&self) -> (&Begin, &[Entry]) {
+        Book::entries(self)
+    }
+}
