@@ -1,0 +1,85 @@
+-- What a call gives its caller, from what the book's call promises.
+use Rattle.std.proofs.Common.{◌≡◌, ℕ, ◌+◌, ◌≤◌, List, [], ◌∷◌, ◌++◌, length, append-nil, Option, Some, None, Result, Ok, Err, sym, ap, subst, ◌∙◌, inl, inr}
+use Rattle.json_tree.specs.Data.{depth, most_levels}
+use Rattle.json_tree.specs.View.{data_of}
+use Rattle.json_tree.specs.declared.tree.Json.{Json}
+use Rattle.step_names.specs.Thread.{Thread}
+use Rattle.step_names.specs.declared.step.StepName.{StepName}
+use Rattle.rollback_book.specs.Fact.{Fact}
+use Rattle.book_log.specs.Answers.{Gives, found_answer, free_answer, from_step, start_answer, step_answer, undo_answer}
+use Rattle.book_log.specs.Legal.{IsAccepted, IsLegal}
+use Rattle.book_log.specs.Story.{Story, accepted, facts_of}
+use Rattle.book_log.specs.declared.entry.Entry.{Entry}
+use Rattle.book_log.specs.declared.entry.Entry.TheVariants.{Start, Step as Stepped, Undo}
+use Rattle.book_log.specs.declared.moved.Moved.{Moved}
+use Rattle.book_log.specs.declared.refusal.Refusal.{Refusal}
+use Rattle.book_log.specs.declared.refusal.Refusal.TheVariants.{Memory}
+use Rattle.book_log.proofs.LegalRuns.{accepted_is_legal}
+use Rattle.rollback_book.specs.Making.{IsPlanned, WasPlanned}
+use Rattle.rollback_book.specs.declared.room.PlanRoom.{PlanRoom}
+use Rattle.rollback_book.proofs.Retaken.{given_ok, start_named, step_is_next}
+use Rattle.shared_book.specs.Numbers.{IsForeign, IsKnown, last_of}
+use Rattle.shared_book.specs.Views.{PassView, Extends}
+use Rattle.shared_book.specs.Calls.{GivesReceipt, IsCause, IsNotAdmitted, IsRefusedFor, MaySee}
+use Rattle.shared_book.specs.declared.receipt.Receipt.{Receipt}
+use Rattle.shared_book.specs.declared.refusal.SharedRefusal.{SharedRefusal}
+use Rattle.shared_book.specs.declared.refusal.SharedRefusal.TheVariants.{Refused, ForeignPass}
+
+-- ---- accepted
+
+-- a receipt of an entry that is accepted after this log: one that the pass keeps, and one that its caller is given
+pub given : (begun before : Story) (entries : List Entry) (had : PassView) (e kept told : Entry) (n : ℕ) (items : List Receipt)
+    → Extends begun before → entries ≡ before.log → IsLegal before → IsAccepted before e
+    → IsKnown entries had.seen (last_of had.receipts) → n ≡ length entries + 1
+    → kept ≡ e → told ≡ e → items ≡ had.receipts ++ record { number = n; entry = kept } ∷ []
+    → GivesReceipt begun had (record { seen = n; receipts = items; parts = had.parts }) (record { number = n; entry = told })
+given begun before entries had e kept told n items goes is legal may known number kept_is told_is now =
+    record {
+      before = before;
+      goes = goes;
+      legal = subst (λ (x : Entry). IsLegal (accepted before x)) (sym told_is) (accepted_is_legal before e legal may);
+      known = subst (λ (l : List Entry). IsKnown l had.seen (last_of had.receipts)) is known;
+      number = number ∙ ap (λ (l : List Entry). length l + 1) is;
+      now = ap (λ (l : List Receipt). record { seen = n; receipts = l; parts = had.parts }) (now ∙ ap (λ (x : Entry). had.receipts ++ record { number = n; entry = x } ∷ []) (kept_is ∙ sym told_is));
+    }
+
+pub start_accepted : (story : Story) (exec : Thread) (machine : List ℕ) (input : Json) (name : StepName) → Gives (Ok name) (start_answer story exec machine) → exec.path ≡ [] → depth (data_of input) ≤ most_levels → IsAccepted story (Start exec machine input)
+start_accepted story exec machine input name gives root shallow = (start_named story exec machine name (given_ok (start_answer story exec machine) name gives), root, shallow)
+
+pub step_of : (story : Story) (t : Thread) (m : Moved) → Gives (Ok m) (step_answer story t) → m.name.thread ≡ t
+step_of story t m gives = ap (λ (n : StepName). n.thread) (step_is_next story t m (given_ok (step_answer story t) m gives)).2
+
+pub step_accepted : (story : Story) (t : Thread) (m : Moved) → Gives (Ok m) (step_answer story t) → IsAccepted story (Stepped m.name m.kind)
+step_accepted story t m gives = ap (step_answer story) (step_of story t m gives) ∙ given_ok (step_answer story t) m gives
+
+free_is : (name n : StepName) (o : Option Fact) → free_answer name o ≡ Ok n → n ≡ name
+free_is name n None h = cc
+free_is name n (Some f) h = cc
+
+found_is : (name n : StepName) (o : Option (Fact × List Fact)) → found_answer name o ≡ Ok n → n ≡ name
+found_is name n None h = cc
+found_is name n (Some p) h = free_is name n _ h
+
+undo_is : (story : Story) (name n : StepName) → undo_answer story name ≡ Ok n → n ≡ name
+unfolding undo_answer
+undo_is story name n h = found_is name n (from_step name (facts_of story)) h
+
+pub undo_accepted : (story : Story) (name n : StepName) → Ok n ≡ undo_answer story name → IsAccepted story (Undo name)
+undo_accepted story name n h = sym h ∙ ap Ok (undo_is story name n (sym h))
+
+-- ---- refused
+
+pub cause : {T : Type 0} (begun : Story) (answer : Story → Result T Refusal) (had : PassView) (at : Story) (e : Refusal) (result : Result T Refusal) → MaySee begun had at → answer at ≡ result → Gives (Err e) result → IsCause begun answer had e
+cause begun answer had at e (Ok x) may is (inl h) = cc
+cause begun answer had at e (Ok x) may is (inr h) = inl cc
+cause begun answer had at e (Err f) may is h = inr (at, may, is ∙ sym h)
+
+pub not_admitted : (begun at : Story) (entries : List Entry) (had : PassView) (Cause : Refusal → Type 0) (e : SharedRefusal) → Extends begun at → entries ≡ at.log → IsLegal at → IsNotAdmitted entries had.seen (last_of had.receipts) e → Cause Memory → IsRefusedFor begun had Cause e
+not_admitted begun at entries had Cause (Refused e) goes is legal not memory = subst Cause (sym not) memory
+not_admitted begun at entries had Cause (ForeignPass number there) goes is legal not memory =
+    (at, goes, legal, subst (λ (l : List Entry). IsForeign l had.seen (last_of had.receipts) number there) is not)
+
+-- ---- rollback
+
+pub planned_now : (story : Story) (r : PlanRoom) → IsPlanned story r → WasPlanned story r
+planned_now story r planned = record { front = story.log; later = []; parts = sym (append-nil story.log); planned = planned }

@@ -1,0 +1,13 @@
+use Rattle.std.proofs.Common.{ap, ◌∙◌}
+use Rattle.step_names.specs.declared.step.StepName.{StepName}
+use Rattle.book_log.specs.Answers.{undo_answer}
+use Rattle.shared_book.proofs.Answering.{given, undo_accepted}
+use Rattle.shared_book.proofs.desk.Desk.undo.Goals as goal
+
+pub returns-clause-receipt : goal.returns-clause-receipt
+returns-clause-receipt g c =
+    let story = g.B.Events.story c.self.inside.book in
+    let answer = c.in-Ok-undo.ensures.answer ∙ ap (λ (n : StepName). undo_answer story n) c.in-Ok-room.ensures.ok in
+    let accepted = undo_accepted story c.args.step.now c.in-Ok-undo.name answer in
+    rw (← c.pass.view_is) (given _ _ _ _ _ _ _ _ _ c.self.invariant.0.goes c.entries.ensures.log c.entries.ensures.legal accepted c.in_ok-number.ensures.known c.in_ok-number.ensures.number
+    c.in-Ok.ensures.0 c.in-Ok.ensures.1 (rw c.admit.ensures.same at c.hand_out.ensures.items))

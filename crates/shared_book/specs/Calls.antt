@@ -1,0 +1,89 @@
+-- What a call promises to its caller. Between two calls of a pass others may add entries, so a call speaks of some legal log that goes
+-- on from that of the book that was shared (`begun`) and that the pass can have seen.
+use Rattle.std.specs.Prelude.{◌≡◌, ℕ, ◌+◌, ◌⊎◌, List, [], ◌∷◌, ◌++◌, length, Option, None, Some, Result, Ok, Err}
+use Rattle.step_names.specs.Thread.{Thread}
+use Rattle.step_names.specs.declared.step.StepName.{StepName}
+use Rattle.rollback_book.specs.Frame.{Frame}
+use Rattle.book_log.specs.Legal.{IsLegal}
+use Rattle.book_log.specs.Story.{Story, accepted, world_of}
+use Rattle.book_log.specs.declared.entry.Entry.{Entry}
+use Rattle.book_log.specs.declared.entry.Entry.TheVariants.{Step as Stepped, Rollback}
+use Rattle.book_log.specs.declared.refusal.Refusal.{Refusal}
+use Rattle.book_log.specs.declared.refusal.Refusal.TheVariants.{Memory, NoThread}
+use Rattle.shared_book.specs.Numbers.{IsForeign, IsKnown, last_of}
+use Rattle.shared_book.specs.Views.{PassView, Extends}
+use Rattle.shared_book.specs.declared.receipt.Receipt.{Receipt}
+use Rattle.shared_book.specs.declared.refusal.SharedRefusal.{SharedRefusal}
+use Rattle.shared_book.specs.declared.refusal.SharedRefusal.TheVariants.{Refused, ForeignPass}
+
+-- The log with the receipt's entry is legal, and the receipt has its number. The pass has then seen so far, and holds this receipt
+-- after those that it held.
+pub record GivesReceipt (begun : Story) (had has : PassView) (r : Receipt) : Type 0 where
+  pub before : Story
+  pub goes : Extends begun before
+  pub legal : IsLegal (accepted before r.entry)
+  pub known : IsKnown before.log had.seen (last_of had.receipts)
+  pub number : r.number ≡ length before.log + 1
+  pub now : has ≡ record { seen = r.number; receipts = had.receipts ++ r ∷ []; parts = had.parts }
+
+-- a legal log that the pass can have seen
+pub record MaySee (begun : Story) (had : PassView) (at : Story) : Type 0 where
+  pub goes : Extends begun at
+  pub legal : IsLegal at
+  pub known : IsKnown at.log had.seen (last_of had.receipts)
+
+-- it has seen all of it now
+pub record Sees (begun : Story) (had has : PassView) (at : Story) : Type 0 where
+  pub may : MaySee begun had at
+  pub now : has ≡ record { seen = length at.log; receipts = had.receipts; parts = had.parts }
+
+-- the pass has seen a log now of which this holds
+abbrev pub IsShown : Story → PassView → PassView → (Story → Type 0) → Type 0
+IsShown begun had has P = (at : Story) × Sees begun had has at × P at
+
+-- ---- refusals
+
+-- the log is none that the pass can have seen
+abbrev pub IsForeignTo : Story → PassView → ℕ → Option Entry → Type 0
+IsForeignTo begun had number there = (at : Story) × Extends begun at × IsLegal at × IsForeign at.log had.seen (last_of had.receipts) number there
+
+-- refused as foreign, or by the book for a cause of which this holds
+abbrev pub IsRefusedFor : Story → PassView → (Refusal → Type 0) → SharedRefusal → Type 0
+IsRefusedFor begun had Cause (Refused e) = Cause e
+IsRefusedFor begun had Cause (ForeignPass number there) = IsForeignTo begun had number there
+
+-- for memory, or as the call is answered at a log that the pass can have seen
+abbrev pub IsCause : {T : Type 0} → Story → (Story → Result T Refusal) → PassView → Refusal → Type 0
+IsCause begun answer had e = (e ≡ Memory) ⊎ ((at : Story) × MaySee begun had at × (answer at ≡ Err e))
+
+abbrev pub IsRefused : {T : Type 0} → Story → (Story → Result T Refusal) → PassView → SharedRefusal → Type 0
+IsRefused begun answer had = IsRefusedFor begun had (IsCause begun answer had)
+
+-- refused as foreign for what stands at this number, or for memory
+abbrev pub IsTurnedAway : ℕ → Option Entry → SharedRefusal → Type 0
+IsTurnedAway n entry (Refused e) = e ≡ Memory
+IsTurnedAway n entry (ForeignPass number there) = (number ≡ n) × (there ≡ entry)
+
+-- at this log a pass isn't let in, as foreign or for memory
+abbrev pub IsNotAdmitted : List Entry → ℕ → Option Receipt → SharedRefusal → Type 0
+IsNotAdmitted log seen last (Refused e) = e ≡ Memory
+IsNotAdmitted log seen last (ForeignPass number there) = IsForeign log seen last number there
+
+-- ---- which entry
+
+abbrev pub IsStepOf : Thread → Entry → Type 0
+IsStepOf thread (Stepped name kind) = name.thread ≡ thread
+IsStepOf thread _ = ⊥
+
+abbrev pub IsRollbackOf : StepName → Entry → Type 0
+IsRollbackOf step (Rollback name undone) = name ≡ step
+IsRollbackOf step _ = ⊥
+
+-- ---- frames
+
+abbrev pub or_no_thread : Option Frame → Result Frame Refusal
+or_no_thread (Some f) = Ok f
+or_no_thread None = Err NoThread
+
+abbrev pub frame_answer : Story → Thread → Result Frame Refusal
+frame_answer story thread = or_no_thread ((world_of story).frames thread)

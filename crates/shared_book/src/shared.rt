@@ -1,0 +1,201 @@
+// A book under one lock.
+ghost use Rattle.std.specs.Prelude.{◌≡◌, ◌≤◌, ◌+◌, [], List, length, IfOk, IfErr, Ok};
+ghost use Rattle.json_tree.specs.Data.{depth, most_levels};
+ghost use Rattle.json_tree.specs.View.{data_of};
+ghost use Rattle.step_names.specs.Thread.{Thread};
+ghost use Rattle.book_log.specs.Answers.{plan_answer, start_answer, step_answer, undo_answer};
+ghost use Rattle.book_log.specs.Legal.{IsLegal};
+ghost use Rattle.book_log.specs.declared.refusal.Refusal.TheVariants.{Memory};
+ghost use Rattle.rollback_book.specs.Ready.{IsFirstToMove};
+ghost use Rattle.shared_book.specs.Calls.{GivesReceipt, IsRefused, IsRefusedFor, IsRollbackOf, IsShown, IsStepOf, frame_answer};
+ghost use Rattle.shared_book.specs.Views.{Extends, is_claimed};
+
+use crate::desk::Desk;
+use crate::looking::Shown;
+use crate::pass::Pass;
+use crate::receipt::Receipt;
+use crate::refusal::SharedRefusal;
+use crate::sharing::Sharing;
+use book_log::Entry;
+use json_tree::{Json, Text};
+use rollback_book::Events;
+use std::alloc::Global;
+use std::collections::BTreeSet;
+use std::sync::ledger::Blank;
+use std::sync::{Mutex, Wait};
+use step_names::{StepName, ThreadName};
+
+/// Into how many parts the right to call is cut: each pass has at least one.
+pub const PARTS: u64 = 65_536;
+
+/// A book that callers share. Each call holds the lock once, and may wait for it; a refused call changes nothing. A contract speaks of
+/// some legal log that goes on from the book's when it was shared and that the pass can have seen, since others may have called
+/// meanwhile. Under the lock nothing takes longer with the number of executions than the book's own call.
+#[derive(Drop)]
+pub struct Shared<B: Events, L: Sharing> {
+    pub(crate) desk: Mutex<Desk<B, L>>,
+}
+
+/// Shares a book. The pass has seen all its entries so far. Takes no memory.
+pub fn share<B: Events, L: Sharing>(alloc: Global, blank: Blank, book: B) -> (Shared<B, L>, Pass<L>)
+    requires { (blank.name ≡ L.name) × (blank.parts ≡ L.parts) × (L.parts ≡ PARTS) × (B.story book ≡ L.begun) }
+    ensures { result.1 ≡ record { seen = length (B.story book).log; receipts = []; parts = PARTS } }
+{
+    let (calls, mut share) = blank.open::<L>();
+    let spare = share.empty();
+    let seen = {
+        let (_, entries) = book.entries();
+        entries.len()
+    };
+    let desk = Desk {
+        book,
+        first: seen + 1,
+        calls,
+        spare,
+        claims: BTreeSet::new(alloc),
+    };
+    let pass = Pass {
+        seen,
+        receipts: Vec::new(alloc),
+        parts: PARTS,
+        share,
+    };
+    (
+        Shared {
+            desk: Mutex::new(desk),
+        },
+        pass,
+    )
+}
+
+impl<B: Events, L: Sharing> Shared<B, L> {
+    /// Starts an execution. Takes what the book's call takes, and memory for two copies of the entry, which share its input.
+    ///
+    /// # Errors
+    ///
+    /// `ForeignPass`, and then those of the book's call. Memory may also be refused to the receipt, before the book is called.
+    pub fn start(
+        &self,
+        rt: &impl Wait,
+        alloc: Global,
+        pass: &mut Pass<L>,
+        exec: &ThreadName,
+        machine: &Text,
+        input: Json,
+    ) -> Result<Receipt, SharedRefusal>
+        requires execution { exec.now.path ≡ [] }
+        requires shallow { depth (data_of input) ≤ most_levels }
+        ensures receipt { IfOk result (GivesReceipt L.begun pass.old pass.new) }
+        ensures entry { IfOk result (λ r. r.entry ≡ Entry.Start exec.now machine.now input) }
+        ensures err { IfErr result (λ e. IsRefused L.begun (λ at. start_answer at exec.now machine.now) pass.old e × (pass.new ≡ pass.old)) }
+    {
+        self.desk.lock(rt).start(alloc, pass, exec, machine, input)
+    }
+
+    /// Takes the next step of a thread. Takes what the book's call takes, and memory for one name.
+    ///
+    /// # Errors
+    ///
+    /// As `start`.
+    pub fn step(
+        &self,
+        rt: &impl Wait,
+        alloc: Global,
+        pass: &mut Pass<L>,
+        thread: &ThreadName,
+    ) -> Result<Receipt, SharedRefusal>
+        ensures receipt { IfOk result (GivesReceipt L.begun pass.old pass.new) }
+        ensures entry { IfOk result (λ r. IsStepOf thread.now r.entry) }
+        ensures err { IfErr result (λ e. IsRefused L.begun (λ at. step_answer at thread.now) pass.old e × (pass.new ≡ pass.old)) }
+    {
+        self.desk.lock(rt).step(alloc, pass, thread)
+    }
+
+    /// Takes a step back on which no remaining step depends directly. Takes what the book's calls take, and memory for two names.
+    ///
+    /// # Errors
+    ///
+    /// As `start`.
+    pub fn undo(
+        &self,
+        rt: &impl Wait,
+        alloc: Global,
+        pass: &mut Pass<L>,
+        step: &StepName,
+    ) -> Result<Receipt, SharedRefusal>
+        ensures receipt { IfOk result (GivesReceipt L.begun pass.old pass.new) }
+        ensures entry { IfOk result (λ r. r.entry ≡ Entry.Undo step.now) }
+        ensures err { IfErr result (λ e. IsRefused L.begun (λ at. undo_answer at step.now) pass.old e × (pass.new ≡ pass.old)) }
+    {
+        self.desk.lock(rt).undo(alloc, pass, step)
+    }
+
+    /// Takes back a step and its consequences. It is planned under the same hold of the lock, so it is never stale. Takes what the
+    /// book's calls take, and memory for two copies of each name.
+    ///
+    /// # Errors
+    ///
+    /// As `start`.
+    pub fn rollback(
+        &self,
+        rt: &impl Wait,
+        alloc: Global,
+        pass: &mut Pass<L>,
+        step: &StepName,
+    ) -> Result<Receipt, SharedRefusal>
+        ensures receipt { IfOk result (GivesReceipt L.begun pass.old pass.new) }
+        ensures entry { IfOk result (λ r. IsRollbackOf step.now r.entry) }
+        ensures err { IfErr result (λ e. IsRefused L.begun (λ at. plan_answer at step.now) pass.old e × (pass.new ≡ pass.old)) }
+    {
+        self.desk.lock(rt).rollback(alloc, pass, step)
+    }
+
+    /// A copy of a thread's frame, and how many entries there were, at least as many as the pass had seen. Takes memory for what of
+    /// the frame isn't shared.
+    ///
+    /// # Errors
+    ///
+    /// `ForeignPass`, `NoThread` and `Memory`, in this order.
+    pub fn show(
+        &self,
+        rt: &impl Wait,
+        pass: &mut Pass<L>,
+        thread: &ThreadName,
+    ) -> Result<Shown, SharedRefusal>
+        ensures shown { IfOk result (λ s. IsShown L.begun pass.old pass.new (λ at. (s.entries ≡ length at.log) × (frame_answer at thread.now ≡ Ok s.frame))) }
+        ensures err { IfErr result (λ e. IsRefused L.begun (λ at. frame_answer at thread.now) pass.old e × (pass.new ≡ pass.old)) }
+    {
+        self.desk.lock(rt).show(pass, thread)
+    }
+
+    /// Claims the least thread that has a move and that nobody has claimed. Takes what the book's call takes, and memory for a copy of
+    /// the name. The claim ends by `give_back`.
+    ///
+    /// # Errors
+    ///
+    /// `ForeignPass` and `Memory`.
+    pub fn claim(
+        &self,
+        rt: &impl Wait,
+        alloc: Global,
+        pass: &mut Pass<L>,
+    ) -> Result<Option<ThreadName>, SharedRefusal>
+        ensures shown { IfOk result (λ found. IsShown L.begun pass.old pass.new (λ at. (claims : List Thread) × IsFirstToMove at (is_claimed claims) found)) }
+        ensures err { IfErr result (λ e. IsRefusedFor L.begun pass.old (λ cause. cause ≡ Memory) e × (pass.new ≡ pass.old)) }
+    {
+        self.desk.lock(rt).claim(alloc, pass)
+    }
+
+    /// Ends the claim of a thread without a move. Takes no memory.
+    pub fn give_back(&self, rt: &impl Wait, thread: &ThreadName) {
+        self.desk.lock(rt).give_back(thread)
+    }
+
+    /// The book, whatever receipts there are.
+    pub fn into_book(self) -> B
+        ensures goes { Extends L.begun (B.story result) }
+        ensures legal { IsLegal (B.story result) }
+    {
+        self.desk.into_inner().into_book()
+    }
+}
