@@ -12,6 +12,6 @@ pub use laws::{
     neighbours_swap, orders_undo, plans_are_consequences, steps_are_lawful,
 };
 pub use places::Plan;
-pub use planning::plan;
+pub use planning::{depends_on_some, plan};
 pub use saved_steps as steps;
 pub use saved_steps::{branches as branches, turns as turns};

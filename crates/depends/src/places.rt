@@ -19,7 +19,8 @@ impl Model for Plan {
 }
 
 impl Plan {
-    pub(crate) fn new(inner: Vec<usize>) -> Plan
+    /// A plan of these places.
+    pub fn new(inner: Vec<usize>) -> Plan
         ensures { result ≡ inner.items }
     {
         Plan { inner }

@@ -25,8 +25,9 @@ pub fn plan(alloc: Global, records: &[StepRecord], at: usize) -> Result<Plan, Al
     Ok(Plan::new(places))
 }
 
-/// Whether a later step depends directly on one of those at some places.
-fn depends_on_some(records: &[StepRecord], places: &[usize], later: &Fact) -> bool
+/// Whether a later step depends directly on one of those at some places. Takes no memory, and compares it with each of them up to
+/// the first.
+pub fn depends_on_some(records: &[StepRecord], places: &[usize], later: &Fact) -> bool
     requires { All (λ place. place < length records.now) places.now }
     ensures { result ≡ plans.depends_on_some (map (λ r. r.fact) records.now) places.now later.now }
 {

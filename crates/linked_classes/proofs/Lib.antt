@@ -8,3 +8,4 @@ pub mod Removed
 pub mod Members
 pub mod Back
 pub mod Neighbours
+pub mod Numbered

@@ -3,3 +3,4 @@ pub mod Keys
 pub mod Linked
 pub mod Classes
 pub mod Members
+pub mod Places

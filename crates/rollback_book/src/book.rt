@@ -87,8 +87,8 @@ impl Book {
         Ok(Room::new(alloc, step)?)
     }
 
-    /// Whether a step may be undone; the room comes back where it may. Takes no memory; looks at each remaining step up to the first
-    /// that depends directly on it.
+    /// Whether a step may be undone; the room comes back where it may. Takes no memory; looks at those remaining steps alone that
+    /// are near it by their names and keys.
     pub fn can_undo(&self, room: Room) -> Result<Room, Refusal>
         ensures { MatchResult result
             (λ r. (r.step ≡ room.step) × (undo_answer self.now.story room.step ≡ Ok room.step))

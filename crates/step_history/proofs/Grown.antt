@@ -1,5 +1,5 @@
 -- A history with one more step.
-use Rattle.std.proofs.Common.{◌≡◌, List, [], ◌∷◌, ◌++◌, refl, ap, ap₂, sym, subst, ◌∙◌, Option, Some}
+use Rattle.std.proofs.Common.{◌≡◌, List, [], ◌∷◌, ◌++◌, refl, ap, ap₂, sym, subst, ◌∙◌, Option, Some, None}
 use Rattle.std.specs.Prelude.{option_map}
 use Rattle.item_store.specs.Store.{Store, items_of}
 use Rattle.item_store.specs.Table.{Table}
@@ -21,7 +21,7 @@ use Rattle.saved_steps.specs.declared.record.StepRecord.{StepRecord}
 use Rattle.trace_theory.specs.Traces.{IsRun}
 use Rattle.trace_theory.proofs.Runs.{run_more}
 use Rattle.depends.specs.Instance.{steps}
-use Rattle.step_history.specs.History.{Past, IsRecordOf, AreRecordsOf, IsHistory, taken_in}
+use Rattle.step_history.specs.History.{Past, IsRecordOf, AreRecordsOf, IsHistory, nothing_over, taken_in}
 use Rattle.step_history.specs.declared.history.History.{History}
 use Rattle.step_history.proofs.Left.{records_kept}
 
@@ -66,3 +66,15 @@ grown s base ts step d h g m r is does made applied records =
       records = subst (λ (l : List StepRecord). AreRecordsOf g.world.items l (ts ++ t ∷ [])) (sym records)
           (one_more g.world.items h.records.items ts r t (records_kept h.world.items g.world.items h.records.items ts applied.store is.records) own);
     }
+
+-- where no step was taken
+pub empty_history : (s : Setting) (items : Store) (h : History) → ((t : Thread) → frames_of h.world t ≡ None) → h.world.items ≡ items → h.records.items ≡ [] → s.table ≡ items.table → s.schema ≡ items.schema → IsHistory s (nothing_over items) [] h
+empty_history s items h frames store none table schema = record {
+  table = table ∙ ap (λ (x : Store). x.table) (sym store);
+  schema = schema ∙ ap (λ (x : Store). x.schema) (sym store);
+  none = λ t. refl;
+  runs =
+      ap (λ (x : model.World). let y : Option (model.World × List Past) = Some (x, []) in y)
+      (ap₂ (λ (a : Thread → Option Frame) (b : Table). let x : model.World = record { frames = a; items = b } in x) (fun_ext (λ t. sym (frames t))) (ap items_of (sym store)));
+  records = subst (λ (l : List StepRecord). AreRecordsOf h.world.items l []) (sym none) tt;
+}

@@ -9,5 +9,4 @@ pub mod Worked
 pub mod Extended
 pub mod Placed
 pub mod Movable
-pub mod Found
 pub mod Trials

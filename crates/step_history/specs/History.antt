@@ -1,6 +1,5 @@
 -- The steps that remain, with what is kept of each, and the world that they give.
-use Rattle.std.specs.Prelude.{◌≡◌, ◌<◌, ℕ, List, [], ◌∷◌, None, length, map}
-use Rattle.std.specs.Vec.{vec_len, vec_capacity}
+use Rattle.std.specs.Prelude.{◌≡◌, ◌<◌, ℕ, true, List, [], ◌∷◌, None, length, map}
 use Rattle.item_store.specs.Store.{Store, items_of}
 pub use Rattle.depends.specs.Instance.{Past, taken_in}
 use Rattle.depends.specs.Instance.{steps}
@@ -9,10 +8,8 @@ use Rattle.depends.specs.Plans.{plan}
 use Rattle.trace_theory.specs.Traces.{IsRun}
 use Rattle.saved_steps.specs.Held.{seen}
 use Rattle.saved_steps.specs.Records.{kept_by}
-use Rattle.saved_steps.specs.Steps.{Step}
 use Rattle.saved_steps.specs.Undoing.{IsRecord, HasSlot}
 use Rattle.saved_steps.specs.World.{Setting, World}
-use Rattle.saved_steps.specs.declared.fact.Fact.{Fact}
 use Rattle.saved_steps.specs.declared.record.StepRecord.{StepRecord}
 use Rattle.step_history.specs.declared.history.History.{History}
 
@@ -45,7 +42,7 @@ pub record IsHistory (s : Setting) (base : World) (ts : List Past) (h : History)
 
 -- there is room for one more record
 abbrev pub HasRoom : History → Type 0
-HasRoom h = vec_len h.records < vec_capacity h.records
+HasRoom h = h.records.has_room ≡ true
 
 -- it is the history of some steps in some setting
 abbrev pub IsSomeHistory : History → Type 0

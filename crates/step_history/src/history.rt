@@ -16,13 +16,14 @@ use saved_steps::branches::Readiness;
 use saved_steps::{StepRecord, World};
 use std::alloc::{AllocError, Global};
 use std::collections::BTreeSet;
+use step_index::StepRecords;
 use step_names::{StepName, ThreadName};
 
 /// The steps that were taken and remain, in their order, with the executions and items that they give.
 #[derive(Drop)]
 pub struct History {
     pub(crate) world: World,
-    pub(crate) records: Vec<StepRecord>,
+    pub(crate) records: StepRecords,
 }
 
 impl History {
@@ -32,7 +33,7 @@ impl History {
     {
         History {
             world: World::new(alloc, items),
-            records: Vec::new(alloc),
+            records: StepRecords::new(alloc),
         }
     }
 
@@ -84,26 +85,11 @@ impl History {
         self.records.len()
     }
 
-    /// The place of the step of a name. Takes no memory, and looks at the later steps first.
+    /// The place of the step of a name. Takes no memory; looks at the steps whose names have its hash.
     pub fn find(&self, name: &StepName) -> Option<usize>
         requires { IsSomeHistory self.now }
         ensures { result ≡ position (λ r. is_same_step r.fact.name name.now) self.now.records.items }
     {
-        let mut later = self.records.len();
-        while 0 < later {
-            let at = later - 1;
-            if is_of_name(&self.records[at], name) {
-                return Some(at);
-            }
-            later = at;
-        }
-        None
+        self.records.find(name)
     }
-}
-
-/// Whether a record is that of the step of a name.
-fn is_of_name(taken: &StepRecord, name: &StepName) -> bool
-    ensures { result ≡ is_same_step taken.now.fact.name name.now }
-{
-    taken.fact.name.thread == name.thread && taken.fact.name.no == name.no
 }

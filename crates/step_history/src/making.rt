@@ -22,7 +22,7 @@ impl History {
         ensures world { seen self.new.world ≡ seen self.old.world }
         ensures history { (s : Setting) (base : World) (ts : List Past) → IsHistory s base ts self.old → IsHistory s base ts self.new }
     {
-        if self.records.reserve(1).is_err() {
+        if self.records.reserve().is_err() {
             drop(next);
             return Err(AllocError);
         }
@@ -36,8 +36,6 @@ impl History {
         ensures { (s : Setting) (base : World) (ts : List Past) (step : Step) (d : Deed) → IsHistory s base ts self.old → deed s (seen self.old.world) step ≡ Some d → IsMadeFor made d → IsHistory s base (ts ++ taken_in (seen self.old.world) step d.fact ∷ []) self.new }
     {
         let record = self.world.apply(made);
-        let Ok(()) = self.records.push(record) else {
-            unreachable!()
-        };
+        self.records.push(record);
     }
 }

@@ -12,17 +12,17 @@ use depends::Plan;
 use std::alloc::{AllocError, Global};
 
 impl History {
-    /// The place of the earliest step that depends directly on the one at a place. Takes no memory, and one comparison for
-    /// each later step up to that one.
+    /// The place of the earliest step that depends directly on the one at a place. Takes no memory, and the looks of
+    /// `StepRecords::first_dependent`.
     pub fn first_dependent(&self, at: usize) -> Option<usize>
         requires { at < length self.now.records.items }
         ensures { result ≡ plans.first_dependent (map (λ r. r.fact) self.now.records.items) at }
     {
-        depends::first_dependent(self.records.as_slice(), at)
+        self.records.first_dependent(at)
     }
 
-    /// Undoes the step at a place, on which no other depends: the steps that are left stay in their order. Takes no memory,
-    /// and time in the number of the later steps.
+    /// Undoes the step at a place, on which no other depends: the steps that are left stay in their order. Takes no memory;
+    /// the later records are moved as they lie, and none is looked at.
     pub fn undo(&mut self, at: usize)
         requires there { at < length self.old.records.items }
         requires history { IsSomeHistory self.old }
@@ -33,17 +33,16 @@ impl History {
         self.world.undo(record);
     }
 
-    /// The step at a place and all its consequences, the latest first. Takes memory for each of them, and compares each later
-    /// step with those that were found before it.
+    /// The step at a place and all its consequences, the latest first. Takes the memory and the looks of `StepRecords::plan`.
     pub fn plan(&self, alloc: Global, at: usize) -> Result<Plan, AllocError>
         requires { at < length self.now.records.items }
         ensures { IfOk result (λ p. p ≡ plans.plan (map (λ r. r.fact) self.now.records.items) at) }
     {
-        depends::plan(alloc, self.records.as_slice(), at)
+        self.records.plan(alloc, at)
     }
 
     /// Undoes the steps of a plan of this history, the latest first: the steps that are left stay in their order. Takes no
-    /// memory, and for each step of the plan time in the number of the later steps.
+    /// memory, and for each step of the plan the time of `undo`.
     pub fn rollback(&mut self, plan: &Plan)
         requires history { IsSomeHistory self.old }
         requires plan { IsPlanOf self.old plan.now }

@@ -7,5 +7,4 @@ returns c = λ s base ts step d is does made.
     let h = c.args.self.now in
     let r = c.apply-record.result in
     let g : History = record { world = c.apply-record.new.self; records = c.push.new.self } in
-    let pushed = rw c.in-Ok.is at c.push.ensures.items in
-    grown s base ts step d h g c.args.made r is does made c.apply-record.ensures pushed
+    grown s base ts step d h g c.args.made r is does made c.apply-record.ensures c.push.ensures

@@ -1,5 +1,4 @@
-use Rattle.std.proofs.Common.{length, refl, arith}
-use Rattle.std.proofs.lemmas.Option.{slice_get_read}
+use Rattle.std.proofs.Common.{arith}
 use Rattle.step_history.specs.declared.history.History.{History}
 use Rattle.step_history.proofs.Left.{step_there, as_many, free_by, can_undo_at, undone_history}
 use Rattle.step_history.proofs.history.History.undo.Goals as goal
@@ -11,7 +10,7 @@ undo-requires c =
     let many = as_many h.world.items h.records.items k.2 k.3.records in
     let t = step_there k.2 c.args.at (omega (arith, c.requires.there, many)) in
     can_undo_at k.0 k.1 k.2 c.args.at t.0 h k.3 t.1 c.remove-record.result
-    (slice_get_read h.records.items (length h.records.items) c.args.at c.remove-record.result refl c.requires.there c.remove-record.ensures.value)
+    c.remove-record.ensures.taken
     (free_by k.0 k.1 k.2 c.args.at t.0 h k.3 t.1 c.requires.free)
 
 pub returns : goal.returns
@@ -19,5 +18,5 @@ returns c = λ s base ts t is here.
     let h = c.args.self.now in
     let g : History = record { world = c.undo.new.self; records = c.remove-record.new.self } in
     undone_history s base ts c.args.at t h is here g c.remove-record.result
-    (slice_get_read h.records.items (length h.records.items) c.args.at c.remove-record.result refl c.requires.there c.remove-record.ensures.value)
+    c.remove-record.ensures.taken
     (free_by s base ts c.args.at t h is here c.requires.free) c.remove-record.ensures.items c.undo.ensures

@@ -1,0 +1,54 @@
+-- In which class a step is, by the hash of a part of its fact. Of the hash only this is used, that it is a function.
+use Rattle.std.specs.Prelude.{ℕ, ◌%◌, ◌++◌, ◌==◌, Bool, ◌||◌, not, List, Option, Some, None, option_map, if◌then◌else◌}
+use Rattle.std.specs.Hash as fed
+use Rattle.std.specs.Hash.DefaultHasher as sip
+use Rattle.std.specs.List.{fold}
+use Rattle.attr_values.specs.Key.{key_input}
+use Rattle.attr_values.specs.declared.key.Key.{Key}
+use Rattle.step_names.specs.Thread.{Thread}
+use Rattle.step_names.specs.declared.step.StepName.{StepName}
+use Rattle.saved_steps.specs.Steps.{is_close, is_write}
+use Rattle.saved_steps.specs.declared.fact.Access.{Access}
+use Rattle.saved_steps.specs.declared.fact.Fact.{Fact}
+
+unfoldable pub exec_bucket : List ℕ → ℕ
+exec_bucket exec = sip.finish (fold sip.write sip.initial (fed.str exec)) % 2039
+
+unfoldable pub thread_bucket : Thread → ℕ
+thread_bucket t = sip.finish (fold sip.write (fold sip.write sip.initial (fed.str t.exec)) (fed.slice (λ b. fed.u32 b.0 ++ fed.u32 b.1) t.path)) % 2039
+
+unfoldable pub name_bucket : StepName → ℕ
+name_bucket name =
+    sip.finish (fold sip.write (fold sip.write (fold sip.write sip.initial (fed.str name.thread.exec)) (fed.slice (λ b. fed.u32 b.0 ++ fed.u32 b.1) name.thread.path)) (fed.u32 name.no)) % 2039
+
+unfoldable pub key_bucket : Key → ℕ
+key_bucket key = sip.finish (fold sip.write sip.initial (key_input key)) % 2039
+
+-- ---- of a step
+
+abbrev pub by_name : Fact → Option ℕ
+by_name f = Some (name_bucket f.name)
+
+abbrev pub by_thread : Fact → Option ℕ
+by_thread f = Some (thread_bucket f.name.thread)
+
+abbrev pub by_exec : Fact → Option ℕ
+by_exec f = Some (exec_bucket f.name.thread.exec)
+
+-- it closes a fork, or waited for branches under a bound
+abbrev pub is_gate : Fact → Bool
+is_gate f = is_close f.kind || not (f.bound == 0)
+
+abbrev pub by_gate : Fact → Option ℕ
+by_gate f = if is_gate f then Some (exec_bucket f.name.thread.exec) else None
+
+abbrev pub by_key : Fact → Option ℕ
+by_key f = option_map (λ (a : Access). key_bucket a.key) f.access
+
+-- of an access that wrote
+abbrev pub written : Option Access → Option ℕ
+written None = None
+written (Some a) = if is_write a.mode then Some (key_bucket a.key) else None
+
+abbrev pub by_write : Fact → Option ℕ
+by_write f = written f.access

@@ -1,0 +1,4 @@
+pub mod Buckets
+pub mod Walks
+pub mod Records
+pub mod Marks

@@ -1,0 +1,113 @@
+//! In which class a step is, by the hash of a part of its fact.
+
+ghost use Rattle.std.specs.Prelude.{◌≡◌, ◌<◌, ◌%◌, IfSome};
+ghost use Rattle.std.specs.Hash.DefaultHasher.{finish};
+ghost use Rattle.step_index.specs.Buckets.{by_name, by_thread, by_exec, by_gate, by_key, by_write, name_bucket, thread_bucket, exec_bucket, key_bucket, is_gate};
+
+use attr_values::Key;
+use item_store::AccessMode;
+use saved_steps::{Fact, Kind};
+use std::hash::{DefaultHasher, Hash, Hasher};
+use step_names::{StepName, ThreadName};
+
+/// How many classes there are: a prime number.
+pub(crate) const BUCKETS: u32 = 2039;
+
+/// The class of a step's name.
+#[tactic(auto, unfolding(crate::specs::Buckets::name_bucket))]
+pub(crate) fn name_bucket(name: &StepName) -> u32
+    ensures bucket { result ≡ name_bucket name.now }
+    ensures below { result < 2039 }
+{
+    let mut hasher = DefaultHasher::new();
+    name.thread.exec().hash(&mut hasher);
+    name.thread.path().hash(&mut hasher);
+    name.no.hash(&mut hasher);
+    bucket_of(&hasher)
+}
+
+/// The class of a thread.
+#[tactic(auto, unfolding(crate::specs::Buckets::thread_bucket))]
+pub(crate) fn thread_bucket(thread: &ThreadName) -> u32
+    ensures bucket { result ≡ thread_bucket thread.now }
+    ensures below { result < 2039 }
+{
+    let mut hasher = DefaultHasher::new();
+    thread.exec().hash(&mut hasher);
+    thread.path().hash(&mut hasher);
+    bucket_of(&hasher)
+}
+
+/// The class of an execution.
+#[tactic(auto, unfolding(crate::specs::Buckets::exec_bucket))]
+pub(crate) fn exec_bucket(exec: &str) -> u32
+    ensures bucket { result ≡ exec_bucket exec.now }
+    ensures below { result < 2039 }
+{
+    let mut hasher = DefaultHasher::new();
+    exec.hash(&mut hasher);
+    bucket_of(&hasher)
+}
+
+/// The class of the execution of a step that closes a fork, or that waited for branches under a bound.
+pub(crate) fn gate_bucket(fact: &Fact) -> Option<u32>
+    ensures bucket { result ≡ by_gate fact.now }
+    ensures below { IfSome result (λ b. b < 2039) }
+{
+    if !is_gate(fact) {
+        return None;
+    }
+    Some(exec_bucket(fact.name.thread.exec()))
+}
+
+fn is_gate(fact: &Fact) -> bool
+    ensures { result ≡ is_gate fact.now }
+{
+    match fact.kind {
+        Kind::Join | Kind::Terminate => true,
+        Kind::Start | Kind::Plain | Kind::Call | Kind::Fork => fact.bound != 0,
+    }
+}
+
+/// The class of the key that a step touched.
+pub(crate) fn access_bucket(fact: &Fact) -> Option<u32>
+    ensures bucket { result ≡ by_key fact.now }
+    ensures below { IfSome result (λ b. b < 2039) }
+{
+    match &fact.access {
+        Some(access) => Some(key_bucket(&access.key)),
+        None => None,
+    }
+}
+
+/// The class of the key that a step wrote.
+pub(crate) fn write_bucket(fact: &Fact) -> Option<u32>
+    ensures bucket { result ≡ by_write fact.now }
+    ensures below { IfSome result (λ b. b < 2039) }
+{
+    let Some(access) = &fact.access else {
+        return None;
+    };
+    match access.mode {
+        AccessMode::Write => Some(key_bucket(&access.key)),
+        AccessMode::Read => None,
+    }
+}
+
+/// The class of a key.
+#[tactic(auto, unfolding(crate::specs::Buckets::key_bucket))]
+pub(crate) fn key_bucket(key: &Key) -> u32
+    ensures bucket { result ≡ key_bucket key.now }
+    ensures below { result < 2039 }
+{
+    let mut hasher = DefaultHasher::new();
+    key.hash(&mut hasher);
+    bucket_of(&hasher)
+}
+
+fn bucket_of(hasher: &DefaultHasher) -> u32
+    ensures bucket { result ≡ finish hasher.now % 2039 }
+    ensures below { result < 2039 }
+{
+    (hasher.finish() % BUCKETS as u64) as u32
+}

@@ -1,0 +1,214 @@
+//! The records, and the classes of their places.
+
+ghost use Rattle.std.specs.Prelude.{◌≡◌, ◌<◌, ◌+◌, ◌==◌, ◌||◌, [], ◌∷◌, ◌++◌, true, length, map, position, slice_get, Some, IfOk, OnOk};
+ghost use Rattle.std.specs.List.{remove};
+ghost use Rattle.depends.specs.Plans as plans;
+ghost use Rattle.depends.specs.Dependence.{is_start};
+ghost use Rattle.saved_steps.specs.Steps.{is_fork};
+ghost use Rattle.saved_steps.specs.World.{is_same_step};
+ghost use Rattle.saved_steps.specs.declared.record.StepRecord.{StepRecord as Kept};
+ghost use Rattle.step_index.specs.Walks.{ConflictsAt, IsFirstFrom, NeedsByName, needs};
+
+use crate::buckets::{
+    BUCKETS, access_bucket, exec_bucket, gate_bucket, key_bucket, name_bucket, thread_bucket,
+    write_bucket,
+};
+use crate::plans::plan_of;
+use crate::walks::{earlier, first_named, first_needing, first_needing_in};
+use depends::Plan;
+use item_store::AccessMode;
+use linked_classes::ClassedPlaces;
+use saved_steps::{Kind, StepRecord};
+use std::alloc::{AllocError, Global};
+use std::marker::Model;
+use step_names::StepName;
+
+/// Records of steps in the order in which they were added. Contracts see their list, and whether there is room for one more.
+///
+/// The steps are in classes: of their names, their threads, their executions and the keys that they touched, each by its hash.
+/// Those that close a fork or waited for branches are in one of their own as well, by their execution, and those that wrote by
+/// their key. A record costs 130 to 220 bytes for these, one that is gone 24, and all together 200,000 once.
+#[derive(Drop)]
+pub struct StepRecords {
+    records: Vec<StepRecord>,
+    names: ClassedPlaces,
+    threads: ClassedPlaces,
+    execs: ClassedPlaces,
+    gates: ClassedPlaces,
+    keys: ClassedPlaces,
+    writes: ClassedPlaces,
+}
+
+impl Model for StepRecords {
+    ghost use Rattle.std.specs.Prelude.{length, vec_capacity};
+    ghost use Rattle.step_index.specs.Records.{Records, AreIndexed, has_room, all_open};
+    ghost use Rattle.saved_steps.specs.contracts.record.StepRecord as record_row;
+    ghost use Rattle.std.specs.Coded.{codes};
+
+    ghost Value = { Records };
+
+    ghost coded = { Prim.hlevel (codes, record_row.the_row.coded) };
+
+    ghost view = { λ a. record {
+      items = a.records.items;
+      has_room = has_room (length a.records.items) (vec_capacity a.records) (all_open a.names a.threads a.execs a.gates a.keys a.writes);
+    } };
+
+    ghost invariant = { λ a. AreIndexed a.records.items a.names a.threads a.execs a.gates a.keys a.writes };
+}
+
+impl StepRecords {
+    /// No records. Takes no memory.
+    pub fn new(alloc: Global) -> StepRecords
+        ensures { result.items ≡ [] }
+    {
+        StepRecords {
+            records: Vec::new(alloc),
+            names: ClassedPlaces::new(alloc),
+            threads: ClassedPlaces::new(alloc),
+            execs: ClassedPlaces::new(alloc),
+            gates: ClassedPlaces::new(alloc),
+            keys: ClassedPlaces::new(alloc),
+            writes: ClassedPlaces::new(alloc),
+        }
+    }
+
+    /// The records in their order.
+    pub fn as_slice(&self) -> &[StepRecord]
+        ensures { result.now ≡ self.now.items }
+    {
+        self.records.as_slice()
+    }
+
+    /// How many there are.
+    pub fn len(&self) -> usize
+        ensures { result ≡ length self.now.items }
+    {
+        self.records.len()
+    }
+
+    /// Whether there is none.
+    pub fn is_empty(&self) -> bool
+        ensures { result ≡ (length self.now.items == 0) }
+    {
+        self.records.is_empty()
+    }
+
+    /// Makes room for one more record. Refused where memory is, and where 4,294,967,295 records have come.
+    pub fn reserve(&mut self) -> Result<(), AllocError>
+        ensures items { self.new.items ≡ self.old.items }
+        ensures room { OnOk result (self.new.has_room ≡ true) }
+    {
+        let classes = BUCKETS as usize;
+        self.records.reserve(1)?;
+        self.names.reserve(classes)?;
+        self.threads.reserve(classes)?;
+        self.execs.reserve(classes)?;
+        self.gates.reserve(classes)?;
+        self.keys.reserve(classes)?;
+        self.writes.reserve(classes)
+    }
+
+    /// Adds a record at the end. Takes no memory, and the time to hash its name and its key a few times.
+    pub fn push(&mut self, kept: StepRecord)
+        requires { self.old.has_room ≡ true }
+        ensures { self.new.items ≡ self.old.items ++ kept ∷ [] }
+    {
+        let name = &kept.fact.name;
+        self.names.push(Some(name_bucket(name)));
+        self.threads.push(Some(thread_bucket(&name.thread)));
+        self.execs.push(Some(exec_bucket(name.thread.exec())));
+        self.gates.push(gate_bucket(&kept.fact));
+        self.keys.push(access_bucket(&kept.fact));
+        self.writes.push(write_bucket(&kept.fact));
+        self.records.push_reserved(kept);
+    }
+
+    /// Takes the record at a place out: the others stay in their order. Takes no memory; the later records are moved as they
+    /// lie, and none is looked at.
+    pub fn remove(&mut self, at: usize) -> StepRecord
+        requires { at < length self.old.items }
+        ensures taken { slice_get self.old.items at ≡ Some result }
+        ensures items { self.new.items ≡ remove self.old.items at }
+    {
+        self.names.remove(at);
+        self.threads.remove(at);
+        self.execs.remove(at);
+        self.gates.remove(at);
+        self.keys.remove(at);
+        self.writes.remove(at);
+        self.records.remove(at)
+    }
+
+    /// The place of the first step of a name. Takes no memory; looks at the steps whose names have its hash.
+    pub fn find(&self, name: &StepName) -> Option<usize>
+        ensures { result ≡ position (λ r. is_same_step r.fact.name name.now) self.now.items }
+    {
+        first_named(
+            self.records.as_slice(),
+            &self.names,
+            name_bucket(name),
+            name,
+        )
+    }
+
+    /// The place of the earliest step that depends directly on the one at a place. Takes no memory. Looks, behind it, at the
+    /// steps of its thread up to that one, at those of its execution that close a fork or waited for branches, and at the
+    /// accesses of its key up to that one, of a read at the writes alone; of a start or a fork at the steps of its execution up
+    /// to that one. Steps whose names or keys have the same hash are looked at beside these.
+    pub fn first_dependent(&self, at: usize) -> Option<usize>
+        requires { at < length self.now.items }
+        ensures { result ≡ plans.first_dependent (map (λ r. r.fact) self.now.items) at }
+    {
+        earlier(self.first_in_execution(at), self.first_conflict(at))
+    }
+
+    /// The earliest step that accesses the key of the one at a place, and not both read.
+    fn first_conflict(&self, at: usize) -> Option<usize>
+        requires { at < length self.now.items }
+        ensures { (f : Kept) → slice_get self.now.items at ≡ Some f → IsFirstFrom (ConflictsAt self.now.items f) (needs f) self.now.items (at + 1) result }
+    {
+        let records = self.records.as_slice();
+        let Some(access) = &records[at].fact.access else {
+            return None;
+        };
+        match access.mode {
+            AccessMode::Write => first_needing(records, &self.keys, at),
+            AccessMode::Read => {
+                first_needing_in(records, &self.writes, key_bucket(&access.key), at)
+            }
+        }
+    }
+
+    /// The step at a place and all its consequences, the latest first. Takes memory for each of them and 4,000 bytes. One pass over
+    /// the later steps: each is compared with those that were found before it only where one of these is in the class of its
+    /// execution or of its key.
+    pub fn plan(&self, alloc: Global, at: usize) -> Result<Plan, AllocError>
+        requires { at < length self.now.items }
+        ensures { IfOk result (λ p. p ≡ plans.plan (map (λ r. r.fact) self.now.items) at) }
+    {
+        plan_of(alloc, self.records.as_slice(), &self.execs, &self.keys, at)
+    }
+
+    /// The earliest step that depends directly on the one at a place, of those that do so by their names.
+    fn first_in_execution(&self, at: usize) -> Option<usize>
+        requires { at < length self.now.items }
+        ensures { (f : Kept) → slice_get self.now.items at ≡ Some f → IsFirstFrom (NeedsByName self.now.items f) (needs f) self.now.items (at + 1) result }
+    {
+        let records = self.records.as_slice();
+        let fact = &records[at].fact;
+        if makes_threads(fact.kind) {
+            return first_needing(records, &self.execs, at);
+        }
+        let class = exec_bucket(fact.name.thread.exec());
+        let closing = first_needing_in(records, &self.gates, class, at);
+        earlier(first_needing(records, &self.threads, at), closing)
+    }
+}
+
+/// Whether threads are there by a step of this kind.
+fn makes_threads(kind: Kind) -> bool
+    ensures { result ≡ (is_start kind || is_fork kind) }
+{
+    matches!(kind, Kind::Start | Kind::Fork)
+}
