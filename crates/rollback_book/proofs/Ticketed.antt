@@ -1,6 +1,6 @@
 -- Which threads have a ticket, and where a prepared turn is still its thread's.
 use Rattle.std.proofs.Common.{◌≡◌, ◌+◌, Bool, true, false, refl, ap, sym, subst, ◌∙◌, Option, None, Some}
-use Rattle.std.specs.Prelude.{IsSome, not, option_and_then}
+use Rattle.std.specs.Prelude.{IsSome, is_some, not, option_and_then}
 use Rattle.std.proofs.lemmas.Option.{same_Some}
 use Rattle.asl_machine.specs.MachineSame.{same_definition, definition_exact}
 use Rattle.asl_tree.specs.Definition.{Definition}
@@ -17,14 +17,15 @@ use Rattle.step_history.proofs.Movable.{frames_stand}
 use Rattle.step_history.proofs.Worked.{is_over, work_move}
 use Rattle.step_names.specs.Thread.{Thread}
 use Rattle.step_names.specs.declared.step.StepName.{StepName}
-use Rattle.saved_steps.specs.Deeds.{next_step}
+use Rattle.saved_steps.specs.Deeds.{frame_deed, next_step}
 use Rattle.saved_steps.specs.Held.{frames_of, paths_of}
 use Rattle.saved_steps.specs.World.{Setting, World}
 use Rattle.saved_steps.specs.declared.next.Next.TheVariants.{Work}
 use Rattle.saved_steps.proofs.Moves.{work_is_deed}
-use Rattle.book_log.specs.Answers.{is_full_for_step}
+use Rattle.book_log.specs.Answers.{has_move, is_full_for_step}
 use Rattle.book_log.specs.Story.{Story, base_of, machine_of, past_of, setting_of, world_of}
-use Rattle.book_log.specs.declared.refusal.Refusal.TheVariants.{NotReady}
+use Rattle.book_log.specs.declared.refusal.Refusal.{Refusal}
+use Rattle.book_log.specs.declared.refusal.Refusal.TheVariants.{NoMachine, MachineTaken, BadMachine, ExecTaken, NoThread, NotReady, NoStep, HasDependents, Stale, Full, Memory}
 use Rattle.rollback_book.specs.Book.{Volume, IsTied, place_in, placed}
 use Rattle.rollback_book.specs.Commits.{IsFresh, IsSource}
 use Rattle.rollback_book.specs.Ready.{IsNextOf, IsReadyTo}
@@ -98,3 +99,26 @@ module _ (b : Volume) (tied : IsTied b) (p : Prepared) (f : Frame) (machine : De
       let one : machine ≡ p.machine = same_Some machine p.machine (sym found ∙ source.1) in
       let clash : true ≡ false = sym ((definition_exact machine other).1 (one ∙ sym own)) ∙ sym is ∙ h in
       cc
+
+-- ---- who has a move
+
+no_frame : (story : Story) (t : Thread) → (world_of story).frames t ≡ None → has_move story t ≡ false
+no_frame story t h = ap (λ (o : Option Frame). is_some (option_and_then (frame_deed (setting_of story) (world_of story) t) o)) h
+
+-- such a thread is refused a ticket for memory alone
+pub memory_alone : (story : Story) (t : Thread) (e : Refusal) → has_move story t ≡ true → IsTicketRefusal story t e → e ≡ Memory
+memory_alone story t Memory moves h = refl
+memory_alone story t NoThread moves h =
+    let clash : true ≡ false = sym moves ∙ no_frame story t h in
+    cc
+memory_alone story t (NotReady readiness) moves h =
+    let clash : true ≡ false = sym moves ∙ h.1 in
+    cc
+memory_alone story t NoMachine moves h = absurd h
+memory_alone story t MachineTaken moves h = absurd h
+memory_alone story t (BadMachine fault) moves h = absurd h
+memory_alone story t ExecTaken moves h = absurd h
+memory_alone story t NoStep moves h = absurd h
+memory_alone story t (HasDependents step) moves h = absurd h
+memory_alone story t (Stale entries) moves h = absurd h
+memory_alone story t Full moves h = absurd h

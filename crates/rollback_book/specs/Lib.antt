@@ -9,6 +9,7 @@ pub mod Tickets
 pub mod Commits
 -- what stands below and is named by the crates above
 pub use Rattle.step_history.specs.Frame
+pub use Rattle.step_history.specs.Prepared
 pub use Rattle.asl_machine.specs.Profile
 pub use Rattle.branch_tree.specs.declared.readiness.Readiness
 pub use Rattle.depends.specs.Dependence

@@ -6,15 +6,19 @@ ghost use Rattle.json_tree.specs.View.{data_of};
 ghost use Rattle.step_names.specs.Order.{thread_cmp};
 ghost use Rattle.book_log.specs.Story.{Story};
 ghost use Rattle.rollback_book.specs.Calls.{FindsFirst, IsLogOf, MakesRoom, PlansRollback, RollsBack, Shows, Starts, Steps, Undoes};
+ghost use Rattle.rollback_book.specs.Commits.{AnswersCommit, Commits};
 ghost use Rattle.rollback_book.specs.Making.{WasPlanned};
+ghost use Rattle.rollback_book.specs.Tickets.{AnswersTicket};
 
 use crate::book::Book;
+use crate::commits::CommitRefusal;
 use crate::room::{PlanRoom, Room};
+use crate::ticket::Ticket;
 use book_log::{Begin, Entry, Moved, Refusal, StepNames};
 use json_tree::{Json, Text};
 use std::alloc::Global;
 use std::collections::BTreeSet;
-use step_history::turns::Frame;
+use step_history::turns::{Frame, Prepared};
 use step_names::{StepName, ThreadName};
 
 /// What executes commands one after another and keeps each accepted one as the next entry of its log, as `Book` does; its calls
@@ -40,6 +44,16 @@ pub trait Events {
     fn step(&mut self, alloc: Global, thread: &ThreadName) -> Result<Moved, Refusal>
         ensures { Steps (story self.old) (story self.new) thread.now result };
 
+    /// As `Book::commit`.
+    fn commit(
+        &mut self,
+        alloc: Global,
+        thread: &ThreadName,
+        prepared: Prepared,
+    ) -> Result<Moved, CommitRefusal>
+        ensures answer { AnswersCommit (story self.old) thread.now prepared result }
+        ensures story { Commits (story self.old) result (story self.new) };
+
     /// As `Book::room`.
     fn room(&self, alloc: Global, step: &StepName) -> Result<Room, Refusal>
         ensures { MakesRoom step.now result };
@@ -64,6 +78,10 @@ pub trait Events {
         outside: &BTreeSet<ThreadName>,
     ) -> Result<Option<ThreadName>, Refusal>
         ensures { FindsFirst (story self.now) (contains thread_cmp outside.now) result };
+
+    /// As `Book::ticket`.
+    fn ticket(&self, thread: &ThreadName) -> Result<Ticket, Refusal>
+        ensures { AnswersTicket (story self.now) thread.now result };
 
     /// As `Book::show`.
     fn show(&self, thread: &ThreadName) -> Result<&Frame, Refusal>
@@ -91,6 +109,15 @@ impl Events for Book {
         Book::step(self, alloc, thread)
     }
 
+    fn commit(
+        &mut self,
+        alloc: Global,
+        thread: &ThreadName,
+        prepared: Prepared,
+    ) -> Result<Moved, CommitRefusal> {
+        Book::commit(self, alloc, thread, prepared)
+    }
+
     fn room(&self, alloc: Global, step: &StepName) -> Result<Room, Refusal> {
         Book::room(self, alloc, step)
     }
@@ -113,6 +140,10 @@ impl Events for Book {
         outside: &BTreeSet<ThreadName>,
     ) -> Result<Option<ThreadName>, Refusal> {
         Book::first_ready(self, alloc, outside)
+    }
+
+    fn ticket(&self, thread: &ThreadName) -> Result<Ticket, Refusal> {
+        Book::ticket(self, thread)
     }
 
     fn show(&self, thread: &ThreadName) -> Result<&Frame, Refusal> {

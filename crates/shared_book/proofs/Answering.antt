@@ -1,12 +1,13 @@
 -- What a call gives its caller, from what the book's call promises.
-use Rattle.std.proofs.Common.{◌≡◌, ℕ, ◌+◌, ◌≤◌, List, [], ◌∷◌, ◌++◌, length, append-nil, Option, Some, None, Result, Ok, Err, sym, ap, subst, ◌∙◌, inl, inr}
+use Rattle.std.proofs.Common.{◌≡◌, ℕ, ◌+◌, ◌≤◌, Bool, true, false, ◌&&◌, List, [], ◌∷◌, ◌++◌, length, append_assoc, append-nil, length-append, arith, Option, Some, None, Result, Ok, Err, refl, sym, ap, subst, ◌∙◌, inl, inr}
+use Rattle.std.specs.Prelude.{not}
 use Rattle.json_tree.specs.Data.{depth, most_levels}
 use Rattle.json_tree.specs.View.{data_of}
 use Rattle.json_tree.specs.declared.tree.Json.{Json}
 use Rattle.step_names.specs.Thread.{Thread}
 use Rattle.step_names.specs.declared.step.StepName.{StepName}
 use Rattle.rollback_book.specs.Fact.{Fact}
-use Rattle.book_log.specs.Answers.{Gives, found_answer, free_answer, from_step, start_answer, step_answer, undo_answer}
+use Rattle.book_log.specs.Answers.{Gives, found_answer, free_answer, from_step, has_move, start_answer, step_answer, undo_answer}
 use Rattle.book_log.specs.Legal.{IsAccepted, IsLegal}
 use Rattle.book_log.specs.Story.{Story, accepted, facts_of}
 use Rattle.book_log.specs.declared.entry.Entry.{Entry}
@@ -15,12 +16,20 @@ use Rattle.book_log.specs.declared.moved.Moved.{Moved}
 use Rattle.book_log.specs.declared.refusal.Refusal.{Refusal}
 use Rattle.book_log.specs.declared.refusal.Refusal.TheVariants.{Memory}
 use Rattle.book_log.proofs.LegalRuns.{accepted_is_legal}
+use Rattle.rollback_book.specs.Commits.{IsFresh}
 use Rattle.rollback_book.specs.Making.{IsPlanned, WasPlanned}
+use Rattle.rollback_book.specs.Prepared.{Prepared}
+use Rattle.rollback_book.specs.Ready.{IsFirstToMove}
+use Rattle.rollback_book.specs.Tickets.{AnswersTicket, IsMoving}
 use Rattle.rollback_book.specs.declared.room.PlanRoom.{PlanRoom}
+use Rattle.rollback_book.specs.declared.ticket.Ticket.{Ticket}
 use Rattle.rollback_book.proofs.Retaken.{given_ok, start_named, step_is_next}
+use Rattle.rollback_book.proofs.Ticketed.{memory_alone}
 use Rattle.shared_book.specs.Numbers.{IsForeign, IsKnown, last_of}
-use Rattle.shared_book.specs.Views.{PassView, Extends}
+use Rattle.shared_book.specs.Views.{PassView, Extends, IsCounted, is_claimed}
 use Rattle.shared_book.specs.Calls.{GivesReceipt, IsCause, IsNotAdmitted, IsRefusedFor, MaySee}
+use Rattle.shared_book.specs.Claims.{IsClaim}
+use Rattle.shared_book.specs.Commits.{GivesTurn}
 use Rattle.shared_book.specs.declared.receipt.Receipt.{Receipt}
 use Rattle.shared_book.specs.declared.refusal.SharedRefusal.{SharedRefusal}
 use Rattle.shared_book.specs.declared.refusal.SharedRefusal.TheVariants.{Refused, ForeignPass}
@@ -43,14 +52,30 @@ given begun before entries had e kept told n items goes is legal may known numbe
       now = ap (λ (l : List Receipt). record { seen = n; receipts = l; parts = had.parts }) (now ∙ ap (λ (x : Entry). had.receipts ++ record { number = n; entry = x } ∷ []) (kept_is ∙ sym told_is));
     }
 
+-- the same of a turn that was still its thread's
+pub given_turn : (begun before : Story) (entries : List Entry) (had : PassView) (e kept told : Entry) (n : ℕ) (items : List Receipt) (t : Thread) (p : Prepared)
+    → Extends begun before → entries ≡ before.log → IsLegal before → IsAccepted before e
+    → IsKnown entries had.seen (last_of had.receipts) → n ≡ length entries + 1
+    → kept ≡ e → told ≡ e → items ≡ had.receipts ++ record { number = n; entry = kept } ∷ [] → IsFresh before t p
+    → GivesTurn begun t p had (record { seen = n; receipts = items; parts = had.parts }) (record { number = n; entry = told })
+unfolding given
+given_turn begun before entries had e kept told n items t p goes is legal may known number kept_is told_is now fresh =
+    (given begun before entries had e kept told n items goes is legal may known number kept_is told_is now, fresh)
+
 pub start_accepted : (story : Story) (exec : Thread) (machine : List ℕ) (input : Json) (name : StepName) → Gives (Ok name) (start_answer story exec machine) → exec.path ≡ [] → depth (data_of input) ≤ most_levels → IsAccepted story (Start exec machine input)
 start_accepted story exec machine input name gives root shallow = (start_named story exec machine name (given_ok (start_answer story exec machine) name gives), root, shallow)
 
+pub turn_of : (story : Story) (t : Thread) (m : Moved) → step_answer story t ≡ Ok m → m.name.thread ≡ t
+turn_of story t m answer = ap (λ (n : StepName). n.thread) (step_is_next story t m answer).2
+
+pub turn_accepted : (story : Story) (t : Thread) (m : Moved) → step_answer story t ≡ Ok m → IsAccepted story (Stepped m.name m.kind)
+turn_accepted story t m answer = ap (step_answer story) (turn_of story t m answer) ∙ answer
+
 pub step_of : (story : Story) (t : Thread) (m : Moved) → Gives (Ok m) (step_answer story t) → m.name.thread ≡ t
-step_of story t m gives = ap (λ (n : StepName). n.thread) (step_is_next story t m (given_ok (step_answer story t) m gives)).2
+step_of story t m gives = turn_of story t m (given_ok (step_answer story t) m gives)
 
 pub step_accepted : (story : Story) (t : Thread) (m : Moved) → Gives (Ok m) (step_answer story t) → IsAccepted story (Stepped m.name m.kind)
-step_accepted story t m gives = ap (step_answer story) (step_of story t m gives) ∙ given_ok (step_answer story t) m gives
+step_accepted story t m gives = turn_accepted story t m (given_ok (step_answer story t) m gives)
 
 free_is : (name n : StepName) (o : Option Fact) → free_answer name o ≡ Ok n → n ≡ name
 free_is name n None h = cc
@@ -67,6 +92,22 @@ undo_is story name n h = found_is name n (from_step name (facts_of story)) h
 pub undo_accepted : (story : Story) (name n : StepName) → Ok n ≡ undo_answer story name → IsAccepted story (Undo name)
 undo_accepted story name n h = sym h ∙ ap Ok (undo_is story name n (sym h))
 
+-- the log has one entry more, and one receipt more was handed out
+pub counted_more : (begun story now : Story) (first total all : ℕ) (e : Entry) → IsCounted begun story first total → now ≡ accepted story e → all ≡ total + 1 → IsCounted begun now first all
+counted_more begun story now first total all e counted is more =
+    let long = length-append story.log (e ∷ []) in
+    let so_far = counted.counted in
+    subst (λ (s : Story). IsCounted begun s first all) (sym is)
+    (record {
+      goes = record {
+        begin = counted.goes.begin;
+        more = counted.goes.more ++ e ∷ [];
+        log = ap (λ (l : List Entry). l ++ e ∷ []) counted.goes.log ∙ append_assoc begun.log counted.goes.more (e ∷ []);
+      };
+      is_first = counted.is_first;
+      counted = omega (arith, long, so_far, more);
+    })
+
 -- ---- refused
 
 pub cause : {T : Type 0} (begun : Story) (answer : Story → Result T Refusal) (had : PassView) (at : Story) (e : Refusal) (result : Result T Refusal) → MaySee begun had at → answer at ≡ result → Gives (Err e) result → IsCause begun answer had e
@@ -78,6 +119,24 @@ pub not_admitted : (begun at : Story) (entries : List Entry) (had : PassView) (C
 not_admitted begun at entries had Cause (Refused e) goes is legal not memory = subst Cause (sym not) memory
 not_admitted begun at entries had Cause (ForeignPass number there) goes is legal not memory =
     (at, goes, legal, subst (λ (l : List Entry). IsForeign l had.seen (last_of had.receipts) number there) is not)
+
+-- ---- claimed
+
+and_first : (b c : Bool) → (b && c) ≡ true → b ≡ true
+and_first true c h = refl
+and_first false c h = h
+
+-- the least thread's ticket, and that it is refused for memory alone
+module _ (at : Story) (claims : List Thread) (t : Thread) (first : IsFirstToMove at (is_claimed claims) (Some t)) where
+  pub claimed : (k : Ticket) → AnswersTicket at t (Ok k) → IsClaim at claims (Some k)
+  claimed k answer =
+      record {
+        least = subst (λ (u : Thread). IsFirstToMove at (is_claimed claims) (Some u)) (sym answer.0) first;
+        ticket = subst (λ (u : Thread). IsMoving at u k.machine k.frame) (sym answer.0) answer.1;
+      }
+
+  pub not_claimed : (e : Refusal) → AnswersTicket at t (Err e) → e ≡ Memory
+  not_claimed e answer = memory_alone at t e (and_first (has_move at t) (not (is_claimed claims t)) first.1) answer
 
 -- ---- rollback
 

@@ -1,4 +1,6 @@
 pub mod Views
 pub mod Numbers
 pub mod Calls
+pub mod Claims
+pub mod Commits
 pub mod Closed

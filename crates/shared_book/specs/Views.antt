@@ -1,6 +1,8 @@
 -- What contracts see of a pass and of what lies under the lock.
 use Rattle.std.specs.Prelude.{◌≡◌, ℕ, ◌+◌, ◌-◌, ◌/◌, Bool, List, [], ◌++◌, length, Option, None, Some}
+use Rattle.std.specs.BTreeMap.{is_at}
 use Rattle.std.specs.BTreeSet.{contains, insert_key}
+use Rattle.std.specs.Set.{remove_key}
 use Rattle.step_names.specs.Order.{thread_cmp}
 use Rattle.step_names.specs.Thread.{Thread}
 use Rattle.book_log.specs.Story.{Story, accepted}
@@ -47,6 +49,9 @@ is_claimed claims t = contains thread_cmp (record { keys = claims }) t
 abbrev pub claimed_with : List Thread → Option Thread → List Thread
 claimed_with claims None = claims
 claimed_with claims (Some t) = insert_key thread_cmp claims t
+
+abbrev pub claims_without : List Thread → Thread → List Thread
+claims_without claims t = remove_key (is_at (thread_cmp t)) claims
 
 abbrev pub with_claims : DeskView → List Thread → DeskView
 with_claims d claims = record { story = d.story; first = d.first; claims = claims }

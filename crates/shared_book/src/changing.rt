@@ -174,7 +174,7 @@ impl<B: Events, L: Sharing> Desk<B, L> {
 }
 
 /// Counts a receipt, and puts it into a pass that has room for it.
-fn hand_out<L: Ledger>(
+pub(crate) fn hand_out<L: Ledger>(
     calls: &mut Book<L>,
     share: &mut Share<L>,
     receipts: &mut Vec<Receipt>,

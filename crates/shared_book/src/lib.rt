@@ -4,7 +4,9 @@
 //! passes come back, the receipts are counted, and the book is taken out where each entry since it was shared has one.
 mod admitting;
 mod changing;
+mod claiming;
 mod closing;
+mod committing;
 mod copies;
 mod desk;
 mod looking;
@@ -16,10 +18,11 @@ mod shared;
 mod sharing;
 
 pub use admitting::{Foreign, known};
+pub use claiming::Offer;
 pub use closing::{CloseRefusal, close};
 pub use looking::Shown;
 pub use pass::Pass;
 pub use receipt::Receipt;
-pub use refusal::{CloseReason, SharedRefusal};
+pub use refusal::{CloseReason, SharedCommitRefusal, SharedRefusal};
 pub use shared::{PARTS, Shared, share};
 pub use sharing::Sharing;

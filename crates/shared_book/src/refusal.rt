@@ -1,13 +1,24 @@
 // Why a shared book refuses a call.
 use book_log::{Entry, Refusal};
+use rollback_book::Staleness;
+use rollback_book::turns::Prepared;
 
-/// Why a call of a shared book is refused. Each refusal leaves the book, the claims and the pass as they were.
+/// Why a call of a shared book is refused. Each refusal leaves the book, the pass and, but for `commit`, the claims as they were.
 #[derive(Debug, Drop)]
 pub enum SharedRefusal {
     /// The pass is of another book: what stands at this number isn't what it has seen.
     ForeignPass { number: usize, there: Option<Entry> },
     /// The book refuses the command, or memory was refused to the call itself.
     Refused(Refusal),
+}
+
+/// Why a turn isn't taken. Each refusal leaves the book and the pass as they were, and the claim has ended.
+#[derive(Debug, Drop)]
+pub enum SharedCommitRefusal {
+    /// The turn is no longer its thread's, and comes back.
+    Stale(Staleness, Prepared),
+    /// The pass is of another book, the book is full, or memory was refused. The turn is dropped.
+    Refused(SharedRefusal),
 }
 
 /// Why a shared book isn't closed.

@@ -6,19 +6,22 @@ ghost use Rattle.step_names.specs.Thread.{Thread};
 ghost use Rattle.book_log.specs.Answers.{plan_answer, start_answer, step_answer, undo_answer};
 ghost use Rattle.book_log.specs.Legal.{IsLegal};
 ghost use Rattle.book_log.specs.declared.refusal.Refusal.TheVariants.{Memory};
-ghost use Rattle.rollback_book.specs.Ready.{IsFirstToMove};
 ghost use Rattle.shared_book.specs.Calls.{GivesReceipt, IsRefused, IsRefusedFor, IsRollbackOf, IsShown, IsStepOf, frame_answer};
-ghost use Rattle.shared_book.specs.Views.{Extends, is_claimed};
+ghost use Rattle.shared_book.specs.Claims.{IsClaim, IsOffer};
+ghost use Rattle.shared_book.specs.Commits.{GivesTurn, IsNotTaken};
+ghost use Rattle.shared_book.specs.Views.{Extends};
 
+use crate::claiming::Offer;
 use crate::desk::Desk;
 use crate::looking::Shown;
 use crate::pass::Pass;
 use crate::receipt::Receipt;
-use crate::refusal::SharedRefusal;
+use crate::refusal::{SharedCommitRefusal, SharedRefusal};
 use crate::sharing::Sharing;
 use book_log::Entry;
 use json_tree::{Json, Text};
-use rollback_book::Events;
+use rollback_book::turns::Prepared;
+use rollback_book::{Events, Ticket};
 use std::alloc::Global;
 use std::collections::BTreeSet;
 use std::sync::ledger::Blank;
@@ -168,8 +171,9 @@ impl<B: Events, L: Sharing> Shared<B, L> {
         self.desk.lock(rt).show(pass, thread)
     }
 
-    /// Claims the least thread that has a move and that nobody has claimed. Takes what the book's call takes, and memory for a copy of
-    /// the name. The claim ends by `give_back`.
+    /// Claims the least thread that has a move and that nobody has claimed, and gives its ticket, of which its move is prepared with no
+    /// hold of the lock. The claim ends by `commit` or `give_back`; a ticket that is dropped leaves it. Takes what the book's two
+    /// calls take, and memory for a copy of the name.
     ///
     /// # Errors
     ///
@@ -179,16 +183,55 @@ impl<B: Events, L: Sharing> Shared<B, L> {
         rt: &impl Wait,
         alloc: Global,
         pass: &mut Pass<L>,
-    ) -> Result<Option<ThreadName>, SharedRefusal>
-        ensures shown { IfOk result (λ found. IsShown L.begun pass.old pass.new (λ at. (claims : List Thread) × IsFirstToMove at (is_claimed claims) found)) }
+    ) -> Result<Option<Ticket>, SharedRefusal>
+        ensures shown { IfOk result (λ found. IsShown L.begun pass.old pass.new (λ at. (claims : List Thread) × IsClaim at claims found)) }
         ensures err { IfErr result (λ e. IsRefusedFor L.begun pass.old (λ cause. cause ≡ Memory) e × (pass.new ≡ pass.old)) }
     {
         self.desk.lock(rt).claim(alloc, pass)
     }
 
-    /// Ends the claim of a thread without a move. Takes no memory.
-    pub fn give_back(&self, rt: &impl Wait, thread: &ThreadName) {
-        self.desk.lock(rt).give_back(thread)
+    /// As `claim`, and where there is no ticket, how many claims are out.
+    ///
+    /// # Errors
+    ///
+    /// As `claim`.
+    pub fn offer(
+        &self,
+        rt: &impl Wait,
+        alloc: Global,
+        pass: &mut Pass<L>,
+    ) -> Result<Offer, SharedRefusal>
+        ensures shown { IfOk result (λ offer. IsShown L.begun pass.old pass.new (λ at. (claims : List Thread) × IsOffer at claims offer)) }
+        ensures err { IfErr result (λ e. IsRefusedFor L.begun pass.old (λ cause. cause ≡ Memory) e × (pass.new ≡ pass.old)) }
+    {
+        self.desk.lock(rt).offer(alloc, pass)
+    }
+
+    /// Takes a turn that was prepared of a ticket's frame, and ends the claim, also where it is refused. Takes what the book's call
+    /// takes, and memory for one name.
+    ///
+    /// # Errors
+    ///
+    /// `ForeignPass`, `Stale` with the turn, and `Full`, in this order. Memory may also be refused to the receipt, before the book is
+    /// called.
+    pub fn commit(
+        &self,
+        rt: &impl Wait,
+        alloc: Global,
+        pass: &mut Pass<L>,
+        ticket: Ticket,
+        prepared: Prepared,
+    ) -> Result<Receipt, SharedCommitRefusal>
+        ensures receipt { IfOk result (GivesTurn L.begun ticket.thread prepared pass.old pass.new) }
+        ensures entry { IfOk result (λ r. IsStepOf ticket.thread r.entry) }
+        ensures err { IfErr result (λ e. IsNotTaken L.begun ticket.thread prepared pass.old e × (pass.new ≡ pass.old)) }
+    {
+        self.desk.lock(rt).commit(alloc, pass, ticket, prepared)
+    }
+
+    /// Ends the claim of a ticket's thread without a move. Takes no memory.
+    pub fn give_back(&self, rt: &impl Wait, ticket: Ticket) {
+        self.desk.lock(rt).give_back(ticket)
     }
 
     /// The book, whatever receipts there are.

@@ -1,0 +1,18 @@
+use Rattle.std.proofs.Common.{refl, ap, ◌∙◌}
+use Rattle.step_names.specs.declared.step.StepName.{StepName}
+use Rattle.book_log.specs.declared.entry.Entry.TheVariants.{Step as Stepped}
+use Rattle.shared_book.proofs.Answering.{counted_more, given_turn, turn_accepted, turn_of}
+use Rattle.shared_book.proofs.desk.Desk.take_turn.Goals as goal
+
+pub returns-clause-receipt : goal.returns-clause-receipt
+returns-clause-receipt g c =
+    let moved = c.in-Ok-commit.moved in
+    let answer = c.in-Ok-commit.ensures.answer in
+    rw (← c.pass.view_is) (given_turn _ _ _ _ _ _ _ _ _ _ _ c.self.invariant.0.goes c.entries.ensures.log c.entries.ensures.legal (turn_accepted _ c.args.thread.now moved answer.1)
+    c.in-Ok.ensures.known c.in-Ok.ensures.number refl (ap (λ (n : StepName). Stepped n moved.kind) c.step-told.ensures) (rw c.admit.ensures.same at c.hand_out.ensures.items) answer.0)
+
+pub returns-clause-entry : goal.returns-clause-entry
+returns-clause-entry g c = ap (λ (n : StepName). n.thread) c.step-told.ensures ∙ turn_of _ c.args.thread.now c.in-Ok-commit.moved c.in-Ok-commit.ensures.answer.1
+
+pub invariant_of-self-2 : goal.invariant_of-self-2
+invariant_of-self-2 g c = (counted_more _ _ _ _ _ _ _ c.self.invariant.0 c.in-Ok-commit.ensures.story c.hand_out.ensures.total, c.self.invariant.1)

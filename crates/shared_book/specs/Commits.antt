@@ -1,0 +1,36 @@
+-- What a caller that commits a turn is promised: a receipt of its thread's step, or why there is none.
+use Rattle.std.specs.Prelude.{◌≡◌, ◌⊎◌, Err}
+use Rattle.step_names.specs.Thread.{Thread}
+use Rattle.book_log.specs.Story.{Story}
+use Rattle.book_log.specs.declared.refusal.Refusal.{Refusal}
+use Rattle.book_log.specs.declared.refusal.Refusal.TheVariants.{Memory}
+use Rattle.rollback_book.specs.Prepared.{Prepared}
+use Rattle.rollback_book.specs.Commits.{AnswersCommit, IsFresh}
+use Rattle.rollback_book.specs.declared.commits.CommitRefusal.{CommitRefusal}
+use Rattle.rollback_book.specs.declared.commits.CommitRefusal.TheVariants as book
+use Rattle.shared_book.specs.Calls.{GivesReceipt, IsRefusedFor, MaySee}
+use Rattle.shared_book.specs.Views.{PassView}
+use Rattle.shared_book.specs.declared.receipt.Receipt.{Receipt}
+use Rattle.shared_book.specs.declared.refusal.SharedCommitRefusal.{SharedCommitRefusal}
+use Rattle.shared_book.specs.declared.refusal.SharedCommitRefusal.TheVariants.{Stale, Refused}
+use Rattle.shared_book.specs.declared.refusal.SharedRefusal.TheVariants as shared
+
+-- a receipt as of every call, where the turn was still its thread's before the receipt's entry
+abbrev pub GivesTurn : Story → Thread → Prepared → PassView → PassView → Receipt → Type 0
+GivesTurn begun t p had has r = (given : GivesReceipt begun had has r) × IsFresh given.before t p
+
+-- for memory, or as the book refuses a turn that is its thread's at a log that the pass can have seen
+abbrev pub IsTurnCause : Story → Thread → Prepared → PassView → Refusal → Type 0
+IsTurnCause begun t p had e = (e ≡ Memory) ⊎ ((at : Story) × MaySee begun had at × AnswersCommit at t p (Err (book.Refused e)))
+
+-- handed back as the book does at a log that the pass can have seen; or refused as every call is
+abbrev pub IsNotTaken : Story → Thread → Prepared → PassView → SharedCommitRefusal → Type 0
+IsNotTaken begun t p had (Stale why prepared) = (at : Story) × MaySee begun had at × AnswersCommit at t p (Err (book.Stale why prepared))
+IsNotTaken begun t p had (Refused e) = IsRefusedFor begun had (IsTurnCause begun t p had) e
+
+-- ---- inside
+
+-- how the book's refusal of a turn is told
+abbrev pub shared_refusal : CommitRefusal → SharedCommitRefusal
+shared_refusal (book.Stale why prepared) = Stale why prepared
+shared_refusal (book.Refused e) = Refused (shared.Refused e)

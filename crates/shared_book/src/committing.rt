@@ -1,0 +1,90 @@
+// The call that takes a turn which was prepared outside of the lock.
+ghost use Rattle.std.specs.Prelude.{◌≡◌, IfOk, IfErr};
+ghost use Rattle.shared_book.specs.Calls.{IsStepOf};
+ghost use Rattle.shared_book.specs.Commits.{GivesTurn, IsNotTaken, shared_refusal};
+ghost use Rattle.shared_book.specs.Views.{claims_without, with_claims, with_entry};
+
+use crate::admitting::admit;
+use crate::changing::hand_out;
+use crate::desk::Desk;
+use crate::pass::Pass;
+use crate::receipt::Receipt;
+use crate::refusal::{SharedCommitRefusal, SharedRefusal};
+use crate::sharing::Sharing;
+use book_log::{Entry, Moved, Refusal};
+use rollback_book::turns::Prepared;
+use rollback_book::{CommitRefusal, Events, Ticket};
+use std::alloc::Global;
+use step_names::{NameRoom, ThreadName};
+
+impl<B: Events, L: Sharing> Desk<B, L> {
+    pub(crate) fn commit(
+        &mut self,
+        alloc: Global,
+        pass: &mut Pass<L>,
+        ticket: Ticket,
+        prepared: Prepared,
+    ) -> Result<Receipt, SharedCommitRefusal>
+        ensures receipt { IfOk result (GivesTurn L.begun ticket.thread prepared pass.old pass.new) }
+        ensures entry { IfOk result (λ r. IsStepOf ticket.thread r.entry) }
+        ensures log { IfOk result (λ r. self.new ≡ with_claims (with_entry self.old r.entry) (claims_without self.old.claims ticket.thread)) }
+        ensures err { IfErr result (λ e. IsNotTaken L.begun ticket.thread prepared pass.old e × (pass.new ≡ pass.old) × (self.new ≡ with_claims self.old (claims_without self.old.claims ticket.thread))) }
+    {
+        self.end_claim(ticket.thread());
+        self.take_turn(alloc, pass, ticket.thread(), prepared)
+    }
+
+    fn take_turn(
+        &mut self,
+        alloc: Global,
+        pass: &mut Pass<L>,
+        thread: &ThreadName,
+        prepared: Prepared,
+    ) -> Result<Receipt, SharedCommitRefusal>
+        ensures receipt { IfOk result (GivesTurn L.begun thread.now prepared pass.old pass.new) }
+        ensures entry { IfOk result (λ r. IsStepOf thread.now r.entry) }
+        ensures log { IfOk result (λ r. self.new ≡ with_entry self.old r.entry) }
+        ensures err { IfErr result (λ e. IsNotTaken L.begun thread.now prepared pass.old e × (pass.new ≡ pass.old) × (self.new ≡ self.old)) }
+    {
+        let (_, entries) = self.book.entries();
+        let number = match admit(entries, pass.seen, &mut pass.receipts) {
+            Ok(number) => number,
+            Err(refusal) => {
+                drop(prepared);
+                return Err(SharedCommitRefusal::Refused(refusal));
+            }
+        };
+        let Ok(spare) = NameRoom::new(alloc) else {
+            drop(prepared);
+            return Err(SharedCommitRefusal::Refused(SharedRefusal::Refused(Refusal::Memory)));
+        };
+        let Moved { name, kind } = match self.book.commit(alloc, thread, prepared) {
+            Ok(moved) => moved,
+            Err(refusal) => {
+                drop(spare);
+                return Err(not_taken(refusal));
+            }
+        };
+        let told = spare.step(&name);
+        let entry = Entry::Step { name, kind };
+        let kept = Receipt { number, entry };
+        hand_out(&mut self.calls, &mut pass.share, &mut pass.receipts, kept);
+        pass.seen = number;
+        Ok(Receipt {
+            number,
+            entry: Entry::Step { name: told, kind },
+        })
+    }
+}
+
+/// How the book's refusal of a turn is told.
+fn not_taken(refusal: CommitRefusal) -> SharedCommitRefusal
+    ensures { result ≡ shared_refusal refusal }
+{
+    match refusal {
+        CommitRefusal::Stale(why, prepared) => SharedCommitRefusal::Stale(why, prepared),
+        CommitRefusal::Refused(refusal) => {
+            SharedCommitRefusal::Refused(SharedRefusal::Refused(refusal))
+        }
+    }
+}
