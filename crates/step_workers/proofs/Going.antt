@@ -1,0 +1,52 @@
+-- How receipts go on, call by call.
+use Rattle.std.proofs.Common.{◌≡◌, ℕ, ◌+◌, ◌≤◌, List, [], ◌∷◌, ◌++◌, length, refl, ap, ◌∙◌, arith}
+use Rattle.step_names.specs.Thread.{Thread}
+use Rattle.book_log.specs.declared.entry.Entry.{Entry}
+use Rattle.book_log.specs.declared.entry.Entry.TheVariants.{Define, Start, Step as Stepped, Undo, Rollback}
+use Rattle.shared_book.specs.Calls.{IsStepOf}
+use Rattle.shared_book.specs.Views.{PassView}
+use Rattle.shared_book.specs.declared.receipt.Receipt.{Receipt}
+use Rattle.step_workers.specs.Work.{AllSteps, GoesOn, IsStep}
+
+is_step : (t : Thread) (e : Entry) → IsStepOf t e → IsStep e
+is_step t (Stepped name kind) s = tt
+is_step t (Define _ _) s = s
+is_step t (Start _ _ _) s = s
+is_step t (Undo _) s = s
+is_step t (Rollback _ _) s = s
+
+append_none : (xs : List Receipt) → xs ≡ xs ++ []
+append_none [] = refl
+append_none (x ∷ xs) = ap (λ (t : List Receipt). x ∷ t) (append_none xs)
+
+append_twice : (xs ys zs : List Receipt) → (xs ++ ys) ++ zs ≡ xs ++ (ys ++ zs)
+append_twice [] ys zs = refl
+append_twice (x ∷ xs) ys zs = ap (λ (t : List Receipt). x ∷ t) (append_twice xs ys zs)
+
+length_both : (xs ys : List Receipt) → length (xs ++ ys) ≡ length xs + length ys
+length_both [] ys = omega arith
+length_both (x ∷ xs) ys = let h = length_both xs ys in omega (arith, h)
+
+steps_both : (xs ys : List Receipt) → AllSteps xs → AllSteps ys → AllSteps (xs ++ ys)
+steps_both [] ys a b = b
+steps_both (x ∷ xs) ys a b = (a.0, steps_both xs ys a.1 b)
+
+pub goes_none : (n : ℕ) (xs : List Receipt) → GoesOn n xs xs
+goes_none n xs = record { more = []; receipts = append_none xs; few = omega arith; steps = tt }
+
+pub goes_one : (t : Thread) (r : Receipt) (had has : List Receipt) → has ≡ had ++ r ∷ [] → IsStepOf t r.entry → GoesOn 1 had has
+goes_one t r had has now step = record { more = r ∷ []; receipts = now; few = omega arith; steps = (is_step t r.entry step, tt) }
+
+pub goes_more : (n m : ℕ) (a b c : List Receipt) → GoesOn n a b → GoesOn m b c → GoesOn (n + m) a c
+goes_more n m a b c first then = record {
+  more = first.more ++ then.more;
+  receipts = then.receipts ∙ ap (λ (t : List Receipt). t ++ then.more) first.receipts ∙ append_twice a first.more then.more;
+  few = let l = length_both first.more then.more in let f = first.few in let g = then.few in omega (arith, l, f, g);
+  steps = steps_both first.more then.more first.steps then.steps;
+}
+
+pub goes_within : (n m : ℕ) (a b : List Receipt) → n ≤ m → GoesOn n a b → GoesOn m a b
+goes_within n m a b less goes = record { more = goes.more; receipts = goes.receipts; few = let f = goes.few in omega (arith, less, f); steps = goes.steps }
+
+pub goes_same : (n : ℕ) (had has : PassView) → has ≡ had → GoesOn n had.receipts has.receipts
+goes_same n had has same = rw same (goes_none n had.receipts)

@@ -1,0 +1,5 @@
+pub mod Crossing
+pub mod Going
+pub mod Seated
+pub mod Sending
+pub mod Sums

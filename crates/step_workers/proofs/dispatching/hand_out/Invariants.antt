@@ -1,0 +1,6 @@
+use Rattle.std.proofs.Common.{◌≡◌}
+use Rattle.step_workers.specs.Work.{KeepsGiver}
+use Rattle.step_workers.proofs.dispatching.hand_out.Given as goal
+
+abbrev pub invariant-loop : goal.invariant-loop
+invariant-loop g l = KeepsGiver l.board.slips l.fn.giver l.giver × (l.pass.receipts ≡ l.fn.pass.receipts)

@@ -1,0 +1,80 @@
+-- The seats of a round before it, and what each gives.
+use Rattle.std.specs.Prelude.{◌≡◌, ℕ, ◌+◌, ◌≤◌, List, [], ◌∷◌, length, vec_capacity}
+use Rattle.rollback_book.specs.declared.ticket.Ticket.{Ticket}
+use Rattle.shared_book.specs.Views.{PassView}
+use Rattle.slip_queue.specs.Slips.{IsTaker, taken_by}
+use Rattle.slip_queue.specs.declared.slips.Slips.{Slips}
+use Rattle.step_workers.specs.Work.{GoesOn, IsWritten}
+use Rattle.step_workers.specs.declared.allowance.Allowance.{Allowance}
+use Rattle.step_workers.specs.declared.seat.Seat.{Seat}
+use Rattle.step_workers.specs.declared.seat.Served.{Served}
+use Rattle.step_workers.specs.declared.serving.NextTicket.{NextTicket}
+use Rattle.step_workers.specs.declared.serving.NextTicket.TheVariants as next
+
+-- memory for the numbers of as many tickets as it may take
+abbrev pub IsRoomy : Allowance → Type 0
+IsRoomy a = (a.taken.items ≡ []) × (a.share ≤ vec_capacity a.taken)
+
+abbrev pub AllRoomy : List Allowance → Type 0
+AllRoomy [] = Unit {0}
+AllRoomy (a ∷ as_) = IsRoomy a × AllRoomy as_
+
+abbrev pub allowed : List Allowance → ℕ
+allowed [] = 0
+allowed (a ∷ as_) = a.share + allowed as_
+
+module _ {L : Type 0} where
+  abbrev pub shares : List (Seat L) → ℕ
+  shares [] = 0
+  shares (s ∷ ss) = s.share + shares ss
+
+  abbrev pub pass_of : Seat L → PassView
+  pass_of s = s.pass
+
+  abbrev pub pass_served : Served L → PassView
+  pass_served d = d.pass
+
+  -- it takes of this queue, and has taken nothing so far
+  pub record IsSeated (q : Slips Ticket) (s : Seat L) : Type 0 where
+    pub taker : IsTaker q s.taker
+    pub none : (taken_by s.taker ≡ []) × (s.taken.items ≡ [])
+    pub room : s.share ≤ vec_capacity s.taken
+
+  abbrev pub AllSeated : Slips Ticket → List (Seat L) → Type 0
+  AllSeated q [] = Unit {0}
+  AllSeated q (s ∷ ss) = IsSeated q s × AllSeated q ss
+
+  -- it wrote down what it took, no more than its share, for which it has room
+  pub record IsTaking (q : Slips Ticket) (s : Seat L) : Type 0 where
+    pub taker : IsTaker q s.taker
+    pub written : IsWritten s.taken.items (taken_by s.taker)
+    pub few : length s.taken.items ≤ s.share
+    pub room : s.share ≤ vec_capacity s.taken
+
+  pub record KeepsSeat (s t : Seat L) : Type 0 where
+    pub share : t.share ≡ s.share
+    pub pass : t.pass ≡ s.pass
+
+  -- a ticket more was written down, or none
+  abbrev pub is_more : NextTicket → Seat L → Seat L → Type 0
+  is_more (next.Ticket ticket) s t = length t.taken.items ≡ length s.taken.items + 1
+  is_more _ s t = length t.taken.items ≡ length s.taken.items
+
+  -- what it wrote down it took of this queue
+  pub record IsWell (q : Slips Ticket) (d : Served L) : Type 0 where
+    pub taker : IsTaker q d.taker
+    pub written : IsWritten d.taken.items (taken_by d.taker)
+
+  abbrev pub AllWell : Slips Ticket → List (Served L) → Type 0
+  AllWell q [] = Unit {0}
+  AllWell q (d ∷ ds) = IsWell q d × AllWell q ds
+
+  -- it took no more moves than its share
+  pub record HasServed (q : Slips Ticket) (s : Seat L) (d : Served L) : Type 0 where
+    pub goes : GoesOn s.share s.pass.receipts d.pass.receipts
+    pub well : IsWell q d
+
+  abbrev pub AllServed : Slips Ticket → List (Seat L) → List (Served L) → Type 0
+  AllServed q [] [] = Unit {0}
+  AllServed q (s ∷ ss) (d ∷ ds) = HasServed q s d × AllServed q ss ds
+  AllServed q _ _ = ⊥

@@ -1,0 +1,11 @@
+// What the workers of a round share beside the book.
+use rollback_book::Ticket;
+use slip_queue::Slips;
+use std::sync::atomic::AtomicU64;
+
+#[derive(Drop)]
+pub(crate) struct Board {
+    pub(crate) slips: Slips<Ticket>,
+    /// The number of the seat that can't be started, while it ends; else 0.
+    pub(crate) unstarted: AtomicU64,
+}

@@ -1,0 +1,23 @@
+#![tactic(auto)]
+
+//! Workers on a shared book: one hands out tickets of the threads that can move, through a bounded queue, and the others prepare their
+//! moves outside of the lock and commit them under it.
+mod allowance;
+mod board;
+mod dispatching;
+mod gate;
+mod gathering;
+mod moving;
+mod outcome;
+mod running;
+mod seat;
+mod seating;
+mod serving;
+mod working;
+
+pub use gate::{Gate, OpenGate};
+pub use outcome::{Outcome, Stopped};
+pub use working::{MOST_WORKERS, work};
+
+#[cfg(test)]
+mod tests;

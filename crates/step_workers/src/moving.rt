@@ -1,0 +1,97 @@
+// One move of a worker.
+ghost use Rattle.std.specs.Prelude.{◌≡◌};
+ghost use Rattle.step_workers.specs.Work.{GoesOn};
+
+use crate::gate::Gate;
+use book_log::Refusal;
+use rollback_book::turns::{Phase, Prepared, prepare};
+use rollback_book::{Events, Ticket};
+use shared_book::{Pass, Receipt, Shared, SharedCommitRefusal, SharedRefusal, Sharing};
+use std::alloc::Global;
+use std::sync::Wait;
+
+/// Takes the move of a ticket's thread, and ends its claim. A move that another made, or made impossible, is no refusal.
+pub(crate) fn take_move<B: Events, L: Sharing, G: Gate>(
+    rt: &impl Wait,
+    alloc: Global,
+    shared: &Shared<B, L>,
+    gate: &G,
+    seat: u32,
+    pass: &mut Pass<L>,
+    ticket: Ticket,
+) -> Result<(), SharedRefusal>
+    ensures { GoesOn 1 pass.old.receipts pass.new.receipts }
+{
+    match ticket.frame().phase {
+        Phase::Ready => {
+            let Ok(prepared) = prepare(alloc, ticket.machine(), ticket.frame()) else {
+                shared.give_back(rt, ticket);
+                return Err(SharedRefusal::Refused(Refusal::Memory));
+            };
+            gate.before_commit(seat);
+            let answer = commit(rt, alloc, shared, pass, ticket, prepared);
+            gate.after_commit(seat);
+            answer
+        }
+        _ => {
+            gate.before_commit(seat);
+            let answer = join(rt, alloc, shared, pass, ticket);
+            gate.after_commit(seat);
+            answer
+        }
+    }
+}
+
+/// Commits what was prepared.
+fn commit<B: Events, L: Sharing>(
+    rt: &impl Wait,
+    alloc: Global,
+    shared: &Shared<B, L>,
+    pass: &mut Pass<L>,
+    ticket: Ticket,
+    prepared: Prepared,
+) -> Result<(), SharedRefusal>
+    ensures { GoesOn 1 pass.old.receipts pass.new.receipts }
+{
+    match shared.commit(rt, alloc, pass, ticket, prepared) {
+        Ok(receipt) => {
+            drop(receipt);
+            Ok(())
+        }
+        Err(SharedCommitRefusal::Stale(why, prepared)) => {
+            drop(why);
+            drop(prepared);
+            Ok(())
+        }
+        Err(SharedCommitRefusal::Refused(refusal)) => Err(refusal),
+    }
+}
+
+/// Takes the step of a thread that waits for its branches, under the lock.
+fn join<B: Events, L: Sharing>(
+    rt: &impl Wait,
+    alloc: Global,
+    shared: &Shared<B, L>,
+    pass: &mut Pass<L>,
+    ticket: Ticket,
+) -> Result<(), SharedRefusal>
+    ensures { GoesOn 1 pass.old.receipts pass.new.receipts }
+{
+    let answer = shared.step(rt, alloc, pass, ticket.thread());
+    shared.give_back(rt, ticket);
+    match answer {
+        Ok(receipt) => {
+            drop(receipt);
+            Ok(())
+        }
+        Err(refusal) => unless_overtaken(refusal),
+    }
+}
+
+/// A thread that is gone or has no move now was overtaken, which is no refusal of the worker.
+fn unless_overtaken(refusal: SharedRefusal) -> Result<(), SharedRefusal> {
+    match refusal {
+        SharedRefusal::Refused(Refusal::NoThread | Refusal::NotReady(_)) => Ok(()),
+        refusal => Err(refusal),
+    }
+}
