@@ -1,0 +1,11 @@
+#![tactic(auto)]
+
+//! Tests of a book that callers share, by calls through several passes.
+#[cfg(test)]
+mod calls;
+#[cfg(test)]
+mod passes;
+#[cfg(test)]
+mod turns;
+#[cfg(test)]
+mod workers;

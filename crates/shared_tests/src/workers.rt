@@ -1,0 +1,259 @@
+//! Rounds of workers on a shared book.
+ghost use Rattle.std.specs.Prelude.{◌≡◌, ◌<◌, ◌≤◌, vec_len};
+
+use crate::calls::{PASS, book_with};
+use json_tree::{Text, depth, read};
+use rollback_book::turns::Phase;
+use rollback_book::{Book, Entry};
+use shared_book::{PARTS, Pass, Shared, Sharing, close, share};
+use std::alloc::{AllocError, Global};
+use std::marker::Brand;
+use std::sync::Wait;
+use std::sync::atomic::{AtomicBool, Ordering};
+use std::sync::ledger::Blank;
+use std::test::Fail;
+use std::thread;
+use std::thread::Threads;
+use step_names::ThreadName;
+use step_workers::{Gate, OpenGate, Outcome, Stopped, work};
+
+/// A fork of two branches of two steps each.
+const FORK: &str = r#"{"StartAt":"F","States":{"F":{"Type":"Parallel","End":true,"Branches":[
+    {"StartAt":"A","States":{"A":{"Type":"Pass","Next":"B"},"B":{"Type":"Pass","End":true}}},
+    {"StartAt":"C","States":{"C":{"Type":"Pass","Next":"D"},"D":{"Type":"Pass","End":true}}}]}}}"#;
+
+// ---- a book with executions
+
+fn start(alloc: Global, book: &mut Book, exec: &str) -> Result<(), Fail> {
+    let exec = ThreadName::read(alloc, exec)?;
+    let machine = Text::new(alloc, "p")?;
+    let input = read(alloc, b"{}")?;
+    if !exec.is_execution() || depth(&input) > 127 {
+        drop(input);
+        return Err("no execution".into());
+    }
+    drop(book.start(alloc, &exec, &machine, input)?);
+    Ok(())
+}
+
+fn start_all(alloc: Global, book: &mut Book, count: u32) -> Result<(), Fail> {
+    for at in 0..count {
+        let exec = format!(in alloc; "x{at}")?;
+        start(alloc, book, exec.as_str())?;
+    }
+    Ok(())
+}
+
+fn book_of(alloc: Global, machine: &str, count: u32) -> Result<Book, Fail> {
+    let mut book = book_with(alloc, machine)?;
+    match start_all(alloc, &mut book, count) {
+        Ok(()) => Ok(book),
+        Err(fail) => {
+            drop(book);
+            Err(fail)
+        }
+    }
+}
+
+fn are_done(alloc: Global, book: &Book, count: u32) -> Result<bool, Fail> {
+    for at in 0..count {
+        let exec = format!(in alloc; "x{at}")?;
+        let thread = ThreadName::read(alloc, exec.as_str())?;
+        let frame = book.show(&thread)?;
+        if !matches!(frame.phase, Phase::Done(_)) {
+            return Ok(false);
+        }
+    }
+    Ok(true)
+}
+
+// ---- a round
+
+/// What is left of a round once its book is closed: the book, how many entries the log has, how many seats stopped for their budget,
+/// and how many tickets were taken.
+#[derive(Drop)]
+struct Round {
+    book: Book,
+    budgets: usize,
+    taken: usize,
+}
+
+fn seats_of<L: Sharing>(
+    alloc: Global,
+    first: Pass<L>,
+    workers: usize,
+) -> Result<Vec<Pass<L>>, Fail> {
+    let mut passes = Vec::new(alloc);
+    let mut first = first;
+    if passes.reserve(workers).is_err() {
+        return Err(AllocError.into());
+    }
+    for _ in 1..workers {
+        let Some(pass) = first.seat() else {
+            return Err("no seat".into());
+        };
+        passes.push(pass)?;
+    }
+    passes.push(first)?;
+    Ok(passes)
+}
+
+fn run<L: Sharing + Send + Sync, G: Gate + Sync, R: Threads + Wait + Sync>(
+    rt: &R,
+    alloc: Global,
+    blank: Blank,
+    book: Book,
+    workers: usize,
+    budget: u32,
+    gate: &G,
+) -> Result<Round, Fail>
+    requires { (blank.name ≡ L.name) × (blank.parts ≡ L.parts) × (L.parts ≡ PARTS) × (book.story ≡ L.begun) }
+{
+    let (shared, first) = share::<Book, L>(alloc, blank, book);
+    let passes = seats_of(alloc, first, workers)?;
+    if passes.is_empty() || passes.len() > 8 || !passes[0].can_seat() {
+        return Err("no seats".into());
+    }
+    let Ok(outcome) = work(rt, alloc, &shared, passes, budget, gate) else {
+        return Err(AllocError.into());
+    };
+    let Outcome {
+        passes,
+        stopped,
+        taken,
+        refused,
+    } = outcome;
+    drop(refused);
+    let mut budgets: usize = 0;
+    for why in &stopped {
+        if matches!(why, Stopped::Budget) {
+            budgets = budgets.saturating_add(1);
+        }
+    }
+    let mut numbers: usize = 0;
+    for list in &taken {
+        numbers = numbers.saturating_add(list.len());
+    }
+    match close(alloc, shared, passes) {
+        Ok(book) => Ok(Round {
+            book,
+            budgets,
+            taken: numbers,
+        }),
+        Err(refusal) => {
+            drop(refusal);
+            Err("the book isn't closed".into())
+        }
+    }
+}
+
+/// How many entries the log has then, whether all executions are done, how many seats stopped for their budget, and how many tickets
+/// were taken.
+fn told(alloc: Global, round: Round, count: u32) -> Result<(usize, bool, usize, usize), Fail> {
+    let Round {
+        book,
+        budgets,
+        taken,
+    } = round;
+    let entries = book.entries().1.len();
+    let done = are_done(alloc, &book, count);
+    drop(book);
+    Ok((entries, done?, budgets, taken))
+}
+
+// ---- rows
+
+/// Holds one seat before its commit until the other one has committed, for so many turns at most.
+#[derive(Drop)]
+struct Overlap {
+    held: u32,
+    has_committed: AtomicBool,
+    is_missed: AtomicBool,
+}
+
+const MOST_TURNS: u32 = 1_000_000;
+
+impl Gate for Overlap {
+    fn before_commit(&self, seat: u32) {
+        if seat != self.held {
+            return;
+        }
+        for _ in 0..MOST_TURNS {
+            if self.has_committed.load(Ordering::SeqCst) {
+                return;
+            }
+            thread::yield_now();
+        }
+        self.is_missed.store(true, Ordering::SeqCst);
+    }
+
+    fn after_commit(&self, seat: u32) {
+        if seat != self.held {
+            self.has_committed.store(true, Ordering::SeqCst);
+        }
+    }
+}
+
+/// Two workers of which one commits while the other one has prepared its move.
+fn commits_between<R: Threads + Wait + Sync>(
+    rt: &R,
+    alloc: Global,
+    held: u32,
+) -> Result<bool, Fail> {
+    let gate = Overlap {
+        held,
+        has_committed: AtomicBool::new(false),
+        is_missed: AtomicBool::new(false),
+    };
+    let book = book_of(alloc, PASS, 2)?;
+    let round = run::<Brand, Overlap, R>(rt, alloc, Blank::new(PARTS), book, 2, 2, &gate)?;
+    let (entries, done, budgets, taken) = told(alloc, round, 2)?;
+    let is_so = entries == 5 && done && budgets == 2 && taken == 2;
+    Ok(is_so && !gate.is_missed.load(Ordering::SeqCst))
+}
+
+#[test]
+fn overlapping_workers(rt: HostRuntime) -> Result<(), Fail> {
+    assert!(rt; commits_between(&rt, rt.alloc(), 1)?);
+    assert!(rt; commits_between(&rt, rt.alloc(), 2)?);
+    Ok(())
+}
+
+#[test]
+fn workers_on_a_fork(rt: HostRuntime) -> Result<(), Fail> {
+    let book = book_of(rt.alloc(), FORK, 1)?;
+    let round = run::<Brand, OpenGate, _>(
+        &rt,
+        rt.alloc(),
+        Blank::new(PARTS),
+        book,
+        2,
+        100,
+        &OpenGate,
+    )?;
+    let (entries, done, _, taken) = told(rt.alloc(), round, 1)?;
+    assert_eq!(rt; entries, 8);
+    assert!(rt; done);
+    assert!(rt; taken >= 6);
+    Ok(())
+}
+
+#[test]
+fn eight_workers_on_64_executions(rt: HostRuntime) -> Result<(), Fail> {
+    let book = book_of(rt.alloc(), PASS, 64)?;
+    let round = run::<Brand, OpenGate, _>(
+        &rt,
+        rt.alloc(),
+        Blank::new(PARTS),
+        book,
+        8,
+        64,
+        &OpenGate,
+    )?;
+    let (entries, done, budgets, taken) = told(rt.alloc(), round, 64)?;
+    assert_eq!(rt; entries, 129);
+    assert!(rt; done);
+    assert_eq!(rt; budgets, 8);
+    assert_eq!(rt; taken, 64);
+    Ok(())
+}
