@@ -95,6 +95,14 @@ def with_dependents(count):
         yield f"step run-{at}"
 
 
+def one_map(branches, bound):
+    """An execution of a Map over so many elements, of which so many branches may run at a time, each with one Pass."""
+    over = {"Type": "Map", "ItemsPath": "$.all", "ItemProcessor": workloads.chain(1), "End": True}
+    yield TABLE
+    yield define("over", workloads.states("Each", Each={**over, "MaxConcurrency": bound} if bound else over))
+    yield f'start run over {{"all":[{",".join(["{}"] * branches)}]}}'
+
+
 def single_calls():
     """Each call as its name, its unit, the lines before it, the lines that are it, and how many they are."""
     for remain in (600, 6_000):
@@ -120,6 +128,12 @@ def single_calls():
             for at in range(count):
                 yield f"start run-{at} three {{}}"
         yield f"step by drive, {count:,} executions", "instructions", waiting, ["drive 60"], 60
+    for branches in (64, 4_096):
+        for bound, said in ((0, "without a bound"), (10, "with a bound of 10")):
+            def fresh(branches=branches, bound=bound):
+                return one_map(branches, bound)
+
+            yield f"step of a Map of {branches:,} branches {said}", "instructions", fresh, [f"drive {branches + 2}"], branches + 2
     for size, said in ((2, "an empty input"), (10_000, "an input of 10,000 bytes")):
         value = "{}" if size == 2 else text_of(workloads.large_input(size))
 

@@ -52,6 +52,8 @@ refuse_in_tests() {
     done <<'TESTS'
 book_tests acts::refused_growths_change_nothing
 book_tests plans::histories_by_hand
+shared_tests passes::calls_of_two_passes
+shared_tests turns::stale_turns
 journal_tests damaged::a_refused_growth_hands_the_journal_back
 TESTS
     echo "$good passed, $bad failed"
