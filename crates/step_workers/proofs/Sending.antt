@@ -103,6 +103,8 @@ use Rattle.item_store.specs.contracts.store.ItemStore as item_store
 use Rattle.saved_steps.specs.contracts.record.Saved as saved
 use Rattle.saved_steps.specs.contracts.record.StepRecord as step_record
 use Rattle.saved_steps.specs.contracts.world.World as world
+use Rattle.linked_classes.proofs.places.ClassedPlaces.TheSendSync as places
+use Rattle.step_index.specs.contracts.records.StepRecords as step_records
 use Rattle.step_history.specs.contracts.history.History as history
 use Rattle.book_log.specs.contracts.begin.Begin as begin
 use Rattle.book_log.specs.contracts.entry.Entry as entry
@@ -461,17 +463,29 @@ world_field_sync = search (tree_send, tree_sync, item_send, item_sync, item_stor
 pub world_sync : IsSync world.the_row
 world_sync = search (tree_send, tree_sync, item_send, item_sync, item_store_send, item_store_sync, tree_field_send, tree_field_sync, item_field_send, item_field_sync, item_store_field_send, item_store_field_sync, base) depth 60 fits 20000
 
+pub step_records_field_send : IsSend (step_records.the_field).row
+step_records_field_send = search (step_record_send, step_record_sync, step_record_field_send, step_record_field_sync, places.the_send, places.the_sync, places.the_field_send, places.the_field_sync, base) depth 60 fits 20000
+
+pub step_records_send : IsSend step_records.the_row
+step_records_send = search (step_record_send, step_record_sync, step_record_field_send, step_record_field_sync, places.the_send, places.the_sync, places.the_field_send, places.the_field_sync, base) depth 60 fits 20000
+
+pub step_records_field_sync : IsSync (step_records.the_field).row
+step_records_field_sync = search (step_record_send, step_record_sync, step_record_field_send, step_record_field_sync, places.the_send, places.the_sync, places.the_field_send, places.the_field_sync, base) depth 60 fits 20000
+
+pub step_records_sync : IsSync step_records.the_row
+step_records_sync = search (step_record_send, step_record_sync, step_record_field_send, step_record_field_sync, places.the_send, places.the_sync, places.the_field_send, places.the_field_sync, base) depth 60 fits 20000
+
 pub history_field_send : IsSend (history.the_field).row
-history_field_send = search (world_send, world_sync, step_record_send, step_record_sync, world_field_send, world_field_sync, step_record_field_send, step_record_field_sync, base) depth 60 fits 20000
+history_field_send = search (step_records_send, step_records_sync, step_records_field_send, step_records_field_sync, world_send, world_sync, step_record_send, step_record_sync, world_field_send, world_field_sync, step_record_field_send, step_record_field_sync, base) depth 60 fits 20000
 
 pub history_send : IsSend history.the_row
-history_send = search (world_send, world_sync, step_record_send, step_record_sync, world_field_send, world_field_sync, step_record_field_send, step_record_field_sync, base) depth 60 fits 20000
+history_send = search (step_records_send, step_records_sync, step_records_field_send, step_records_field_sync, world_send, world_sync, step_record_send, step_record_sync, world_field_send, world_field_sync, step_record_field_send, step_record_field_sync, base) depth 60 fits 20000
 
 pub history_field_sync : IsSync (history.the_field).row
-history_field_sync = search (world_send, world_sync, step_record_send, step_record_sync, world_field_send, world_field_sync, step_record_field_send, step_record_field_sync, base) depth 60 fits 20000
+history_field_sync = search (step_records_send, step_records_sync, step_records_field_send, step_records_field_sync, world_send, world_sync, step_record_send, step_record_sync, world_field_send, world_field_sync, step_record_field_send, step_record_field_sync, base) depth 60 fits 20000
 
 pub history_sync : IsSync history.the_row
-history_sync = search (world_send, world_sync, step_record_send, step_record_sync, world_field_send, world_field_sync, step_record_field_send, step_record_field_sync, base) depth 60 fits 20000
+history_sync = search (step_records_send, step_records_sync, step_records_field_send, step_records_field_sync, world_send, world_sync, step_record_send, step_record_sync, world_field_send, world_field_sync, step_record_field_send, step_record_field_sync, base) depth 60 fits 20000
 
 pub begin_field_send : IsSend (begin.the_field).row
 begin_field_send = search (json_list_send, json_list_sync, json_list_field_send, json_list_field_sync, base) depth 60 fits 20000
