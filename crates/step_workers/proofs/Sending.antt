@@ -464,16 +464,16 @@ pub world_sync : IsSync world.the_row
 world_sync = search (tree_send, tree_sync, item_send, item_sync, item_store_send, item_store_sync, tree_field_send, tree_field_sync, item_field_send, item_field_sync, item_store_field_send, item_store_field_sync, base) depth 60 fits 20000
 
 pub step_records_field_send : IsSend (step_records.the_field).row
-step_records_field_send = search (step_record_send, step_record_sync, step_record_field_send, step_record_field_sync, places.the_send, places.the_sync, places.the_field_send, places.the_field_sync, base) depth 60 fits 20000
+step_records_field_send = search (step_record_send, step_record_sync, step_record_field_send, step_record_field_sync, places.the_send, places.the_sync, base) depth 60 fits 20000
 
 pub step_records_send : IsSend step_records.the_row
-step_records_send = search (step_record_send, step_record_sync, step_record_field_send, step_record_field_sync, places.the_send, places.the_sync, places.the_field_send, places.the_field_sync, base) depth 60 fits 20000
+step_records_send = search (step_record_send, step_record_sync, step_record_field_send, step_record_field_sync, places.the_send, places.the_sync, base) depth 60 fits 20000
 
 pub step_records_field_sync : IsSync (step_records.the_field).row
-step_records_field_sync = search (step_record_send, step_record_sync, step_record_field_send, step_record_field_sync, places.the_send, places.the_sync, places.the_field_send, places.the_field_sync, base) depth 60 fits 20000
+step_records_field_sync = search (step_record_send, step_record_sync, step_record_field_send, step_record_field_sync, places.the_send, places.the_sync, base) depth 60 fits 20000
 
 pub step_records_sync : IsSync step_records.the_row
-step_records_sync = search (step_record_send, step_record_sync, step_record_field_send, step_record_field_sync, places.the_send, places.the_sync, places.the_field_send, places.the_field_sync, base) depth 60 fits 20000
+step_records_sync = search (step_record_send, step_record_sync, step_record_field_send, step_record_field_sync, places.the_send, places.the_sync, base) depth 60 fits 20000
 
 pub history_field_send : IsSend (history.the_field).row
 history_field_send = search (step_records_send, step_records_sync, step_records_field_send, step_records_field_sync, world_send, world_sync, step_record_send, step_record_sync, world_field_send, world_field_sync, step_record_field_send, step_record_field_sync, base) depth 60 fits 20000
