@@ -1,5 +1,5 @@
 //! Rounds of workers on a shared book.
-ghost use Rattle.std.specs.Prelude.{◌≡◌, ◌<◌, ◌≤◌, vec_len};
+ghost use Rattle.std.specs.Prelude.{◌≡◌, ◌<◌, ◌≤◌, IfSome, IsTrue, slice_get, vec_len};
 
 use crate::calls::{PASS, book_with};
 use json_tree::{Text, depth, read};
@@ -98,6 +98,17 @@ fn seats_of<L: Sharing>(
     Ok(passes)
 }
 
+/// Whether a round may have these passes.
+fn can_work<L: Sharing>(passes: &Vec<Pass<L>>) -> bool
+    ensures some { IsTrue result → (0 < vec_len passes.now) × (vec_len passes.now ≤ 8) }
+    ensures seat { IsTrue result → IfSome (slice_get passes.now.items 0) (λ p. 2 ≤ p.parts) }
+{
+    match passes.first() {
+        Some(first) => passes.len() <= 8 && first.can_seat(),
+        None => false,
+    }
+}
+
 fn run<L: Sharing + Send + Sync, G: Gate + Sync, R: Threads + Wait + Sync>(
     rt: &R,
     alloc: Global,
@@ -111,7 +122,7 @@ fn run<L: Sharing + Send + Sync, G: Gate + Sync, R: Threads + Wait + Sync>(
 {
     let (shared, first) = share::<Book, L>(alloc, blank, book);
     let passes = seats_of(alloc, first, workers)?;
-    if passes.is_empty() || passes.len() > 8 || !passes[0].can_seat() {
+    if !can_work(&passes) {
         return Err("no seats".into());
     }
     let Ok(outcome) = work(rt, alloc, &shared, passes, budget, gate) else {
