@@ -30,15 +30,23 @@ pub(crate) fn serve<B: Events, L: Sharing, G: Gate, R: Wait>(
     requires { IsSeated board.now.slips seat }
     ensures { HasServed board.now.slips seat result }
 {
+    if board.unstarted.load(Ordering::SeqCst) == seat.number as u64 {
+        // Nobody hands out tickets yet, so it waits for none.
+        let refusal = SharedRefusal::Refused(Refusal::Memory);
+        return ended(seat, Stopped::Refused(refusal));
+    }
     let mut seat = seat;
-    let stopped = if board.unstarted.load(Ordering::SeqCst) == seat.number as u64 {
-        Stopped::Refused(SharedRefusal::Refused(Refusal::Memory))
-    } else {
-        take_all(rt, alloc, shared, board, gate, &mut seat)
-    };
+    let stopped = take_all(rt, alloc, shared, board, gate, &mut seat);
     if matches!(stopped, Stopped::Refused(_)) {
         hand_back(rt, shared, board, &mut seat);
     }
+    ended(seat, stopped)
+}
+
+/// What a seat gives when it has ended so.
+fn ended<L: Sharing>(seat: Seat<L>, stopped: Stopped) -> Served<L>
+    ensures { (result.pass ≡ seat.pass) × (result.taker ≡ seat.taker) × (result.taken ≡ seat.taken) }
+{
     let Seat {
         pass,
         taker,
