@@ -87,6 +87,9 @@ def inserted(text, n):
         count, star, again = word.partition(b"*")
         if star and (count == b"n" or count.isdigit()):
             return again * (n if count == b"n" else int(count))
+        count, mark, again = word.partition(b"#")
+        if mark and count.isdigit():
+            return b"".join(again.replace(b"#", b"%04d" % k) for k in range(int(count)))
         if word == b"n":
             return b"%d" % n
         if re.fullmatch(rb"x[0-9a-f]{2}", word):
@@ -163,7 +166,7 @@ def read_sessions(path):
         elif mark == b"$":
             if not session.parts:
                 session.commands = []
-            last = [Run(file, number, rest.decode().split())]
+            last = [Run(file, number, os.fsdecode(inserted(rest, 0)).split())]
             session.parts.append(last[0])
             inserts = False
         elif mark == b"!":

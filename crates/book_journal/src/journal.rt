@@ -69,6 +69,7 @@ impl<S: Alter> Journal<S> {
         }
     }
 
+    /// The connection, as it is: closing it copies a file's log into the file.
     pub fn into_connection(self) -> Connection<S>
         ensures { result ≡ self }
     {

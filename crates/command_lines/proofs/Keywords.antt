@@ -2,7 +2,7 @@
 use Rattle.std.proofs.Common.{◌≡◌, ℕ, Bool, true, false, List, Some, None, codes, refl}
 use Rattle.std.specs.Cmp.Lexicographic.{bytes_decides}
 use Rattle.asl_fields.specs.Fields.{is_text}
-use Rattle.command_lines.specs.Grammar.{cut_at, text_command, command_by}
+use Rattle.command_lines.specs.Grammar.{cut_at, words_command, command_by}
 
 pub other_text : (a b : List ℕ) → (a ≡ b → ⊥) → is_text a b ≡ false
 other_text a b apart = by_test (is_text a b) refl
@@ -12,7 +12,7 @@ other_text a b apart = by_test (is_text a b) refl
     by_test false e = refl
 
 pub by_keyword : (text keyword rest : List ℕ) → (text ≡ codes "items" → ⊥) → (text ≡ codes "history" → ⊥) → cut_at 32 text ≡ Some (keyword, rest)
-    → text_command text ≡ command_by keyword rest
+    → words_command text ≡ command_by keyword rest
 by_keyword text keyword rest not_items not_history cut =
     rw (other_text text (codes "items") not_items, other_text text (codes "history") not_history, cut)
 

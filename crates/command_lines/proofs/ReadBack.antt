@@ -12,7 +12,7 @@ use Rattle.attr_values.specs.declared.key.KeyAttribute.{KeyAttribute}
 use Rattle.attr_values.specs.declared.key.KeyType.{KeyType}
 use Rattle.attr_values.specs.declared.key.KeyType.TheVariants.{S, N}
 use Rattle.asl_fields.specs.Fields.{is_text}
-use Rattle.command_lines.specs.Grammar.{Spoken, table, define, start, step, undo, plan, rollback, drive, show, items, history, is_table_name, is_table_name_byte, execution_in, count_in, type_in, key_name_in, key_in, first_word, table_by, table_of, define_of, start_of, text_command}
+use Rattle.command_lines.specs.Grammar.{Spoken, table, define, start, step, undo, plan, rollback, drive, show, items, history, is_table_name, is_table_name_byte, execution_in, count_in, type_in, key_name_in, key_in, first_word, table_by, table_of, define_of, start_of, words_command}
 use Rattle.command_lines.specs.Spelled.{type_text, key_text, items_text, is_key_name, IsExecution, IsSort, IsProper, line_of}
 use Rattle.command_lines.specs.GrammarLaws.{LineIsRead}
 use Rattle.command_lines.proofs.Cuts.{cut_some}
@@ -102,7 +102,7 @@ start_reads exec machine json kept h = rw (
   h,
 )
 
-text_reads : (command : Spoken) → IsProper command → text_command (line_of command) ≡ Some command
+text_reads : (command : Spoken) → IsProper command → words_command (line_of command) ≡ Some command
 text_reads (table name schema json) kept = table_reads name schema.partition schema.sort json kept.0 kept.1 kept.2
 text_reads (define name json) kept = define_reads name json kept
 text_reads (start exec machine json) kept = start_reads exec machine json kept.0 kept.1
@@ -116,4 +116,4 @@ text_reads items kept = refl
 text_reads history kept = refl
 
 pub line_is_read : LineIsRead
-line_is_read command kept utf8 = rw utf8 (text_reads command kept)
+line_is_read command kept utf8 one = rw (utf8, one) (text_reads command kept)

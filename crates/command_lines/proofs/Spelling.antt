@@ -15,7 +15,7 @@ use Rattle.attr_values.specs.declared.key.KeyAttribute.{KeyAttribute}
 use Rattle.attr_values.specs.declared.key.KeyType.{KeyType}
 use Rattle.attr_values.specs.declared.key.KeyType.TheVariants.{S, N}
 use Rattle.asl_fields.specs.Fields.{is_text}
-use Rattle.command_lines.specs.Grammar.{Spoken, table, step, undo, plan, rollback, drive, show, items, history, cut_at, is_table_name, execution_in, within_drive, count_in, type_in, key_name_in, key_in, first_word, table_by, table_of, define_of, start_of, command_by, text_command}
+use Rattle.command_lines.specs.Grammar.{Spoken, table, step, undo, plan, rollback, drive, show, items, history, cut_at, is_table_name, execution_in, within_drive, count_in, type_in, key_name_in, key_in, first_word, table_by, table_of, define_of, start_of, command_by, is_one_line, text_command, words_command}
 use Rattle.command_lines.specs.Spelled.{type_text, key_text, items_text, is_key_name, IsExecution, IsSort, IsProper, line_of}
 use Rattle.command_lines.specs.GrammarLaws.{LineSaysOne, LineIsSpelled}
 
@@ -239,7 +239,7 @@ command_says keyword text command h = elim (choice_found (is_text keyword (codes
   ]
 ]
 
-text_says : (text : List ℕ) (command : Spoken) → text_command text ≡ Some command → IsProper command × (text ≡ line_of command)
+text_says : (text : List ℕ) (command : Spoken) → words_command text ≡ Some command → IsProper command × (text ≡ line_of command)
 text_says text command h = elim (choice_found (is_text text (codes "items")) (Some items) _ command h) [
   | inl w ↦ subst (λ (s : Spoken). IsProper s × (text ≡ line_of s)) (same_some items command w.1) (tt, (bytes_decides text (codes "items")).0 w.0)
   | inr h1 ↦ elim (choice_found (is_text text (codes "history")) (Some history) _ command h1) [
@@ -253,6 +253,9 @@ text_says text command h = elim (choice_found (is_text text (codes "items")) (So
 
 pub line_is_spelled : LineIsSpelled
 line_is_spelled line command h = elim (choice_found (is_utf8 line) (text_command line) None command h) [
-  | inl w ↦ let says = text_says line command w.1 in (w.0, says.0, says.1)
+  | inl w ↦ elim (choice_found (is_one_line line) (words_command line) None command w.1) [
+    | inl o ↦ let says = text_says line command o.1 in (w.0, o.0, says.0, says.1)
+    | inr k ↦ cc
+  ]
   | inr k ↦ cc
 ]

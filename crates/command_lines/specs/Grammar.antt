@@ -4,9 +4,9 @@
 --     define NAME J                        show T        rollback S      history
 --     start NAME NAME J                    undo S        drive K
 --
--- Between two words stands one space and no more, and J is all that is left. NAME is the name of an execution or a machine.
+-- Between two words stands one space and no more, and J is all that is left. A line has at most 1,048,576 bytes, and no line feed in it. NAME is the name of an execution or a machine.
 -- T is a thread and S a step, written as these names are; K is a number from 1 to 65,536.
-use Rattle.std.specs.Prelude.{◌≡◌, ℕ, ◌==◌, Bool, ◌&&◌, ◌||◌, List, [], ◌∷◌, length, nat_le, if◌then◌else◌, Option, Some, None, option_and_then, option_map, codes}
+use Rattle.std.specs.Prelude.{◌≡◌, ℕ, ◌==◌, Bool, not, ◌&&◌, ◌||◌, List, [], ◌∷◌, length, nat_le, if◌then◌else◌, Option, Some, None, option_and_then, option_map, codes}
 use Rattle.std.specs.List.{list_all}
 use Rattle.std.specs.Option.{option_map_or}
 use Rattle.std.specs.Str.{is_utf8}
@@ -145,14 +145,26 @@ command_by keyword text =
     else (if is_text keyword (codes "show") then option_map show (read_thread text)
     else None))))))))
 
--- of a text
-abbrev pub text_command : List ℕ → Option Spoken
-text_command text =
+-- of a text whose words are these
+abbrev pub words_command : List ℕ → Option Spoken
+words_command text =
     if is_text text (codes "items") then Some items
     else (if is_text text (codes "history") then Some history
     else (do
       (keyword, rest) ← cut_at 32 text
       command_by keyword rest))
+
+-- a line has at most so many bytes, without its end
+abbrev pub longest_line : ℕ
+longest_line = 1048576
+
+-- the text is short enough for a line, and no line feed ends one in it
+abbrev pub is_one_line : List ℕ → Bool
+is_one_line text = nat_le (length text) longest_line && list_all (λ b. not (b == 10)) text
+
+-- of a text
+abbrev pub text_command : List ℕ → Option Spoken
+text_command text = if is_one_line text then words_command text else None
 
 -- the command that a line is, without its end
 abbrev pub command_of : List ℕ → Option Spoken

@@ -1,10 +1,11 @@
 // The commands, read from lines.
 ghost use Rattle.std.specs.Prelude.{◌≡◌, ◌↔◌, None, Some, IfOk, IsErrOf, MatchResult, option_map};
 ghost use Rattle.step_names.specs.Grammar as grammar;
-ghost use Rattle.command_lines.specs.Grammar.{cut_at, command_of, text_command, command_by, table_of, define_of, start_of, execution_in, count_in, spoken, attribute_of};
+ghost use Rattle.command_lines.specs.Grammar.{cut_at, command_of, text_command, words_command, command_by, table_of, define_of, start_of, execution_in, count_in, spoken, attribute_of};
 
 pub use crate::execution::Execution;
-use crate::words::{KeyWord, cut, first_word, is_table_name, read_key};
+pub use crate::words::LONGEST_LINE;
+use crate::words::{KeyWord, cut, first_word, is_one_line, is_table_name, read_key};
 use attr_values::{KeyAttribute, KeySchema};
 use json_tree::Text;
 use std::alloc::{AllocError, AllocFailed, Global};
@@ -44,34 +45,44 @@ impl<T: Drop> From<AllocFailed<T>> for CommandFault {
 /// A line of the operators' language. A text of JSON is borrowed from the line, and not read yet.
 #[derive(Debug, Drop)]
 pub enum Command<'a> {
+    /// To begin the book: the table's name, its key, and its items' JSON.
     Table {
         name: Text,
         schema: KeySchema,
         items: &'a str,
     },
+    /// To define a machine of this name by the definition's JSON.
     Define {
         name: Text,
         definition: &'a str,
     },
+    /// To start an execution of a machine with the input's JSON.
     Start {
         exec: Execution,
         machine: Text,
         input: &'a str,
     },
+    /// To take the next step of a thread.
     Step(ThreadName),
+    /// To take one step back, on which no other depends.
     Undo(StepName),
+    /// To tell what a rollback of this step would take back.
     Plan(StepName),
+    /// To take back a step and its consequences.
     Rollback(StepName),
     /// At most so many steps, from 1 to 65,536.
     Drive(u32),
+    /// To tell where a thread stands.
     Show(ThreadName),
+    /// To list the items.
     Items,
+    /// To list the remaining steps.
     History,
 }
 
 impl<'a> Command<'a> {
-    /// The command of a line without its end. Takes time linear in the line, and memory for the names of a command: a line
-    /// that is none is told before any memory is asked for.
+    /// The command of a line without its end, which has at most [`LONGEST_LINE`] bytes. Takes time linear in the line, and memory for
+    /// the names of a command: a line that is none is told before any memory is asked for.
     ///
     /// # Errors
     ///
@@ -90,6 +101,17 @@ impl<'a> Command<'a> {
 fn read_text(alloc: Global, text: &str) -> Result<Command<'_>, CommandFault>
     ensures ok { IfOk result (λ c. text_command text.now ≡ Some (spoken c)) }
     ensures bad { IsErrOf result CommandFault.BadLine ↔ (text_command text.now ≡ None) }
+{
+    if is_one_line(text) {
+        read_spelled(alloc, text)
+    } else {
+        Err(CommandFault::BadLine)
+    }
+}
+
+fn read_spelled(alloc: Global, text: &str) -> Result<Command<'_>, CommandFault>
+    ensures ok { IfOk result (λ c. words_command text.now ≡ Some (spoken c)) }
+    ensures bad { IsErrOf result CommandFault.BadLine ↔ (words_command text.now ≡ None) }
 {
     match text {
         "items" => Ok(Command::Items),

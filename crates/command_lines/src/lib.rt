@@ -7,6 +7,6 @@ mod laws;
 mod words;
 mod writing;
 
-pub use command::{Command, CommandFault, Execution};
+pub use command::{Command, CommandFault, Execution, LONGEST_LINE};
 pub use laws::lines_are_spelled;
 pub use writing::step_line;

@@ -1,10 +1,27 @@
 // The words of a line.
-ghost use Rattle.std.specs.Prelude.{◌≡◌, ◌<◌, None, Some, MatchOption, option_map};
+ghost use Rattle.std.specs.Prelude.{◌≡◌, ◌<◌, ◌==◌, not, None, Some, MatchOption, option_map};
 ghost use Rattle.std.specs.List.{list_all};
-ghost use Rattle.command_lines.specs.Grammar.{is_table_name, is_table_name_byte, cut_at, first_word, key_in, attribute_of};
+ghost use Rattle.command_lines.specs.Grammar.{is_one_line, is_table_name, is_table_name_byte, cut_at, first_word, key_in, attribute_of};
 
 use attr_values::KeyType;
 use step_names::is_name_byte;
+
+/// The most bytes of a line without its end.
+pub const LONGEST_LINE: usize = 1_048_576;
+
+/// Whether a text is short enough for a line, and no line feed ends one in it.
+pub(crate) fn is_one_line(text: &str) -> bool
+    ensures { result ≡ is_one_line text.now }
+{
+    let bytes = text.as_bytes();
+    bytes.len() <= LONGEST_LINE && has_no_feed(bytes)
+}
+
+fn has_no_feed(bytes: &[u8]) -> bool
+    ensures { result ≡ list_all (λ b. not (b == 10)) bytes.now }
+{
+    bytes.iter().all(|b| *b != b'\n')
+}
 
 /// A key's name and type.
 #[derive(Clone, Copy)]

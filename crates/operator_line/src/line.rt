@@ -11,7 +11,9 @@ pub const LONGEST_LINE: usize = 1_048_576;
 /// A line without its end.
 #[derive(Clone, Copy, Debug)]
 pub enum Line<'a> {
+    /// All its bytes.
     Whole(&'a [u8]),
+    /// It has more than [`LONGEST_LINE`] bytes, which weren't kept.
     TooLong,
 }
 

@@ -24,10 +24,13 @@ const MEMORY: &[u8] = b"no 11\n";
 /// Why serving ended before the input did.
 #[derive(Clone, Copy, Debug, PartialEq, Eq, Error)]
 pub enum ServeFault {
+    /// The reader refused, or the bound on its calls was reached.
     #[error("the input can't be read")]
     Read,
+    /// The writer refused, or took nothing.
     #[error("the output can't be written")]
     Write,
+    /// Memory for a line was refused.
     #[error("out of memory for a line")]
     Memory,
 }
@@ -204,8 +207,12 @@ fn write_answer<W: Write, S: Alter>(
     }
 }
 
-/// Writes all of a reply, in as many calls as the writer needs. A writer that takes nothing has failed.
-fn write_all<W: Write>(writer: &mut W, reply: &[u8]) -> Result<(), ServeFault>
+/// Writes all of a reply, in as many calls as the writer needs. Takes no memory, and doesn't flush.
+///
+/// # Errors
+///
+/// `Write` where the writer refuses, for another cause than an interruption, or takes nothing: a beginning of the reply is written.
+pub fn write_all<W: Write>(writer: &mut W, reply: &[u8]) -> Result<(), ServeFault>
     ensures { WritesReply result reply.now (W.contents writer.old) (W.contents writer.new) }
 {
     let mut rest = reply;
@@ -226,7 +233,12 @@ fn write_all<W: Write>(writer: &mut W, reply: &[u8]) -> Result<(), ServeFault>
     Err(ServeFault::Write)
 }
 
-fn flush<W: Write>(writer: &mut W) -> Result<(), ServeFault>
+/// Flushes the writer.
+///
+/// # Errors
+///
+/// `Write` where the writer refuses.
+pub fn flush<W: Write>(writer: &mut W) -> Result<(), ServeFault>
     ensures kept { Keeps (W.contents writer.old) (W.contents writer.new) }
     ensures err { IfErr result (λ e. e ≡ ServeFault.Write) }
 {

@@ -38,12 +38,14 @@ impl Reply {
         }
     }
 
+    /// Begins the next reply. Takes no memory, and keeps the room.
     pub fn clear(&mut self)
         ensures { string_bytes self.new.text ≡ [] }
     {
         self.text.clear();
     }
 
+    /// The reply so far.
     pub fn as_bytes(&self) -> &[u8]
         ensures { result.now ≡ string_bytes self.now.text }
     {

@@ -2,17 +2,18 @@
 
 //! `rollback`: serves the lines of standard input on standard output, with a journal in memory or of a file.
 
-use rollback_run::{Mode, ModeRefusal, mode_of, refuse, run};
-use sqlite::{Alter, Connection, Error, ErrorCode, MemStore};
+use rollback_run::{Mode, ModeRefusal, finish, mode_of, refuse, run, unread_words};
+use sqlite::{Connection, Error, ErrorCode, File, FileStore, MemStore};
 use std::alloc::{AllocError, Global};
-use std::env;
 use std::io::{BufWriter, Write};
 use std::process::ExitCode;
+use std::{env, fs};
 
 fn asked(rt: &HostRuntime) -> Result<Mode, ModeRefusal> {
     let alloc = rt.alloc();
-    let Ok(arguments) = env::args(rt) else {
-        return Err(ModeRefusal::Memory);
+    let arguments = match env::args(rt) {
+        Ok(arguments) => arguments,
+        Err(error) => return Err(unread_words(&error)),
     };
     match arguments.collect::<Vec<String>>(alloc) {
         Ok(words) => mode_of(alloc, words.as_slice()),
@@ -27,36 +28,54 @@ fn in_memory(alloc: Global) -> Result<Connection<MemStore>, Error> {
     }
 }
 
-fn run_over<S: Alter + Drop, W: Write>(
+/// The connection to a file that is there: none is made.
+fn to_existing(rt: &HostRuntime, file: &str) -> Result<Connection<FileStore<File>>, Error> {
+    match fs::exists(rt, file) {
+        Ok(true) => Connection::open(rt, file),
+        Ok(false) | Err(_) => Err(Error::SqliteFailure(ErrorCode::CannotOpen)),
+    }
+}
+
+fn run_in_memory<W: Write>(rt: &HostRuntime, mode: &Mode, writer: &mut W) -> u8 {
+    let connection = in_memory(rt.alloc());
+    let (outcome, left) = run(rt.alloc(), mode, connection, &mut rt.stdin(), writer);
+    drop(left);
+    finish(outcome, Ok(()), &mut rt.stderr())
+}
+
+/// Where the run ended well on a journal, its file is closed: it has all lines then.
+fn run_on_file<W: Write>(
     rt: &HostRuntime,
-    mode: Mode,
-    connection: Result<Connection<S>, Error>,
+    mode: &Mode,
+    connection: Result<Connection<FileStore<File>>, Error>,
     writer: &mut W,
 ) -> u8 {
-    run(
-        rt.alloc(),
-        mode,
-        connection,
-        &mut rt.stdin(),
-        writer,
-        &mut rt.stderr(),
-    )
+    let (outcome, left) = run(rt.alloc(), mode, connection, &mut rt.stdin(), writer);
+    let closed = match left {
+        Some(connection) => connection.close(),
+        None => Ok(()),
+    };
+    finish(outcome, closed, &mut rt.stderr())
 }
 
 /// Makes the connection that the mode asks for, and runs over it.
-fn run_in<W: Write>(rt: &HostRuntime, mode: Mode, writer: &mut W) -> u8 {
-    match &mode {
-        Mode::InMemory => run_over(rt, mode, in_memory(rt.alloc()), writer),
-        Mode::Journal(file) | Mode::Check(file) => {
+fn run_in<W: Write>(rt: &HostRuntime, mode: &Mode, writer: &mut W) -> u8 {
+    match mode {
+        Mode::InMemory => run_in_memory(rt, mode, writer),
+        Mode::Journal(file) => {
             let connection = Connection::open(rt, file.as_str());
-            run_over(rt, mode, connection, writer)
+            run_on_file(rt, mode, connection, writer)
+        }
+        Mode::Check(file) => {
+            let connection = to_existing(rt, file.as_str());
+            run_on_file(rt, mode, connection, writer)
         }
     }
 }
 
 fn run_asked<W: Write>(rt: &HostRuntime, asked: Result<Mode, ModeRefusal>, writer: &mut W) -> u8 {
     match asked {
-        Ok(mode) => run_in(rt, mode, writer),
+        Ok(mode) => run_in(rt, &mode, writer),
         Err(refusal) => refuse(refusal, writer, &mut rt.stderr()),
     }
 }

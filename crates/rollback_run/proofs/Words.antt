@@ -58,9 +58,13 @@ pub among_faults : (a : App) (words : List Text) (e : Error) → a ≡ program �
 among_faults a words e app h = subst (λ x. HasKind (fault_of x words) e) app h
 
 pub names_by : (words : List Text) (journal check : Option Text) (mode : Mode) → journal ≡ value_in words (codes "journal")
-    → check ≡ value_in words (codes "check") → NamesFile journal check mode → Names words mode
-names_by words journal check mode e f h =
-    subst (λ x. NamesFile x (value_in words (codes "check")) mode) e (subst (λ x. NamesFile journal x mode) f h)
+    → check ≡ value_in words (codes "check") → fault_of program words ≡ [] → NamesFile journal check mode → Names words mode
+names_by words journal check mode e f taken h =
+    (taken, subst (λ x. NamesFile x (value_in words (codes "check")) mode) e (subst (λ x. NamesFile journal x mode) f h))
+
+-- the program's command takes the words
+pub taken_by : (a : App) (words : List Text) → a ≡ program → fault_of a words ≡ [] → fault_of program words ≡ []
+taken_by a words app h = subst (λ x. fault_of x words ≡ []) app h
 
 pub refuses_by : (words : List Text) (journal check : Option Text) (refusal : ModeRefusal) → journal ≡ value_in words (codes "journal")
     → check ≡ value_in words (codes "check") → RefusesNamed journal check refusal → Refuses words refusal

@@ -1,6 +1,7 @@
 -- How a run fails: what is told of it, and the program's status.
-use Rattle.std.specs.Prelude.{ℕ, List, [], ◌∷◌, ◌++◌, Result, Ok, Err, codes}
+use Rattle.std.specs.Prelude.{◌≡◌, ℕ, List, [], ◌∷◌, ◌++◌, Option, Result, Ok, Err, codes}
 use Rattle.std.specs.Fmt.{decimal}
+use Rattle.std.specs.Io.KnownBytes.{Appends, Keeps}
 use Rattle.book_journal.specs.declared.fault.JournalFault.{JournalFault}
 use Rattle.book_journal.specs.declared.fault.JournalFault.TheVariants as journal_fault
 use Rattle.operator_line.specs.OpenFault.{OpenFault}
@@ -40,6 +41,21 @@ fault_text Store = codes "rollback: store\n"
 fault_text Input = codes "rollback: input\n"
 fault_text Output = codes "rollback: output\n"
 fault_text Memory = codes "rollback: memory\n"
+
+-- the text is written, or a beginning of it
+pub record IsBegun (text : List ℕ) (old new : Option (List ℕ)) : Type 0 where
+  pub written : List ℕ
+  pub unwritten : List ℕ
+  pub parted : text ≡ written ++ unwritten
+  pub appended : Appends old new written
+
+-- an outcome that is a fault is told, perhaps not to its end, and nothing else is
+abbrev pub IsTold : Result Unit Fault → Option (List ℕ) → Option (List ℕ) → Type 0
+IsTold (Ok done) old new = Keeps old new
+IsTold (Err fault) old new = IsBegun (fault_text fault) old new
+
+abbrev pub usage_text : List ℕ
+usage_text = codes "usage: rollback [--journal FILE | --check FILE]\n"
 
 -- 3 where the journal gives no book, 4 where the streams or memory fail
 abbrev pub fault_status : Fault → ℕ

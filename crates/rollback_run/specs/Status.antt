@@ -1,5 +1,5 @@
 -- What a run over a connection comes to: its status, and what it writes.
-use Rattle.std.specs.Prelude.{◌≡◌, ◌⊎◌, ℕ, ◌+◌, List, [], ◌∷◌, ◌++◌, length, Option, None, Some, Result, Ok, Err, IfSome, OnOk, OnErr, codes, string_bytes}
+use Rattle.std.specs.Prelude.{◌≡◌, ◌⊎◌, ℕ, ◌+◌, Bool, true, false, List, [], ◌∷◌, ◌++◌, length, Option, None, Some, Result, Ok, Err, IfSome, codes, string_bytes}
 use Rattle.std.specs.Fmt.{decimal}
 use Rattle.std.specs.Io.KnownBytes.{Appends, Keeps}
 use Rattle.sqlite.specs.State.{State, HasCleanDisk}
@@ -11,8 +11,9 @@ use Rattle.operator_line.specs.Opening.{OpensTo, RefusesOpen}
 use Rattle.operator_line.specs.OpenFault.{OpenFault}
 use Rattle.operator_line.specs.Serving.{Serves}
 use Rattle.operator_line.specs.declared.serving.ServeFault.{ServeFault}
-use Rattle.rollback_run.specs.Faults.{of_journal, of_open, outcome_status, served}
+use Rattle.rollback_run.specs.Faults.{of_journal, of_open, outcome_status, served, usage_text, IsBegun, IsTold}
 use Rattle.rollback_run.specs.declared.fault.Fault.{Fault}
+use Rattle.rollback_run.specs.declared.fault.Fault.TheVariants as fault
 use Rattle.rollback_run.specs.declared.fault.Fault.TheVariants.{Output}
 use Rattle.rollback_run.specs.declared.mode.Mode.{Mode}
 use Rattle.rollback_run.specs.declared.mode.Mode.TheVariants.{InMemory, Journal, Check}
@@ -61,26 +62,42 @@ module _ {Held : Type 0} (show : Held → State) where
 
 -- ---- what is done with the book
 
--- What was written answers the input from this book on, as far as the end says that it was served.
-pub record IsServed (outcome : Result Unit Fault) (book : Option Story) (input : Option (List ℕ)) (old new : Option (List ℕ)) : Type 0 where
+-- What was written answers the input from this book on, as far as the end says that it was served, and this is the book then.
+pub record IsServed (outcome : Result Unit Fault) (book after : Option Story) (input old new : Option (List ℕ)) : Type 0 where
   pub end : Result Unit ServeFault
-  pub after : Option Story
   pub answers : IfSome input (λ text. Serves end text book after old new)
   pub told : outcome ≡ served end
 
--- The sizes are printed, or can't be.
+-- The sizes are printed, or can't be: then a beginning of them is.
 abbrev pub IsPrinted : Result Unit Fault → List ℕ → Option (List ℕ) → Option (List ℕ) → Type 0
 IsPrinted (Ok done) text old new = Appends old new text
-IsPrinted (Err fault) text old new = fault ≡ Output
+IsPrinted (Err why) text old new = (why ≡ Output) × IsBegun text old new
 
--- nothing is read for a check
-abbrev pub IsChecked : Result Unit Fault → Option Story → Option (List ℕ) → Option (List ℕ) → Option (List ℕ) → Option (List ℕ) → Type 0
-IsChecked outcome book input left old new = IsPrinted outcome (sizes_text (sizes_of book)) old new × (left ≡ input)
+-- nothing is read for a check, and the book is as it was
+pub record IsChecked (outcome : Result Unit Fault) (book after : Option Story) (input left old new : Option (List ℕ)) : Type 0 where
+  pub printed : IsPrinted outcome (sizes_text (sizes_of book)) old new
+  pub unread : left ≡ input
+  pub same : after ≡ book
 
-abbrev pub IsDone : Mode → Result Unit Fault → Option Story → Option (List ℕ) → Option (List ℕ) → Option (List ℕ) → Option (List ℕ) → Type 0
-IsDone InMemory outcome book input left old new = IsServed outcome book input old new
-IsDone (Journal file) outcome book input left old new = IsServed outcome book input old new
-IsDone (Check file) outcome book input left old new = IsChecked outcome book input left old new
+abbrev pub IsDone : Mode → Result Unit Fault → Option Story → Option Story → Option (List ℕ) → Option (List ℕ) → Option (List ℕ) → Option (List ℕ) → Type 0
+IsDone InMemory outcome book after input left old new = IsServed outcome book after input old new
+IsDone (Journal file) outcome book after input left old new = IsServed outcome book after input old new
+IsDone (Check file) outcome book after input left old new = IsChecked outcome book after input left old new
+
+abbrev pub is_check : Mode → Bool
+is_check InMemory = false
+is_check (Journal file) = false
+is_check (Check file) = true
+
+-- the connection is left to be closed where the input was served to its end on a file's journal
+abbrev pub is_left : Mode → Result Unit Fault → Bool
+is_left (Journal file) (Ok done) = true
+is_left mode outcome = false
+
+-- the mode is done of this book
+pub record IsRun (mode : Mode) (outcome : Result Unit Fault) (book : Option Story) (input left old new : Option (List ℕ)) : Type 0 where
+  pub after : Option Story
+  pub is_done : IsDone mode outcome book after input left old new
 
 -- ---- the whole run
 
@@ -88,22 +105,31 @@ module _ {Held : Type 0} (show : Held → State) where
   -- There is a book, of which the mode is done; or there is none for this fault, and then nothing is read or written.
   abbrev pub HasOutcome : Mode → Result Held Error → Result Unit Fault → Option (List ℕ) → Option (List ℕ) → Option (List ℕ) → Option (List ℕ) → Type 0
   HasOutcome mode connection outcome input left old new =
-      ((book : Option Story) × Opens show connection book × IsDone mode outcome book input left old new)
+      ((book : Option Story) × Opens show connection book × IsRun mode outcome book input left old new)
       ⊎ ((fault : Fault) × (outcome ≡ Err fault) × OpensNone show connection fault × (left ≡ input) × Keeps old new)
 
-  -- the run has an outcome, which the status tells
-  pub record IsStatus (mode : Mode) (connection : Result Held Error) (status : ℕ) (input left old new : Option (List ℕ)) : Type 0 where
-    pub outcome : Result Unit Fault
-    pub done : HasOutcome mode connection outcome input left old new
-    pub told : status ≡ outcome_status outcome
+-- where all went well, what comes of closing the file
+abbrev pub after_closing : Result Unit Fault → Result Unit Error → Result Unit Fault
+after_closing (Err fault) closed = Err fault
+after_closing (Ok done) (Ok closed) = Ok done
+after_closing (Ok done) (Err cause) = Err (of_journal (fault_of cause))
+
+-- the status and the words on standard error tell how a run ended, and how its file was closed
+pub record IsStatus (outcome : Result Unit Fault) (closed : Result Unit Error) (status : ℕ) (quiet said : Option (List ℕ)) : Type 0 where
+  pub status_is : status ≡ outcome_status (after_closing outcome closed)
+  pub told : IsTold (after_closing outcome closed) quiet said
 
 -- ---- words that name no mode
 
--- a text is shown whole, or showing it failed
-abbrev pub IsShown : ℕ → List ℕ → Option (List ℕ) → Option (List ℕ) → Type 0
-IsShown status text old new = ((status ≡ 0) × Appends old new text) ⊎ (status ≡ 4)
+-- a beginning of a text is shown, and then it is told that the output can't be written
+pub record IsCutShort (text : List ℕ) (old new quiet said : Option (List ℕ)) : Type 0 where
+  pub begun : IsBegun text old new
+  pub told : IsTold (Err Output) quiet said
 
-abbrev pub IsRefusal : ModeRefusal → ℕ → Option (List ℕ) → Option (List ℕ) → Type 0
-IsRefusal (Help text) status old new = IsShown status (string_bytes text) old new
-IsRefusal Usage status old new = (status ≡ 2) × Keeps old new
-IsRefusal Memory status old new = (status ≡ 4) × Keeps old new
+abbrev pub IsShown : ℕ → List ℕ → Option (List ℕ) → Option (List ℕ) → Option (List ℕ) → Option (List ℕ) → Type 0
+IsShown status text old new quiet said = ((status ≡ 0) × Appends old new text × Keeps quiet said) ⊎ ((status ≡ 4) × IsCutShort text old new quiet said)
+
+abbrev pub IsRefusal : ModeRefusal → ℕ → Option (List ℕ) → Option (List ℕ) → Option (List ℕ) → Option (List ℕ) → Type 0
+IsRefusal (Help text) status old new quiet said = IsShown status (string_bytes text) old new quiet said
+IsRefusal Usage status old new quiet said = (status ≡ 2) × Keeps old new × IsBegun usage_text quiet said
+IsRefusal Memory status old new quiet said = (status ≡ 4) × Keeps old new × IsTold (Err fault.Memory) quiet said

@@ -1,12 +1,19 @@
 -- The words of the command line: which mode they name, and why they name none.
-use Rattle.std.specs.Prelude.{◌≡◌, ◌≢◌, ◌⊎◌, List, Option, None, Some, IsSome, codes, string_bytes}
+use Rattle.std.specs.Prelude.{◌≡◌, ◌≢◌, ◌⊎◌, List, [], Option, None, Some, IsSome, codes, string_bytes}
 use Rattle.clap.specs.Words.{App, Rule, Text, new_app, new_rule, with_rule, first_of, matches_of, fault_of, IsAmong}
 use Rattle.clap.specs.declared.error.kind.ErrorKind.{ErrorKind}
 use Rattle.clap.specs.declared.error.kind.ErrorKind.TheVariants as kind
+use Rattle.std.specs.declared.io.ErrorKind.{ErrorKind as IoKind}
+use Rattle.std.specs.declared.io.ErrorKind.TheVariants.{OutOfMemory}
 use Rattle.rollback_run.specs.declared.mode.Mode.{Mode}
 use Rattle.rollback_run.specs.declared.mode.Mode.TheVariants.{InMemory, Journal, Check}
 use Rattle.rollback_run.specs.declared.mode.ModeRefusal.{ModeRefusal}
 use Rattle.rollback_run.specs.declared.mode.ModeRefusal.TheVariants.{Help, Usage, Memory}
+
+-- how it is told that the words can't be had, for an error of this kind
+abbrev pub unread_refusal : IoKind → ModeRefusal
+unread_refusal OutOfMemory = Memory
+unread_refusal kind = Usage
 
 -- an option with one value
 abbrev pub option_rule : Text → Rule
@@ -38,9 +45,9 @@ IsRefusedBy k (Help text) = k ≡ kind.DisplayHelp
 IsRefusedBy k Usage = (k ≢ kind.DisplayHelp) × (k ≢ kind.OutOfMemory)
 IsRefusedBy k Memory = Unit {0}
 
--- the mode is the one that the matches of these words name
+-- clap takes the words, and the mode is the one that their matches name
 abbrev pub Names : List Text → Mode → Type 0
-Names words mode = NamesFile (value_in words (codes "journal")) (value_in words (codes "check")) mode
+Names words mode = (fault_of program words ≡ []) × NamesFile (value_in words (codes "journal")) (value_in words (codes "check")) mode
 
 -- the words are refused with an error that is told so
 pub record IsRefused (words : List Text) (refusal : ModeRefusal) : Type 0 where

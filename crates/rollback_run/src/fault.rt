@@ -1,14 +1,14 @@
 // Why a run fails, and how that is told.
-ghost use Rattle.std.specs.Prelude.{◌≡◌, OnOk};
-ghost use Rattle.std.specs.Io.KnownBytes.{Appends};
+ghost use Rattle.std.specs.Prelude.{◌≡◌};
 ghost use Rattle.book_journal.specs.Faults.{fault_of};
-ghost use Rattle.rollback_run.specs.Faults.{fault_text, fault_status, outcome_status, of_journal, of_open, of_serve};
+ghost use Rattle.operator_line.specs.Serving.{WritesReply};
+ghost use Rattle.rollback_run.specs.Faults.{fault_text, fault_status, outcome_status, of_journal, of_open, of_serve, IsTold};
 
+use crate::writing::write_number;
 use book_journal::JournalFault;
-use operator_line::ServeFault;
 use operator_line::journaled::OpenFault;
+use operator_line::{ServeFault, write_all};
 use sqlite::Error;
-use std::io;
 use std::io::Write;
 
 /// The input ended, the check passed, or help was asked for.
@@ -91,23 +91,24 @@ impl Fault {
     }
 
     /// Writes what is told of it.
-    fn tell<W: Write>(self, faults: &mut W) -> io::Result<()>
-        ensures { OnOk result (Appends (W.contents faults.old) (W.contents faults.new) (fault_text self)) }
+    fn tell<W: Write>(self, faults: &mut W) -> Result<(), ServeFault>
+        ensures { WritesReply result (fault_text self) (W.contents faults.old) (W.contents faults.new) }
     {
         match self {
-            Fault::Damaged(line) => write!(faults, "rollback: damaged {line}\n"),
-            Fault::Gap(position) => write!(faults, "rollback: gap {position}\n"),
-            Fault::Store => faults.write_all(b"rollback: store\n"),
-            Fault::Input => faults.write_all(b"rollback: input\n"),
-            Fault::Output => faults.write_all(b"rollback: output\n"),
-            Fault::Memory => faults.write_all(b"rollback: memory\n"),
+            Fault::Damaged(line) => write_number(faults, b"rollback: damaged ", line, b"\n"),
+            Fault::Gap(position) => write_number(faults, b"rollback: gap ", position, b"\n"),
+            Fault::Store => write_all(faults, b"rollback: store\n"),
+            Fault::Input => write_all(faults, b"rollback: input\n"),
+            Fault::Output => write_all(faults, b"rollback: output\n"),
+            Fault::Memory => write_all(faults, b"rollback: memory\n"),
         }
     }
 }
 
 /// The status of a run's outcome, which is told where it is a fault. Where even that can't be written, the status alone tells it.
 pub(crate) fn end<W: Write>(outcome: Result<(), Fault>, faults: &mut W) -> u8
-    ensures { result ≡ outcome_status outcome }
+    ensures status { result ≡ outcome_status outcome }
+    ensures told { IsTold outcome (W.contents faults.old) (W.contents faults.new) }
 {
     match outcome {
         Ok(()) => ENDED,

@@ -4,7 +4,8 @@
 mod fault;
 mod mode;
 mod running;
+mod writing;
 
 pub use fault::{ENDED, FAILED, Fault, REFUSED, USAGE};
-pub use mode::{Mode, ModeRefusal, mode_of};
-pub use running::{refuse, run};
+pub use mode::{Mode, ModeRefusal, mode_of, unread_words};
+pub use running::{finish, refuse, run, run_session};

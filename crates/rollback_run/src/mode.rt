@@ -1,11 +1,13 @@
 // What the words of the command line ask for.
 ghost use Rattle.std.specs.Prelude.{◌≡◌, map, false, IfOk, IfErr, option_map, string_bytes};
 ghost use Rattle.clap.specs.Words.{app_of, rule_of, kind_of};
-ghost use Rattle.rollback_run.specs.Words.{program, option_rule, IsRefusedBy, Names, NamesFile, Refuses, RefusesNamed};
+ghost use Rattle.std.specs.IoError.{error_kind};
+ghost use Rattle.rollback_run.specs.Words.{program, option_rule, unread_refusal, IsRefusedBy, Names, NamesFile, Refuses, RefusesNamed};
 
 use clap::error::ErrorKind;
 use clap::{Arg, Command, Error};
 use std::alloc::{AllocError, Global};
+use std::io;
 
 const ABOUT: &str =
     "Runs executions of state machines, and takes their steps back: a command a line.";
@@ -58,6 +60,17 @@ fn command<'a>(alloc: Global) -> Result<Command<'a>, AllocError>
         .about(ABOUT)
         .arg(option(alloc, JOURNAL, JOURNAL_HELP))?
         .arg(option(alloc, CHECK, CHECK_HELP))
+}
+
+/// How it is told that the words of the command line can't be had: want of memory by its own name, and else that they are none that are
+/// known, as where one isn't UTF-8.
+pub fn unread_words(error: &io::Error) -> ModeRefusal
+    ensures { result ≡ unread_refusal (error_kind error.now) }
+{
+    match error.kind() {
+        io::ErrorKind::OutOfMemory => ModeRefusal::Memory,
+        _ => ModeRefusal::Usage,
+    }
 }
 
 /// What these words ask for, the first of which is the program's own name.

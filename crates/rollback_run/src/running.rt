@@ -1,52 +1,74 @@
 // Running in a mode, over any streams and any store.
-ghost use Rattle.std.specs.Prelude.{◌≡◌, option_map, IfOk, IfErr, OnOk};
-ghost use Rattle.std.specs.Io.KnownBytes.{Appends};
+ghost use Rattle.std.specs.Prelude.{◌≡◌, true, is_some, option_map, IfOk, IfErr};
 ghost use Rattle.sqlite.specs.Held.{state};
 ghost use Rattle.sqlite.specs.State.{HasCleanDisk};
 ghost use Rattle.book_journal.specs.Faults.{fault_of};
 ghost use Rattle.book_journal.specs.Kept.{IsOpened};
+ghost use Rattle.operator_line.specs.Serving.{WritesReply};
 ghost use Rattle.operator_line.specs.Sessions.{told};
 ghost use Rattle.rollback_run.specs.Faults.{of_journal};
-ghost use Rattle.rollback_run.specs.Status.{GivesNone, Gives, HasOutcome, IsChecked, IsDone, IsPrinted, IsRefusal, IsServed, IsStatus, Opens, OpensNone, Refuses, sizes_of, sizes_text};
+ghost use Rattle.rollback_run.specs.Status.{GivesNone, Gives, HasOutcome, IsChecked, IsDone, IsPrinted, IsRefusal, IsRun, IsServed, IsStatus, Opens, OpensNone, Refuses, after_closing, is_check, is_left, sizes_of, sizes_text};
 
 use crate::fault::{ENDED, FAILED, Fault, USAGE, end};
 use crate::mode::{Mode, ModeRefusal};
+use crate::writing::write_number;
 use book_journal::Journal;
 use operator_line::books::Book;
-use operator_line::{Session, serve};
+use operator_line::{ServeFault, Session, flush, serve, write_all};
 use sqlite::{Alter, Connection, Error};
 use std::alloc::Global;
-use std::io;
 use std::io::{Read, Write};
 
 const USAGE_TEXT: &[u8] = b"usage: rollback [--journal FILE | --check FILE]\n";
 
-/// Does what the mode asks for on the journal of this connection, and answers the program's status. A fault is told on `faults`.
-pub fn run<S: Alter + Drop, R: Read, W: Write, E: Write>(
+/// Does what the mode asks for on the journal of this connection, and answers how that ended.
+///
+/// Where an input was served to its end on a file's journal, the connection is handed out, to be closed: then the file alone has all
+/// lines. [`finish`] is given what that answers.
+pub fn run<S: Alter + Drop, R: Read, W: Write>(
     alloc: Global,
-    mode: Mode,
+    mode: &Mode,
     connection: Result<Connection<S>, Error>,
     reader: &mut R,
     writer: &mut W,
-    faults: &mut E,
-) -> u8
-    ensures { IsStatus (λ held. state S.Store held) mode connection result (R.remaining reader.old) (R.remaining reader.new) (W.contents writer.old) (W.contents writer.new) }
+) -> (Result<(), Fault>, Option<Connection<S>>)
+    ensures outcome { HasOutcome (λ held. state S.Store held) mode.now connection result.0 (R.remaining reader.old) (R.remaining reader.new) (W.contents writer.old) (W.contents writer.new) }
+    ensures left { is_some result.1 ≡ is_left mode.now result.0 }
 {
-    let outcome = outcome_of(alloc, &mode, connection, reader, writer);
-    end(outcome, faults)
+    match open(alloc, connection) {
+        Ok(session) => run_owned(alloc, mode, session, reader, writer),
+        Err(fault) => (Err(fault), None),
+    }
+}
+
+/// The program's status for a run that ended so, and for what closing its file answered. A fault is told on `faults`.
+pub fn finish<W: Write>(outcome: Result<(), Fault>, closed: Result<(), Error>, faults: &mut W) -> u8
+    ensures { IsStatus outcome closed result (W.contents faults.old) (W.contents faults.new) }
+{
+    end(after_closing(outcome, closed), faults)
+}
+
+/// Where all went well, what comes of closing the file.
+fn after_closing(outcome: Result<(), Fault>, closed: Result<(), Error>) -> Result<(), Fault>
+    ensures { result ≡ after_closing outcome closed }
+{
+    match (outcome, closed) {
+        (Ok(()), Err(cause)) => Err(Fault::of_connection(cause)),
+        (outcome, _) => outcome,
+    }
 }
 
 /// Tells why the words name no mode, and answers the program's status.
 pub fn refuse<W: Write, E: Write>(refusal: ModeRefusal, writer: &mut W, faults: &mut E) -> u8
-    ensures { IsRefusal refusal result (W.contents writer.old) (W.contents writer.new) }
+    ensures { IsRefusal refusal result (W.contents writer.old) (W.contents writer.new) (E.contents faults.old) (E.contents faults.new) }
 {
     match refusal {
-        ModeRefusal::Help(text) => match show(writer, text.as_str()) {
+        ModeRefusal::Help(text) => match show(writer, text.as_bytes()) {
             Ok(()) => ENDED,
             Err(_) => end(Err(Fault::Output), faults),
         },
         ModeRefusal::Usage => {
-            let _ = faults.write_all(USAGE_TEXT);
+            let _ = write_all(faults, USAGE_TEXT);
             USAGE
         }
         ModeRefusal::Memory => end(Err(Fault::Memory), faults),
@@ -54,26 +76,11 @@ pub fn refuse<W: Write, E: Write>(refusal: ModeRefusal, writer: &mut W, faults: 
 }
 
 /// Shows a text, which is at its place only once it is flushed.
-fn show<W: Write>(writer: &mut W, text: &str) -> io::Result<()>
-    ensures { OnOk result (Appends (W.contents writer.old) (W.contents writer.new) text.now) }
+fn show<W: Write>(writer: &mut W, text: &[u8]) -> Result<(), ServeFault>
+    ensures { WritesReply result text.now (W.contents writer.old) (W.contents writer.new) }
 {
-    writer.write_all(text.as_bytes())?;
-    writer.flush()
-}
-
-fn outcome_of<S: Alter + Drop, R: Read, W: Write>(
-    alloc: Global,
-    mode: &Mode,
-    connection: Result<Connection<S>, Error>,
-    reader: &mut R,
-    writer: &mut W,
-) -> Result<(), Fault>
-    ensures { HasOutcome (λ held. state S.Store held) mode.now connection result (R.remaining reader.old) (R.remaining reader.new) (W.contents writer.old) (W.contents writer.new) }
-{
-    match open(alloc, connection) {
-        Ok(mut session) => act(alloc, mode, &mut session, reader, writer),
-        Err(fault) => Err(fault),
-    }
+    write_all(writer, text)?;
+    flush(writer)
 }
 
 // ---- the book
@@ -109,14 +116,55 @@ fn open_connected<S: Alter + Drop>(
 
 // ---- what is done with the book
 
-fn act<S: Alter + Drop, R: Read, W: Write>(
+/// Runs a session, and lets it go.
+fn run_owned<S: Alter + Drop, R: Read, W: Write>(
+    alloc: Global,
+    mode: &Mode,
+    session: Session<S>,
+    reader: &mut R,
+    writer: &mut W,
+) -> (Result<(), Fault>, Option<Connection<S>>)
+    ensures run { IsRun mode.now result.0 (told session) (R.remaining reader.old) (R.remaining reader.new) (W.contents writer.old) (W.contents writer.new) }
+    ensures left { is_some result.1 ≡ is_left mode.now result.0 }
+{
+    let mut session = session;
+    let outcome = run_session(alloc, mode, &mut session, reader, writer);
+    let left = let_go(mode, outcome, session);
+    (outcome, left)
+}
+
+/// Lets a session go. Its connection is left where it is to be closed.
+fn let_go<S: Alter + Drop>(
+    mode: &Mode,
+    outcome: Result<(), Fault>,
+    session: Session<S>,
+) -> Option<Connection<S>>
+    ensures { is_some result ≡ is_left mode.now outcome }
+{
+    match (mode, outcome) {
+        (Mode::Journal(_), Ok(())) => Some(session.into_journal().into_connection()),
+        _ => {
+            drop(session);
+            None
+        }
+    }
+}
+
+/// Does what the mode asks for on a session: serves the reader's lines, or tells the sizes of its journal and its book, for which nothing is
+/// read and the session stays as it is.
+///
+/// # Errors
+///
+/// As `serve`; `Output` where the sizes can't be written or flushed.
+pub fn run_session<S: Alter, R: Read, W: Write>(
     alloc: Global,
     mode: &Mode,
     session: &mut Session<S>,
     reader: &mut R,
     writer: &mut W,
 ) -> Result<(), Fault>
-    ensures { IsDone mode.now result (told session.old) (R.remaining reader.old) (R.remaining reader.new) (W.contents writer.old) (W.contents writer.new) }
+    ensures done { IsDone mode.now result (told session.old) (told session.new) (R.remaining reader.old) (R.remaining reader.new) (W.contents writer.old) (W.contents writer.new) }
+    ensures check { is_check mode.now ≡ true → session.new ≡ session.old }
 {
     match mode {
         Mode::InMemory | Mode::Journal(_) => serve_book(alloc, session, reader, writer),
@@ -124,13 +172,13 @@ fn act<S: Alter + Drop, R: Read, W: Write>(
     }
 }
 
-fn serve_book<S: Alter + Drop, R: Read, W: Write>(
+fn serve_book<S: Alter, R: Read, W: Write>(
     alloc: Global,
     session: &mut Session<S>,
     reader: &mut R,
     writer: &mut W,
 ) -> Result<(), Fault>
-    ensures { IsServed result (told session.old) (R.remaining reader.old) (W.contents writer.old) (W.contents writer.new) }
+    ensures { IsServed result (told session.old) (told session.new) (R.remaining reader.old) (W.contents writer.old) (W.contents writer.new) }
 {
     match serve(alloc, reader, writer, session) {
         Ok(()) => Ok(()),
@@ -160,10 +208,11 @@ fn print_sizes<W: Write>(writer: &mut W, sizes: (usize, usize)) -> Result<(), Fa
     }
 }
 
-fn print<W: Write>(writer: &mut W, sizes: (usize, usize)) -> io::Result<()>
-    ensures { OnOk result (Appends (W.contents writer.old) (W.contents writer.new) (sizes_text sizes)) }
+fn print<W: Write>(writer: &mut W, sizes: (usize, usize)) -> Result<(), ServeFault>
+    ensures { WritesReply result (sizes_text sizes) (W.contents writer.old) (W.contents writer.new) }
 {
     let (lines, steps) = sizes;
-    write!(writer, "ok {lines} {steps}\n")?;
-    writer.flush()
+    write_number(writer, b"ok ", lines, b" ")?;
+    write_number(writer, b"", steps, b"\n")?;
+    flush(writer)
 }

@@ -41,7 +41,7 @@ fn answers_lines(alloc: Global, rest: &[u8]) -> bool {
     let ended = served_new(alloc, &mut source, &mut sink);
     let is_cut = !rest.is_empty() && rest.last() != Some(&b'\n');
     let lines = line_count(rest).saturating_add(is_cut as usize);
-    is_ended(ended, OK) && sink.lines() == lines && sink.flushed == sink.taken.len()
+    is_ended(ended, OK) && sink.lines() == lines && sink.is_flushed()
 }
 
 #[test]
@@ -76,20 +76,20 @@ fn failing_writers(rt: HostRuntime) {
     }
 }
 
-/// How serving ends with a writer that takes no bytes and answers so.
+/// How serving ends with a writer that takes no bytes and answers so, and how often it is asked.
 fn ended_idle(alloc: Global) -> (Option<Ended>, usize) {
     let mut source = Source::new(FIRST_PATH);
     let mut sink = Sink::new(alloc);
     sink.at_once = 0;
     let ended = served_new(alloc, &mut source, &mut sink);
-    (ended, sink.taken.len())
+    (ended, sink.calls)
 }
 
-/// The command whose reply can't be written stands.
+/// The command whose reply can't be written stands, and the writer isn't asked again.
 #[test]
 fn a_writer_that_takes_nothing(rt: HostRuntime) {
-    let (ended, taken) = ended_idle(rt.alloc());
-    assert_eq!(rt; taken, 0);
+    let (ended, calls) = ended_idle(rt.alloc());
+    assert_eq!(rt; calls, 1);
     let stands = Ended {
         end: Err(ServeFault::Write),
         entries: Some(0),

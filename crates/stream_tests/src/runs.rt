@@ -1,8 +1,10 @@
 //! The program's statuses over streams that fail, and where its connection or its memory is refused.
 use crate::streams::{Sink, Source};
-use rollback_run::{Mode, ModeRefusal, mode_of, refuse, run};
+use rollback_run::{Fault, Mode, ModeRefusal, finish, mode_of, refuse, run, unread_words};
 use sqlite::{Connection, Error, ErrorCode};
 use std::alloc::Global;
+use std::io;
+use std::io::ErrorKind;
 use std::test::Fail;
 use stopping_files::{NEVER, Stopping, connected, files};
 
@@ -41,7 +43,7 @@ fn connection(alloc: Global, refused: Option<ErrorCode>) -> Result<Connection<St
     }
 }
 
-/// Runs with no promise.
+/// Runs and closes with no promise.
 fn ran(
     alloc: Global,
     way: Way,
@@ -51,7 +53,17 @@ fn ran(
     faults: &mut Sink,
 ) -> u8 {
     let connection = connection(alloc, refused);
-    run(alloc, mode_by(alloc, way), connection, source, sink, faults)
+    let mode = mode_by(alloc, way);
+    let (outcome, left) = run(alloc, &mode, connection, source, sink);
+    drop(mode);
+    finish(outcome, closed(left), faults)
+}
+
+fn closed(left: Option<Connection<Stopping>>) -> Result<(), Error> {
+    match left {
+        Some(connection) => connection.close(),
+        None => Ok(()),
+    }
 }
 
 /// Whether a run has this status, and tells this.
@@ -105,6 +117,24 @@ fn a_refused_connection_is_told(rt: HostRuntime) {
     }
 }
 
+/// Whether a file that can't be closed is told so, and an earlier fault in its place.
+fn tells_of_closing(alloc: Global, code: ErrorCode, want: (u8, &[u8])) -> bool {
+    let refused = Err(Error::SqliteFailure(code));
+    let mut faults = Sink::new(alloc);
+    let mut earlier = Sink::new(alloc);
+    finish(Ok(()), refused, &mut faults) == want.0
+        && faults.is(want.1)
+        && finish(Err(Fault::Output), refused, &mut earlier) == 4
+        && earlier.is(OUTPUT)
+}
+
+#[test]
+fn a_refused_closing_is_told(rt: HostRuntime) {
+    for &(code, want) in REFUSED {
+        assert!(rt; tells_of_closing(rt.alloc(), code, want));
+    }
+}
+
 #[test]
 fn a_failing_input_is_told(rt: HostRuntime) {
     let mut source = Source::new(b"");
@@ -140,6 +170,31 @@ fn a_failing_output_is_told(rt: HostRuntime) {
                 "{way:?}, closed: {is_closed}"
             );
         }
+    }
+}
+
+const CHECKED: &[u8] = b"ok 0 0\n";
+
+/// Whether a check writes its answer as far as there is room, flushes it where it is whole, and tells where it isn't.
+fn checks_within(alloc: Global, room: usize) -> bool {
+    let mut source = Source::new(b"items\n");
+    let mut sink = Sink::new(alloc);
+    sink.room = room;
+    sink.at_once = 1;
+    let want: (u8, &[u8]) = if room < CHECKED.len() {
+        (4, OUTPUT)
+    } else {
+        (0, b"")
+    };
+    tells(alloc, Way::Check, None, &mut source, &mut sink, want)
+        && sink.is(&CHECKED[..room.min(CHECKED.len())])
+        && (want.0 == 4 || sink.is_flushed())
+}
+
+#[test]
+fn a_check_writes_a_beginning_of_its_answer(rt: HostRuntime) {
+    for room in 0..CHECKED.len() + 2 {
+        assert!(rt; checks_within(rt.alloc(), room), "at {room}");
     }
 }
 
@@ -192,6 +247,47 @@ fn help(alloc: Global) -> Option<ModeRefusal> {
     words.push(String::from_str(alloc, "rollback").ok()?).ok()?;
     words.push(String::from_str(alloc, "--help").ok()?).ok()?;
     mode_of(alloc, words.as_slice()).err()
+}
+
+/// Whether help is shown and flushed.
+fn shows_help(alloc: Global) -> bool {
+    match help(alloc) {
+        Some(refusal) => {
+            let mut sink = Sink::new(alloc);
+            let mut faults = Sink::new(alloc);
+            refused(refusal, &mut sink, &mut faults) == 0
+                && faults.is(b"")
+                && sink.lines() > 0
+                && sink.is_flushed()
+        }
+        None => false,
+    }
+}
+
+#[test]
+fn help_is_flushed(rt: HostRuntime) {
+    assert!(rt; shows_help(rt.alloc()));
+}
+
+/// The status and the words for words of the command line that can't be had for this reason.
+fn unread(alloc: Global, kind: ErrorKind, want: (u8, &[u8])) -> bool {
+    let mut sink = Sink::new(alloc);
+    let mut faults = Sink::new(alloc);
+    let refusal = unread_words(&io::Error::from(kind));
+    refused(refusal, &mut sink, &mut faults) == want.0 && sink.is(b"") && faults.is(want.1)
+}
+
+#[test]
+fn words_that_cannot_be_had_are_told(rt: HostRuntime) {
+    let usage = b"usage: rollback [--journal FILE | --check FILE]\n".as_slice();
+    assert!(rt; unread(rt.alloc(), ErrorKind::InvalidData, (2, usage)));
+    assert!(rt;
+        unread(
+            rt.alloc(),
+            ErrorKind::OutOfMemory,
+            (4, b"rollback: memory\n")
+        )
+    );
 }
 
 fn fails_to_show(alloc: Global, is_closed: bool) -> bool {

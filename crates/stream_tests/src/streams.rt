@@ -44,11 +44,12 @@ impl Read for Source<'_> {
     }
 }
 
-/// A writer that keeps what it takes. It takes at most so many bytes a call, is interrupted before each call where `interrupts` says so, fails
+/// A writer that keeps what it takes, and counts the calls. It takes at most so many bytes a call, is interrupted before each call where `interrupts` says so, fails
 /// once it has taken as many bytes as it has room for, and fails at its flush of the number `failing`, from 1.
 #[derive(Drop)]
 pub(crate) struct Sink {
     pub(crate) taken: Vec<u8>,
+    pub(crate) calls: usize,
     pub(crate) flushed: usize,
     pub(crate) flushes: usize,
     pub(crate) room: usize,
@@ -62,6 +63,7 @@ impl Sink {
     pub(crate) fn new(alloc: Global) -> Sink {
         Sink {
             taken: Vec::new(alloc),
+            calls: 0,
             flushed: 0,
             flushes: 0,
             room: usize::MAX,
@@ -83,6 +85,11 @@ impl Sink {
         self.taken.as_slice() == text
     }
 
+    /// Whether all that was taken is flushed.
+    pub(crate) fn is_flushed(&self) -> bool {
+        self.flushed == self.taken.len()
+    }
+
     /// How many lines were taken whole.
     pub(crate) fn lines(&self) -> usize {
         line_count(self.taken.as_slice())
@@ -101,6 +108,7 @@ pub(crate) fn line_count(text: &[u8]) -> usize {
 
 impl Write for Sink {
     fn write(&mut self, buf: &[u8]) -> io::Result<usize> {
+        self.calls = self.calls.saturating_add(1);
         if self.interrupts && !self.is_next {
             self.is_next = true;
             return Err(io::Error::from(ErrorKind::Interrupted));

@@ -1,7 +1,7 @@
 use Rattle.std.proofs.Common.{◌≡◌, ◌∙◌, sym, subst, Some, IfOk}
 use Rattle.command_lines.specs.Grammar.{spoken}
 use Rattle.command_lines.proofs.Keywords.{by_keyword}
-use Rattle.command_lines.proofs.command.read_text.Goals as goal
+use Rattle.command_lines.proofs.command.read_spelled.Goals as goal
 
 pub returns-in-Some-clause-ok : goal.returns-in-Some-clause-ok
 returns-in-Some-clause-ok c =
