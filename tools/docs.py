@@ -1,9 +1,9 @@
 #!/usr/bin/env python3
 """Looks whether what the documents name is there, and whether the program answers what they show.
 
-    sh tools/docs.sh [--program PATH]
+    sh tools/docs.sh [--names | --replies] [--program PATH]
 
-The documents are README.md and CONTRIBUTING.md at the top, docs/*.md, rows/README.md and crates/*/README.md. In each
+The documents are README.md and CONTRIBUTING.md at the top, docs/*.md, rows/README.md, crates/*/README.md and clients/*/README.md. In each
 
 - a file that is named, from the top on, has to be there. `*` stands for any name, and so do NAME and CRATE. What a build leaves in
   `out/` is passed over. A text file that is named without its folder stands at the top, in rows/, rows/values/ or examples/;
@@ -17,7 +17,7 @@ The documents are README.md and CONTRIBUTING.md at the top, docs/*.md, rows/READ
   and the program answers what stands under them. `...` stands for the rest of a reply, and in a line for any text. This is asked of
   those that show sessions (SESSIONS), and needs the program; where it isn't built, it is told so and passed over.
 
-Each failure is printed. The last line is `N passed, M failed`, of names, sentences and replies. The status is 1 where one failed.
+--names looks at all but the replies, and --replies at these alone. Each failure is printed. The last line is `N passed, M failed`, of names, sentences and replies. The status is 1 where one failed.
 """
 import argparse
 import pathlib
@@ -39,7 +39,7 @@ SHORT = (
     "docs/USER_GUIDE.md",
 )
 SESSIONS = ("README.md", "docs/USER_GUIDE.md")
-LISTS = ("items", "history", "plan", "rollback", "drive")
+LISTS = ("items", "history", "plan", "rollback", "drive", "work")
 FILE = re.compile(r"(?<![\w/.-])(?:\.\./)*((?:docs|crates|rows|tools|examples)/[\w./*-]+|[A-Z_]+\.md|[a-z_-]+\.txt)")
 SPAN = re.compile(r"`([^`]+)`")
 FOREIGN = ("Connection",)  # types of the kit's libraries
@@ -60,7 +60,7 @@ class Report:
 
 
 def documents():
-    for pattern in ("README.md", "CONTRIBUTING.md", "docs/*.md", "rows/README.md", "crates/*/README.md"):
+    for pattern in ("README.md", "CONTRIBUTING.md", "docs/*.md", "rows/README.md", "crates/*/README.md", "clients/*/README.md"):
         yield from sorted(TOP.glob(pattern))
 
 
@@ -247,22 +247,30 @@ def look_at_sessions(report, document, text, program):
         served[example][2] = at
 
 
+def look_at_texts(report, document, folder, text, code):
+    look_at_files(report, document, folder, text)
+    look_at_names(report, document, text, code)
+    if document == "docs/REFERENCE.md":
+        look_at_fields(report, document, text)
+    if document in SHORT:
+        look_at_sentences(report, document, text)
+
+
 def main():
     parser = argparse.ArgumentParser()
     parser.add_argument("--program", type=pathlib.Path, default=PROGRAM)
+    parts = parser.add_mutually_exclusive_group()
+    parts.add_argument("--names", action="store_true")
+    parts.add_argument("--replies", action="store_true")
     words = parser.parse_args()
     report, code = Report(), Code()
-    has_program = words.program.exists()
-    if not has_program:
+    has_program = not words.names and words.program.exists()
+    if not words.names and not has_program:
         print(f"docs: no program at {words.program}, so no reply is looked at")
     for path in documents():
         document, text = str(path.relative_to(TOP)), path.read_text()
-        look_at_files(report, document, path.parent, text)
-        look_at_names(report, document, text, code)
-        if document == "docs/REFERENCE.md":
-            look_at_fields(report, document, text)
-        if document in SHORT:
-            look_at_sentences(report, document, text)
+        if not words.replies:
+            look_at_texts(report, document, path.parent, text, code)
         if has_program and document in SESSIONS:
             look_at_sessions(report, document, text, words.program.resolve())
     print(f"{report.passed} passed, {report.failed} failed")

@@ -39,7 +39,7 @@ import time
 HERE = os.path.dirname(os.path.abspath(__file__))
 PROGRAM = os.path.join(HERE, "..", "crates", "rollback_program", "out", "rollback_program")
 RESOURCE = "arn:aws:states:::dynamodb:"
-LISTS = ("items", "history", "plan", "rollback", "drive")
+LISTS = ("items", "history", "plan", "rollback", "drive", "work")
 CHANGES = ("table", "define", "start", "step", "undo", "rollback")
 
 
@@ -360,6 +360,9 @@ class Checked:
             plan = [before[place] for place in dependence.plan(before.index(step))]
         reply = self.live.ask([line])[0]
         self.lines.append(line)
+        if word == "work" and reply[0].startswith("ok "):
+            # Another process might take other steps: these are the ones that were taken.
+            self.lines[-1:] = ["step " + name.rsplit("#", 1)[0] for name in reply[1:]]
         if not reply or reply[0].startswith("no "):
             if plan is not None:
                 raise Difference(f"{line}: {reply[0]}, though the step remains")
@@ -382,7 +385,7 @@ class Checked:
 
     def keep(self, word, line, reply):
         """Notes what an accepted line has changed."""
-        if word in CHANGES or word == "drive":
+        if word in CHANGES or word in ("drive", "work"):
             self.dependence = None
         if word in CHANGES:
             self.entries += 1
@@ -402,11 +405,16 @@ class Checked:
                 self.shown[thread] = self.live.ask(["show " + thread])[0][0]
             else:
                 self.look()
-        elif word == "drive":
+        elif word in ("drive", "work"):
+            if len(reply) - 1 > int(line.rsplit(" ", 1)[1]):
+                raise Difference(f"{line}: it took {len(reply) - 1} steps")
             self.entries += len(reply) - 1
             for name in reply[1:]:
                 self.kinds.pop(name, None)
+            before = list(self.history)
             self.look()
+            if self.history != before + reply[1:]:
+                raise Difference(f"{line}: it told {reply[1:]}, and {before} came to {self.history}")
 
     def look(self):
         """Reads the history, and each thread that is there, by going down the forks."""
@@ -606,8 +614,10 @@ class Drawer:
         kind = chance.random()
         if kind < 0.62 and ready:
             return "step " + chance.choice(ready)
-        if kind < 0.68:
+        if kind < 0.66:
             return f"drive {chance.choice((1, 2, 3, 5, 8))}"
+        if kind < 0.69:
+            return f"work {chance.choice((1, 2, 3, 8))} {chance.choice((1, 2, 5, 8))}"
         if kind < 0.82:
             threads = {name.rsplit("#", 1)[0]: name for name in session.history}
             name = chance.choice(list(threads.values())) if chance.random() < 0.6 else chance.choice(session.history)
@@ -638,7 +648,7 @@ class Drawer:
             f"undo {step}", f"undo {taken}/{number}.0#1", f"plan {taken}#{number + 7}", "rollback nobody#0", f"rollback {taken}#4294967296", "start e0 m0 {}", "start e1 m1 []", "start e9 nothing {}",
             "start e9 m0", "start e9 m0 {", 'start e9 m0 {"n":1.5}', "start e9/1.0 m0 {}", "start e+ m0 {}", "define m0 {}", "define x {}", "define x [", 'define x {"StartAt":"A","States":{}}',
             'define x {"StartAt":"A","States":{"A":{"Type":"Pass","Next":"B"}}}', "define x 7", f"table {self.form.name} id:S []", "table items id:B []", "table t id:S", "drive 0", "drive 65537", "drive -1", "drive",
-            "items all", "history 3", "Items", "undo e0#1 e0#2", "step e0\udcff", "work 1 2", "hold e0#1", f"rollback {step} ", f"show {step}"))
+            "items all", "history 3", "Items", "undo e0#1 e0#2", "step e0\udcff", "work 0 1", "work 9 1", "work 1 65537", "work 1", "hold e0#1", f"rollback {step} ", f"show {step}"))
 
 
 def can_move(thread, shown):
