@@ -1,0 +1,56 @@
+"""The two examples, over a server: one drives, one repairs."""
+import os
+import subprocess
+import sys
+import unittest
+
+from rollback_client import Book, Failed, Ready
+from tests.program import PASS, PROGRAM, TOP, InFolder, Server
+
+GET_OR_FAIL = {
+    "StartAt": "Check",
+    "States": {
+        "Check": {"Type": "Choice", "Choices": [{"Variable": "$.paid", "BooleanEquals": False, "Next": "Stop"}], "Default": "End"},
+        "Stop": {"Type": "Fail", "Error": "Unpaid"},
+        "End": {"Type": "Succeed"},
+    },
+}
+
+
+class Examples(InFolder):
+    def setUp(self):
+        super().setUp()
+        self.server = Server(self.room)
+
+        def end():
+            if self.server.process.poll() is None:
+                self.server.process.kill()
+            self.server.process.communicate()
+
+        self.addCleanup(end)
+
+    def example(self, name, *words, text=""):
+        command = [sys.executable, str(TOP / "examples/python" / name), self.server.address, *words]
+        done = subprocess.run(command, input=text, stdout=subprocess.PIPE, text=True, timeout=60, check=True, env={**os.environ, "PYTHONPATH": str(TOP / "clients/python")})
+        return done.stdout.splitlines()
+
+    def test_drive_and_repair(self):
+        with Book.connect(self.server.address) as book:
+            book.table("items", {"id": "S"})
+            book.define("order", GET_OR_FAIL)
+            book.define("p", PASS)
+            book.start("good", "order", {"paid": True})
+            book.start("bad", "order", {"paid": False})
+            book.start("other", "p", {})
+            told = self.example("drive.py", "--rounds", "2", "--pause", "0.01")
+            self.assertEqual(len(told), 1)
+            self.assertTrue(told[0].startswith("5 steps"))
+            self.assertEqual(book.show("bad"), Failed("Unpaid", ""))
+            self.assertEqual(self.example("repair.py", "Nothing"), ["no execution has failed with Nothing"])
+            self.assertEqual(self.example("repair.py", "Unpaid", "--back", "1", text="n\n"), ["bad: bad#2, bad#1", "take back? [y/N] "])
+            self.assertEqual(self.example("repair.py", "Unpaid", "--back", "1", text="y\n"), ["bad: bad#2, bad#1", "take back? [y/N] bad: 2 steps taken back"])
+            self.assertEqual(book.show("bad"), Ready("Check", 0))
+
+
+if __name__ == "__main__":
+    unittest.main()
