@@ -130,16 +130,16 @@ begun_frames true rows o f path q e h k = rw (e, k refl) (h q ∙ by q)
     by (b ∷ p) = refl
 
 pub begin : (w v : World) (name : StepName) (bound : ℕ) (f : Frame) (rows : Rows) → v.items ≡ w.items → Stands w name (change.Begin f)
-    → ((e : List ℕ) → tree_in v.executions e ≡ cond (bytes_eq name.thread.exec e) (Some rows) (tree_in w.executions e))
+    → ((e : List ℕ) → tree_in v.executions.trees e ≡ cond (bytes_eq name.thread.exec e) (Some rows) (tree_in w.executions.trees e))
     → ((q : Path) → frame_at rows q ≡ alone f q)
     → IsApplied w (record { name = name; bound = bound; change = change.Begin f }) v (record { fact = plain_fact name bound kind.Start; saved = Started })
 begin w v name bound f rows items stands trees tree =
     let a = name.thread in
-    let none : tree_in w.executions a.exec ≡ None = ap placed stands.0 in
+    let none : tree_in w.executions.trees a.exec ≡ None = ap placed stands.0 in
     let now : (t : Thread) → frames_of v t ≡ with_thread (frames_of w) a f t =
     λ t. ap (λ (o : Option Rows). rows_at o t.path) (trees t.exec)
-    ∙ begun_frames (bytes_eq a.exec t.exec) (Some rows) (tree_in w.executions t.exec) f a.path t.path stands.1 tree
-    (λ e. ap (λ (x : List ℕ). tree_in w.executions x) (sym ((bytes_eq-Decides a.exec t.exec).0 e)) ∙ none)
+    ∙ begun_frames (bytes_eq a.exec t.exec) (Some rows) (tree_in w.executions.trees t.exec) f a.path t.path stands.1 tree
+    (λ e. ap (λ (x : List ℕ). tree_in w.executions.trees x) (sym ((bytes_eq-Decides a.exec t.exec).0 e)) ∙ none)
     ∙ ap (λ (s : Bool). cond s (Some f) (frames_of w t)) (sym (same_by_parts a t)) in
     applied w v (record { name = name; bound = bound; change = change.Begin f }) (record { fact = plain_fact name bound kind.Start; saved = Started }) refl
     (λ d x. subst (λ (e : Deed). seen v ≡ carried_out (seen w) e) (deed_is d (plain_fact name bound kind.Start) f x.fact x.change)

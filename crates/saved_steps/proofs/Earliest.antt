@@ -1,12 +1,14 @@
 -- The executions gone through in the order of their names.
-use Rattle.std.proofs.Common.{◌≡◌, ℕ, arith, Bool, true, false, ◌&&◌, not, Ordering, Less, Equal, Greater, is_eq, List, [], ◌∷◌, ◌++◌, refl, ap, sym, subst, ◌∙◌, Option, None, Some, Global, inl, inr}
-use Rattle.std.specs.Prelude.{◌⊎◌, IsTrue, IfOk, Result}
+use Rattle.std.proofs.Common.{◌≡◌, ℕ, arith, Bool, true, false, ◌&&◌, not, cond, Ordering, Less, Equal, Greater, is_eq, List, [], ◌∷◌, ◌++◌, refl, ap, sym, subst, ◌∙◌, Option, None, Some, Global, inl, inr}
+use Rattle.std.specs.Prelude.{◌⊎◌, IsTrue, IfOk, Result, filter}
+use Rattle.std.specs.Ordering.{is_le, ordering_reverse}
 use Rattle.std.specs.BTreeMap.{BTreeMap, is_at, get_by_text}
 use Rattle.std.specs.Cmp.Lexicographic.{slice_cmp}
 use Rattle.std.specs.List.{AllByRecursion}
 use Rattle.std.specs.List.Sorted.{IsStrictlySortedBy}
 use Rattle.std.specs.Map.{lookup, keys_of}
 use Rattle.std.specs.Ordering.{nat_cmp}
+use Rattle.std.specs.Str.{bytes_eq}
 use Rattle.std.specs.String.{string_bytes, string_cmp}
 use Rattle.std.specs.declared.string.String.{String}
 use Rattle.std.proofs.lemmas.Cmp.{nat_list_cmp_total}
@@ -25,7 +27,7 @@ use Rattle.branch_tree.specs.Ready.{readiness_of, readiness_at, begins_under}
 use Rattle.branch_tree.specs.Tree.{Rows, frame_at}
 use Rattle.step_names.specs.Order.{thread_cmp}
 use Rattle.step_names.specs.Thread.{Thread, IsThread, execution, is_name}
-use Rattle.saved_steps.specs.First.{free, IsFirstReady}
+use Rattle.saved_steps.specs.First.{free, AreQuiet, IsFirstReady}
 use Rattle.saved_steps.specs.Held.{placed, tree_in, rows_at, frames_in}
 
 by_bool : (b : Bool) (P : Type 0) → (b ≡ true → P) → (b ≡ false → P) → P
@@ -92,6 +94,67 @@ all_after exec k (y ∷ ks) h all = (by (slice_cmp nat_cmp exec (string_bytes k)
 same_exec : (a b : List ℕ) → is_eq (slice_cmp nat_cmp a b) ≡ true → a ≡ b
 same_exec a b h = (bytes_eq-Decides a b).0 (sym (is_eq-slice_cmp a b) ∙ h)
 
+-- ---- those from a name on
+
+-- whether a name is not before another
+abbrev is_from : List ℕ → List ℕ → Bool
+is_from q exec = is_le (slice_cmp nat_cmp q exec)
+
+abbrev from : List ℕ → Entries → Entries
+from q es = filter (λ e. is_from q (string_bytes e.0) && true) es
+
+abbrev NoneIs : (A : Type 0) → Option A → Type 0
+NoneIs A o = o ≡ None
+
+cond_none : {A : Type 0} (b : Bool) → NoneIs A (cond b None None)
+cond_none true = refl
+cond_none false = refl
+
+-- of these the place of an execution is among them where its name is not before that one
+among_from : (q exec : List ℕ) (es : Entries) → among (from q es) exec ≡ cond (is_from q exec) (among es exec) None
+among_from q exec [] = sym (cond_none (is_from q exec))
+among_from q exec ((k, v) ∷ es) = by (among_from q exec es) (is_eq (slice_cmp nat_cmp exec (string_bytes k))) refl (is_from q (string_bytes k)) refl
+  where
+    by : among (from q es) exec ≡ cond (is_from q exec) (among es exec) None
+        → (b : Bool) → is_eq (slice_cmp nat_cmp exec (string_bytes k)) ≡ b → (c : Bool) → is_from q (string_bytes k) ≡ c
+        → among (from q ((k, v) ∷ es)) exec ≡ cond (is_from q exec) (among ((k, v) ∷ es) exec) None
+    by rest true e true l =
+        let le : is_from q exec ≡ true = ap (is_from q) (same_exec exec (string_bytes k) e) ∙ l in
+        rw (l, e, le) refl
+    by rest true e false l =
+        let le : is_from q exec ≡ false = ap (is_from q) (same_exec exec (string_bytes k) e) ∙ l in
+        let none : among (from q es) exec ≡ None = rest ∙ ap (λ (b : Bool). cond b (among es exec) None) le in
+        rw (l, le) none
+    by rest false e true l = rw (l, e) rest
+    by rest false e false l = rw (l, e) rest
+
+all_from : (P : String Global → Type 0) (q : List ℕ) (es : Entries) → AllByRecursion P (keys_of es) → AllByRecursion P (keys_of (from q es))
+all_from P q [] h = tt
+all_from P q ((k, v) ∷ es) h = by (all_from P q es h.1) (is_from q (string_bytes k)) refl
+  where
+    by : AllByRecursion P (keys_of (from q es)) → (b : Bool) → is_from q (string_bytes k) ≡ b → AllByRecursion P (keys_of (from q ((k, v) ∷ es)))
+    by rest true e = rw e (h.0, rest)
+    by rest false e = rw e rest
+
+sorted_cons : (q : List ℕ) (k : String Global) (v : Option Rows) (es : Entries) → AllByRecursion (λ y. string_cmp k y ≡ Less) (keys_of (from q es)) → IsStrictlySortedBy string_cmp (keys_of (from q es))
+    → (b : Bool) → is_from q (string_bytes k) ≡ b → IsStrictlySortedBy string_cmp (keys_of (from q ((k, v) ∷ es)))
+unfolding IsStrictlySortedBy
+sorted_cons q k v es first rest true e = rw e (first, rest)
+sorted_cons q k v es first rest false e = rw e rest
+
+ordered_from : (q : List ℕ) (es : Entries) → IsStrictlySortedBy string_cmp (keys_of es) → IsStrictlySortedBy string_cmp (keys_of (from q es))
+unfolding IsStrictlySortedBy
+ordered_from q [] h = tt
+ordered_from q ((k, v) ∷ es) h = sorted_cons q k v es (all_from (λ y. string_cmp k y ≡ Less) q es h.0) (ordered_from q es h.1) (is_from q (string_bytes k)) refl
+
+not_less : (a b : List ℕ) → (slice_cmp nat_cmp a b ≡ Less → ⊥) → is_from b a ≡ true
+not_less a b h = by (slice_cmp nat_cmp a b) refl
+  where
+    by : (o : Ordering) → slice_cmp nat_cmp a b ≡ o → is_from b a ≡ true
+    by Less e = absurd (h e)
+    by Equal e = ap is_le (nat_list_cmp_total.antisymm b a ∙ ap ordering_reverse e)
+    by Greater e = ap is_le (nat_list_cmp_total.antisymm b a ∙ ap ordering_reverse e)
+
 module _ (m : BTreeMap (String Global) (Option Rows)) (passed : Thread → Bool) where
   -- no thread of an execution that is not among those left is free
   pub record IsGone (rest : Entries) : Type 0 where
@@ -99,11 +162,28 @@ module _ (m : BTreeMap (String Global) (Option Rows)) (passed : Thread → Bool)
     pub held : (exec : List ℕ) (place : Option Rows) → among rest exec ≡ Some place → get_by_text m exec ≡ Some place
     pub gone : (t : Thread) → IsThread t → among rest t.exec ≡ None → free (frames_in m) passed t ≡ false
 
-  pub none_gone : (es : Entries) → es ≡ m.entries → IsStrictlySortedBy string_cmp (keys_of m.entries) → IsGone es
-  none_gone es e ordered = subst IsGone (sym e) (record { ordered = ordered; held = λ exec place h. h; gone = λ t named h. rw h refl })
+  -- those before a name that is quiet
+  pub gone_before : (q : List ℕ) (es : Entries) → es ≡ from q m.entries → IsStrictlySortedBy string_cmp (keys_of m.entries) → AreQuiet m q → IsGone es
+  gone_before q es e ordered quiet = subst IsGone (sym e) (record {
+    ordered = ordered_from q m.entries ordered;
+    held = λ exec place h. there exec place (is_from q exec) refl (sym (among_from q exec m.entries) ∙ h);
+    gone = λ t named h. by t named (slice_cmp nat_cmp t.exec q) refl (sym (among_from q t.exec m.entries) ∙ h);
+  })
+    where
+      there : (exec : List ℕ) (place : Option Rows) (b : Bool) → is_from q exec ≡ b → cond (is_from q exec) (among m.entries exec) None ≡ Some place → get_by_text m exec ≡ Some place
+      there exec place true l h = rw l at h
+      there exec place false l h = let clash : None ≡ Some place = rw l at h in cc
+
+      at : (t : Thread) → is_from q t.exec ≡ true → cond (is_from q t.exec) (among m.entries t.exec) None ≡ None → free (frames_in m) passed t ≡ false
+      at t l h = let none : get_by_text m t.exec ≡ None = rw l at h in rw none refl
+
+      by : (t : Thread) → IsThread t → (o : Ordering) → slice_cmp nat_cmp t.exec q ≡ o → cond (is_from q t.exec) (among m.entries t.exec) None ≡ None → free (frames_in m) passed t ≡ false
+      by t named Less e h = quiet passed t named e
+      by t named Equal e h = at t (not_less t.exec q (λ l. let clash = sym l ∙ e in cc)) h
+      by t named Greater e h = at t (not_less t.exec q (λ l. let clash = sym l ∙ e in cc)) h
 
   module _ (k : String Global) (v : Option Rows) (rest : Entries) (i : IsGone ((k, v) ∷ rest)) where
-    after_it : AllByRecursion (λ y. string_cmp k y ≡ Less) (keys_of rest) × IsStrictlySortedBy string_cmp (keys_of rest)
+    pub after_it : AllByRecursion (λ y. string_cmp k y ≡ Less) (keys_of rest) × IsStrictlySortedBy string_cmp (keys_of rest)
     unfolding IsStrictlySortedBy
     after_it = i.ordered
 
@@ -171,3 +251,69 @@ module _ (m : BTreeMap (String Global) (Option Rows)) (passed : Thread → Bool)
 
   pub all_gone : IsGone [] → IsFirstReady (frames_in m) passed None
   all_gone i t named = i.gone t named refl
+
+-- ---- up to which name none has a move
+
+less_not_greater : Less ≡ Greater → ⊥
+less_not_greater e = cc
+
+-- a thread that is not free where none is passed by has no move
+still : (m : BTreeMap (String Global) (Option Rows)) (passed : Thread → Bool) (t : Thread) → free (frames_in m) (λ u. false) t ≡ false → free (frames_in m) passed t ≡ false
+still m passed t h = by (has_move (readiness_at (λ p. frames_in m (record { exec = t.exec; path = p })) t.path)) h
+  where
+    by : (b : Bool) → (b && true) ≡ false → (b && not (passed t)) ≡ false
+    by true e = cc
+    by false e = refl
+
+pub quiet_up_to : (m : BTreeMap (String Global) (Option Rows)) (k : String Global) (v : Option Rows) (rest : Entries) → IsGone m (λ u. false) ((k, v) ∷ rest) → AreQuiet m (string_bytes k)
+quiet_up_to m k v rest gone passed t named less = still m passed t (gone.gone t named (before gone))
+  where
+    before : IsGone m (λ u. false) ((k, v) ∷ rest) → among ((k, v) ∷ rest) t.exec ≡ None
+    before i =
+        let after = after_it m (λ u. false) k v rest i in
+        let clash : slice_cmp nat_cmp t.exec (string_bytes k) ≡ Greater → ⊥ = λ g. less_not_greater (sym less ∙ g) in
+        rw less (after_all t.exec rest (all_after t.exec k (keys_of rest) clash after.0))
+
+pub quiet_all : (m : BTreeMap (String Global) (Option Rows)) → IsGone m (λ u. false) [] → (name : List ℕ) → AreQuiet m name
+quiet_all m gone name passed t named less = still m passed t (gone.gone t named refl)
+
+-- what is quiet before a name stays so, but for what has changed
+pub kept_quiet : (m n : BTreeMap (String Global) (Option Rows)) (was is : List ℕ) → AreQuiet m was
+    → ((e : List ℕ) → slice_cmp nat_cmp e is ≡ Less → (slice_cmp nat_cmp e was ≡ Less) × (tree_in n e ≡ tree_in m e)) → AreQuiet n is
+kept_quiet m n was is quiet h passed t named less =
+    let same = h t.exec less in
+    ap (λ (o : Option Rows). has_move (readiness_at (rows_at o) t.path) && not (passed t)) same.1 ∙ quiet passed t named same.0
+
+pub nothing_before : (e : List ℕ) → slice_cmp nat_cmp e [] ≡ Less → ⊥
+nothing_before [] h = cc
+nothing_before (x ∷ xs) h = cc
+
+apart : (exec e : List ℕ) → slice_cmp nat_cmp e exec ≡ Less → bytes_eq exec e ≡ false
+apart exec e less = by (bytes_eq exec e) refl
+  where
+    by : (b : Bool) → bytes_eq exec e ≡ b → b ≡ false
+    by true h =
+        let same : e ≡ exec = sym ((bytes_eq-Decides exec e).0 h) in
+        let equal : is_eq (slice_cmp nat_cmp e exec) ≡ true = is_eq-slice_cmp e exec ∙ (bytes_eq-Decides e exec).1 same in
+        let clash : is_eq Less ≡ true = subst (λ (o : Ordering). is_eq o ≡ true) less equal in
+        cc
+    by false h = refl
+
+-- the name of what changed is not before it
+pub lowered : (exec was is : List ℕ) → slice_cmp nat_cmp exec was ≡ Less → (is ≡ exec) ⊎ (is ≡ []) → (e : List ℕ) → slice_cmp nat_cmp e is ≡ Less
+    → (slice_cmp nat_cmp e was ≡ Less) × (bytes_eq exec e ≡ false)
+lowered exec was is before (inl same) e less =
+    let at : slice_cmp nat_cmp e exec ≡ Less = subst (λ (x : List ℕ). slice_cmp nat_cmp e x ≡ Less) same less in
+    (nat_list_cmp_total.trans e exec was at before, apart exec e at)
+lowered exec was is before (inr none) e less = absurd (nothing_before e (subst (λ (x : List ℕ). slice_cmp nat_cmp e x ≡ Less) none less))
+
+pub raised : (exec was : List ℕ) → (slice_cmp nat_cmp exec was ≡ Less → ⊥) → (e : List ℕ) → slice_cmp nat_cmp e was ≡ Less → (slice_cmp nat_cmp e was ≡ Less) × (bytes_eq exec e ≡ false)
+raised exec was not_before e less = (less, by (bytes_eq exec e) refl)
+  where
+    by : (b : Bool) → bytes_eq exec e ≡ b → b ≡ false
+    by true h = absurd (not_before (subst (λ (x : List ℕ). slice_cmp nat_cmp x was ≡ Less) (sym ((bytes_eq-Decides exec e).0 h)) less))
+    by false h = refl
+
+pub rewritten : (m : BTreeMap (String Global) (Option Rows)) (name is : List ℕ) → AreQuiet m name → (is ≡ name) ⊎ (is ≡ []) → AreQuiet m is
+rewritten m name is quiet (inl same) = subst (AreQuiet m) (sym same) quiet
+rewritten m name is quiet (inr none) = λ passed t named less. absurd (nothing_before t.exec (subst (λ (x : List ℕ). slice_cmp nat_cmp t.exec x ≡ Less) none less))

@@ -43,7 +43,7 @@ none_where (Some x) h = cc
 
 -- ---- a start, a join, a terminate
 
-pub begin : (w v : World) (name : StepName) (f : Frame) → get_by_text v.executions name.thread.exec ≡ Some None → Suits w name (next.Begin f) → IsMadeOf w v name (next.Begin f) (record { name = name; bound = 0; change = change.Begin f })
+pub begin : (w v : World) (name : StepName) (f : Frame) → get_by_text v.executions.trees name.thread.exec ≡ Some None → Suits w name (next.Begin f) → IsMadeOf w v name (next.Begin f) (record { name = name; bound = 0; change = change.Begin f })
 begin w v name f place s = record { named = refl; ready = (place, s.1, s.2); deed = deed_of kind.Start name f; is = refl; made = record { fact = refl; change = refl } }
 
 pub join : (w : World) (name copy : StepName) (n : Next) (f : Frame) → copy ≡ name → n ≡ next.Join f → Suits w name n → IsMadeOf w w name n (record { name = copy; bound = 0; change = change.Join f })

@@ -95,7 +95,7 @@ removed true o path (b ∷ r) e h = rw e (sym (h refl b r))
 
 pub start : (w v : World) (s : Fact) → v.items ≡ w.items → CanUndo w (record { fact = s; saved = Started })
     → IsTree (paths_of (frames_of w) s.name.thread.exec)
-    → ((e : List ℕ) → tree_in v.executions e ≡ cond (bytes_eq s.name.thread.exec e) None (tree_in w.executions e))
+    → ((e : List ℕ) → tree_in v.executions.trees e ≡ cond (bytes_eq s.name.thread.exec e) None (tree_in w.executions.trees e))
     → IsUndone w (record { fact = s; saved = Started }) v
 start w v s items can tree trees =
     let a = s.name.thread in
@@ -105,8 +105,8 @@ start w v s items can tree trees =
     record {
       world = same_world (seen v) (undo (seen w) s (kept_by (record { fact = s; saved = Started })))
           (λ t. ap (λ (o : Option Rows). rows_at o t.path) (trees t.exec)
-          ∙ removed (bytes_eq a.exec t.exec) (tree_in w.executions t.exec) a.path t.path can.record_fits.2
-          (λ e b r. ap (λ (x : List ℕ). rows_at (tree_in w.executions x) (b ∷ r)) (sym ((bytes_eq-Decides a.exec t.exec).0 e)) ∙ nothing b r)
+          ∙ removed (bytes_eq a.exec t.exec) (tree_in w.executions.trees t.exec) a.path t.path can.record_fits.2
+          (λ e b r. ap (λ (x : List ℕ). rows_at (tree_in w.executions.trees x) (b ∷ r)) (sym ((bytes_eq-Decides a.exec t.exec).0 e)) ∙ nothing b r)
           ∙ ap (λ (x : Bool). cond x None (frames_of w t)) (sym (same_by_parts a t))
           ∙ framed_back s kind.Start None None None (frames_of w t) (is_same_thread a t) (is_under t a s.name.no) (is_under t a (s.name.no - 1)) can.record_fits.0 refl refl)
           (λ key. ap (λ (x : Store). items_of x key) items ∙ unwritten s.access can.record_fits.1 key None (items_of w.items key));

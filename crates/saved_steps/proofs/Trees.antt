@@ -35,6 +35,13 @@ module _ {Y : Type 0} (m n : BTreeMap (String Y) (Option Rows)) where
   pub out : (key : List ℕ) → UpdatesBy string_cmp (λ k. slice_cmp nat_cmp key (string_bytes k)) m n None → (e : List ℕ) → tree_in n e ≡ cond (bytes_eq key e) None (tree_in m e)
   out key u e = ap placed (btree_map_updates_text key m n None u e) ∙ placed_out (bytes_eq key e) (get_by_text m e)
 
+  -- a change at one execution's place leaves the others
+  pub apart_from : (exec key : List ℕ) (w : Option Rows) → key ≡ exec → UpdatesBy string_cmp (λ k. slice_cmp nat_cmp key (string_bytes k)) m n (Some w)
+      → (e : List ℕ) → bytes_eq exec e ≡ false → tree_in n e ≡ tree_in m e
+  apart_from exec key w same u e other =
+      let apart : bytes_eq key e ≡ false = ap (λ (x : List ℕ). bytes_eq x e) same ∙ other in
+      put key w u e ∙ ap (λ (b : Bool). cond b w (tree_in m e)) apart
+
   -- what a change at a thread's place makes of every thread's frame
   changed : (a : Thread) (v w : Option Rows) (change : Path → Option Frame → Option Frame) → tree_in m a.exec ≡ v → ((e : List ℕ) → tree_in n e ≡ cond (bytes_eq a.exec e) w (tree_in m e))
       → ((q : Path) → rows_at w q ≡ change q (rows_at v q))

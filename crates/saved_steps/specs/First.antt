@@ -1,12 +1,17 @@
 -- The first thread of all executions, by the order of names, that has a move and is not passed by.
-use Rattle.std.specs.Prelude.{◌≡◌, Bool, true, false, ◌&&◌, not, Option, Some, None}
+use Rattle.std.specs.Prelude.{◌≡◌, ℕ, List, Bool, true, false, ◌&&◌, not, Option, Some, None}
+use Rattle.std.specs.BTreeMap.{BTreeMap}
+use Rattle.std.specs.Cmp.Lexicographic.{slice_cmp}
+use Rattle.std.specs.Ordering.{nat_cmp}
+use Rattle.std.specs.declared.string.String.{String}
 use Rattle.std.specs.declared.cmp.Ordering.TheVariants.{Less}
 use Rattle.branch_tree.specs.Frame.{Frame}
 use Rattle.branch_tree.specs.First.{has_move}
 use Rattle.branch_tree.specs.Ready.{readiness_at}
 use Rattle.step_names.specs.Order.{thread_cmp}
 use Rattle.step_names.specs.Thread.{Thread, IsThread}
-use Rattle.saved_steps.specs.Held.{paths_of}
+use Rattle.branch_tree.specs.Tree.{Rows}
+use Rattle.saved_steps.specs.Places.{frames_in, paths_of}
 
 abbrev pub free : (Thread → Option Frame) → (Thread → Bool) → Thread → Bool
 free frames passed t = has_move (readiness_at (paths_of frames t.exec) t.path) && not (passed t)
@@ -16,3 +21,7 @@ abbrev pub IsFirstReady : (Thread → Option Frame) → (Thread → Bool) → Op
 IsFirstReady frames passed None = (t : Thread) → IsThread t → free frames passed t ≡ false
 IsFirstReady frames passed (Some t) =
     IsThread t × (free frames passed t ≡ true) × ((u : Thread) → IsThread u → thread_cmp u t ≡ Less → free frames passed u ≡ false)
+
+-- no thread of an execution before this name is free, whichever are passed by
+abbrev pub AreQuiet : {Y : Type 0} → BTreeMap (String Y) (Option Rows) → List ℕ → Type 0
+AreQuiet trees name = (passed : Thread → Bool) (t : Thread) → IsThread t → slice_cmp nat_cmp t.exec name ≡ Less → free (frames_in trees) passed t ≡ false

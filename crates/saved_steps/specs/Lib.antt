@@ -4,6 +4,7 @@ pub mod Held
 pub mod Keeping
 pub mod Laws
 pub mod Made
+pub mod Places
 pub mod Records
 pub mod Run
 pub mod Steps

@@ -97,7 +97,7 @@ pub record IsMadeFor (m : Made) (d : Deed) : Type 0 where
   pub change : Makes m.change d
 
 abbrev pub Stands : World → StepName → Change → Type 0
-Stands w name (change.Begin f) = (get_by_text w.executions name.thread.exec ≡ Some None) × (name.thread.path ≡ []) × is_open f
+Stands w name (change.Begin f) = (get_by_text w.executions.trees name.thread.exec ≡ Some None) × (name.thread.path ≡ []) × is_open f
 Stands w name (change.Plain f) = IsOpen (frames_of w) name.thread × is_open f
 Stands w name (change.Call f access slot new) = IsOpen (frames_of w) name.thread × is_open f × (slot_key w.items slot ≡ Some access.key)
 Stands w name (change.Fork f kids) =

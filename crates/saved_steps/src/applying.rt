@@ -9,7 +9,6 @@ ghost use Rattle.saved_steps.specs.Undoing.{IsApplied};
 
 use crate::fact::{Access, Fact, Kind};
 use crate::made::{Change, Made};
-use crate::places::{give, put_tree, replace, take};
 use crate::record::{Saved, StepRecord};
 use crate::world::World;
 use asl_forward::Frame;
@@ -78,7 +77,7 @@ impl World {
         ensures { IsApplied self.old (record { name = name; bound = bound; change = Change.Begin frame }) self.new result }
     {
         let tree = Tree::new(self.alloc, frame);
-        put_tree(&mut self.executions, name.thread.exec(), tree);
+        self.executions.put_tree(name.thread.exec(), tree);
         record(name, bound, Kind::Start, Saved::Started)
     }
 
@@ -86,7 +85,7 @@ impl World {
         requires { CanApply self.old (record { name = name; bound = bound; change = Change.Plain frame }) }
         ensures { IsApplied self.old (record { name = name; bound = bound; change = Change.Plain frame }) self.new result }
     {
-        let before = replace(&mut self.executions, &name.thread, frame);
+        let before = self.executions.replace(&name.thread, frame);
         record(name, bound, Kind::Plain, Saved::Framed(before))
     }
 
@@ -102,7 +101,7 @@ impl World {
         requires { CanApply self.old (record { name = name; bound = bound; change = Change.Call frame access slot new }) }
         ensures { IsApplied self.old (record { name = name; bound = bound; change = Change.Call frame access slot new }) self.new result }
     {
-        let before = replace(&mut self.executions, &name.thread, frame);
+        let before = self.executions.replace(&name.thread, frame);
         let old = put_item(&mut self.items, &access, slot, new);
         StepRecord {
             fact: Fact {
@@ -129,7 +128,7 @@ impl World {
         requires { CanApply self.old (record { name = name; bound = bound; change = Change.Fork frame kids }) }
         ensures { IsApplied self.old (record { name = name; bound = bound; change = Change.Fork frame kids }) self.new result }
     {
-        let before = give(&mut self.executions, &name.thread, frame, kids);
+        let before = self.executions.give(&name.thread, frame, kids);
         record(name, bound, Kind::Fork, Saved::Forked(before))
     }
 
@@ -137,7 +136,7 @@ impl World {
         requires { CanApply self.old (record { name = name; bound = bound; change = Change.Join frame }) }
         ensures { IsApplied self.old (record { name = name; bound = bound; change = Change.Join frame }) self.new result }
     {
-        let (before, kids) = take(&mut self.executions, &name.thread, frame);
+        let (before, kids) = self.executions.take(&name.thread, frame);
         let saved = Saved::Closed {
             frame: before,
             kids,
@@ -149,7 +148,7 @@ impl World {
         requires { CanApply self.old (record { name = name; bound = bound; change = Change.Terminate frame }) }
         ensures { IsApplied self.old (record { name = name; bound = bound; change = Change.Terminate frame }) self.new result }
     {
-        let (before, branches) = take(&mut self.executions, &name.thread, frame);
+        let (before, branches) = self.executions.take(&name.thread, frame);
         let saved = Saved::Closed {
             frame: before,
             kids: branches,

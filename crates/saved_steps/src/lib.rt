@@ -3,6 +3,7 @@
 //! What a step does to executions and items, and what is kept to undo it.
 mod answering;
 mod applying;
+mod executions;
 mod fact;
 mod first;
 mod laws;

@@ -11,7 +11,7 @@ ghost use Rattle.saved_steps.specs.Made.{Suits, IsMadeOf, IsMadeBy, KeepsStore, 
 use crate::answering::{Answered, Touch, answer};
 use crate::made::{Change, Made};
 use crate::next::Next;
-use crate::places::{bound_over, has_tree, make_place};
+use crate::places::{bound_over, has_tree};
 use crate::world::World;
 use asl_forward::{Frame, Outcome, Prepared, finish};
 use branch_tree::Branch;
@@ -51,6 +51,7 @@ impl World {
         ensures items { items_of self.new.items ≡ items_of self.old.items }
         ensures store { KeepsStore self.old.items self.new.items }
     {
+        self.executions.go_by();
         let Ok(name) = name.copy() else {
             drop(next);
             return Err(AllocError);
@@ -85,9 +86,13 @@ impl World {
         ensures frames { (t : Thread) → frames_of self.new t ≡ frames_of self.old t }
         ensures items { self.new.items ≡ self.old.items }
     {
-        let is_absent = !has_tree(&self.executions, name.thread.exec());
+        let is_absent = !has_tree(self.executions.trees(), name.thread.exec());
         prove!(is_absent);
-        if make_place(&mut self.executions, alloc, name.thread.exec()).is_err() {
+        if self
+            .executions
+            .make_place(alloc, name.thread.exec())
+            .is_err()
+        {
             drop(frame);
             drop(name);
             return Err(AllocError);
@@ -106,7 +111,7 @@ impl World {
         if frame.count != 0 {
             return 0;
         }
-        bound_over(&self.executions, thread)
+        bound_over(self.executions.trees(), thread)
     }
 
     fn make_work(

@@ -17,45 +17,48 @@ use std::collections::BTreeMap;
 use step_names::ThreadName;
 
 /// A place for each execution that has one, with its tree, or empty.
-pub(crate) type Executions = BTreeMap<String, Option<Tree>>;
+pub(crate) type Trees = BTreeMap<String, Option<Tree>>;
+
+/// The trees, as a type of their own.
+#[derive(Drop)]
+pub(crate) struct Places {
+    pub(crate) trees: Trees,
+}
 
 /// The tree of an execution.
-pub(crate) fn tree_in<'a>(executions: &'a Executions, exec: &str) -> Option<&'a Tree>
-    ensures { option_copied result ≡ tree_in executions.now exec.now }
+pub(crate) fn tree_in<'a>(trees: &'a Trees, exec: &str) -> Option<&'a Tree>
+    ensures { option_copied result ≡ tree_in trees.now exec.now }
 {
-    match executions.get(exec) {
+    match trees.get(exec) {
         Some(place) => place.as_ref(),
         None => None,
     }
 }
 
 /// The frame of a thread.
-pub(crate) fn frame_in<'a>(executions: &'a Executions, thread: &ThreadName) -> Option<&'a Frame>
-    ensures value { option_copied result ≡ frames_in executions.now thread.now }
-    ensures tree { IfSome result (λ f. IsTree (paths_of (frames_in executions.now) thread.now.exec)) }
+pub(crate) fn frame_in<'a>(trees: &'a Trees, thread: &ThreadName) -> Option<&'a Frame>
+    ensures value { option_copied result ≡ frames_in trees.now thread.now }
+    ensures tree { IfSome result (λ f. IsTree (paths_of (frames_in trees.now) thread.now.exec)) }
 {
-    let tree = tree_in(executions, thread.exec())?;
+    let tree = tree_in(trees, thread.exec())?;
     tree.find(thread.path())
 }
 
 /// The frame of a thread, and what it can do next.
-pub(crate) fn look_up<'a>(
-    executions: &'a Executions,
-    thread: &ThreadName,
-) -> Option<(&'a Frame, Readiness)>
-    ensures frame { option_map (λ p. p.0.now) result ≡ frames_in executions.now thread.now }
-    ensures ready { IfSome result (λ p. p.1 ≡ readiness_at (paths_of (frames_in executions.now) thread.now.exec) thread.now.path) }
+pub(crate) fn look_up<'a>(trees: &'a Trees, thread: &ThreadName) -> Option<(&'a Frame, Readiness)>
+    ensures frame { option_map (λ p. p.0.now) result ≡ frames_in trees.now thread.now }
+    ensures ready { IfSome result (λ p. p.1 ≡ readiness_at (paths_of (frames_in trees.now) thread.now.exec) thread.now.path) }
 {
-    let tree = tree_in(executions, thread.exec())?;
+    let tree = tree_in(trees, thread.exec())?;
     let frame = tree.find(thread.path())?;
     Some((frame, tree.ready(thread.path())))
 }
 
 /// The bound of the fork that a thread is a branch of; 0 is none.
-pub(crate) fn bound_over(executions: &Executions, thread: &ThreadName) -> u32
-    ensures { result ≡ bound_over (paths_of (frames_in executions.now) thread.now.exec) (place_of thread.now.path) }
+pub(crate) fn bound_over(trees: &Trees, thread: &ThreadName) -> u32
+    ensures { result ≡ bound_over (paths_of (frames_in trees.now) thread.now.exec) (place_of thread.now.path) }
 {
-    match tree_in(executions, thread.exec()) {
+    match tree_in(trees, thread.exec()) {
         Some(tree) => tree.bound_over(thread.path()),
         None => 0,
     }
@@ -64,48 +67,44 @@ pub(crate) fn bound_over(executions: &Executions, thread: &ThreadName) -> u32
 // ---- places
 
 /// Whether an execution has a tree, and so its own thread a frame.
-pub(crate) fn has_tree(executions: &Executions, exec: &str) -> bool
-    ensures tree { result ≡ is_some (tree_in executions.now exec.now) }
-    ensures root { result ≡ is_some (rows_at (tree_in executions.now exec.now) []) }
+pub(crate) fn has_tree(trees: &Trees, exec: &str) -> bool
+    ensures tree { result ≡ is_some (tree_in trees.now exec.now) }
+    ensures root { result ≡ is_some (rows_at (tree_in trees.now exec.now) []) }
 {
-    match tree_in(executions, exec) {
+    match tree_in(trees, exec) {
         Some(tree) => tree.find(&[]).is_some(),
         None => false,
     }
 }
 
 /// Makes an empty place for an execution that has no tree. Takes memory for a copy of the name, where there is no place.
-pub(crate) fn make_place(
-    executions: &mut Executions,
-    alloc: Global,
-    exec: &str,
-) -> Result<(), AllocError>
-    requires { tree_in executions.old exec.now ≡ None }
-    ensures trees { (e : List ℕ) → tree_in executions.new e ≡ tree_in executions.old e }
-    ensures place { OnOk result (get_by_text executions.new exec.now ≡ Some None) }
+pub(crate) fn make_place(trees: &mut Trees, alloc: Global, exec: &str) -> Result<(), AllocError>
+    requires { tree_in trees.old exec.now ≡ None }
+    ensures trees { (e : List ℕ) → tree_in trees.new e ≡ tree_in trees.old e }
+    ensures place { OnOk result (get_by_text trees.new exec.now ≡ Some None) }
 {
-    if executions.contains_key(exec) {
+    if trees.contains_key(exec) {
         return Ok(());
     }
     let name = String::from_str(alloc, exec)?;
-    drop(executions.insert(name, None)?);
+    drop(trees.insert(name, None)?);
     Ok(())
 }
 
 /// Puts a tree into its execution's place. Takes no memory.
-pub(crate) fn put_tree(executions: &mut Executions, exec: &str, tree: Tree)
-    requires { get_by_text executions.old exec.now ≡ Some None }
-    ensures { (e : List ℕ) → tree_in executions.new e ≡ (if bytes_eq exec.now e then Some tree else tree_in executions.old e) }
+pub(crate) fn put_tree(trees: &mut Trees, exec: &str, tree: Tree)
+    requires { get_by_text trees.old exec.now ≡ Some None }
+    ensures { (e : List ℕ) → tree_in trees.new e ≡ (if bytes_eq exec.now e then Some tree else tree_in trees.old e) }
 {
-    let place = executions.get_mut(exec).unwrap();
+    let place = trees.get_mut(exec).unwrap();
     *place = Some(tree);
 }
 
 /// Takes an execution's tree away, and its place. Takes no memory.
-pub(crate) fn remove_tree(executions: &mut Executions, exec: &str)
-    ensures { (e : List ℕ) → tree_in executions.new e ≡ (if bytes_eq exec.now e then None else tree_in executions.old e) }
+pub(crate) fn remove_tree(trees: &mut Trees, exec: &str)
+    ensures { (e : List ℕ) → tree_in trees.new e ≡ (if bytes_eq exec.now e then None else tree_in trees.old e) }
 {
-    drop(executions.remove(exec));
+    drop(trees.remove(exec));
 }
 
 // ---- frames in a place
@@ -148,46 +147,40 @@ fn take_at(place: &mut Option<Tree>, path: &[(u32, u32)], frame: Frame) -> (Fram
 // ---- frames of threads
 
 /// Puts a frame in the place of a thread's, which comes back. Takes no memory.
-pub(crate) fn replace(executions: &mut Executions, thread: &ThreadName, frame: Frame) -> Frame
-    requires open { IsSomeAnd (frames_in executions.old thread.now) (λ f. is_parked f.phase ≡ false) }
+pub(crate) fn replace(trees: &mut Trees, thread: &ThreadName, frame: Frame) -> Frame
+    requires open { IsSomeAnd (frames_in trees.old thread.now) (λ f. is_parked f.phase ≡ false) }
     requires next { is_parked frame.phase ≡ false }
-    ensures was { frames_in executions.old thread.now ≡ Some result }
-    ensures frames { (t : Thread) → frames_in executions.new t ≡ with_thread (frames_in executions.old) thread.now frame t }
+    ensures was { frames_in trees.old thread.now ≡ Some result }
+    ensures frames { (t : Thread) → frames_in trees.new t ≡ with_thread (frames_in trees.old) thread.now frame t }
+    ensures others { (e : List ℕ) → bytes_eq thread.now.exec e ≡ false → tree_in trees.new e ≡ tree_in trees.old e }
 {
-    let place = executions.get_mut(thread.exec()).unwrap();
+    let place = trees.get_mut(thread.exec()).unwrap();
     replace_at(place, thread.path(), frame)
 }
 
 /// Puts a frame and branches under it in the place of a thread's frame, which comes back. Takes no memory.
-pub(crate) fn give(
-    executions: &mut Executions,
-    thread: &ThreadName,
-    frame: Frame,
-    kids: Vec<Branch>,
-) -> Frame
-    requires open { IsSomeAnd (frames_in executions.old thread.now) (λ f. is_parked f.phase ≡ false) }
+pub(crate) fn give(trees: &mut Trees, thread: &ThreadName, frame: Frame, kids: Vec<Branch>) -> Frame
+    requires open { IsSomeAnd (frames_in trees.old thread.now) (λ f. is_parked f.phase ≡ false) }
     requires node { IsNode frame kids.items }
-    ensures was { frames_in executions.old thread.now ≡ Some result }
-    ensures frames { (t : Thread) → frames_in executions.new t ≡ put_at (frames_in executions.old) thread.now (node_at frame kids.items) t }
-    ensures tree { IsTree (paths_of (frames_in executions.old) thread.now.exec) }
+    ensures was { frames_in trees.old thread.now ≡ Some result }
+    ensures frames { (t : Thread) → frames_in trees.new t ≡ put_at (frames_in trees.old) thread.now (node_at frame kids.items) t }
+    ensures tree { IsTree (paths_of (frames_in trees.old) thread.now.exec) }
+    ensures others { (e : List ℕ) → bytes_eq thread.now.exec e ≡ false → tree_in trees.new e ≡ tree_in trees.old e }
 {
-    let place = executions.get_mut(thread.exec()).unwrap();
+    let place = trees.get_mut(thread.exec()).unwrap();
     give_at(place, thread.path(), frame, kids)
 }
 
 /// Takes a thread's branches out, and puts a frame in the place of its own. Both come back. Takes no memory.
-pub(crate) fn take(
-    executions: &mut Executions,
-    thread: &ThreadName,
-    frame: Frame,
-) -> (Frame, Vec<Branch>)
-    requires there { IsSomeAnd (frames_in executions.old thread.now) (λ f. is_parked f.phase ≡ true) }
+pub(crate) fn take(trees: &mut Trees, thread: &ThreadName, frame: Frame) -> (Frame, Vec<Branch>)
+    requires there { IsSomeAnd (frames_in trees.old thread.now) (λ f. is_parked f.phase ≡ true) }
     requires next { is_parked frame.phase ≡ false }
-    ensures was { (q : Path) → paths_of (frames_in executions.old) thread.now.exec (thread.now.path ++ q) ≡ node_at result.0 result.1.items q }
+    ensures was { (q : Path) → paths_of (frames_in trees.old) thread.now.exec (thread.now.path ++ q) ≡ node_at result.0 result.1.items q }
     ensures node { IsNode result.0 result.1.items }
-    ensures frames { (t : Thread) → frames_in executions.new t ≡ put_at (frames_in executions.old) thread.now (alone frame) t }
-    ensures tree { IsTree (paths_of (frames_in executions.old) thread.now.exec) }
+    ensures frames { (t : Thread) → frames_in trees.new t ≡ put_at (frames_in trees.old) thread.now (alone frame) t }
+    ensures tree { IsTree (paths_of (frames_in trees.old) thread.now.exec) }
+    ensures others { (e : List ℕ) → bytes_eq thread.now.exec e ≡ false → tree_in trees.new e ≡ tree_in trees.old e }
 {
-    let place = executions.get_mut(thread.exec()).unwrap();
+    let place = trees.get_mut(thread.exec()).unwrap();
     take_at(place, thread.path(), frame)
 }

@@ -7,7 +7,6 @@ ghost use Rattle.saved_steps.specs.Steps.{is_write_of};
 ghost use Rattle.saved_steps.specs.Undoing.{CanUndo, IsSlotOf, IsUndone};
 
 use crate::fact::{Access, Fact};
-use crate::places::{give, remove_tree, replace, take};
 use crate::record::{Saved, StepRecord};
 use crate::world::World;
 use asl_forward::Frame;
@@ -53,14 +52,14 @@ impl World {
     {
         let there = self.frame(&fact.name.thread).is_some();
         prove!(there);
-        remove_tree(&mut self.executions, fact.name.thread.exec());
+        self.executions.remove_tree(fact.name.thread.exec());
     }
 
     fn undo_plain(&mut self, fact: &Fact, frame: Frame)
         requires { CanUndo self.old (record { fact = fact.now; saved = Saved.Framed frame }) }
         ensures { IsUndone self.old (record { fact = fact.now; saved = Saved.Framed frame }) self.new }
     {
-        let left = replace(&mut self.executions, &fact.name.thread, frame);
+        let left = self.executions.replace(&fact.name.thread, frame);
         drop(left);
     }
 
@@ -68,7 +67,7 @@ impl World {
         requires { CanUndo self.old (record { fact = fact.now; saved = Saved.Called frame slot old }) }
         ensures { IsUndone self.old (record { fact = fact.now; saved = Saved.Called frame slot old }) self.new }
     {
-        drop(replace(&mut self.executions, &fact.name.thread, frame));
+        drop(self.executions.replace(&fact.name.thread, frame));
         give_item_back(&mut self.items, &fact.access, slot, old);
     }
 
@@ -76,13 +75,13 @@ impl World {
         requires { CanUndo self.old (record { fact = fact.now; saved = Saved.Forked frame }) }
         ensures { IsUndone self.old (record { fact = fact.now; saved = Saved.Forked frame }) self.new }
     {
-        drop(take(&mut self.executions, &fact.name.thread, frame));
+        drop(self.executions.take(&fact.name.thread, frame));
     }
 
     fn undo_close(&mut self, fact: &Fact, frame: Frame, kids: Vec<Branch>)
         requires { CanUndo self.old (record { fact = fact.now; saved = Saved.Closed frame kids }) }
         ensures { IsUndone self.old (record { fact = fact.now; saved = Saved.Closed frame kids }) self.new }
     {
-        drop(give(&mut self.executions, &fact.name.thread, frame, kids));
+        drop(self.executions.give(&fact.name.thread, frame, kids));
     }
 }

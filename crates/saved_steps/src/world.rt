@@ -1,16 +1,20 @@
 // The executions and the items that steps change.
-ghost use Rattle.std.specs.Prelude.{◌≡◌, None, option_copied, option_map, IfSome};
+ghost use Rattle.std.specs.Prelude.{◌≡◌, None, option_copied, option_map, IfOk, IfSome};
+ghost use Rattle.std.specs.BTreeSet.{contains};
 ghost use Rattle.branch_tree.specs.FlatMap.{IsTree};
 ghost use Rattle.branch_tree.specs.Ready.{readiness_at};
+ghost use Rattle.step_names.specs.Order.{thread_cmp};
 ghost use Rattle.step_names.specs.Thread.{Thread};
+ghost use Rattle.saved_steps.specs.First.{IsFirstReady};
 ghost use Rattle.saved_steps.specs.Held.{frames_of, paths_of};
 
-use crate::places::{Executions, frame_in, look_up};
+use crate::executions::Executions;
+use crate::places::{frame_in, look_up};
 use asl_forward::Frame;
 use branch_tree::Readiness;
 use item_store::ItemStore;
-use std::alloc::Global;
-use std::collections::BTreeMap;
+use std::alloc::{AllocError, Global};
+use std::collections::BTreeSet;
 use step_names::ThreadName;
 
 /// The frames of all executions, and the items of the table. Contracts see its `frames_of`, and the store.
@@ -29,7 +33,7 @@ impl World {
     {
         World {
             alloc,
-            executions: BTreeMap::new(alloc),
+            executions: Executions::new(alloc),
             items,
         }
     }
@@ -39,7 +43,7 @@ impl World {
         ensures value { option_copied result ≡ frames_of self.now thread.now }
         ensures tree { IfSome result (λ f. IsTree (paths_of (frames_of self.now) thread.now.exec)) }
     {
-        frame_in(&self.executions, thread)
+        frame_in(self.executions.trees(), thread)
     }
 
     /// The frame of a thread, and what it can do next. Takes no memory, in the time of `frame` and of the number of the thread's
@@ -48,7 +52,23 @@ impl World {
         ensures frame { option_map (λ p. p.0.now) result ≡ frames_of self.now thread.now }
         ensures ready { IfSome result (λ p. p.1 ≡ readiness_at (paths_of (frames_of self.now) thread.now.exec) thread.now.path) }
     {
-        look_up(&self.executions, thread)
+        look_up(self.executions.trees(), thread)
+    }
+
+    /// The least name of a thread that moves (it is `Ready`, or can `Join` or `Terminate`) and is not passed by.
+    ///
+    /// Goes through the executions in the order of their names, up to that of the thread that it finds, from the first that hadn't
+    /// ended when a step was last made, or was started or undone since. One that is done or has failed costs a step and no memory;
+    /// of the others it takes the blocks of `Tree::first_ready`, and two for the name of the execution where that has more than
+    /// 22 bytes.
+    pub fn first_ready(
+        &self,
+        alloc: Global,
+        passed: &BTreeSet<ThreadName>,
+    ) -> Result<Option<ThreadName>, AllocError>
+        ensures { IfOk result (λ found. IsFirstReady (frames_of self.now) (contains thread_cmp passed.now) found) }
+    {
+        self.executions.first_ready(alloc, passed)
     }
 
     /// The items of the table.

@@ -3,12 +3,12 @@ use Rattle.std.specs.BTreeMap.{get_by_text}
 use Rattle.std.specs.Option.{option_copied_mut}
 use Rattle.branch_tree.specs.FlatMap.{is_parked}
 use Rattle.branch_tree.specs.Tree.{node_at}
-use Rattle.saved_steps.proofs.Trees.{found, grafted_in, in_place, tree_there}
+use Rattle.saved_steps.proofs.Trees.{apart_from, found, grafted_in, in_place, tree_there}
 use Rattle.saved_steps.proofs.places.give.Goals as goal
 
 pub give_at-requires-clause-open : goal.give_at-requires-clause-open
 give_at-requires-clause-open c =
-    let m = c.args.executions.now in
+    let m = c.args.trees.now in
     let a = c.args.thread.now in
     let v = c.unwrap-place.result.now in
     let there : get_by_text m c.exec.result.now ≡ Some v = sym c.get_mut.ensures.value ∙ ap option_copied_mut c.unwrap-place.ensures in
@@ -16,7 +16,7 @@ give_at-requires-clause-open c =
 
 pub returns-clause-frames : goal.returns-clause-frames
 returns-clause-frames c =
-    let m = c.args.executions.now in
+    let m = c.args.trees.now in
     let a = c.args.thread.now in
     let v = c.unwrap-place.result.now in
     let w = c.give_at.new.place in
@@ -26,8 +26,15 @@ returns-clause-frames c =
 
 pub returns-clause-tree : goal.returns-clause-tree
 returns-clause-tree c =
-    let m = c.args.executions.now in
+    let m = c.args.trees.now in
     let a = c.args.thread.now in
     let v = c.unwrap-place.result.now in
     let there : get_by_text m c.exec.result.now ≡ Some v = sym c.get_mut.ensures.value ∙ ap option_copied_mut c.unwrap-place.ensures in
     tree_there m m a.exec v (found m m c.exec.result.now a.exec v c.exec.ensures.exec there) c.give_at.ensures.tree
+
+pub returns-clause-others : goal.returns-clause-others
+returns-clause-others c =
+    let m = c.args.trees.now in
+    let a = c.args.thread.now in
+    let w = c.give_at.new.place in
+    apart_from m (c.get_mut.follows.lender w) a.exec c.exec.result.now w c.exec.ensures.exec ((c.get_mut.follows.holds w).3 (search rules))

@@ -2,12 +2,12 @@ use Rattle.std.proofs.Common.{rules, ◌≡◌, sym, ap, ◌∙◌, true, IsSome
 use Rattle.std.specs.BTreeMap.{get_by_text}
 use Rattle.std.specs.Option.{option_copied_mut}
 use Rattle.branch_tree.specs.FlatMap.{is_parked, alone}
-use Rattle.saved_steps.proofs.Trees.{found, grafted_in, in_place, tree_there, was_in}
+use Rattle.saved_steps.proofs.Trees.{apart_from, found, grafted_in, in_place, tree_there, was_in}
 use Rattle.saved_steps.proofs.places.take.Goals as goal
 
 pub take_at-requires-clause-there : goal.take_at-requires-clause-there
 take_at-requires-clause-there c =
-    let m = c.args.executions.now in
+    let m = c.args.trees.now in
     let a = c.args.thread.now in
     let v = c.unwrap-place.result.now in
     let there : get_by_text m c.exec.result.now ≡ Some v = sym c.get_mut.ensures.value ∙ ap option_copied_mut c.unwrap-place.ensures in
@@ -15,7 +15,7 @@ take_at-requires-clause-there c =
 
 pub returns-clause-was : goal.returns-clause-was
 returns-clause-was c =
-    let m = c.args.executions.now in
+    let m = c.args.trees.now in
     let a = c.args.thread.now in
     let v = c.unwrap-place.result.now in
     let there : get_by_text m c.exec.result.now ≡ Some v = sym c.get_mut.ensures.value ∙ ap option_copied_mut c.unwrap-place.ensures in
@@ -23,7 +23,7 @@ returns-clause-was c =
 
 pub returns-clause-frames : goal.returns-clause-frames
 returns-clause-frames c =
-    let m = c.args.executions.now in
+    let m = c.args.trees.now in
     let a = c.args.thread.now in
     let v = c.unwrap-place.result.now in
     let w = c.take_at.new.place in
@@ -33,8 +33,15 @@ returns-clause-frames c =
 
 pub returns-clause-tree : goal.returns-clause-tree
 returns-clause-tree c =
-    let m = c.args.executions.now in
+    let m = c.args.trees.now in
     let a = c.args.thread.now in
     let v = c.unwrap-place.result.now in
     let there : get_by_text m c.exec.result.now ≡ Some v = sym c.get_mut.ensures.value ∙ ap option_copied_mut c.unwrap-place.ensures in
     tree_there m m a.exec v (found m m c.exec.result.now a.exec v c.exec.ensures.exec there) c.take_at.ensures.tree
+
+pub returns-clause-others : goal.returns-clause-others
+returns-clause-others c =
+    let m = c.args.trees.now in
+    let a = c.args.thread.now in
+    let w = c.take_at.new.place in
+    apart_from m (c.get_mut.follows.lender w) a.exec c.exec.result.now w c.exec.ensures.exec ((c.get_mut.follows.holds w).3 (search rules))

@@ -9,6 +9,6 @@ use Rattle.saved_steps.proofs.world.World.apply_plain.Goals as goal
 pub returns : goal.returns
 returns c =
     let w = c.args.self.now in
-    let v : World = record { alloc = w.alloc; executions = c.replace-before.new.executions; items = w.items } in
+    let v : World = record { alloc = w.alloc; executions = c.replace-before.new.self; items = w.items } in
     subst (λ (r : StepRecord). IsApplied w (record { name = c.args.name; bound = c.args.bound; change = change.Plain c.args.frame }) v r) (sym c.record.ensures)
     (plain w v c.args.name c.args.bound c.args.frame c.replace-before.result refl c.requires c.replace-before.ensures.was c.replace-before.ensures.frames)

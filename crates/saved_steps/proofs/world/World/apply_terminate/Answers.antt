@@ -8,7 +8,7 @@ use Rattle.saved_steps.proofs.world.World.apply_terminate.Goals as goal
 pub returns : goal.returns
 returns c =
     let w = c.args.self.now in
-    let v : World = record { alloc = w.alloc; executions = c.take-before.new.executions; items = w.items } in
+    let v : World = record { alloc = w.alloc; executions = c.take-before.new.self; items = w.items } in
     let t = c.take-before.result in
     let e = c.take-before.ensures in
     close w v (record { name = c.args.name; bound = c.args.bound; change = change.Terminate c.args.frame }) c.record.result c.args.name c.args.bound kind.Terminate c.args.frame t.0 t.1 refl

@@ -1,16 +1,16 @@
-use Rattle.std.proofs.Common.{ℕ, true, List, subst}
+use Rattle.std.proofs.Common.{ℕ, true, List, subst, ◌∙◌}
 use Rattle.std.specs.BTreeSet.{contains}
 use Rattle.std.specs.String.{string_bytes}
 use Rattle.branch_tree.specs.First.{IsFirst}
 use Rattle.step_names.specs.Order.{thread_cmp}
 use Rattle.step_names.specs.Thread.{execution}
 use Rattle.saved_steps.specs.Held.{rows_at}
-use Rattle.saved_steps.proofs.Earliest.{IsGone, goes_by, is_found}
-use Rattle.saved_steps.proofs.world.World.first_ready.Goals as goal
+use Rattle.saved_steps.proofs.Earliest.{IsGone, gone_before, goes_by, is_found}
+use Rattle.saved_steps.proofs.first.first_among.Goals as goal
 
 pub returns-in-Some-2 : goal.returns-in-Some-2
 returns-in-Some-2 c =
-    let m = c.args.self.now.executions in
+    let m = c.args.trees.now in
     let passed = contains thread_cmp c.args.passed.now in
     let gone = subst (IsGone m passed) c.in-Some.ensures.steps c.loop-exec.invariant in
     let found = subst (λ (exec : List ℕ). IsFirst true (rows_at c.in-Some.place.now) (execution exec) passed c.in_ok-found.field-0) c.as_str.ensures.value c.in_ok-found.ensures in
@@ -19,9 +19,14 @@ returns-in-Some-2 c =
 
 pub loop-exec-preserved : goal.loop-exec-preserved
 loop-exec-preserved c =
-    let m = c.args.self.now.executions in
+    let m = c.args.trees.now in
     let passed = contains thread_cmp c.args.passed.now in
     let gone = subst (IsGone m passed) c.in-Some.ensures.steps c.loop-exec.invariant in
     let found = subst (λ (exec : List ℕ). IsFirst true (rows_at c.in-Some.place.now) (execution exec) passed c.in_ok-found.field-0) c.as_str.ensures.value c.in_ok-found.ensures in
     goes_by m passed c.in-Some.exec.now c.in-Some.place.now c.next.new.self gone
     (subst (IsFirst true (rows_at c.in-Some.place.now) (execution (string_bytes c.in-Some.exec.now)) passed) c.in_default.is found)
+
+pub loop-exec-init : goal.loop-exec-init
+loop-exec-init c =
+    gone_before c.args.trees.now (contains thread_cmp c.args.passed.now) (string_bytes c.args.quiet.now) c.into_iter-exec-iterator.result
+    (c.into_iter-exec-iterator.ensures.into_iter_gives ∙ c.range-exec-items.ensures.between tt) c.range-exec-items.ensures.ordered c.requires

@@ -1,0 +1,8 @@
+use Rattle.std.specs.String.{string_bytes}
+use Rattle.saved_steps.proofs.Earliest.{kept_quiet}
+use Rattle.saved_steps.proofs.executions.Executions.make_place.Goals as goal
+
+pub invariant_of-self : goal.invariant_of-self
+invariant_of-self c =
+    let name = string_bytes c.self.inside.quiet in
+    kept_quiet c.self.inside.places.trees c.make_place.new.trees name name c.self.invariant (λ e l. (l, c.make_place.ensures.trees e))

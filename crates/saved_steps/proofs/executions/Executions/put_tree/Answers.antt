@@ -1,0 +1,11 @@
+use Rattle.std.proofs.Common.{Bool, cond, ap, ◌∙◌, Some}
+use Rattle.std.specs.String.{string_bytes}
+use Rattle.saved_steps.specs.Places.{tree_in}
+use Rattle.saved_steps.proofs.Earliest.{kept_quiet}
+use Rattle.saved_steps.proofs.executions.Executions.put_tree.Goals as goal
+
+pub invariant_of-self : goal.invariant_of-self
+invariant_of-self c =
+    let was = c.self.inside.places.trees in
+    kept_quiet was c.put_tree.new.trees (string_bytes c.self.inside.quiet) (string_bytes c.lower.new.quiet) c.self.invariant
+    (λ e l. let low = c.lower.ensures e l in (low.0, c.put_tree.ensures e ∙ ap (λ (b : Bool). cond b (Some c.args.tree) (tree_in was e)) low.1))
