@@ -1,5 +1,6 @@
 pub mod Lists
 pub mod Runs
+pub mod Base
 pub mod Commuting
 pub mod After
 pub mod Least

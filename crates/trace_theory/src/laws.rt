@@ -1,7 +1,7 @@
 // Laws over the definitions: each function's contract is the law, and it does nothing.
 ghost use Rattle.trace_theory.specs.Traces.{Machine, IsLawful, HasNames, NeighboursSwap, FreeStepsUndo, AfterIsLeast, OrdersUndo, ArrangementsAgree, HeldIsLeft};
 ghost use Rattle.trace_theory.specs.Counters.{CountersAreLawful, CountersHaveNames, PremiseIsNeeded};
-ghost use Rattle.trace_theory.specs.Footprints.{PlansAreLawful};
+ghost use Rattle.trace_theory.specs.Footprints.{IsReached, PlansAreLawful};
 
 /// Neighbours that do not depend on each other swap.
 pub fn neighbours_swap<W, N, F, S>()
@@ -32,6 +32,12 @@ pub fn arrangements_agree<W, N, F, S>()
 /// What is left of held consequences shrinks by one with each undoing of a member, and by nothing else.
 pub fn held_consequences_are_left<W, N, F, S>()
     ensures { (m : Machine W N F S) (base : W) → IsLawful m base → HasNames m base → HeldIsLeft m base }
+{}
+
+/// What is lawful from a world, and has each name once, is so from each world that a run from there reaches.
+pub fn reached_worlds_are_lawful<W, N, F, S>()
+    ensures lawful { (m : Machine W N F S) (start base : W) → IsReached m start base → IsLawful m start → IsLawful m base }
+    ensures names { (m : Machine W N F S) (start base : W) → IsReached m start base → HasNames m start → HasNames m base }
 {}
 
 /// A machine is lawful where its steps are plans, and independent neighbours write nothing that the other touches.
