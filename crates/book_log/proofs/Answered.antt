@@ -16,7 +16,7 @@ use Rattle.depends.specs.Laws.{facts_of}
 use Rattle.depends.proofs.Named.{steps_have_names}
 use Rattle.book_log.specs.Answers.{from_step, free_answer, found_answer, undo_answer}
 use Rattle.book_log.specs.Story.{Story, base_of, past_of}
-use Rattle.book_log.proofs.Standing.{StandsAt, step_same, step_itself, no_frames, past_there, is_run, fact_named}
+use Rattle.book_log.proofs.Standing.{StandsAt, step_same, step_itself, from_start, past_there, is_run, fact_named}
 
 -- ---- the step of a name
 
@@ -75,14 +75,14 @@ pub record FreeNamed (s : Setting) (ts : List Past) (name : StepName) : Type 0 w
   pub free : IsFree (steps s) ts step
 
 module _ (story : Story) (s : Setting) (w : World) (ts : List Past) (h : StandsAt story s w ts) where
-  pub once : Once (steps s) (base_of story.begin) (steps_have_names s (base_of story.begin) (no_frames story.begin)) ts
-  once x y b = (steps_have_names s (base_of story.begin) (no_frames story.begin)).once ts w x y (is_run story s w ts h) b
+  pub once : Once (steps s) (base_of story) (steps_have_names s (base_of story) (from_start story s w ts h)) ts
+  once x y b = (steps_have_names s (base_of story) (from_start story s w ts h)).once ts w x y (is_run story s w ts h) b
 
   free_found : (name : StepName) (f : Fact) (later : List Fact) → Found name ts f later → find (depends_directly f) later ≡ None → FreeNamed s ts name
   free_found name f later g none =
       let none_behind : find (depends_directly g.step.fact) (facts_of g.back) ≡ None = ap₂ (λ (x : Fact) (l : List Fact). find (depends_directly x) l) g.fact g.behind ∙ none in
-      let o = subst (Once (steps s) (base_of story.begin) (steps_have_names s (base_of story.begin) (no_frames story.begin))) g.whole once in
-      let free = free_record (steps s) (base_of story.begin) (steps_have_names s (base_of story.begin) (no_frames story.begin)) g.front g.back g.step o (none_found (depends_directly g.step.fact) g.back none_behind) in
+      let o = subst (Once (steps s) (base_of story) (steps_have_names s (base_of story) (from_start story s w ts h))) g.whole once in
+      let free = free_record (steps s) (base_of story) (steps_have_names s (base_of story) (from_start story s w ts h)) g.front g.back g.step o (none_found (depends_directly g.step.fact) g.back none_behind) in
       let fact : g.step.fact.name ≡ name = ap (λ (x : Fact). x.name) g.fact ∙ sym g.named in
       let there : In g.step ts = subst (In g.step) (sym g.whole) (here g.step g.front g.back) in
       record { step = g.step; fact = fact; named = sym (fact_named story s w ts h g.step there) ∙ fact; free = subst (λ l. IsFree (steps s) l g.step) (sym g.whole) free }
@@ -97,12 +97,12 @@ module _ (story : Story) (s : Setting) (w : World) (ts : List Past) (h : StandsA
   -- where a step of this name is found
   pub step_found : (t : Past) (name : StepName) (front back : List Past) → ts ≡ front ++ t ∷ back → name_of t.step ≡ name → from_step name (facts_of (past_of story)) ≡ Some (t.fact, facts_of back)
   step_found t name front back whole named =
-      let o = subst (Once (steps s) (base_of story.begin) (steps_have_names s (base_of story.begin) (no_frames story.begin))) whole once in
+      let o = subst (Once (steps s) (base_of story) (steps_have_names s (base_of story) (from_start story s w ts h))) whole once in
       let there : In t ts = subst (In t) (sym whole) (here t front back) in
       ap (λ (l : List Past). from_step name (facts_of l)) (past_there story s w ts h ∙ whole)
       ∙ found_at name front back t
       (λ y i. ap₂ (λ (a b : StepName). is_same_step a b) (sym named) (fact_named story s w ts h y (subst (In y) (sym whole) (In-front y front (t ∷ back) i)))
-      ∙ not_in_front (steps s) (base_of story.begin) (steps_have_names s (base_of story.begin) (no_frames story.begin)) front back t o y i)
+      ∙ not_in_front (steps s) (base_of story) (steps_have_names s (base_of story) (from_start story s w ts h)) front back t o y i)
       (ap (is_same_step name) (fact_named story s w ts h t there ∙ named) ∙ step_itself name)
 
   -- a free step is told to be undone
@@ -110,5 +110,5 @@ module _ (story : Story) (s : Setting) (w : World) (ts : List Past) (h : StandsA
   unfolding undo_answer
   free_undone t name free named =
       let p = place t ts free.0 in
-      let none = found_none (depends_directly t.fact) p.back (record_free (steps s) (base_of story.begin) (steps_have_names s (base_of story.begin) (no_frames story.begin)) p.front p.back t (subst (λ l. IsFree (steps s) l t) p.whole free)) in
+      let none = found_none (depends_directly t.fact) p.back (record_free (steps s) (base_of story) (steps_have_names s (base_of story) (from_start story s w ts h)) p.front p.back t (subst (λ l. IsFree (steps s) l t) p.whole free)) in
       ap (found_answer name) (step_found t name p.front p.back p.whole named) ∙ ap (free_answer name) none

@@ -15,43 +15,44 @@ use Rattle.trace_theory.proofs.Records.{names-without}
 use Rattle.depends.specs.Steps.{Step, started, moved, start_name}
 use Rattle.depends.specs.World.{Setting, World}
 use Rattle.depends.specs.Instance.{Past, steps}
+use Rattle.depends.specs.Laws.{IsFrom}
 use Rattle.depends.proofs.Named.{steps_have_names}
 use Rattle.book_log.specs.Answers.{is_full_for_step, is_full_for_define, undo_answer, plan_answer, defines}
 use Rattle.book_log.specs.Laws.{LegalLogsHaveRoom}
 use Rattle.book_log.specs.Legal.{IsAccepted, IsLegal}
-use Rattle.book_log.specs.Story.{Story, Remainder, accepted, after_entry, base_of, remainder, remaining, setting_of, world_of, past_of}
+use Rattle.book_log.specs.Story.{Story, Remainder, accepted, after_entry, base_of, settled, remainder, remaining, setting_of, world_of, past_of}
 use Rattle.book_log.specs.declared.begin.Begin.{Begin}
 use Rattle.book_log.specs.declared.entry.Entry.{Entry}
 use Rattle.book_log.specs.declared.entry.Entry.TheVariants.{Define, Start, Step as Stepped, Undo, Rollback}
-use Rattle.book_log.proofs.Standing.{StandsAt, no_frames, names_there, remainder_next, stands_undone, stands_rolled}
+use Rattle.book_log.proofs.Standing.{StandsAt, from_start, names_there, remainder_next, settled_next, stands_undone, stands_rolled}
 use Rattle.book_log.proofs.Answered.{once, undo_said}
 use Rattle.book_log.proofs.Taking.{start_room, step_room}
 use Rattle.book_log.proofs.LegalRuns.{plan_said, of_log, of_legal, legal_stands}
 
 -- ---- steps that go
 
-module _ (s : Setting) (begin : Begin) where
+module _ (s : Setting) (base : World) (from : IsFrom s base) where
   -- a step that goes is one
-  one_out : (ts : List Past) (t : Past) → Once (steps s) (base_of begin) (steps_have_names s (base_of begin) (no_frames begin)) ts → In t ts → length (without (steps s) (t ∷ []) ts) + 1 ≡ length ts
+  one_out : (ts : List Past) (t : Past) → Once (steps s) base (steps_have_names s base from) ts → In t ts → length (without (steps s) (t ∷ []) ts) + 1 ≡ length ts
   one_out ts t once i =
-      at_place (steps s) (base_of begin) (steps_have_names s (base_of begin) (no_frames begin)) (λ l. length (without (steps s) (t ∷ []) l) + 1 ≡ length l) ts t
-      (λ front back e o. ap (λ (l : List Past). length l + 1) (without_one (steps s) (base_of begin) (steps_have_names s (base_of begin) (no_frames begin)) front back t o) ∙ sym (length-middle (steps s) (base_of begin) (steps_have_names s (base_of begin) (no_frames begin)) front back t))
+      at_place (steps s) base (steps_have_names s base from) (λ l. length (without (steps s) (t ∷ []) l) + 1 ≡ length l) ts t
+      (λ front back e o. ap (λ (l : List Past). length l + 1) (without_one (steps s) base (steps_have_names s base from) front back t o) ∙ sym (length-middle (steps s) base (steps_have_names s base from) front back t))
       once i
 
   -- and of an allowed order as many go as it has
-  allowed_out : (ts xs : List Past) → Once (steps s) (base_of begin) (steps_have_names s (base_of begin) (no_frames begin)) ts → IsAllowed (steps s) ts xs → length (without (steps s) xs ts) + length xs ≡ length ts
-  allowed_out ts [] once a = let e = ap length (without_none (steps s) (base_of begin) (steps_have_names s (base_of begin) (no_frames begin)) ts) in omega (arith, e)
+  allowed_out : (ts xs : List Past) → Once (steps s) base (steps_have_names s base from) ts → IsAllowed (steps s) ts xs → length (without (steps s) xs ts) + length xs ≡ length ts
+  allowed_out ts [] once a = let e = ap length (without_none (steps s) base (steps_have_names s base from) ts) in omega (arith, e)
   allowed_out ts (x ∷ xs) once a =
-      let e = ap length (without_more (steps s) (base_of begin) (steps_have_names s (base_of begin) (no_frames begin)) x xs ts) in
+      let e = ap length (without_more (steps s) base (steps_have_names s base from) x xs ts) in
       let one = one_out ts x once a.0.0 in
-      let rest = allowed_out (without (steps s) (x ∷ []) ts) xs (Once-filter (steps s) (base_of begin) (steps_have_names s (base_of begin) (no_frames begin)) _ ts once) a.1 in
+      let rest = allowed_out (without (steps s) (x ∷ []) ts) xs (Once-filter (steps s) base (steps_have_names s base from) _ ts once) a.1 in
       omega (arith, e, one, rest)
 
-  after_out : (ts : List Past) (t : Past) → Once (steps s) (base_of begin) (steps_have_names s (base_of begin) (no_frames begin)) ts → In t ts → length (without (steps s) (after (steps s) ts t.step) ts) + length (after (steps s) ts t.step) ≡ length ts
+  after_out : (ts : List Past) (t : Past) → Once (steps s) base (steps_have_names s base from) ts → In t ts → length (without (steps s) (after (steps s) ts t.step) ts) + length (after (steps s) ts t.step) ≡ length ts
   after_out ts t once i =
       let all = after (steps s) ts t.step in
-      let k = allowed_out ts (reverse all) once (after_allowed (steps s) (base_of begin) (steps_have_names s (base_of begin) (no_frames begin)) ts t once i) in
-      let e = ap length (without_alike (steps s) (base_of begin) (steps_have_names s (base_of begin) (no_frames begin)) (reverse all) all ts (λ x j. reverse-In x all j) (λ x j. In-reverse x all j)) in
+      let k = allowed_out ts (reverse all) once (after_allowed (steps s) base (steps_have_names s base from) ts t once i) in
+      let e = ap length (without_alike (steps s) base (steps_have_names s base from) (reverse all) all ts (λ x j. reverse-In x all j) (λ x j. In-reverse x all j)) in
       let l = length-reverse all in
       omega (arith, k, e, l)
 
@@ -75,7 +76,7 @@ steps_undone story name n legal a =
     let k = (undo_said story s (world_of story) (past_of story) h name n a).0 in
     let now = steps_there (accepted story (Undo name)) s _ _ (stands_undone story s (world_of story) (past_of story) name k.step h k.free k.named) in
     let was = steps_there story s (world_of story) (past_of story) h in
-    let one = one_out s story.begin (past_of story) k.step (once story s (world_of story) (past_of story) h) k.free.0 in
+    let one = one_out s (base_of story) (from_start story s (world_of story) (past_of story) h) (past_of story) k.step (once story s (world_of story) (past_of story) h) k.free.0 in
     omega (arith, now, was, one)
 
 pub steps_rolled : (story : Story) (name : StepName) (undone : List StepName) → IsLegal story → plan_answer story name ≡ Ok undone
@@ -88,9 +89,9 @@ steps_rolled story name undone legal a =
     let own = once story s (world_of story) (past_of story) h in
     let now = steps_there (accepted story (Rollback name undone)) s _ _ (stands_rolled story s (world_of story) (past_of story) name undone k.step h k.stood k.named) in
     let was = steps_there story s (world_of story) (past_of story) h in
-    let out = after_out s story.begin (past_of story) k.step own k.stood in
+    let out = after_out s (base_of story) (from_start story s (world_of story) (past_of story) h) (past_of story) k.step own k.stood in
     let many : length undone ≡ length all = ap length k.names ∙ as_many (λ (t : Past). t.fact.name) (reverse all) ∙ length-reverse all in
-    let some = some_in k.step all (least_of (steps s) (base_of story.begin) (steps_have_names s (base_of story.begin) (no_frames story.begin)) (past_of story) k.step own k.stood).holds.itself in
+    let some = some_in k.step all (least_of (steps s) (base_of story) (steps_have_names s (base_of story) (from_start story s (world_of story) (past_of story) h)) (past_of story) k.step own k.stood).holds.itself in
     (omega (arith, now, was, out, many), omega (arith, many, some))
 
 steps_next : (story : Story) (e : Entry) → remaining (accepted story e) ≡ (after_entry story.begin (remainder story) e).steps
@@ -122,11 +123,11 @@ abbrev pub IsShallow : Step → Type 0
 IsShallow (started exec machine input) = depth (data_of input) ≤ 127
 IsShallow (moved name) = Unit {0}
 
--- each remaining step has its entry, and there is room for one more below a million for each step to be undone
+-- each remaining step and each settled one has its entry, and there is room for one more below a million for each step to be undone
 pub record IsCounted (story : Story) : Type 0 where
   pub some : length (remaining story) ≤ 65536
   pub all : length story.log + length (remaining story) ≤ 1000000
-  pub defined : length (defines story.log) + length (remaining story) ≤ length story.log
+  pub defined : length (defines story.log) + length (settled story) + length (remaining story) ≤ length story.log
   pub shallow : (step : Step) → In step (remaining story) → IsShallow step
 
 pub defines-append : (xs ys : List Entry) → defines (xs ++ ys) ≡ defines xs ++ defines ys
@@ -145,30 +146,32 @@ one_more : (story : Story) (e : Entry) → length (accepted story e).log ≡ len
 one_more story e = length-append story.log (e ∷ [])
 
 module _ (story : Story) (p : IsCounted story) where
-  counted_taken : (e : Entry) (step : Step) → remaining (accepted story e) ≡ remaining story ++ step ∷ [] → defines (e ∷ []) ≡ [] → IsShallow step → is_full_for_step story ≡ false → IsCounted (accepted story e)
-  counted_taken e step is none low room =
+  counted_taken : (e : Entry) (step : Step) → remaining (accepted story e) ≡ remaining story ++ step ∷ [] → settled (accepted story e) ≡ settled story → defines (e ∷ []) ≡ [] → IsShallow step → is_full_for_step story ≡ false → IsCounted (accepted story e)
+  counted_taken e step is before none low room =
       let r = room_for_step story room in
       let few = r.0 in
       let many = r.1 in
       let l : length (remaining (accepted story e)) ≡ length (remaining story) + 1 = ap length is ∙ length-append (remaining story) (step ∷ []) in
       let d = same_defines story e none in
       let n = one_more story e in
+      let b = ap length before in
       let was = p.defined in
       record {
         some = omega (arith, few, l);
         all = omega (arith, many, l, n);
-        defined = omega (arith, was, d, l, n);
+        defined = omega (arith, was, b, d, l, n);
         shallow = λ x i. elim (In-split x (remaining story) (step ∷ []) (subst (In x) is i)) [ inl j ↦ p.shallow x j | inr j ↦ elim j [ inl f ↦ subst IsShallow (sym f) low | inr z ↦ absurd z ] ];
       }
 
-  counted_less : (e : Entry) → defines (e ∷ []) ≡ [] → length (remaining (accepted story e)) + 1 ≤ length (remaining story) → ((x : Step) → In x (remaining (accepted story e)) → In x (remaining story)) → IsCounted (accepted story e)
-  counted_less e none less inside =
+  counted_less : (e : Entry) → settled (accepted story e) ≡ settled story → defines (e ∷ []) ≡ [] → length (remaining (accepted story e)) + 1 ≤ length (remaining story) → ((x : Step) → In x (remaining (accepted story e)) → In x (remaining story)) → IsCounted (accepted story e)
+  counted_less e before none less inside =
       let d = same_defines story e none in
       let n = one_more story e in
       let some = p.some in
       let all = p.all in
+      let b = ap length before in
       let was = p.defined in
-      record { some = omega (arith, some, less); all = omega (arith, all, less, n); defined = omega (arith, was, d, less, n); shallow = λ x i. p.shallow x (inside x i) }
+      record { some = omega (arith, some, less); all = omega (arith, all, less, n); defined = omega (arith, was, b, d, less, n); shallow = λ x i. p.shallow x (inside x i) }
 
 -- the names of some steps that are left out are among the names
 names_inside : (s : Setting) (xs ts : List Past) (x : Step) → In x (names_of (steps s) (without (steps s) xs ts)) → In x (names_of (steps s) ts)
@@ -183,13 +186,14 @@ counted_next story (Define name machine) legal p a =
     let d = ap length (defines-append story.log (Define name machine ∷ [])) in
     let m = length-append (defines story.log) (Define name machine ∷ []) in
     let some = p.some in
+    let b = ap length (settled_next story (Define name machine)) in
     let was = p.defined in
-    record { some = omega (arith, l, some); all = omega (arith, l, n, r); defined = omega (arith, l, n, d, m, was); shallow = λ x i. p.shallow x (subst (In x) e i) }
+    record { some = omega (arith, l, some); all = omega (arith, l, n, r); defined = omega (arith, l, n, b, d, m, was); shallow = λ x i. p.shallow x (subst (In x) e i) }
 counted_next story (Start exec machine input) legal p a =
-    counted_taken story p (Start exec machine input) (started exec.exec machine input) (steps_next story (Start exec machine input)) refl a.2
+    counted_taken story p (Start exec machine input) (started exec.exec machine input) (steps_next story (Start exec machine input)) (settled_next story (Start exec machine input)) refl a.2
     (start_room story (setting_of story) (world_of story) (past_of story) (legal_stands story legal) exec machine (start_name exec.exec) a.0)
 counted_next story (Stepped name kind) legal p a =
-    counted_taken story p (Stepped name kind) (moved name) (steps_next story (Stepped name kind)) refl tt
+    counted_taken story p (Stepped name kind) (moved name) (steps_next story (Stepped name kind)) (settled_next story (Stepped name kind)) refl tt
     (step_room story (setting_of story) (world_of story) (past_of story) (legal_stands story legal) name.thread (record { name = name; kind = kind }) a)
 counted_next story (Undo name) legal p a =
     let s = setting_of story in
@@ -197,7 +201,7 @@ counted_next story (Undo name) legal p a =
     let k = (undo_said story s (world_of story) (past_of story) h name name a).0 in
     let now = names_there (accepted story (Undo name)) s _ _ (stands_undone story s (world_of story) (past_of story) name k.step h k.free k.named) in
     let less = steps_undone story name name legal a in
-    counted_less story p (Undo name) refl (omega (arith, less)) (λ x i. subst (In x) (names_there story s (world_of story) (past_of story) h) (names_inside s (k.step ∷ []) (past_of story) x (subst (In x) (sym now) i)))
+    counted_less story p (Undo name) (settled_next story (Undo name)) refl (omega (arith, less)) (λ x i. subst (In x) (names_there story s (world_of story) (past_of story) h) (names_inside s (k.step ∷ []) (past_of story) x (subst (In x) (sym now) i)))
 counted_next story (Rollback name undone) legal p a =
     let s = setting_of story in
     let h = legal_stands story legal in
@@ -206,7 +210,7 @@ counted_next story (Rollback name undone) legal p a =
     let less = steps_rolled story name undone legal a in
     let fewer = less.0 in
     let some = less.1 in
-    counted_less story p (Rollback name undone) refl (omega (arith, fewer, some))
+    counted_less story p (Rollback name undone) (settled_next story (Rollback name undone)) refl (omega (arith, fewer, some))
     (λ x i. subst (In x) (names_there story s (world_of story) (past_of story) h) (names_inside s (after (steps s) (past_of story) k.step.step) (past_of story) x (subst (In x) (sym now) i)))
 
 first_counted : (begin : Begin) → IsLegal (of_log begin []) → IsCounted (of_log begin [])

@@ -15,7 +15,7 @@ use Rattle.book_log.specs.Answers.{from_step, names_of_facts, remains, plan_answ
 use Rattle.book_log.specs.Beginning.{table_of}
 use Rattle.book_log.specs.Laws.{LegalLogsRun, AcceptedIsLegal}
 use Rattle.book_log.specs.Legal.{IsAccepted, GoesOnLegally, IsLegal}
-use Rattle.book_log.specs.Story.{Story, accepted, base_of, run_in, remainder, setting_of, world_of, past_of, consequences_of}
+use Rattle.book_log.specs.Story.{Story, accepted, first_world, world_after, run_in, remainder, setting_of, world_of, past_of, consequences_of}
 use Rattle.book_log.specs.declared.begin.Begin.{Begin}
 use Rattle.book_log.specs.declared.entry.Entry.{Entry}
 use Rattle.book_log.specs.declared.entry.Entry.TheVariants.{Define, Start, Step as Stepped, Undo, Rollback}
@@ -120,15 +120,15 @@ unfolding IsLegal
 of_legal P first more story h = let empty = empty_legal story.begin h.0.0 h.0.1 in along P more story.log (of_log story.begin []) empty (first story.begin empty) h.1
 
 -- where a beginning stands
-pub first_stands_there : (begin : Begin) → StandsAt (of_log begin []) (setting_of (of_log begin [])) (base_of begin) []
-unfolding remainder run_in
-first_stands_there begin = record { setting = refl; runs = refl }
+pub first_stands_there : (begin : Begin) → StandsAt (of_log begin []) (setting_of (of_log begin [])) (first_world begin) []
+unfolding remainder run_in world_after
+first_stands_there begin = record { setting = refl; before = []; leads = refl; runs = refl }
 
 -- a legal story stands in its own world
 pub legal_stands : (story : Story) → IsLegal story → StandsAt story (setting_of story) (world_of story) (past_of story)
 legal_stands story h =
     let k = of_legal StandsSome (λ begin legal. some_stands _ _ _ _ (first_stands_there begin)) (λ story e legal p a. accepted_stands story e p.setting p.world p.past p.stands_there a) story h in
-    stands story k.world k.past k.stands_there.runs
+    stands story k.setting k.world k.past k.stands_there
 
 pub legal_logs_run : LegalLogsRun
 legal_logs_run story h = (legal_stands story h).runs

@@ -14,10 +14,10 @@ use Rattle.depends.proofs.Named.{steps_have_names}
 use Rattle.book_log.specs.Answers.{undo_answer, once_undone, order_answer, names_of_facts}
 use Rattle.book_log.specs.Laws as laws
 use Rattle.book_log.specs.Legal.{IsLegal}
-use Rattle.book_log.specs.Story.{Story, accepted, base_of, setting_of, world_of, past_of, consequences_of}
+use Rattle.book_log.specs.Story.{Story, accepted, base_of, settled, setting_of, world_of, past_of, consequences_of}
 use Rattle.book_log.specs.declared.entry.Entry.TheVariants.{Undo, Rollback}
 use Rattle.book_log.specs.declared.refusal.Refusal.{Refusal}
-use Rattle.book_log.proofs.Standing.{StandsAt, step_itself, after_same, no_frames, past_there, is_run, fact_named, consequences_there, stands_undone, stands_rolled}
+use Rattle.book_log.proofs.Standing.{StandsAt, step_itself, after_same, from_start, past_there, is_run, fact_named, consequences_there, settled_next, stands_undone, stands_rolled}
 use Rattle.book_log.proofs.Answered.{once, undo_said, free_undone}
 use Rattle.book_log.proofs.LegalRuns.{plan_said, accepted_is_legal, legal_stands}
 use Rattle.book_log.proofs.TakenBack.{leaves_same}
@@ -46,7 +46,7 @@ allowed_is_taken [] story s w ts legal h a = record {
   after = story;
   accepted = refl;
   legal = legal;
-  there = subst (StandsAt story s w) (sym (without_none (steps s) (base_of story.begin) (steps_have_names s (base_of story.begin) (no_frames story.begin)) ts)) h;
+  there = subst (StandsAt story s w) (sym (without_none (steps s) (base_of story) (steps_have_names s (base_of story) (from_start story s w ts h)) ts)) h;
 }
 allowed_is_taken (x ∷ xs) story s w ts legal h a =
     let named = sym (fact_named story s w ts h x a.0.0) in
@@ -57,7 +57,7 @@ allowed_is_taken (x ∷ xs) story s w ts legal h a =
       after = k.after;
       accepted = ap (λ (r : Result StepName Refusal). once_undone r (order_answer (accepted story (Undo x.fact.name)) (names_of_facts xs))) said ∙ k.accepted;
       legal = k.legal;
-      there = subst (StandsAt k.after s _) (without_more (steps s) (base_of story.begin) (steps_have_names s (base_of story.begin) (no_frames story.begin)) x xs ts) k.there;
+      there = subst (StandsAt k.after s _) (without_more (steps s) (base_of story) (steps_have_names s (base_of story) (from_start story s w ts h)) x xs ts) k.there;
     }
 
 pub allowed_orders_are_accepted : laws.AllowedOrdersAreAccepted
@@ -79,6 +79,12 @@ pub order_split : (r : Result StepName Refusal) (rest : Result Story Refusal) (l
 order_split (Ok n) rest left h = (n, refl, h)
 order_split (Err e) rest left h = cc
 
+-- undoings settle nothing
+pub order_settles : (names : List StepName) (story left : Story) → order_answer story names ≡ Ok left → settled left ≡ settled story
+order_settles [] story left h = let same : story ≡ left = cc in ap settled (sym same)
+order_settles (name ∷ names) story left h =
+    order_settles names (accepted story (Undo name)) left (order_split (undo_answer story name) (order_answer (accepted story (Undo name)) names) left h).2 ∙ settled_next story (Undo name)
+
 pub accepted_is_unwound : (names : List StepName) (story left : Story) (s : Setting) (w : World) (ts : List Past) → StandsAt story s w ts → order_answer story names ≡ Ok left → IsUnwound left s w ts names
 accepted_is_unwound [] story left s w ts h a =
     let same : story ≡ left = cc in
@@ -86,7 +92,7 @@ accepted_is_unwound [] story left s w ts h a =
       order = [];
       named = refl;
       allowed = tt;
-      there = subst (λ x. StandsAt x s w (without (steps s) [] ts)) same (subst (StandsAt story s w) (sym (without_none (steps s) (base_of story.begin) (steps_have_names s (base_of story.begin) (no_frames story.begin)) ts)) h);
+      there = subst (λ x. StandsAt x s w (without (steps s) [] ts)) same (subst (StandsAt story s w) (sym (without_none (steps s) (base_of story) (steps_have_names s (base_of story) (from_start story s w ts h)) ts)) h);
     }
 accepted_is_unwound (name ∷ names) story left s w ts h a =
     let p = order_split (undo_answer story name) (order_answer (accepted story (Undo name)) names) left a in
@@ -97,7 +103,7 @@ accepted_is_unwound (name ∷ names) story left s w ts h a =
       order = x.step ∷ k.order;
       named = ap (λ (n : StepName). n ∷ names_of_facts k.order) x.fact ∙ ap (λ (l : List StepName). name ∷ l) k.named;
       allowed = (x.free, k.allowed);
-      there = subst (StandsAt left s _) (without_more (steps s) (base_of story.begin) (steps_have_names s (base_of story.begin) (no_frames story.begin)) x.step k.order ts) k.there;
+      there = subst (StandsAt left s _) (without_more (steps s) (base_of story) (steps_have_names s (base_of story) (from_start story s w ts h)) x.step k.order ts) k.there;
     }
 
 pub accepted_orders_are_whole : laws.AcceptedOrdersAreWhole
@@ -108,18 +114,18 @@ accepted_orders_are_whole story left names name y legal a i j =
     let h = legal_stands story legal in
     let k = accepted_is_unwound names story left s w ts h a in
     let x = map-In (λ (t : Past). t.fact.name) name k.order (subst (In name) (sym k.named) i) in
-    let there = allowed_in (steps s) (base_of story.begin) (steps_have_names s (base_of story.begin) (no_frames story.begin)) ts k.order k.allowed x.0 x.1 in
+    let there = allowed_in (steps s) (base_of story) (steps_have_names s (base_of story) (from_start story s w ts h)) ts k.order k.allowed x.0 x.1 in
     let named : name ≡ name_of x.0.step = sym x.2 ∙ fact_named story s w ts h x.0 there in
     let behind : In y (after (steps s) ts x.0.step) = subst (In y) (consequences_there story s w ts h name ∙ after_same s (moved name) x.0.step ts named) j in
     subst (In y.fact.name) k.named
-    (In-map (λ (t : Past). t.fact.name) y k.order (orders_hold_after (steps s) (base_of story.begin) (steps_have_names s (base_of story.begin) (no_frames story.begin)) w ts k.order x.0 y (is_run story s w ts h) k.allowed x.1 behind))
+    (In-map (λ (t : Past). t.fact.name) y k.order (orders_hold_after (steps s) (base_of story) (steps_have_names s (base_of story) (from_start story s w ts h)) w ts k.order x.0 y (is_run story s w ts h) k.allowed x.1 behind))
 
 -- a step of one order stands in each of the same names
 same_steps : (story : Story) (s : Setting) (w : World) (ts xs ys : List Past) → StandsAt story s w ts → IsAllowed (steps s) ts xs → IsAllowed (steps s) ts ys
     → ((name : StepName) → In name (names_of_facts xs) → In name (names_of_facts ys)) → (x : Past) → In x xs → In x ys
 same_steps story s w ts xs ys h a b names x i =
-    let base = base_of story.begin in
-    let have = steps_have_names s base (no_frames story.begin) in
+    let base = base_of story in
+    let have = steps_have_names s base (from_start story s w ts h) in
     let y = map-In (λ (t : Past). t.fact.name) x.fact.name ys (names x.fact.name (In-map (λ (t : Past). t.fact.name) x xs i)) in
     let x_there = allowed_in (steps s) base have ts xs a x i in
     let y_there = allowed_in (steps s) base have ts ys b y.0 y.1 in
@@ -133,14 +139,14 @@ orders_agree_all story a b names others legal one other same =
     let w = world_of story in
     let ts = past_of story in
     let h = legal_stands story legal in
-    let base = base_of story.begin in
-    let have = steps_have_names s base (no_frames story.begin) in
+    let base = base_of story in
+    let have = steps_have_names s base (from_start story s w ts h) in
     let k = accepted_is_unwound names story a s w ts h one in
     let l = accepted_is_unwound others story b s w ts h other in
     let forth = same_steps story s w ts k.order l.order h k.allowed l.allowed (λ n i. subst (In n) (sym l.named) ((same n).0 (subst (In n) k.named i))) in
     let back = same_steps story s w ts l.order k.order h l.allowed k.allowed (λ n i. subst (In n) (sym k.named) ((same n).1 (subst (In n) l.named i))) in
     leaves_same a b s (undo_each (steps s) w k.order) (undo_each (steps s) w l.order) (without (steps s) k.order ts) (without (steps s) l.order ts) k.there l.there
-    (orders_agree (steps s) base have (lawful.steps_are_lawful s base (no_frames story.begin)) w ts k.order l.order (is_run story s w ts h) k.allowed l.allowed (λ x. (forth x, back x)))
+    (orders_agree (steps s) base have (lawful.steps_are_lawful s base (from_start story s w ts h)) w ts k.order l.order (is_run story s w ts h) k.allowed l.allowed (λ x. (forth x, back x)))
     (without_alike (steps s) base have k.order l.order ts forth back)
 
 -- ---- rollbacks
@@ -151,8 +157,8 @@ rollback_is_exact story name undone legal a =
     let w = world_of story in
     let ts = past_of story in
     let h = legal_stands story legal in
-    let base = base_of story.begin in
-    let have = steps_have_names s base (no_frames story.begin) in
+    let base = base_of story in
+    let have = steps_have_names s base (from_start story s w ts h) in
     let k = plan_said story s w ts h name undone a in
     let all = after (steps s) ts k.step.step in
     let own = once story s w ts h in

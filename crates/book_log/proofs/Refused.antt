@@ -12,13 +12,13 @@ use Rattle.depends.specs.World.{Setting, World}
 use Rattle.depends.specs.Fact.{Fact}
 use Rattle.depends.specs.Dependence.{depends_directly}
 use Rattle.depends.specs.Instance.{Past, steps}
-use Rattle.depends.specs.Laws.{facts_of}
+use Rattle.depends.specs.Laws.{IsFrom, facts_of}
 use Rattle.depends.proofs.Named.{steps_have_names}
 use Rattle.book_log.specs.Answers.{from_step, free_answer, found_answer, undo_answer}
 use Rattle.book_log.specs.Laws.{IsFirstDependent, UndoAnswersAreExact}
 use Rattle.book_log.specs.Story.{Story, base_of, setting_of, world_of, past_of}
 use Rattle.book_log.specs.declared.refusal.Refusal.TheVariants.{NoStep, HasDependents}
-use Rattle.book_log.proofs.Standing.{StandsAt, no_frames, past_there, names_there, fact_named}
+use Rattle.book_log.proofs.Standing.{StandsAt, from_start, past_there, names_there, fact_named}
 use Rattle.book_log.proofs.Answered.{Found, found_by, once, undo_said, step_found, free_undone}
 use Rattle.book_log.proofs.LegalRuns.{legal_stands}
 
@@ -80,12 +80,12 @@ not_found name ts none (Some p) e =
 
 -- ---- the first dependent, at its place
 
-module _ (s : Setting) (story : Story) where
+module _ (s : Setting) (base : World) (from : IsFrom s base) where
   abbrev OnceIn : List Past → Type 0
-  OnceIn ts = Once (steps s) (base_of story.begin) (steps_have_names s (base_of story.begin) (no_frames story.begin)) ts
+  OnceIn ts = Once (steps s) base (steps_have_names s base from) ts
 
   twice : (ts : List Past) → OnceIn ts → (x : Past) → Before x x ts → ⊥
-  twice ts o = never_twice (steps s) (base_of story.begin) (steps_have_names s (base_of story.begin) (no_frames story.begin)) ts o
+  twice ts o = never_twice (steps s) base (steps_have_names s base from) ts o
 
   first_there : (front middle back : List Past) (t y : Past) → OnceIn (front ++ t ∷ (middle ++ y ∷ back)) → depends_directly t.fact y.fact ≡ true → ((z : Past) → In z middle → depends_directly t.fact z.fact ≡ false)
       → IsFirstDependent s (front ++ t ∷ (middle ++ y ∷ back)) t y
@@ -132,7 +132,7 @@ module _ (story : Story) (s : Setting) (w : World) (ts : List Past) (h : StandsA
         y.step,
         ap (λ (a : Fact). a.name) x.fact ∙ sym x.named,
         ap (λ (a : Fact). a.name) y.fact ∙ e,
-        subst (λ (l : List Past). IsFirstDependent s l x.step y.step) (sym whole) (first_there s story x.front y.front y.back x.step y.step (subst (OnceIn s story) whole (once story s w ts h)) y.passes y.before),
+        subst (λ (l : List Past). IsFirstDependent s l x.step y.step) (sym whole) (first_there s (base_of story) (from_start story s w ts h) x.front y.front y.back x.step y.step (subst (OnceIn s (base_of story) (from_start story s w ts h)) whole (once story s w ts h)) y.passes y.before),
       )
 
   dependent_behind : (name d : StepName) (f g : Fact) (later : List Fact) → Found name ts f later → find (depends_directly f) later ≡ Some g → g.name ≡ d → Dependent name d
@@ -148,7 +148,7 @@ module _ (story : Story) (s : Setting) (w : World) (ts : List Past) (h : StandsA
   dependent_at : (name d : StepName) (front middle back : List Past) (t y : Past) → ts ≡ front ++ t ∷ (middle ++ y ∷ back) → t.fact.name ≡ name → y.fact.name ≡ d → IsFirstDependent s ts t y → undo_answer story name ≡ Err (HasDependents d)
   unfolding undo_answer
   dependent_at name d front middle back t y whole e f is =
-      let before = none_before s story front middle back t y (subst (λ (l : List Past). IsFirstDependent s l t y) whole is) in
+      let before = none_before s (base_of story) (from_start story s w ts h) front middle back t y (subst (λ (l : List Past). IsFirstDependent s l t y) whole is) in
       let i : In t ts = subst (In t) (sym whole) (here t front (middle ++ y ∷ back)) in
       ap (found_answer name) (step_found story s w ts h t name front (middle ++ y ∷ back) whole (sym (fact_named story s w ts h t i) ∙ e))
       ∙ ap (free_answer name) (found_first (depends_directly t.fact) middle back y before is.depends)
@@ -157,7 +157,7 @@ module _ (story : Story) (s : Setting) (w : World) (ts : List Past) (h : StandsA
   dependent_answered : (name d : StepName) (t y : Past) → t.fact.name ≡ name → y.fact.name ≡ d → IsFirstDependent s ts t y → undo_answer story name ≡ Err (HasDependents d)
   dependent_answered name d t y e f is =
       let p = place t ts (Before-first t y ts is.later) in
-      let behind = behind_place t y p.front p.back (twice s story (p.front ++ t ∷ p.back) (subst (OnceIn s story) p.whole (once story s w ts h))) (subst (Before t y) p.whole is.later) in
+      let behind = behind_place t y p.front p.back (twice s (base_of story) (from_start story s w ts h) (p.front ++ t ∷ p.back) (subst (OnceIn s (base_of story) (from_start story s w ts h)) p.whole (once story s w ts h))) (subst (Before t y) p.whole is.later) in
       let q = place y p.back behind in
       dependent_at name d p.front q.front q.back t y (p.whole ∙ ap (λ (l : List Past). p.front ++ t ∷ l) q.whole) e f is
 
@@ -168,8 +168,8 @@ undo_answers_are_exact story name legal =
     let ts = past_of story in
     let h = legal_stands story legal in
     let names = names_there story s w ts h in
-    let base = base_of story.begin in
-    let have = steps_have_names s base (no_frames story.begin) in
+    let base = base_of story in
+    let have = steps_have_names s base (from_start story s w ts h) in
     record {
       undone = (
         λ a. let k = (undo_said story s w ts h name name a).0 in (k.step, k.fact, k.free),

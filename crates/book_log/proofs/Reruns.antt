@@ -10,21 +10,22 @@ use Rattle.trace_theory.proofs.Least.{Once, not_backward}
 use Rattle.trace_theory.proofs.Lists.{by_bool, place, In-middle, here}
 use Rattle.trace_theory.proofs.Records.{run_names, run_is}
 use Rattle.trace_theory.proofs.Runs.{Runs, from_run, and_then_some, map_some}
-use Rattle.depends.specs.Steps.{Step, name_of}
+use Rattle.depends.specs.Steps.{Step, started, moved, name_of}
 use Rattle.depends.specs.World.{Setting, World, is_same_step}
 use Rattle.depends.specs.Instance.{Past, steps}
+use Rattle.depends.specs.Laws.{IsFrom}
 use Rattle.depends.proofs.Lawful as lawful
 use Rattle.depends.proofs.Named.{steps_have_names}
-use Rattle.book_log.specs.Answers.{step_named, steps_named, defines, entry_of, retold, or_no_step, rerun_answer}
+use Rattle.book_log.specs.Answers.{step_named, steps_named, defines, entry_for, entry_of, retold, or_no_step, rerun_answer}
 use Rattle.book_log.specs.Laws as laws
 use Rattle.book_log.specs.Legal.{IsAccepted, IsLegal}
-use Rattle.book_log.specs.Story.{Story, accepted, after_entry, base_of, remaining, machine_of, setting_of, setting_in, remainder, world_of, past_of}
+use Rattle.book_log.specs.Story.{Story, accepted, after_entry, base_in, base_of, settled, world_after, remaining, machine_of, setting_of, setting_in, remainder, world_of, past_of}
 use Rattle.book_log.specs.declared.begin.Begin.{Begin}
 use Rattle.book_log.specs.declared.entry.Entry.{Entry}
 use Rattle.book_log.specs.declared.entry.Entry.TheVariants.{Define, Start, Step as Stepped, Undo, Rollback}
 use Rattle.book_log.specs.declared.refusal.Refusal.{Refusal}
 use Rattle.book_log.specs.declared.refusal.Refusal.TheVariants.{NoStep}
-use Rattle.book_log.proofs.Standing.{StandsAt, step_same, step_itself, no_frames, world_there, past_there, names_there, is_run, remainder_next, knowing, stands_defined}
+use Rattle.book_log.proofs.Standing.{StandsAt, step_same, step_itself, from_start, world_there, past_there, names_there, is_run, remainder_next, settled_next, base_next, knowing, stands_defined, base_defined}
 use Rattle.book_log.proofs.Answered.{once}
 use Rattle.book_log.proofs.LegalRuns.{of_log, of_legal, accepted_is_legal, legal_stands, first_stands_there}
 use Rattle.book_log.proofs.Counts.{IsShallow, defines-append, room_for_define, has_room_for_define, has_room_for_step, steps_there, legal_counts}
@@ -32,18 +33,27 @@ use Rattle.book_log.proofs.TakenBack.{entry_accepted, stands_again}
 
 -- ---- the definitions alone
 
--- the definitions of a log are a legal one, and leave no steps
+-- the definitions of a log are a legal one, and leave no steps; the base is as it was
 pub record IsDefined (story : Story) : Type 0 where
   pub legal : IsLegal (of_log story.begin (defines story.log))
-  pub there : StandsAt (of_log story.begin (defines story.log)) (setting_of story) (base_of story.begin) []
+  pub there : StandsAt (of_log story.begin (defines story.log)) (setting_of story) (base_of story) []
+  pub settles : settled (of_log story.begin (defines story.log)) ≡ settled story
 
--- an entry that is no definition
-defined_still : (story : Story) (e : Entry) → defines (e ∷ []) ≡ [] → setting_of (accepted story e) ≡ setting_of story → IsDefined story → IsDefined (accepted story e)
-defined_still story e none same p =
+-- in which setting it is, what was settled, and from which base it goes on
+abbrev IsOver : Story → Setting → World → List Step → List Entry → Type 0
+IsOver story s base before log = StandsAt (of_log story.begin log) s base [] × (settled (of_log story.begin log) ≡ before)
+
+-- an entry that is no definition and settles nothing
+defined_still : (story : Story) (e : Entry) → defines (e ∷ []) ≡ [] → setting_of (accepted story e) ≡ setting_of story → base_of (accepted story e) ≡ base_of story → settled (accepted story e) ≡ settled story → IsDefined story → IsDefined (accepted story e)
+defined_still story e none setting base before p =
     let log : defines (story.log ++ e ∷ []) ≡ defines story.log = defines-append story.log (e ∷ []) ∙ ap (λ (l : List Entry). defines story.log ++ l) none ∙ append-nil (defines story.log) in
+    let is = subst (λ s. IsOver story s (base_of (accepted story e)) (settled (accepted story e)) (defines story.log)) (sym setting)
+    (subst (λ w. IsOver story (setting_of story) w (settled (accepted story e)) (defines story.log)) (sym base)
+    (subst (λ l. IsOver story (setting_of story) (base_of story) l (defines story.log)) (sym before) (p.there, p.settles))) in
     record {
       legal = subst (λ l. IsLegal (of_log story.begin l)) (sym log) p.legal;
-      there = subst (λ l. StandsAt (of_log story.begin l) (setting_of (accepted story e)) (base_of story.begin) []) (sym log) (subst (λ s. StandsAt (of_log story.begin (defines story.log)) s (base_of story.begin) []) (sym same) p.there);
+      there = subst (λ l. StandsAt (of_log story.begin l) (setting_of (accepted story e)) (base_of (accepted story e)) []) (sym log) is.0;
+      settles = subst (λ l. settled (of_log story.begin l) ≡ settled (accepted story e)) (sym log) is.1;
     }
 
 setting_next : (story : Story) (e : Entry) → setting_of (accepted story e) ≡ setting_in story.begin (after_entry story.begin (remainder story) e)
@@ -52,41 +62,54 @@ setting_next story e = ap (setting_in story.begin) (remainder_next story e)
 defined_next : (story : Story) (e : Entry) → IsLegal story → IsDefined story → IsAccepted story e → IsDefined (accepted story e)
 defined_next story (Define name machine) legal p a =
     let s = setting_of story in
+    let h = legal_stands story legal in
     let alone = of_log story.begin (defines story.log) in
     let room = room_for_define story a.1 in
     let count = (legal_counts story legal).defined in
-    let none = steps_there alone s (base_of story.begin) [] p.there in
+    let none = steps_there alone s (base_of story) [] p.there in
     let new : IsAccepted alone (Define name machine) = (ap (λ (x : Setting). x.machines name) p.there.setting ∙ a.0, has_room_for_define alone (omega (arith, room, count, none)), a.2) in
     let log = defines-append story.log (Define name machine ∷ []) in
-    let there = stands_defined alone s (base_of story.begin) [] name machine p.there a.0 in
+    let there = stands_defined alone s (base_of story) [] name machine p.there a.0 in
     let same : setting_of (accepted story (Define name machine)) ≡ knowing s name machine = setting_next story (Define name machine) in
+    let base = base_defined story s (world_of story) (past_of story) name machine h a.0 in
+    let before : settled (accepted alone (Define name machine)) ≡ settled (accepted story (Define name machine)) = settled_next alone (Define name machine) ∙ p.settles ∙ sym (settled_next story (Define name machine)) in
     record {
       legal = subst (λ l. IsLegal (of_log story.begin l)) (sym log) (accepted_is_legal alone (Define name machine) p.legal new);
-      there = subst (λ l. StandsAt (of_log story.begin l) (setting_of (accepted story (Define name machine))) (base_of story.begin) []) (sym log)
-          (subst (λ x. StandsAt (accepted alone (Define name machine)) x (base_of story.begin) []) (sym same) there);
+      there = subst (λ l. StandsAt (of_log story.begin l) (setting_of (accepted story (Define name machine))) (base_of (accepted story (Define name machine))) []) (sym log)
+          (subst (λ w. StandsAt (accepted alone (Define name machine)) (setting_of (accepted story (Define name machine))) w []) (sym base)
+          (subst (λ x. StandsAt (accepted alone (Define name machine)) x (base_of story) []) (sym same) there));
+      settles = subst (λ l. settled (of_log story.begin l) ≡ settled (accepted story (Define name machine))) (sym log) before;
     }
-defined_next story (Start exec machine input) legal p a = defined_still story (Start exec machine input) refl (setting_next story (Start exec machine input)) p
-defined_next story (Stepped name kind) legal p a = defined_still story (Stepped name kind) refl (setting_next story (Stepped name kind)) p
-defined_next story (Undo name) legal p a = defined_still story (Undo name) refl (setting_next story (Undo name)) p
-defined_next story (Rollback name undone) legal p a = defined_still story (Rollback name undone) refl (setting_next story (Rollback name undone)) p
+defined_next story (Start exec machine input) legal p a = let e = Start exec machine input in defined_still story e refl (setting_next story e) (base_next story e) (settled_next story e) p
+defined_next story (Stepped name kind) legal p a = let e = Stepped name kind in defined_still story e refl (setting_next story e) (base_next story e) (settled_next story e) p
+defined_next story (Undo name) legal p a = let e = Undo name in defined_still story e refl (setting_next story e) (base_next story e) (settled_next story e) p
+defined_next story (Rollback name undone) legal p a = let e = Rollback name undone in defined_still story e refl (setting_next story e) (base_next story e) (settled_next story e) p
 
 first_defined : (begin : Begin) → IsLegal (of_log begin []) → IsDefined (of_log begin [])
-first_defined begin legal = record { legal = legal; there = first_stands_there begin }
+unfolding remainder world_after
+first_defined begin legal = record { legal = legal; there = first_stands_there begin; settles = refl }
 
 pub legal_defines : (story : Story) → IsLegal story → IsDefined story
 legal_defines story legal = of_legal IsDefined first_defined defined_next story legal
 
 -- ---- the steps after them
 
-pub record IsRetold (begin : Begin) (log : List Entry) (s : Setting) (v : World) (ts : List Past) : Type 0 where
+pub record IsRetold (begin : Begin) (log : List Entry) (s : Setting) (before : List Step) (v : World) (ts : List Past) : Type 0 where
   pub legal : IsLegal (of_log begin log)
   pub there : StandsAt (of_log begin log) s v ts
+  pub settles : settled (of_log begin log) ≡ before
+
+-- the entry of a step settles nothing
+settled_again : (story : Story) (t : Past) (step : Step) → settled (accepted story (entry_for t step)) ≡ settled story
+settled_again story t (started exec machine input) = settled_next story (entry_for t (started exec machine input))
+settled_again story t (moved name) = settled_next story (entry_for t (moved name))
 
 pub retell : (ts : List Past) (story : Story) (s : Setting) (w v : World) (us : List Past) → IsLegal story → StandsAt story s w us → Runs (steps s) w ts v → ((t : Past) → In t ts → IsShallow t.step)
-    → length us + length ts ≤ 65536 → length story.log + length us + (length ts + length ts) ≤ 1000000 → IsRetold story.begin (story.log ++ map entry_of ts) s v (us ++ ts)
+    → length us + length ts ≤ 65536 → length story.log + length us + (length ts + length ts) ≤ 1000000 → IsRetold story.begin (story.log ++ map entry_of ts) s (settled story) v (us ++ ts)
 retell [] story s w v us legal h runs low few many = record {
   legal = subst (λ l. IsLegal (of_log story.begin l)) (sym (append-nil story.log)) legal;
   there = subst (λ l. StandsAt (of_log story.begin l) s v (us ++ [])) (sym (append-nil story.log)) (subst (StandsAt story s v) (sym (append-nil us)) (subst (λ x. StandsAt story s x us) runs h));
+  settles = subst (λ l. settled (of_log story.begin l) ≡ settled story) (sym (append-nil story.log)) refl;
 }
 retell (t ∷ ts) story s w v us legal h runs low few many =
     let there = steps_there story s w us h in
@@ -98,7 +121,9 @@ retell (t ∷ ts) story s w v us legal h runs low few many =
     let k = retell ts next s runs.0 v (us ++ t ∷ []) (accepted_is_legal story (entry_of t) legal new) (stands_again story s w runs.0 us t h runs.1) runs.2 (λ x i. low x (inr i)) (omega (arith, few, m)) (omega (arith, many, l, m)) in
     let log = append_assoc story.log (entry_of t ∷ []) (map entry_of ts) in
     let past = append_assoc us (t ∷ []) ts in
-    subst (λ x. IsRetold story.begin x s v (us ++ t ∷ ts)) log (subst (λ x. IsRetold story.begin ((story.log ++ entry_of t ∷ []) ++ map entry_of ts) s v x) past k)
+    let before = settled_again story t t.step in
+    subst (λ l. IsRetold story.begin (story.log ++ entry_of t ∷ map entry_of ts) s l v (us ++ t ∷ ts)) before
+    (subst (λ x. IsRetold story.begin x s (settled next) v (us ++ t ∷ ts)) log (subst (λ x. IsRetold story.begin ((story.log ++ entry_of t ∷ []) ++ map entry_of ts) s (settled next) v x) past k))
 
 -- ---- as many
 
@@ -137,32 +162,32 @@ named_chosen ss (name ∷ names) chosen h =
       λ x i. elim (subst (In x) (sym m.2) i) as (λ _. In x ss) [ inl e ↦ subst (λ (z : Step). In z ss) (sym e) f.1 | inr j ↦ rest.1 x j ],
     )
 
-module _ (s : Setting) (begin : Begin) where
+module _ (s : Setting) (base : World) (from : IsFrom s base) where
   -- a step of a run is the first of its name
-  named_there : (ts : List Past) (a : Step) → Once (steps s) (base_of begin) (steps_have_names s (base_of begin) (no_frames begin)) ts → In a (names_of (steps s) ts) → step_named (name_of a) (names_of (steps s) ts) ≡ Some a
+  named_there : (ts : List Past) (a : Step) → Once (steps s) base (steps_have_names s base from) ts → In a (names_of (steps s) ts) → step_named (name_of a) (names_of (steps s) ts) ≡ Some a
   named_there [] a once i = absurd i
   named_there (t ∷ ts) a once (inl e) = let k = ap (λ (x : Step). is_same_step (name_of a) (name_of x)) (sym e) ∙ step_itself (name_of a) in rw k (ap Some (sym e))
   named_there (t ∷ ts) a once (inr i) =
-      let have = steps_have_names s (base_of begin) (no_frames begin) in
-      let p = named_place (steps s) (base_of begin) have a ts i in
+      let have = steps_have_names s base from in
+      let p = named_place (steps s) base have a ts i in
       let there = subst (In p.step) (sym p.whole) (here p.step p.front p.back) in
       let apart = once t p.step (inl (refl, there)) in
-      let k = ap (λ (x : Step). is_same_step (name_of x) (name_of t.step)) (sym p.named) ∙ not_backward (steps s) (base_of begin) have t.step p.step.step apart in
+      let k = ap (λ (x : Step). is_same_step (name_of x) (name_of t.step)) (sym p.named) ∙ not_backward (steps s) base have t.step p.step.step apart in
       rw k (named_there ts a (λ x y b. once x y (inr b)) i)
 
-  all_named : (ts : List Past) (chosen : List Step) → Once (steps s) (base_of begin) (steps_have_names s (base_of begin) (no_frames begin)) ts → ((a : Step) → In a chosen → In a (names_of (steps s) ts)) → steps_named (names_of (steps s) ts) (map name_of chosen) ≡ Some chosen
+  all_named : (ts : List Past) (chosen : List Step) → Once (steps s) base (steps_have_names s base from) ts → ((a : Step) → In a chosen → In a (names_of (steps s) ts)) → steps_named (names_of (steps s) ts) (map name_of chosen) ≡ Some chosen
   all_named ts [] once inside = refl
   all_named ts (a ∷ chosen) once inside = let k = named_there ts a once (inside a (inl refl)) in let rest = all_named ts chosen once (λ x i. inside x (inr i)) in rw (k, rest) refl
 
 -- ---- reruns
 
 -- a run of some of the remaining steps is retold
-retold_run : (story : Story) (ss : List Step) (v : World) (us : List Past) → IsLegal story → ((x : Step) → In x ss → In x (remaining story)) → run (steps (setting_of story)) (base_of story.begin) ss ≡ Some (v, us)
-    → IsRetold story.begin (retold story us).log (setting_of story) v us
+retold_run : (story : Story) (ss : List Step) (v : World) (us : List Past) → IsLegal story → ((x : Step) → In x ss → In x (remaining story)) → run (steps (setting_of story)) (base_of story) ss ≡ Some (v, us)
+    → IsRetold story.begin (retold story us).log (setting_of story) (settled story) v us
 retold_run story ss v us legal inside runs =
     let s = setting_of story in
-    let base = base_of story.begin in
-    let have = steps_have_names s base (no_frames story.begin) in
+    let base = base_of story in
+    let have = steps_have_names s base (from_start story s (world_of story) (past_of story) (legal_stands story legal)) in
     let is = run_is (steps s) ss base v us runs in
     let named = run_names (steps s) ss base v us runs in
     let own : (t : Past) → In t us → In t.step (remaining story) = λ t i. inside t.step (subst (In t.step) named (In-names (steps s) base have t us i)) in
@@ -172,7 +197,8 @@ retold_run story ss v us legal inside runs =
     let all = counts.all in
     let defined = counts.defined in
     let d = legal_defines story legal in
-    retell us (of_log story.begin (defines story.log)) s base v [] d.legal d.there (from_run (steps s) us base v is) (λ t i. counts.shallow t.step (own t i)) (omega (arith, few, some)) (omega (arith, few, all, defined))
+    subst (λ l. IsRetold story.begin (retold story us).log s l v us) d.settles
+    (retell us (of_log story.begin (defines story.log)) s base v [] d.legal d.there (from_run (steps s) us base v is) (λ t i. counts.shallow t.step (own t i)) (omega (arith, few, some)) (omega (arith, few, all, defined)))
 
 pub rerun_split : (o : Option Story) (again : Story) → or_no_step o ≡ Ok again → o ≡ Some again
 rerun_split None again h = cc
@@ -183,12 +209,23 @@ unfolding rerun_answer
 reruns_are_legal story again names legal h =
     let s = setting_of story in
     let o = rerun_split _ again h in
-    let p = map_some (λ (q : World × List Past). retold story q.1) (option_and_then (run (steps s) (base_of story.begin)) (steps_named (remaining story) names)) again o in
-    let c = and_then_some (run (steps s) (base_of story.begin)) (steps_named (remaining story) names) p.0 p.1 in
+    let p = map_some (λ (q : World × List Past). retold story q.1) (option_and_then (run (steps s) (base_of story)) (steps_named (remaining story) names)) again o in
+    let c = and_then_some (run (steps s) (base_of story)) (steps_named (remaining story) names) p.0 p.1 in
     let n = named_chosen (remaining story) names c.0 c.1 in
     let k = retold_run story c.0 p.0.0 p.0.1 legal n.1 c.2 in
     subst (λ x. IsLegal x × (map name_of (remaining x) ≡ names)) p.2
-    (k.legal, ap (map name_of) (sym (names_there (retold story p.0.1) s p.0.0 p.0.1 k.there) ∙ run_names (steps s) c.0 (base_of story.begin) p.0.0 p.0.1 c.2) ∙ n.0)
+    (k.legal, ap (map name_of) (sym (names_there (retold story p.0.1) s p.0.0 p.0.1 k.there) ∙ run_names (steps s) c.0 (base_of story) p.0.0 p.0.1 c.2) ∙ n.0)
+
+-- and what was settled stays so
+pub reruns_settle : (story again : Story) (names : List StepName) → IsLegal story → rerun_answer story names ≡ Ok again → settled again ≡ settled story
+unfolding rerun_answer
+reruns_settle story again names legal h =
+    let s = setting_of story in
+    let o = rerun_split _ again h in
+    let p = map_some (λ (q : World × List Past). retold story q.1) (option_and_then (run (steps s) (base_of story)) (steps_named (remaining story) names)) again o in
+    let c = and_then_some (run (steps s) (base_of story)) (steps_named (remaining story) names) p.0 p.1 in
+    let n = named_chosen (remaining story) names c.0 c.1 in
+    subst (λ x. settled x ≡ settled story) p.2 (retold_run story c.0 p.0.0 p.0.1 legal n.1 c.2).settles
 
 rerun_refused : (o : Option Story) (e : Refusal) → or_no_step o ≡ Err e → e ≡ NoStep
 rerun_refused None e h = cc
@@ -201,7 +238,7 @@ reruns_are_exact story names legal =
     let w = world_of story in
     let ts = past_of story in
     let h = legal_stands story legal in
-    let base = base_of story.begin in
+    let base = base_of story in
     let there = names_there story s w ts h in
     record {
       of_story = λ again a.
@@ -214,7 +251,7 @@ reruns_are_exact story names legal =
           subst (λ x. ((step : Step) → In step (remaining x) → In step (remaining story)) × (machine_of x ≡ machine_of story)) p.2
           (λ step i. n.1 step (subst (In step) own i), ap (λ (x : Setting). x.machines) k.there.setting);
       runnable = λ chosen v us inside e runs.
-          let named : steps_named (remaining story) (map name_of chosen) ≡ Some chosen = ap (λ (l : List Step). steps_named l (map name_of chosen)) (sym there) ∙ all_named s story.begin ts chosen (once story s w ts h) (λ x i. subst (In x) (sym there) (inside x i)) in
+          let named : steps_named (remaining story) (map name_of chosen) ≡ Some chosen = ap (λ (l : List Step). steps_named l (map name_of chosen)) (sym there) ∙ all_named s base (from_start story s w ts h) ts chosen (once story s w ts h) (λ x i. subst (In x) (sym there) (inside x i)) in
           let k = retold_run story chosen v us legal inside runs in
           let again = retold story us in (
             again,
@@ -235,12 +272,12 @@ arrangements_agree_all story arranged legal a =
     let w = world_of story in
     let ts = past_of story in
     let h = legal_stands story legal in
-    let base = base_of story.begin in
-    let have = steps_have_names s base (no_frames story.begin) in
+    let base = base_of story in
+    let have = steps_have_names s base (from_start story s w ts h) in
     let names = names_there story s w ts h in
-    let r = arrangements_agree (steps s) base have (lawful.steps_are_lawful s base (no_frames story.begin)) w ts arranged (is_run story s w ts h) a in
+    let r = arrangements_agree (steps s) base have (lawful.steps_are_lawful s base (from_start story s w ts h)) w ts arranged (is_run story s w ts h) a in
     let inside : (x : Step) → In x arranged → In x (remaining story) = λ x i. subst (In x) names (a.the_same x i) in
-    let chosen : steps_named (remaining story) (map name_of arranged) ≡ Some arranged = ap (λ (l : List Step). steps_named l (map name_of arranged)) (sym names) ∙ all_named s story.begin ts arranged (once story s w ts h) (λ x i. a.the_same x i) in
+    let chosen : steps_named (remaining story) (map name_of arranged) ≡ Some arranged = ap (λ (l : List Step). steps_named l (map name_of arranged)) (sym names) ∙ all_named s base (from_start story s w ts h) ts arranged (once story s w ts h) (λ x i. a.the_same x i) in
     let k = retold_run story arranged w r.0 legal inside r.1 in
     let again = retold story r.0 in
     let past = past_there again s w r.0 k.there in (

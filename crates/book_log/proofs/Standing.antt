@@ -21,13 +21,13 @@ use Rattle.depends.specs.World.{Setting, World, is_same_thread, is_same_step}
 use Rattle.depends.specs.Fact.{Fact}
 use Rattle.depends.specs.Kind.{Kind}
 use Rattle.depends.specs.Instance.{Past, steps, taken_in}
-use Rattle.depends.specs.Laws.{Extends, HasNoFrames}
+use Rattle.depends.specs.Laws.{Extends, HasNoFrames, IsFrom}
 use Rattle.depends.proofs.Lawful.{steps_are_lawful}
 use Rattle.depends.proofs.Named.{steps_have_names}
 use Rattle.depends.proofs.Planned.{planned}
 use Rattle.depends.proofs.Worlds.{deed_taken}
 use Rattle.depends.proofs.Extended.{runs_more}
-use Rattle.book_log.specs.Story.{Story, Remainder, accepted, setting_in, base_of, run_in, world_in, past_in, consequences_in, but, rolled_back, with_machine, after_entry, nothing, remainder, remaining, setting_of, run_of, world_of, past_of, consequences_of}
+use Rattle.book_log.specs.Story.{Story, Remainder, accepted, setting_in, first_world, world_after, base_in, base_of, settled, settled_after, steps_after, run_in, world_in, past_in, consequences_in, but, rolled_back, with_machine, after_entry, nothing, remainder, remaining, setting_of, run_of, world_of, past_of, consequences_of}
 use Rattle.book_log.specs.declared.begin.Begin.{Begin}
 use Rattle.book_log.specs.declared.entry.Entry.{Entry}
 use Rattle.book_log.specs.declared.entry.Entry.TheVariants.{Define, Start, Step as Stepped, Undo, Rollback}
@@ -63,23 +63,33 @@ after_same s a b (t ∷ ts) e =
 
 -- ---- where a story stands
 
+-- in this setting the settled steps ran from the start, and those that remain ran from the base, to this world
 pub record StandsAt (story : Story) (s : Setting) (w : World) (ts : List Past) : Type 0 where
   pub setting : setting_of story ≡ s
+  pub before : List Past
+  pub leads : run (steps s) (first_world story.begin) (settled story) ≡ Some (base_of story, before)
   pub runs : run_of story ≡ Some (w, ts)
 
 world_given : (begin : Begin) (r : Remainder) (w : World) (ts : List Past) → run_in begin r ≡ Some (w, ts) → world_in begin r ≡ w
 unfolding world_in
-world_given begin r w ts h = ap (λ (o : Option (World × List Past)). (unwrap_or o (base_of begin, [])).0) h
+world_given begin r w ts h = ap (λ (o : Option (World × List Past)). (unwrap_or o (base_in begin r, [])).0) h
 
 past_given : (begin : Begin) (r : Remainder) (w : World) (ts : List Past) → run_in begin r ≡ Some (w, ts) → past_in begin r ≡ ts
 unfolding past_in
-past_given begin r w ts h = ap (λ (o : Option (World × List Past)). (unwrap_or o (base_of begin, [])).1) h
+past_given begin r w ts h = ap (λ (o : Option (World × List Past)). (unwrap_or o (base_in begin r, [])).1) h
 
-run_there : (begin : Begin) (r : Remainder) (s : Setting) → setting_in begin r ≡ s → run_in begin r ≡ run (steps s) (base_of begin) r.steps
+run_there : (begin : Begin) (r : Remainder) (s : Setting) → setting_in begin r ≡ s → run_in begin r ≡ run (steps s) (base_in begin r) r.steps
 unfolding run_in
-run_there begin r s e = ap (λ (x : Setting). run (steps x) (base_of begin) r.steps) e
+run_there begin r s e = ap (λ (x : Setting). run (steps x) (base_in begin r) r.steps) e
 
-pub no_frames : (begin : Begin) → HasNoFrames (base_of begin)
+-- the base that a run of the settled steps gives
+base_given : (begin : Begin) (r : Remainder) (s : Setting) (base : World) (before : List Past) → setting_in begin r ≡ s → run (steps s) (first_world begin) r.settled ≡ Some (base, before) → base_in begin r ≡ base
+unfolding world_after
+base_given begin r s base before e h =
+    ap (λ (x : Setting). (unwrap_or (run (steps x) (first_world begin) r.settled) (first_world begin, [])).0) e
+    ∙ ap (λ (o : Option (World × List Past)). (unwrap_or o (first_world begin, [])).0) h
+
+no_frames : (begin : Begin) → HasNoFrames (first_world begin)
 no_frames begin t = refl
 
 module _ (story : Story) (s : Setting) (w : World) (ts : List Past) (h : StandsAt story s w ts) where
@@ -89,26 +99,45 @@ module _ (story : Story) (s : Setting) (w : World) (ts : List Past) (h : StandsA
   pub past_there : past_of story ≡ ts
   past_there = past_given story.begin (remainder story) w ts h.runs
 
-  pub steps_run : run (steps s) (base_of story.begin) (remaining story) ≡ Some (w, ts)
+  -- the base is reached from the start
+  pub from_start : IsFrom s (base_of story)
+  from_start = (first_world story.begin, no_frames story.begin, (h.before, run_is (steps s) (settled story) (first_world story.begin) (base_of story) h.before h.leads))
+
+  pub steps_run : run (steps s) (base_of story) (remaining story) ≡ Some (w, ts)
   steps_run = sym (run_there story.begin (remainder story) s h.setting) ∙ h.runs
 
-  pub is_run : IsRun (steps s) (base_of story.begin) ts w
-  is_run = run_is (steps s) (remaining story) (base_of story.begin) w ts steps_run
+  pub is_run : IsRun (steps s) (base_of story) ts w
+  is_run = run_is (steps s) (remaining story) (base_of story) w ts steps_run
 
   pub names_there : names_of (steps s) ts ≡ remaining story
-  names_there = run_names (steps s) (remaining story) (base_of story.begin) w ts steps_run
+  names_there = run_names (steps s) (remaining story) (base_of story) w ts steps_run
 
   pub fact_named : (t : Past) → In t ts → t.fact.name ≡ name_of t.step
-  fact_named t i = named_along s ts (base_of story.begin) w (from_run (steps s) ts (base_of story.begin) w is_run) t i
+  fact_named t i = named_along s ts (base_of story) w (from_run (steps s) ts (base_of story) w is_run) t i
 
   pub consequences_there : (name : StepName) → consequences_of story name ≡ after (steps s) ts (moved name)
   unfolding consequences_in
   consequences_there name = ap₂ (λ (x : Setting) (l : List Past). after (steps x) l (moved name)) h.setting past_there
 
-pub stands : (story : Story) (w : World) (ts : List Past) → run_of story ≡ Some (w, ts) → StandsAt story (setting_of story) (world_of story) (past_of story)
-stands story w ts h =
-    let k : StandsAt story (setting_of story) w ts = record { setting = refl; runs = h } in
-    record { setting = refl; runs = h ∙ ap₂ (λ (x : World) (l : List Past). Some (x, l)) (sym (world_there story (setting_of story) w ts k)) (sym (past_there story (setting_of story) w ts k)) }
+-- a story stands in its setting and in what its run gives
+pub stands_in : (story : Story) (s r : Setting) (w v : World) (ts us : List Past) → StandsAt story s w ts → setting_of story ≡ r → run_of story ≡ Some (v, us) → StandsAt story r v us
+stands_in story s r w v ts us h setting runs = record {
+  setting = setting;
+  before = h.before;
+  leads = ap (λ (x : Setting). run (steps x) (first_world story.begin) (settled story)) (sym setting ∙ h.setting) ∙ h.leads;
+  runs = runs;
+}
+
+pub stands : (story : Story) (s : Setting) (w : World) (ts : List Past) → StandsAt story s w ts → StandsAt story (setting_of story) (world_of story) (past_of story)
+stands story s w ts h =
+    stands_in story s (setting_of story) w (world_of story) ts (past_of story) h refl
+    (h.runs ∙ ap₂ (λ (x : World) (l : List Past). Some (x, l)) (sym (world_there story s w ts h)) (sym (past_there story s w ts h)))
+
+-- stories that settled the same go on from one base
+pub base_same : (a b : Story) → setting_of a ≡ setting_of b → a.begin ≡ b.begin → settled a ≡ settled b → base_of a ≡ base_of b
+base_same a b setting begin same =
+    ap (λ (x : Setting). world_after x a.begin (settled a)) setting
+    ∙ ap₂ (λ (x : Begin) (l : List Step). world_after (setting_of b) x l) begin same
 
 -- ---- one more entry
 
@@ -116,12 +145,27 @@ pub remainder_next : (story : Story) (e : Entry) → remainder (accepted story e
 unfolding remainder
 remainder_next story e = fold-append (after_entry story.begin) nothing story.log (e ∷ [])
 
-pub stands_next : (story : Story) (e : Entry) (s : Setting) (w : World) (ts : List Past) → setting_in story.begin (after_entry story.begin (remainder story) e) ≡ s
-    → run (steps s) (base_of story.begin) (after_entry story.begin (remainder story) e).steps ≡ Some (w, ts) → StandsAt (accepted story e) s w ts
-stands_next story e s w ts setting runs = record {
-  setting = ap (setting_in story.begin) (remainder_next story e) ∙ setting;
-  runs = ap (run_in story.begin) (remainder_next story e) ∙ run_there story.begin (after_entry story.begin (remainder story) e) s setting ∙ runs;
-}
+pub settled_next : (story : Story) (e : Entry) → settled (accepted story e) ≡ settled_after (remainder story) e
+settled_next story e = ap (λ (r : Remainder). r.settled) (remainder_next story e)
+
+pub base_next : (story : Story) (e : Entry) → base_of (accepted story e) ≡ base_in story.begin (after_entry story.begin (remainder story) e)
+base_next story e = ap (base_in story.begin) (remainder_next story e)
+
+-- after an entry a story stands where the settled steps and those that remain then are run
+pub stands_next : (story : Story) (e : Entry) (s : Setting) (base w : World) (before ts : List Past) → setting_in story.begin (after_entry story.begin (remainder story) e) ≡ s
+    → run (steps s) (first_world story.begin) (settled_after (remainder story) e) ≡ Some (base, before)
+    → run (steps s) base (steps_after story.begin (remainder story) e) ≡ Some (w, ts) → StandsAt (accepted story e) s w ts
+stands_next story e s base w before ts setting leads runs =
+    let begin = story.begin in
+    let r = after_entry begin (remainder story) e in
+    let same : base_in begin r ≡ base = base_given begin r s base before setting leads in
+    record {
+      setting = ap (setting_in begin) (remainder_next story e) ∙ setting;
+      before = before;
+      leads = ap (λ (x : Remainder). run (steps s) (first_world begin) x.settled) (remainder_next story e) ∙ leads
+          ∙ ap (λ (x : World). Some (x, before)) (sym (ap (base_in begin) (remainder_next story e) ∙ same));
+      runs = ap (run_in begin) (remainder_next story e) ∙ run_there begin r s setting ∙ ap (λ (x : World). run (steps s) x r.steps) same ∙ runs;
+    }
 
 -- with a machine more
 abbrev pub knowing : Setting → List ℕ → Definition → Setting
@@ -135,24 +179,40 @@ extended s name machine none = record { table = refl; schema = refl; machines = 
         (λ k. let e = ap s.machines (same_text name n (sym k)) in absurd (cc))
         (λ k. rw k h)
 
-pub stands_defined : (story : Story) (s : Setting) (w : World) (ts : List Past) (name : List ℕ) (machine : Definition) → StandsAt story s w ts → s.machines name ≡ None
-    → StandsAt (accepted story (Define name machine)) (knowing s name machine) w ts
-stands_defined story s w ts name machine h none =
-    stands_next story (Define name machine) (knowing s name machine) w ts (ap (λ (x : Setting). knowing x name machine) h.setting)
-    (subst (λ l. run (steps (knowing s name machine)) (base_of story.begin) l ≡ Some (w, ts)) (names_there story s w ts h)
-    (to_run (steps (knowing s name machine)) ts (base_of story.begin) w (runs_more s (knowing s name machine) (extended s name machine none) ts (base_of story.begin) w (from_run (steps s) ts (base_of story.begin) w (is_run story s w ts h)))))
+module _ (story : Story) (s : Setting) (w : World) (ts : List Past) (name : List ℕ) (machine : Definition) (h : StandsAt story s w ts) (none : s.machines name ≡ None) where
+  -- a run in the setting is one where the machine is defined
+  run_knowing : (base v : World) (ns : List Step) (us : List Past) → run (steps s) base ns ≡ Some (v, us) → run (steps (knowing s name machine)) base ns ≡ Some (v, us)
+  run_knowing base v ns us runs =
+      subst (λ l. run (steps (knowing s name machine)) base l ≡ Some (v, us)) (run_names (steps s) ns base v us runs)
+      (to_run (steps (knowing s name machine)) us base v (runs_more s (knowing s name machine) (extended s name machine none) us base v (from_run (steps s) us base v (run_is (steps s) ns base v us runs))))
+
+  setting_defined : setting_in story.begin (after_entry story.begin (remainder story) (Define name machine)) ≡ knowing s name machine
+  setting_defined = ap (λ (x : Setting). knowing x name machine) h.setting
+
+  pub stands_defined : StandsAt (accepted story (Define name machine)) (knowing s name machine) w ts
+  stands_defined =
+      stands_next story (Define name machine) (knowing s name machine) (base_of story) w h.before ts setting_defined
+      (run_knowing (first_world story.begin) (base_of story) (settled story) h.before h.leads)
+      (run_knowing (base_of story) w (remaining story) ts (steps_run story s w ts h))
+
+  -- and the base is as it was
+  pub base_defined : base_of (accepted story (Define name machine)) ≡ base_of story
+  base_defined =
+      ap (base_in story.begin) (remainder_next story (Define name machine))
+      ∙ base_given story.begin (after_entry story.begin (remainder story) (Define name machine)) (knowing s name machine) (base_of story) h.before setting_defined
+      (run_knowing (first_world story.begin) (base_of story) (settled story) h.before h.leads)
 
 pub stands_started : (story : Story) (s : Setting) (w v : World) (ts : List Past) (exec : Thread) (machine : List ℕ) (input : Json) (f : Fact) → StandsAt story s w ts → take_step s w (started exec.exec machine input) ≡ Some (v, f)
     → StandsAt (accepted story (Start exec machine input)) s v (ts ++ taken_in w (started exec.exec machine input) f ∷ [])
 stands_started story s w v ts exec machine input f h k =
-    stands_next story (Start exec machine input) s v (ts ++ taken_in w (started exec.exec machine input) f ∷ []) h.setting
-    (run_then (steps s) (remaining story) (base_of story.begin) w v ts (started exec.exec machine input) f (steps_run story s w ts h) k)
+    stands_next story (Start exec machine input) s (base_of story) v h.before (ts ++ taken_in w (started exec.exec machine input) f ∷ []) h.setting h.leads
+    (run_then (steps s) (remaining story) (base_of story) w v ts (started exec.exec machine input) f (steps_run story s w ts h) k)
 
 pub stands_moved : (story : Story) (s : Setting) (w v : World) (ts : List Past) (name : StepName) (kind : Kind) (f : Fact) → StandsAt story s w ts → take_step s w (moved name) ≡ Some (v, f)
     → StandsAt (accepted story (Stepped name kind)) s v (ts ++ taken_in w (moved name) f ∷ [])
 stands_moved story s w v ts name kind f h k =
-    stands_next story (Stepped name kind) s v (ts ++ taken_in w (moved name) f ∷ []) h.setting
-    (run_then (steps s) (remaining story) (base_of story.begin) w v ts (moved name) f (steps_run story s w ts h) k)
+    stands_next story (Stepped name kind) s (base_of story) v h.before (ts ++ taken_in w (moved name) f ∷ []) h.setting h.leads
+    (run_then (steps s) (remaining story) (base_of story) w v ts (moved name) f (steps_run story s w ts h) k)
 
 or_false : (b : Bool) → (b || false) ≡ b
 or_false true = refl
@@ -167,10 +227,10 @@ but_one s t ts =
 pub stands_undone : (story : Story) (s : Setting) (w : World) (ts : List Past) (name : StepName) (t : Past) → StandsAt story s w ts → IsFree (steps s) ts t → name_of t.step ≡ name
     → StandsAt (accepted story (Undo name)) s (undone (steps s) w t) (without (steps s) (t ∷ []) ts)
 stands_undone story s w ts name t h free e =
-    stands_next story (Undo name) s (undone (steps s) w t) (without (steps s) (t ∷ []) ts) h.setting
-    (subst (λ l. run (steps s) (base_of story.begin) l ≡ Some (undone (steps s) w t, without (steps s) (t ∷ []) ts))
+    stands_next story (Undo name) s (base_of story) (undone (steps s) w t) h.before (without (steps s) (t ∷ []) ts) h.setting h.leads
+    (subst (λ l. run (steps s) (base_of story) l ≡ Some (undone (steps s) w t, without (steps s) (t ∷ []) ts))
     (but_one s t ts ∙ ap₂ (λ (n : StepName) (l : List Step). but n l) e (names_there story s w ts h))
-    (undo_free (steps s) (base_of story.begin) (steps_have_names s (base_of story.begin) (no_frames story.begin)) (steps_are_lawful s (base_of story.begin) (no_frames story.begin)) w ts t (is_run story s w ts h) free))
+    (undo_free (steps s) (base_of story) (steps_have_names s (base_of story) (from_start story s w ts h)) (steps_are_lawful s (base_of story) (from_start story s w ts h)) w ts t (is_run story s w ts h) free))
 
 rolled_there : (story : Story) (s : Setting) (w : World) (ts : List Past) (name : StepName) → StandsAt story s w ts
     → rolled_back story.begin (remainder story) name ≡ names_of (steps s) (without (steps s) (after (steps s) ts (moved name)) ts)
@@ -181,7 +241,7 @@ pub stands_rolled : (story : Story) (s : Setting) (w : World) (ts : List Past) (
     → StandsAt (accepted story (Rollback name undone_names)) s (undo_each (steps s) w (reverse (after (steps s) ts t.step))) (without (steps s) (after (steps s) ts t.step) ts)
 stands_rolled story s w ts name undone_names t h i e =
     let all = after (steps s) ts t.step in
-    stands_next story (Rollback name undone_names) s (undo_each (steps s) w (reverse all)) (without (steps s) all ts) h.setting
-    (subst (λ l. run (steps s) (base_of story.begin) l ≡ Some (undo_each (steps s) w (reverse all), without (steps s) all ts))
+    stands_next story (Rollback name undone_names) s (base_of story) (undo_each (steps s) w (reverse all)) h.before (without (steps s) all ts) h.setting h.leads
+    (subst (λ l. run (steps s) (base_of story) l ≡ Some (undo_each (steps s) w (reverse all), without (steps s) all ts))
     (ap (λ (l : List Past). names_of (steps s) (without (steps s) l ts)) (after_same s t.step (moved name) ts e) ∙ sym (rolled_there story s w ts name h))
-    (after_undoes (steps s) (base_of story.begin) (steps_have_names s (base_of story.begin) (no_frames story.begin)) (steps_are_lawful s (base_of story.begin) (no_frames story.begin)) w ts t (is_run story s w ts h) i).1)
+    (after_undoes (steps s) (base_of story) (steps_have_names s (base_of story) (from_start story s w ts h)) (steps_are_lawful s (base_of story) (from_start story s w ts h)) w ts t (is_run story s w ts h) i).1)

@@ -15,7 +15,7 @@ use Rattle.depends.specs.Steps.{Step, started, moved, name_of, start_name}
 use Rattle.depends.specs.World.{Setting, World}
 use Rattle.depends.specs.Fact.{Fact}
 use Rattle.depends.specs.Instance.{Past, steps, taken_in}
-use Rattle.depends.specs.Laws.{HasNoFrames}
+use Rattle.depends.specs.Laws.{IsFrom}
 use Rattle.depends.proofs.Lawful.{steps_are_lawful}
 use Rattle.depends.proofs.Named.{steps_have_names}
 use Rattle.book_log.specs.Answers.{undo_answer, is_full_for_step, entry_for, entry_of}
@@ -23,7 +23,7 @@ use Rattle.book_log.specs.Laws.{LeavesTheSame, UndoTakesBack, UndoTakesBackStart
 use Rattle.book_log.specs.Legal.{IsAccepted}
 use Rattle.book_log.specs.Story.{Story, accepted, base_of, setting_of, world_of, past_of}
 use Rattle.book_log.specs.declared.entry.Entry.TheVariants.{Start, Step as Stepped, Undo}
-use Rattle.book_log.proofs.Standing.{StandsAt, no_frames, world_there, past_there, names_there, is_run, stands_started, stands_moved, stands_undone}
+use Rattle.book_log.proofs.Standing.{StandsAt, from_start, world_there, past_there, names_there, is_run, stands_started, stands_moved, stands_undone}
 use Rattle.book_log.proofs.Answered.{once, undo_said, free_undone}
 use Rattle.book_log.proofs.Taking.{start_said, start_accepted, step_said, step_accepted}
 use Rattle.book_log.proofs.LegalRuns.{legal_stands}
@@ -40,17 +40,17 @@ leaves_same a b s w v ts us h k world past = record {
 -- ---- undone at once
 
 -- a story that stands after one more step of another
-taken_back : (story after : Story) (s : Setting) (w v : World) (ts : List Past) (step : Step) (f : Fact) → after.begin ≡ story.begin → StandsAt story s w ts → take_step s w step ≡ Some (v, f) → StandsAt after s v (ts ++ taken_in w step f ∷ [])
+taken_back : (story after : Story) (s : Setting) (w v : World) (ts : List Past) (step : Step) (f : Fact) → StandsAt story s w ts → take_step s w step ≡ Some (v, f) → StandsAt after s v (ts ++ taken_in w step f ∷ [])
     → (undo_answer after (name_of step) ≡ Ok (name_of step)) × LeavesTheSame (accepted after (Undo (name_of step))) story
-taken_back story after s w v ts step f same h takes k =
-    let base = base_of after.begin in
-    let none = no_frames after.begin in
-    let names = steps_have_names s base none in
+taken_back story after s w v ts step f h takes k =
+    let base = base_of story in
+    let from = from_start story s w ts h in
+    let names = steps_have_names s base from in
     let t = taken_in w step f in
     let one = once after s v (ts ++ t ∷ []) k in
     let free = free_record (steps s) base names ts [] t one refl in
     let gone = without_one (steps s) base names ts [] t one ∙ append-nil ts in
-    let world = (steps_are_lawful s base none).taken_back ts w v t (subst (λ b. IsRun (steps s) (base_of b) ts w) (sym same) (is_run story s w ts h)) (takes, refl) in (
+    let world = (steps_are_lawful s base from).taken_back ts w v t (is_run story s w ts h) (takes, refl) in (
       free_undone after s v (ts ++ t ∷ []) k t (name_of step) free refl,
       leaves_same (accepted after (Undo (name_of step))) story s (undone (steps s) v t) w (without (steps s) (t ∷ []) (ts ++ t ∷ [])) ts (stands_undone after s v (ts ++ t ∷ []) (name_of step) t k free refl) h world gone,
     )
@@ -62,7 +62,7 @@ undo_takes_back story name kind legal a =
     let ts = past_of story in
     let h = legal_stands story legal in
     let can = (step_said story s w ts h name.thread (record { name = name; kind = kind }) a refl).0 in
-    taken_back story (accepted story (Stepped name kind)) s w can.after ts (moved name) can.fact refl h can.takes (stands_moved story s w can.after ts name kind can.fact h can.takes)
+    taken_back story (accepted story (Stepped name kind)) s w can.after ts (moved name) can.fact h can.takes (stands_moved story s w can.after ts name kind can.fact h can.takes)
 
 pub undo_takes_back_start : UndoTakesBackStart
 undo_takes_back_start story exec machine input legal a =
@@ -71,7 +71,7 @@ undo_takes_back_start story exec machine input legal a =
     let ts = past_of story in
     let h = legal_stands story legal in
     let can = start_said story s w ts h exec machine input (start_name exec.exec) a.0 a.1 in
-    taken_back story (accepted story (Start exec machine input)) s w can.after ts (started exec.exec machine input) can.fact refl h can.takes (stands_started story s w can.after ts exec machine input can.fact h can.takes)
+    taken_back story (accepted story (Start exec machine input)) s w can.after ts (started exec.exec machine input) can.fact h can.takes (stands_started story s w can.after ts exec machine input can.fact h can.takes)
 
 -- ---- taken again
 
@@ -90,11 +90,11 @@ stands_again story s w v ts t h takes =
     subst (λ (x : Past). StandsAt (accepted story (entry_of t)) s v (ts ++ x ∷ [])) own (entry_stands story s w v ts h t t.step takes.0)
 
 -- a free step that is undone can be taken again
-free_again : (s : Setting) (base w : World) (ts : List Past) (t : Past) → HasNoFrames base → IsRun (steps s) base ts w → IsFree (steps s) ts t → Takes (steps s) (undone (steps s) w t) t w
-free_again s base w ts t none run free =
+free_again : (s : Setting) (base w : World) (ts : List Past) (t : Past) → IsFrom s base → IsRun (steps s) base ts w → IsFree (steps s) ts t → Takes (steps s) (undone (steps s) w t) t w
+free_again s base w ts t from run free =
     let p = place t ts free.0 in
-    let behind = unneeded_behind (steps s) base (steps_have_names s base none) p.front p.back t (subst (λ (l : List Past). IsFree (steps s) l t) p.whole free) in
-    (free_steps_undo (steps s) base (steps_are_lawful s base none) w p.front p.back t (subst (λ (l : List Past). IsRun (steps s) base l w) p.whole run) behind).1
+    let behind = unneeded_behind (steps s) base (steps_have_names s base from) p.front p.back t (subst (λ (l : List Past). IsFree (steps s) l t) p.whole free) in
+    (free_steps_undo (steps s) base (steps_are_lawful s base from) w p.front p.back t (subst (λ (l : List Past). IsRun (steps s) base l w) p.whole run) behind).1
 
 pub again_gives_back : AgainGivesBack
 again_gives_back story name legal a =
@@ -105,9 +105,9 @@ again_gives_back story name legal a =
     let k = (undo_said story s w ts h name name a).0 in
     let t = k.step in
     let less = stands_undone story s w ts name t h k.free k.named in
-    let takes = free_again s (base_of story.begin) w ts t (no_frames story.begin) (is_run story s w ts h) k.free in
+    let takes = free_again s (base_of story) w ts t (from_start story s w ts h) (is_run story s w ts h) k.free in
     let back = stands_again (accepted story (Undo name)) s (undone (steps s) w t) w (without (steps s) (t ∷ []) ts) t less takes in
-    let low = (legal_counts story legal).shallow t.step (subst (In t.step) (names_there story s w ts h) (In-names (steps s) (base_of story.begin) (steps_have_names s (base_of story.begin) (no_frames story.begin)) t ts k.free.0)) in
+    let low = (legal_counts story legal).shallow t.step (subst (In t.step) (names_there story s w ts h) (In-names (steps s) (base_of story) (steps_have_names s (base_of story) (from_start story s w ts h)) t ts k.free.0)) in
     record {
       taken = t;
       named = k.fact;

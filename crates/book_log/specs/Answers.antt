@@ -174,10 +174,10 @@ abbrev pub or_no_step : Option Story → Result Story Refusal
 or_no_step (Some story) = Ok story
 or_no_step None = Err NoStep
 
--- the remaining steps of these names, taken in this order from the start: none, where one doesn't remain or can't be taken then
+-- the remaining steps of these names, taken in this order from their base: none, where one doesn't remain or can't be taken then
 unfoldable pub rerun_answer : Story → List StepName → Result Story Refusal
 rerun_answer story names =
-    or_no_step (option_map (λ p. retold story p.1) (option_and_then (run (steps (setting_of story)) (base_of story.begin)) (steps_named (remaining story) names)))
+    or_no_step (option_map (λ p. retold story p.1) (option_and_then (run (steps (setting_of story)) (base_of story)) (steps_named (remaining story) names)))
 
 -- ---- what can move
 

@@ -20,7 +20,7 @@ use Rattle.book_log.specs.EntrySame.{same_entry}
 
 -- ---- legal logs
 
--- what remains of a legal log can be run from the start
+-- what remains of a legal log can be run from its base
 abbrev pub LegalLogsRun : Type 0
 LegalLogsRun = (story : Story) → IsLegal story → run_of story ≡ Some (world_of story, past_of story)
 
@@ -123,7 +123,7 @@ RerunsAreLegal = (story again : Story) (names : List StepName) → IsLegal story
 pub record IsRerun (story : Story) (names : List StepName) : Type 0 where
   pub of_story : (again : Story) → rerun_answer story names ≡ Ok again → ((step : Step) → In step (remaining again) → In step (remaining story)) × (machine_of again ≡ machine_of story)
   pub runnable : (chosen : List Step) (v : World) (ts : List Past) → ((step : Step) → In step chosen → In step (remaining story)) → map name_of chosen ≡ names
-      → run (steps (setting_of story)) (base_of story.begin) chosen ≡ Some (v, ts)
+      → run (steps (setting_of story)) (base_of story) chosen ≡ Some (v, ts)
       → (again : Story) × (rerun_answer story names ≡ Ok again) × (remaining again ≡ chosen) × (world_of again ≡ v) × (past_of again ≡ ts)
   pub refused : (e : Refusal) → rerun_answer story names ≡ Err e → e ≡ NoStep
 

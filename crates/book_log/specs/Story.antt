@@ -1,5 +1,5 @@
 -- A book as contracts see it: what it began with, and the commands that it accepted. What remains of them, and the world that
--- this gives, are functions of these two: a list is filtered and run from the start, and nothing is undone.
+-- this gives, are functions of these two: a list is filtered and run from its base, and nothing is undone.
 use Rattle.std.specs.Prelude.{ℕ, List, [], ◌∷◌, ◌++◌, not, fold, filter, map, Option, None, Some, unwrap_or, if◌then◌else◌}
 use Rattle.asl_machine.specs.Fields.{is_text}
 use Rattle.asl_machine.specs.Definition.{Definition}
@@ -24,28 +24,37 @@ accepted story entry = record { begin = story.begin; log = story.log ++ entry �
 
 -- ---- what a log leaves
 
--- the machines that it defines, by their names, and the steps that were not taken back since, in the order in which they were
--- taken
+-- the machines that it defines, by their names; the steps that can't be taken back any more; and those after them that were not
+-- taken back since: these and those in the order in which they were taken
 pub record Remainder : Type 0 where
   pub machines : List ℕ → Option Definition
+  pub settled : List Step
   pub steps : List Step
 
 abbrev pub setting_in : Begin → Remainder → Setting
 setting_in begin r = record { machines = r.machines; table = begin.table; schema = begin.schema }
 
 -- the start: the items of the beginning, and no execution
-abbrev pub base_of : Begin → World
-base_of begin = record { frames = λ t. None; items = first_items begin }
+abbrev pub first_world : Begin → World
+first_world begin = record { frames = λ t. None; items = first_items begin }
 
--- the remaining steps alone, run forward from the start: the world that they give, and each with its fact and what it kept
+-- the world that steps give which are run forward from the start
+unfoldable pub world_after : Setting → Begin → List Step → World
+world_after s begin ss = (unwrap_or (run (steps s) (first_world begin) ss) (first_world begin, [])).0
+
+-- the base of the remaining steps: the world that the settled ones give
+abbrev pub base_in : Begin → Remainder → World
+base_in begin r = world_after (setting_in begin r) begin r.settled
+
+-- the remaining steps alone, run forward from their base: the world that they give, and each with its fact and what it kept
 unfoldable pub run_in : Begin → Remainder → Option (World × List Past)
-run_in begin r = run (steps (setting_in begin r)) (base_of begin) r.steps
+run_in begin r = run (steps (setting_in begin r)) (base_in begin r) r.steps
 
 unfoldable pub world_in : Begin → Remainder → World
-world_in begin r = (unwrap_or (run_in begin r) (base_of begin, [])).0
+world_in begin r = (unwrap_or (run_in begin r) (base_in begin r, [])).0
 
 unfoldable pub past_in : Begin → Remainder → List Past
-past_in begin r = (unwrap_or (run_in begin r) (base_of begin, [])).1
+past_in begin r = (unwrap_or (run_in begin r) (base_in begin r, [])).1
 
 -- a step and its consequences, in their order (Danos and Krivine, "Reversible Communicating Systems", 2004)
 unfoldable pub consequences_in : Begin → Remainder → StepName → List Past
@@ -63,16 +72,34 @@ rolled_back begin r name = names_of (steps (setting_in begin r)) (without (steps
 abbrev pub with_machine : (List ℕ → Option Definition) → List ℕ → Definition → List ℕ → Option Definition
 with_machine machines name machine n = if is_text name n then Some machine else machines n
 
--- what is left after one more entry
+-- ---- after one more entry
+
+abbrev pub machines_after : Remainder → Entry → List ℕ → Option Definition
+machines_after r (Define name machine) = with_machine r.machines name machine
+machines_after r (Start exec machine input) = r.machines
+machines_after r (Stepped name kind) = r.machines
+machines_after r (Undo name) = r.machines
+machines_after r (Rollback name undone) = r.machines
+
+abbrev pub settled_after : Remainder → Entry → List Step
+settled_after r (Define name machine) = r.settled
+settled_after r (Start exec machine input) = r.settled
+settled_after r (Stepped name kind) = r.settled
+settled_after r (Undo name) = r.settled
+settled_after r (Rollback name undone) = r.settled
+
+abbrev pub steps_after : Begin → Remainder → Entry → List Step
+steps_after begin r (Define name machine) = r.steps
+steps_after begin r (Start exec machine input) = r.steps ++ started exec.exec machine input ∷ []
+steps_after begin r (Stepped name kind) = r.steps ++ moved name ∷ []
+steps_after begin r (Undo name) = but name r.steps
+steps_after begin r (Rollback name undone) = rolled_back begin r name
+
 abbrev pub after_entry : Begin → Remainder → Entry → Remainder
-after_entry begin r (Define name machine) = record { machines = with_machine r.machines name machine; steps = r.steps }
-after_entry begin r (Start exec machine input) = record { machines = r.machines; steps = r.steps ++ started exec.exec machine input ∷ [] }
-after_entry begin r (Stepped name kind) = record { machines = r.machines; steps = r.steps ++ moved name ∷ [] }
-after_entry begin r (Undo name) = record { machines = r.machines; steps = but name r.steps }
-after_entry begin r (Rollback name undone) = record { machines = r.machines; steps = rolled_back begin r name }
+after_entry begin r e = record { machines = machines_after r e; settled = settled_after r e; steps = steps_after begin r e }
 
 abbrev pub nothing : Remainder
-nothing = record { machines = λ name. None; steps = [] }
+nothing = record { machines = λ name. None; settled = []; steps = [] }
 
 unfoldable pub remainder : Story → Remainder
 remainder story = fold (after_entry story.begin) nothing story.log
@@ -83,6 +110,10 @@ remainder story = fold (after_entry story.begin) nothing story.log
 abbrev pub remaining : Story → List Step
 remaining story = (remainder story).steps
 
+-- the steps of a log that can't be taken back any more, in the order in which they were taken
+abbrev pub settled : Story → List Step
+settled story = (remainder story).settled
+
 -- the machine that a log defines under a name
 abbrev pub machine_of : Story → List ℕ → Option Definition
 machine_of story = (remainder story).machines
@@ -90,10 +121,14 @@ machine_of story = (remainder story).machines
 abbrev pub setting_of : Story → Setting
 setting_of story = setting_in story.begin (remainder story)
 
+-- the base of the remaining steps: the world that the settled ones give, run forward from the start
+abbrev pub base_of : Story → World
+base_of story = base_in story.begin (remainder story)
+
 abbrev pub run_of : Story → Option (World × List Past)
 run_of story = run_in story.begin (remainder story)
 
--- the world that the remaining steps alone, run forward from the start, give
+-- the world that the remaining steps alone, run forward from their base, give
 abbrev pub world_of : Story → World
 world_of story = world_in story.begin (remainder story)
 

@@ -88,7 +88,7 @@ facts_behind front back t =
     as_many (x ∷ xs) = ap suc (as_many xs)
 
 pub plans_are_consequences : PlansAreConsequences
-plans_are_consequences s base v ts place t none runs at =
+plans_are_consequences s base v ts place t from runs at =
     let a = cut ts place t at in
     subst (λ n. map (slice_get ts) (plan (facts_of ts) n) ≡ map Some (reverse (theory.after (steps s) ts t.step))) a.place
     (subst (λ l. map (slice_get l) (plan (facts_of l) (length a.front)) ≡ map Some (reverse (theory.after (steps s) l t.step))) a.whole
@@ -98,7 +98,7 @@ plans_are_consequences s base v ts place t none runs at =
         → map (slice_get (front ++ t ∷ back)) (plan (facts_of (front ++ t ∷ back)) (length front)) ≡ map Some (reverse (theory.after (steps s) (front ++ t ∷ back) t.step))
     backward front back runs =
         let all = front ++ t ∷ back in
-        let names = steps_have_names s base none in
+        let names = steps_have_names s base from in
         let marked = follow_alike s all back (front ++ t ∷ []) (length front ∷ []) (t ∷ []) (length front + 1) (append_assoc front (t ∷ []) back) (length-append front (t ∷ [])) (ap (λ (o : Option (Taken Step Fact Kept)). o ∷ []) (at_front front back t)) in
         let behind = ap (λ (l : List Fact). map (slice_get all) (following (facts_of all) (length front ∷ []) (length front + 1) l)) (facts_behind front back t) in
         let forward : map (slice_get all) (after (facts_of all) (length front)) ≡ map Some (theory.after (steps s) all t.step) =
@@ -116,7 +116,7 @@ found_none p i [] h = refl
 found_none p i (t ∷ ts) h = by_bool (p t.fact) _ (λ k. let e = rw k at h in cc) (λ k. rw k (found_none p (i + 1) ts (rw k at h)))
 
 pub free_steps_have_no_dependent : FreeStepsHaveNoDependent
-free_steps_have_no_dependent s base v ts place t none runs at =
+free_steps_have_no_dependent s base v ts place t from runs at =
     let a = cut ts place t at in
     subst (λ n. (first_dependent (facts_of ts) n ≡ None) ↔ IsFree (steps s) ts t) a.place
     (subst (λ l. (first_dependent (facts_of l) (length a.front) ≡ None) ↔ IsFree (steps s) l t) a.whole
@@ -124,7 +124,7 @@ free_steps_have_no_dependent s base v ts place t none runs at =
   where
     both : (front back : List (Taken Step Fact Kept)) → IsRun (steps s) base (front ++ t ∷ back) v → (first_dependent (facts_of (front ++ t ∷ back)) (length front) ≡ None) ↔ IsFree (steps s) (front ++ t ∷ back) t
     both front back runs =
-        let names = steps_have_names s base none in
+        let names = steps_have_names s base from in
         let once : Once (steps s) base names (front ++ t ∷ back) = λ x y b. names.once (front ++ t ∷ back) v x y runs b in
         let here : slice_get (facts_of (front ++ t ∷ back)) (length front) ≡ Some t.fact = slice_get-map (λ (x : Taken Step Fact Kept). x.fact) (front ++ t ∷ back) (length front) ∙ ap (option_map (λ (x : Taken Step Fact Kept). x.fact)) (at_front front back t) in
         let search : first_dependent (facts_of (front ++ t ∷ back)) (length front) ≡ position_from (depends_directly t.fact) (length front + 1) (facts_of back) = rw here (ap (position_from (depends_directly t.fact) (length front + 1)) (facts_behind front back t)) in (

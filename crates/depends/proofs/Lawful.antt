@@ -43,13 +43,14 @@ use Rattle.saved_steps.specs.declared.fact.Fact.{Fact}
 use Rattle.saved_steps.specs.declared.fact.Kind.TheVariants.{Start, Call}
 use Rattle.trace_theory.specs.Traces.{}
 use Rattle.trace_theory.specs.Footprints.{IsReached, HasFootprints}
+use Rattle.trace_theory.proofs.Base.{lawful_from}
 use Rattle.trace_theory.proofs.Lists.{by_bool}
 use Rattle.trace_theory.proofs.Planned.{plans_are_lawful}
-use Rattle.trace_theory.proofs.Runs.{and_then_some, map_some, reached_good}
+use Rattle.trace_theory.proofs.Runs.{and_then_some, map_some, reached_good, reached_here}
 use Rattle.depends.specs.Dependence.{conflicts, begins, awaited_by, awaits, depends_directly}
 use Rattle.depends.specs.Instance.{Cell, frame_at, item_at, a_frame, an_item, at, steps, plans, reaches, forked_by, is_thread, is_end, looks, touches, writes, leaves}
 use Rattle.depends.proofs.Awaited.{sibling_awaited, is_awaited, place_whole, other_branch, awaited_parts, awaited_whole}
-use Rattle.depends.specs.Laws.{HasNoFrames, StepsAreLawful}
+use Rattle.depends.specs.Laws.{HasNoFrames, IsFrom, StepsAreLawful}
 use Rattle.depends.proofs.Planned.{IsPlanned, numbered, planned}
 use Rattle.depends.proofs.Threads.{either, or_left, or_right, over_one, nothing_over, child_is_under, above_child, never_under_itself, under_under}
 use Rattle.depends.proofs.Turned.{close_move, frame_move, is_parked}
@@ -555,4 +556,8 @@ pub footprints : (s : Setting) (base : World) → HasNoFrames base → HasFootpr
 footprints s base none = record { planned = λ w n. refl; effect = effect; within = within; local = local s base none; restores = restores s base none; apart = apart s base none; same = same }
 
 pub steps_are_lawful : StepsAreLawful
-steps_are_lawful s base none = plans_are_lawful (steps s) (plans s) base (footprints s base none)
+steps_are_lawful s base from = lawful_from (steps s) from.0 base from.2 (plans_are_lawful (steps s) (plans s) from.0 (footprints s from.0 from.1))
+
+-- a world without executions is reached from itself
+pub from_none : (s : Setting) (base : World) → HasNoFrames base → IsFrom s base
+from_none s base none = (base, none, reached_here (steps s) base)

@@ -10,11 +10,13 @@ use Rattle.step_names.proofs.OrderLaws.{thread_same, thread_itself, thread_eq}
 use Rattle.saved_steps.specs.Deeds.{Deed}
 use Rattle.saved_steps.specs.Run.{carried_out}
 use Rattle.saved_steps.specs.Steps.{name_of, is_close, makes, closes}
-use Rattle.saved_steps.specs.World.{World, is_same_thread, is_same_step}
+use Rattle.saved_steps.specs.World.{Setting, World, is_same_thread, is_same_step}
+use Rattle.trace_theory.specs.Traces.{HasNames}
+use Rattle.trace_theory.proofs.Base.{names_from}
 use Rattle.trace_theory.proofs.Lists.{by_bool}
 use Rattle.trace_theory.proofs.Names.{names_once}
 use Rattle.depends.specs.Instance.{steps, is_one_step, reaches}
-use Rattle.depends.specs.Laws.{StepsHaveNames}
+use Rattle.depends.specs.Laws.{HasNoFrames, StepsHaveNames}
 use Rattle.depends.proofs.Lawful.{good}
 use Rattle.depends.proofs.Planned.{IsPlanned, planned}
 use Rattle.depends.proofs.Threads.{either, under_under, nothing_over}
@@ -64,8 +66,8 @@ module _ (w : World) (d : Deed) (fine : Good w) (p : IsPlanned w d) where
   stays n (behind above fork f u h c) =
       elim (kept_or_closed above f h) [ inl k ↦ behind above fork k.0 u k.1 (omega (arith, c, k.2)) | inr v ↦ closed n above f h v (under_under n.thread above d.fact.name.thread fork (d.fact.name.no - 1) u v) ]
 
-pub steps_have_names : StepsHaveNames
-steps_have_names s base none = record {
+names_from_none : (s : Setting) (base : World) → HasNoFrames base → HasNames (steps s) base
+names_from_none s base none = record {
   itself = λ a. itself (name_of a);
   alike = λ a b. alike (name_of a) (name_of b);
   once = names_once (steps s) base (λ w step. Was w (name_of step))
@@ -83,3 +85,6 @@ steps_have_names s base none = record {
         let e = thread_eq b.thread a.thread (sym (thread_same a.thread b.thread k.0)) in
         let f = eq-eqb b.no a.no (sym (eqb-true a.no b.no k.1)) in
         rw (e, f) refl
+
+pub steps_have_names : StepsHaveNames
+steps_have_names s base from = names_from (steps s) from.0 base from.2 (names_from_none s from.0 from.1)

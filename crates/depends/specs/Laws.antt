@@ -1,7 +1,8 @@
--- What is true of the steps of executions, in every setting, from every world without executions.
+-- What is true of the steps of executions, in every setting, from every world that a run reaches from one without executions.
 use Rattle.std.specs.Prelude.{◌≡◌, ◌↔◌, ℕ, List, map, reverse, None, Some, slice_get, option_map}
 use Rattle.saved_steps.specs.Definition.{Definition}
 use Rattle.step_names.specs.Thread.{Thread}
+use Rattle.trace_theory.specs.Footprints.{IsReached}
 use Rattle.trace_theory.specs.Traces as theory
 use Rattle.trace_theory.specs.Traces.{IsRun, after, IsFree, IsLawful, HasNames, NeighboursSwap, FreeStepsUndo, AfterIsLeast, OrdersUndo, ArrangementsAgree, HeldIsLeft}
 use Rattle.saved_steps.specs.Run.{run}
@@ -21,6 +22,10 @@ pub record Extends (s more : Setting) : Type 0 where
 abbrev pub HasNoFrames : World → Type 0
 HasNoFrames base = (t : Thread) → base.frames t ≡ None
 
+-- a run reaches the world from one without executions
+abbrev pub IsFrom : Setting → World → Type 0
+IsFrom s base = (first : World) × HasNoFrames first × IsReached (steps s) first base
+
 abbrev pub facts_of : List Past → List Fact
 facts_of ts = map (λ t. t.fact) ts
 
@@ -30,29 +35,29 @@ RunsAreSeen = (s : Setting) (w : World) (names : List Step) → run s w names �
 
 -- independent neighbours swap, and what a step kept undoes it
 abbrev pub StepsAreLawful : Type 0
-StepsAreLawful = (s : Setting) (base : World) → HasNoFrames base → IsLawful (steps s) base
+StepsAreLawful = (s : Setting) (base : World) → IsFrom s base → IsLawful (steps s) base
 
 -- no two steps of a run have one name
 abbrev pub StepsHaveNames : Type 0
-StepsHaveNames = (s : Setting) (base : World) → HasNoFrames base → HasNames (steps s) base
+StepsHaveNames = (s : Setting) (base : World) → IsFrom s base → HasNames (steps s) base
 
 abbrev pub StepsSwap : Type 0
-StepsSwap = (s : Setting) (base : World) → HasNoFrames base → NeighboursSwap (steps s) base
+StepsSwap = (s : Setting) (base : World) → IsFrom s base → NeighboursSwap (steps s) base
 
 abbrev pub StepsUndo : Type 0
-StepsUndo = (s : Setting) (base : World) → HasNoFrames base → FreeStepsUndo (steps s) base
+StepsUndo = (s : Setting) (base : World) → IsFrom s base → FreeStepsUndo (steps s) base
 
 abbrev pub ConsequencesAreLeast : Type 0
-ConsequencesAreLeast = (s : Setting) (base : World) → HasNoFrames base → AfterIsLeast (steps s) base
+ConsequencesAreLeast = (s : Setting) (base : World) → IsFrom s base → AfterIsLeast (steps s) base
 
 abbrev pub UndoOrdersAgree : Type 0
-UndoOrdersAgree = (s : Setting) (base : World) → HasNoFrames base → OrdersUndo (steps s) base
+UndoOrdersAgree = (s : Setting) (base : World) → IsFrom s base → OrdersUndo (steps s) base
 
 abbrev pub StepArrangementsAgree : Type 0
-StepArrangementsAgree = (s : Setting) (base : World) → HasNoFrames base → ArrangementsAgree (steps s) base
+StepArrangementsAgree = (s : Setting) (base : World) → IsFrom s base → ArrangementsAgree (steps s) base
 
 abbrev pub HeldStepsAreLeft : Type 0
-HeldStepsAreLeft = (s : Setting) (base : World) → HasNoFrames base → HeldIsLeft (steps s) base
+HeldStepsAreLeft = (s : Setting) (base : World) → IsFrom s base → HeldIsLeft (steps s) base
 
 -- ---- plans
 
@@ -60,12 +65,12 @@ HeldStepsAreLeft = (s : Setting) (base : World) → HasNoFrames base → HeldIsL
 abbrev pub PlansAreConsequences : Type 0
 PlansAreConsequences =
     (s : Setting) (base v : World) (ts : List Past) (place : ℕ) (t : Past)
-    → HasNoFrames base → IsRun (steps s) base ts v → slice_get ts place ≡ Some t
+    → IsFrom s base → IsRun (steps s) base ts v → slice_get ts place ≡ Some t
     → map (slice_get ts) (plan (facts_of ts) place) ≡ map Some (reverse (after (steps s) ts t.step))
 
 -- A step has no dependent just where it is free.
 abbrev pub FreeStepsHaveNoDependent : Type 0
 FreeStepsHaveNoDependent =
     (s : Setting) (base v : World) (ts : List Past) (place : ℕ) (t : Past)
-    → HasNoFrames base → IsRun (steps s) base ts v → slice_get ts place ≡ Some t
+    → IsFrom s base → IsRun (steps s) base ts v → slice_get ts place ≡ Some t
     → (first_dependent (facts_of ts) place ≡ None) ↔ IsFree (steps s) ts t

@@ -1,7 +1,7 @@
 //! Laws of taking steps back: each function's contract is the law, and it does nothing.
 //!
-//! They are of runs: lists of steps that were taken one after another from a world without executions, each with its fact and
-//! with what it kept (`specs/Instance.antt`, over the definitions of the theory of commuting steps).
+//! They are of runs: lists of steps that were taken one after another from a world without executions, or from one that such a
+//! run reaches, each with its fact and with what it kept (`specs/Instance.antt`, over the definitions of the theory of commuting steps).
 
 ghost use Rattle.depends.specs.Laws.{RunsAreSeen, StepsAreLawful, StepsHaveNames, StepsSwap, StepsUndo, ConsequencesAreLeast, UndoOrdersAgree, StepArrangementsAgree, HeldStepsAreLeft, PlansAreConsequences, FreeStepsHaveNoDependent};
 

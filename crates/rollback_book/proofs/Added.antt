@@ -32,7 +32,7 @@ use Rattle.book_log.specs.declared.entry.Entry.{Entry}
 use Rattle.book_log.specs.declared.entry.Entry.TheVariants.{Define, Start, Step as Stepped, Undo, Rollback}
 use Rattle.book_log.proofs.Counts.{room_for_step, room_for_define}
 use Rattle.book_log.proofs.LegalRuns.{accepted_is_legal}
-use Rattle.book_log.proofs.Standing.{StandsAt, knowing, extended, stands_defined, stands_started, stands_moved}
+use Rattle.book_log.proofs.Standing.{StandsAt, knowing, extended, base_next, base_defined, stands_defined, stands_started, stands_moved}
 use Rattle.rollback_book.specs.Book.{Volume, Places, IsTied, place_in, placed}
 use Rattle.rollback_book.specs.Making.{CanEnter, Fits, HasLogRoom, IsStepFor}
 use Rattle.rollback_book.specs.Ready.{IsMadeIn, IsStartOf}
@@ -60,7 +60,7 @@ pub tied_room : (b : Volume) (h : History) (places : Places) (capacity : ℕ) �
     → ((s : Setting) (base : World) (ts : List Past) → IsHistory s base ts b.history → IsHistory s base ts h)
     → ((name : List ℕ) → placed (place_in places name) ≡ placed (place_in b.places name)) → b.capacity ≤ capacity → IsTied (with_room b h places capacity)
 tied_room b h places capacity tied world kept same grown =
-    let is = kept (setting_of b.story) (base_of b.story.begin) (past_of b.story) tied.history in
+    let is = kept (setting_of b.story) (base_of b.story) (past_of b.story) tied.history in
     let now = as_many h.world.items h.records.items (past_of b.story) is.records in
     let before = as_many b.history.world.items b.history.records.items (past_of b.story) tied.history.records in
     let room = tied.room in
@@ -79,7 +79,7 @@ tied_room b h places capacity tied world kept same grown =
 -- a history of the same steps has as many records
 pub same_many : (b : Volume) (h : History) → IsTied b → ((s : Setting) (base : World) (ts : List Past) → IsHistory s base ts b.history → IsHistory s base ts h) → length h.records.items ≡ length b.history.records.items
 same_many b h tied kept =
-    let is = kept (setting_of b.story) (base_of b.story.begin) (past_of b.story) tied.history in
+    let is = kept (setting_of b.story) (base_of b.story) (past_of b.story) tied.history in
     as_many h.world.items h.records.items (past_of b.story) is.records ∙ sym (as_many b.history.world.items b.history.records.items (past_of b.story) tied.history.records)
 
 module _ (b : Volume) (tied : IsTied b) (capacity : ℕ) (log_room : HasLogRoom b) (grown : b.capacity ≤ capacity) where
@@ -99,9 +99,10 @@ module _ (b : Volume) (tied : IsTied b) (capacity : ℕ) (log_room : HasLogRoom 
       let own : (x : List ℕ) → placed (place_in places x) ≡ more.machines x = λ x.
       filled x ∙ ap (cond (is_text name x) (Some machine)) (tied.machines x)
       ∙ ap₂ (λ (y : List ℕ) (z : Definition). cond (is_text y x) (Some z) (s.machines x)) fits.0 fits.1 in
-      tied_by (record { story = accepted b.story entry; history = b.history; places = places; capacity = capacity }) more (seen b.history.world) (past_of b.story)
+      tied_by (record { story = accepted b.story entry; history = b.history; places = places; capacity = capacity }) more (base_of b.story) (seen b.history.world) (past_of b.story)
       (accepted_is_legal b.story entry tied.legal a) (stands_defined b.story s (seen b.history.world) (past_of b.story) n m (stands b tied) a.0)
-      (more_machines s more (base_of b.story.begin) (past_of b.story) b.history (extended s n m a.0) tied.history) own
+      (base_defined b.story s (seen b.history.world) (past_of b.story) n m (stands b tied) a.0)
+      (more_machines s more (base_of b.story) (past_of b.story) b.history (extended s n m a.0) tied.history) own
       (omega (arith, log_room, grown, logged)) few (omega (arith, free, count, logged))
   tied_defined (Start exec machine input) name shared places a fits filled = absurd fits
   tied_defined (Stepped n kind) name shared places a fits filled = absurd fits
@@ -123,14 +124,14 @@ module _ (b : Volume) (tied : IsTied b) (capacity : ℕ) (log_room : HasLogRoom 
       (s : Setting) (base : World) (ts : List Past) (step : Step) (d : Deed) → IsHistory s base ts b.history → deeds.deed s (seen b.history.world) step ≡ Some d → IsMadeFor m d
       → IsHistory s base (ts ++ taken_in (seen b.history.world) step d.fact ∷ []) h
 
-  entered : (entry : Entry) (m : MadeStep) (h : History) (step : Step) (f : IsStepFor b step m) → IsAccepted b.story entry → is_full_for_step b.story ≡ false → Grows h m
+  entered : (entry : Entry) (m : MadeStep) (h : History) (step : Step) (f : IsStepFor b step m) → IsAccepted b.story entry → is_full_for_step b.story ≡ false → base_of (accepted b.story entry) ≡ base_of b.story → Grows h m
       → StandsAt (accepted b.story entry) (setting_of b.story) (carried_out (seen b.history.world) f.deed) (past_of b.story ++ taken_in (seen b.history.world) step f.deed.fact ∷ [])
       → IsTied (with_entry b entry h capacity)
-  entered entry m h step f a room grows there =
+  entered entry m h step f a room same grows there =
       let s = setting_of b.story in
       let t = taken_in (seen b.history.world) step f.deed.fact in
       let ts = past_of b.story ++ t ∷ [] in
-      let is = grows s (base_of b.story.begin) (past_of b.story) step f.deed tied.history (taken step f.deed f.is) f.made in
+      let is = grows s (base_of b.story) (past_of b.story) step f.deed tied.history (taken step f.deed f.is) f.made in
       let now = as_many h.world.items h.records.items ts is.records in
       let before = as_many b.history.world.items b.history.records.items (past_of b.story) tied.history.records in
       let one = length-append (past_of b.story) (t ∷ []) in
@@ -139,7 +140,7 @@ module _ (b : Volume) (tied : IsTied b) (capacity : ℕ) (log_room : HasLogRoom 
       let few = free.0 in
       let bounded = free.1 in
       let logged = length-append b.story.log (entry ∷ []) in
-      tied_by (with_entry b entry h capacity) s (carried_out (seen b.history.world) f.deed) ts (accepted_is_legal b.story entry tied.legal a) there is tied.machines
+      tied_by (with_entry b entry h capacity) s (base_of b.story) (carried_out (seen b.history.world) f.deed) ts (accepted_is_legal b.story entry tied.legal a) there same is tied.machines
       (omega (arith, log_room, grown, logged, now, before, one)) (omega (arith, few, count, now, before, one)) (omega (arith, bounded, count, logged, now, before, one))
 
   pub tied_stepped : (entry : Entry) (m : MadeStep) (h : History) → IsAccepted b.story entry → Fits b entry (made.Step m) → Grows h m → IsTied (with_entry b entry h capacity)
@@ -147,11 +148,11 @@ module _ (b : Volume) (tied : IsTied b) (capacity : ℕ) (log_room : HasLogRoom 
   tied_stepped (Start exec machine input) m h a fits grows =
       let step = started exec.exec machine input in
       let does = taken step fits.deed fits.is in
-      entered (Start exec machine input) m h step fits a (start_not_full b.story exec machine (start_name exec.exec) a.0) grows
+      entered (Start exec machine input) m h step fits a (start_not_full b.story exec machine (start_name exec.exec) a.0) (base_next b.story (Start exec machine input)) grows
       (stands_started b.story (setting_of b.story) (seen b.history.world) (carried_out (seen b.history.world) fits.deed) (past_of b.story) exec machine input fits.deed.fact (stands b tied) (steps_once step fits.deed does))
   tied_stepped (Stepped name kind) m h a fits grows =
       let does = taken (moved name) fits.deed fits.is in
-      entered (Stepped name kind) m h (moved name) fits a (step_not_full b.story name.thread (record { name = name; kind = kind }) a) grows
+      entered (Stepped name kind) m h (moved name) fits a (step_not_full b.story name.thread (record { name = name; kind = kind }) a) (base_next b.story (Stepped name kind)) grows
       (stands_moved b.story (setting_of b.story) (seen b.history.world) (carried_out (seen b.history.world) fits.deed) (past_of b.story) name kind fits.deed.fact (stands b tied) (steps_once (moved name) fits.deed does))
   tied_stepped (Undo n) m h a fits grows = absurd fits
   tied_stepped (Rollback n undone) m h a fits grows = absurd fits

@@ -11,16 +11,16 @@ use Rattle.depends.proofs.Named.{steps_have_names}
 use Rattle.step_history.specs.History.{Past}
 use Rattle.book_log.specs.Answers.{order_answer, plan_answer, rerun_answer, undo_answer}
 use Rattle.book_log.specs.Legal.{IsLegal}
-use Rattle.book_log.specs.Story.{Story, accepted, base_of, consequences_of, past_of, remaining, setting_of, world_of}
+use Rattle.book_log.specs.Story.{Story, accepted, base_of, settled, consequences_of, past_of, remaining, setting_of, world_of}
 use Rattle.book_log.specs.declared.begin.Begin.{Begin}
 use Rattle.book_log.specs.declared.entry.Entry.TheVariants.{Undo, Rollback}
 use Rattle.book_log.specs.declared.refusal.Refusal.{Refusal}
 use Rattle.book_log.specs.declared.refusal.Refusal.TheVariants.{Memory, NoStep}
 use Rattle.book_log.proofs.Answered.{once}
 use Rattle.book_log.proofs.LegalRuns.{legal_stands, plan_said}
-use Rattle.book_log.proofs.Orders.{accepted_orders_are_whole, allowed_is_taken, order_split, orders_agree_all}
-use Rattle.book_log.proofs.Reruns.{arrangements_agree_all, reruns_are_exact, reruns_are_legal}
-use Rattle.book_log.proofs.Standing.{StandsAt, after_same, consequences_there, is_run, names_there, no_frames, past_there, stands_rolled, world_there}
+use Rattle.book_log.proofs.Orders.{accepted_orders_are_whole, allowed_is_taken, order_settles, order_split, orders_agree_all}
+use Rattle.book_log.proofs.Reruns.{arrangements_agree_all, reruns_are_exact, reruns_are_legal, reruns_settle}
+use Rattle.book_log.proofs.Standing.{StandsAt, after_same, base_same, consequences_there, from_start, is_run, names_there, settled_next, past_there, stands_rolled, world_there}
 use Rattle.rollback_book.specs.Commuting.{CannotRun, HasConsequences, IsAllowedOrder, IsOnlyResult, IsRerunOf, IsRest, UndoesAllowed}
 use Rattle.rollback_book.proofs.Rerun.{tried, tried_stands}
 
@@ -29,15 +29,15 @@ use Rattle.rollback_book.proofs.Rerun.{tried, tried_stands}
 same_end : (a b : Story) (r : Result Story Refusal) → r ≡ Ok a → r ≡ Ok b → a ≡ b
 same_end a b r h k = let e = sym h ∙ k in cc
 
-rest_of : (before after : Story) (xs : List Past) (w : World) → after.begin ≡ before.begin
+rest_of : (before after : Story) (xs : List Past) (w : World) → after.begin ≡ before.begin → settled after ≡ settled before
     → StandsAt after (setting_of before) w (without (steps (setting_of before)) xs (past_of before)) → IsRest before xs after
-rest_of before after xs w begin there =
+rest_of before after xs w begin same there =
     let s = setting_of before in
     let left = without (steps s) xs (past_of before) in
     record {
       past = past_there after s w left there;
-      run = subst (λ (b : Begin). IsRun (steps s) (base_of b) left (world_of after)) begin
-          (subst (IsRun (steps s) (base_of after.begin) left) (sym (world_there after s w left there)) (is_run after s w left there));
+      run = subst (λ (b : World). IsRun (steps s) b left (world_of after)) (base_same after before there.setting begin same)
+          (subst (IsRun (steps s) (base_of after) left) (sym (world_there after s w left there)) (is_run after s w left there));
     }
 
 -- what is accepted keeps the beginning
@@ -50,7 +50,7 @@ module _ (story : Story) (legal : IsLegal story) (names : List StepName) where
   allowed_ends xs o =
       let k = allowed_is_taken xs story (setting_of story) (world_of story) (past_of story) legal (legal_stands story legal) o.allowed in
       let ends = ap (order_answer story) (sym o.named) ∙ k.accepted in
-      (k.after, ends, rest_of story k.after xs _ (order_begins names story k.after ends) k.there)
+      (k.after, ends, rest_of story k.after xs _ (order_begins names story k.after ends) (order_settles names story k.after ends) k.there)
 
   module _ (after : Story) (a : order_answer story names ≡ Ok after) where
     pub allowed_rest : (xs : List Past) → IsAllowedOrder story names xs → IsRest story xs after
@@ -97,7 +97,7 @@ module _ (story : Story) (legal : IsLegal story) (name : StepName) (undone : Lis
       let same : after (steps s) ts k.step.step ≡ consequences_of story name = sym (consequences_there story s w ts h name ∙ after_same s (moved name) k.step.step ts (sym k.named)) in
       let there = stands_rolled story s w ts name undone k.step h k.stood k.named in
       subst (λ (l : List Past). IsRest story l (accepted story (Rollback name undone))) same
-      (rest_of story (accepted story (Rollback name undone)) (after (steps s) ts k.step.step) _ refl there)
+      (rest_of story (accepted story (Rollback name undone)) (after (steps s) ts k.step.step) _ refl (settled_next story (Rollback name undone)) there)
 
   -- the plan is an order in which they may be undone
   pub plan_allowed : (xs : List Past) × IsAllowedOrder story undone xs
@@ -106,10 +106,10 @@ module _ (story : Story) (legal : IsLegal story) (name : StepName) (undone : Lis
       let w = world_of story in
       let ts = past_of story in
       let h = legal_stands story legal in
-      let base = base_of story.begin in
+      let base = base_of story in
       let k = plan_said story s w ts h name undone a in (
         reverse (after (steps s) ts k.step.step),
-        record { named = sym k.names; allowed = after_allowed (steps s) base (steps_have_names s base (no_frames story.begin)) ts k.step (once story s w ts h) k.stood },
+        record { named = sym k.names; allowed = after_allowed (steps s) base (steps_have_names s base (from_start story s w ts h)) ts k.step (once story s w ts h) k.stood },
       )
 
 -- ---- taking again
@@ -124,8 +124,8 @@ module _ (story : Story) (legal : IsLegal story) (names : List StepName) where
       let exact = reruns_are_exact story names legal in
       let begin : again.begin ≡ story.begin = ap (λ (x : Story). x.begin) (sym t.is) in
       let names_are = names_there again s t.world t.past there in
-      let runs : run (steps s) (base_of again.begin) (remaining again) ≡ Some (world_of again, past_of again) =
-      ap (run (steps s) (base_of again.begin)) (sym names_are) ∙ is_run again s t.world t.past there
+      let runs : run (steps s) (base_of again) (remaining again) ≡ Some (world_of again, past_of again) =
+      ap (run (steps s) (base_of again)) (sym names_are) ∙ is_run again s t.world t.past there
       ∙ ap₂ (λ (w : World) (l : List Past). Some (w, l)) (sym (world_there again s t.world t.past there)) (sym (past_there again s t.world t.past there)) in
       record {
         legal = k.0;
@@ -133,7 +133,7 @@ module _ (story : Story) (legal : IsLegal story) (names : List StepName) where
         begin = begin;
         machines = (exact.of_story again a).1;
         of_story = (exact.of_story again a).0;
-        runs = subst (λ (b : Begin). run (steps s) (base_of b) (remaining again) ≡ Some (world_of again, past_of again)) begin runs;
+        runs = subst (λ (b : World). run (steps s) b (remaining again) ≡ Some (world_of again, past_of again)) (base_same again story there.setting begin (reruns_settle story again names legal a)) runs;
         arranged = λ arranged.
             let r = arrangements_agree_all story (remaining again) legal arranged in
             let same = same_end r.0 again (rerun_answer story names) (ap (rerun_answer story) (sym k.1) ∙ r.1) a in

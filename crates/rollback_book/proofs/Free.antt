@@ -114,7 +114,7 @@ module _ (b : Volume) (tied : IsTied b) (name : StepName) where
 
     pub places_are : map (slice_get (past_of b.story)) (plan (facts_of (past_of b.story)) at) ≡ map Some (reverse (after (steps (setting_of b.story)) (past_of b.story) stood.step.step))
     places_are =
-        plans_are_consequences (setting_of b.story) (base_of b.story.begin) (seen b.history.world) (past_of b.story) at stood.step tied.history.none tied.history.runs stood.there
+        plans_are_consequences (setting_of b.story) (base_of b.story) (seen b.history.world) (past_of b.story) at stood.step tied.history.from tied.history.runs stood.there
 
   pub no_plan : position (λ (r : StepRecord). is_same_step r.fact.name name) b.history.records.items ≡ None → plan_answer b.story name ≡ Err NoStep
   unfolding plan_answer
@@ -124,4 +124,4 @@ module _ (b : Volume) (tied : IsTied b) (name : StepName) where
 
   -- the step at a place that may be undone is free
   pub freed : (at : ℕ) (h : IsFreePlace b name at) → IsFree (steps (setting_of b.story)) (past_of b.story) (stood at h.there).step
-  freed at h = free_by (setting_of b.story) (base_of b.story.begin) (past_of b.story) at (stood at h.there).step b.history tied.history (stood at h.there).there h.free
+  freed at h = free_by (setting_of b.story) (base_of b.story) (past_of b.story) at (stood at h.there).step b.history tied.history (stood at h.there).there h.free

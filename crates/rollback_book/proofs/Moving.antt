@@ -1,5 +1,5 @@
 -- Which threads of a book have a move, and what their next step does.
-use Rattle.std.proofs.Common.{◌≡◌, ◌<◌, ◌+◌, arith, ◌==◌, eq-eqb, Bool, true, false, cond, List, refl, ap, ap₂, sym, subst, ◌∙◌, Option, None, Some, Result, Ok, Err}
+use Rattle.std.proofs.Common.{◌≡◌, ◌≤◌, ◌<◌, ◌+◌, arith, length, ◌==◌, eq-eqb, Bool, true, false, cond, List, refl, ap, ap₂, sym, subst, ◌∙◌, Option, None, Some, Result, Ok, Err}
 use Rattle.std.specs.Prelude.{◌&&◌, not, is_some, option_and_then, ◌^◌}
 use Rattle.std.proofs.lemmas.Option.{same_Some}
 use Rattle.step_history.specs.Frame.{Frame}
@@ -24,10 +24,14 @@ use Rattle.depends.proofs.Turned.{frame_move, frame_begins}
 use Rattle.step_history.specs.History.{Past, IsHistory}
 use Rattle.step_history.specs.Levels.{HasNamesBelow}
 use Rattle.step_history.specs.Moves.{IsMachineOf, IsMoveOf}
-use Rattle.step_history.proofs.Counts.{counted}
+use Rattle.step_history.proofs.Counts.{counted, counted_run}
 use Rattle.step_history.proofs.Movable.{frames_stand, threads_move}
+use Rattle.book_log.proofs.Counts.{legal_counts, steps_there}
+use Rattle.depends.specs.Instance.{steps}
+use Rattle.trace_theory.proofs.Records.{run_is, run_names}
+use Rattle.std.proofs.lemmas.List.{length-map}
 use Rattle.book_log.specs.Answers.{step_answer, thread_answer, moved_answer, is_full_for_step}
-use Rattle.book_log.specs.Story.{Story, base_of, past_of, setting_of, world_of}
+use Rattle.book_log.specs.Story.{Story, base_of, first_world, past_of, remaining, settled, setting_of, world_of}
 use Rattle.book_log.specs.declared.entry.Entry.{Entry}
 use Rattle.book_log.specs.declared.entry.Entry.TheVariants.{Step as Stepped}
 use Rattle.book_log.specs.declared.moved.Moved.{Moved}
@@ -40,12 +44,27 @@ use Rattle.rollback_book.specs.declared.making.Made.{Made}
 use Rattle.rollback_book.specs.declared.making.MadeChange.{MadeChange}
 use Rattle.rollback_book.specs.declared.making.MadeChange.TheVariants as made
 use Rattle.rollback_book.proofs.Refusing.{none_there}
-use Rattle.rollback_book.proofs.Tied.{world_is, as_many_records}
+use Rattle.rollback_book.proofs.Tied.{stands, world_is, as_many_records}
 use Rattle.rollback_book.proofs.Whole.{legal_whole}
 
 some_there : {A : Type 0} (o : Option A) → is_some o ≡ true → (x : A) × (o ≡ Some x)
 some_there None h = cc
 some_there (Some x) h = (x, refl)
+
+-- no frame of the base counts further than there are settled steps
+base_counts : (b : Volume) → IsTied b → (u : Thread) (g : Frame) → (base_of b.story).frames u ≡ Some g → g.count ≤ length (settled b.story)
+base_counts b tied u g there =
+    let s = setting_of b.story in
+    let first = first_world b.story.begin in
+    let h = stands b tied in
+    let c = (counted_run s first (base_of b.story) h.before (λ x. refl) (run_is (steps s) (settled b.story) first (base_of b.story) h.before h.leads) u g there).bound in
+    let named = ap length (run_names (steps s) (settled b.story) first (base_of b.story) h.before h.leads) in
+    let long = length-map h.before (λ (x : Past). x.step) in
+    omega (arith, c, named, long)
+
+-- as many steps remain as the past has
+many_steps : (b : Volume) → IsTied b → length (remaining b.story) ≡ length (past_of b.story)
+many_steps b tied = steps_there b.story (setting_of b.story) (seen b.history.world) (past_of b.story) (stands b tied)
 
 module _ (b : Volume) (tied : IsTied b) (t : Thread) where
   abbrev pub readiness_there : Readiness
@@ -57,7 +76,7 @@ module _ (b : Volume) (tied : IsTied b) (t : Thread) where
   pub moves_where : is_some (move_deed (setting_of b.story) (world_of b.story) t) ≡ has_move readiness_there
   moves_where =
       ap is_some moves_there
-      ∙ threads_move (setting_of b.story) (base_of b.story.begin) (past_of b.story) b.history t (legal_whole b.story tied.legal) tied.history
+      ∙ threads_move (setting_of b.story) (base_of b.story) (past_of b.story) b.history t (legal_whole b.story tied.legal) tied.history
 
   answer_by : (o : Option Frame) → frames_of b.history.world t ≡ o → step_answer b.story t ≡ thread_answer b.story t o
   unfolding step_answer
@@ -87,14 +106,16 @@ module _ (b : Volume) (tied : IsTied b) (t : Thread) where
 
     pub few_steps : f.count + 1 < 2 ^ 32
     few_steps =
-        let c = (counted (setting_of b.story) (base_of b.story.begin) (past_of b.story) b.history tied.history t f there).bound in
-        let few = tied.few in
+        let c = (counted (setting_of b.story) (base_of b.story) (past_of b.story) b.history (length (settled b.story)) (base_counts b tied) tied.history t f there).bound in
+        let all = (legal_counts b.story tied.legal).defined in
+        let bounded = tied.bounded in
         let many = as_many_records b tied in
-        omega (arith, c, few, many)
+        let own = many_steps b tied in
+        omega (arith, c, all, bounded, many, own)
 
     names_below : HasNamesBelow t f
     names_below =
-        let p = frames_stand (setting_of b.story) (base_of b.story.begin) (past_of b.story) b.history t f (legal_whole b.story tied.legal) tied.history there in
+        let p = frames_stand (setting_of b.story) (base_of b.story) (past_of b.story) b.history t f (legal_whole b.story tied.legal) tied.history there in
         p.below
 
     begins : has_move readiness_there ≡ true → f.phase ≡ Ready → waits (frames_of b.history.world) t f ≡ false
@@ -121,7 +142,7 @@ module _ (b : Volume) (tied : IsTied b) (t : Thread) where
 
     pub machine_known : placed (place_in b.places f.level.machine) ≡ None → ⊥
     machine_known h =
-        let p = frames_stand (setting_of b.story) (base_of b.story.begin) (past_of b.story) b.history t f (legal_whole b.story tied.legal) tied.history there in
+        let p = frames_stand (setting_of b.story) (base_of b.story) (past_of b.story) b.history t f (legal_whole b.story tied.legal) tied.history there in
         let known : is_some ((setting_of b.story).machines f.level.machine) ≡ true = p.known in
         let gone : is_some ((setting_of b.story).machines f.level.machine) ≡ false = ap is_some (sym (tied.machines f.level.machine) ∙ h) in
         let clash : true ≡ false = sym known ∙ gone in
@@ -134,7 +155,7 @@ module _ (b : Volume) (tied : IsTied b) (t : Thread) where
         let s = setting_of b.story in
         let w = seen b.history.world in
         let own : IsMachineOf s (frames_of b.history.world t) machine = subst (λ (o : Option Frame). IsMachineOf s o machine) (sym there) ready.known in
-        let m = found s (base_of b.story.begin) (past_of b.story) tied.history own in
+        let m = found s (base_of b.story) (past_of b.story) tied.history own in
         let frame : m.0 ≡ f = same_Some m.0 f (sym m.1 ∙ there) in
         let suits : Suits b.history.world (next_step t f) next = subst (λ (g : Frame). Suits b.history.world (next_step t g) next) frame m.2 in
         let same : deed s w (moved (next_step t f)) ≡ deed_of_next b.history.world (next_step t f) next =
@@ -160,7 +181,7 @@ module _ (b : Volume) (tied : IsTied b) (t : Thread) where
     has_next machine ready found =
         let s = setting_of b.story in
         let own : IsMachineOf s (frames_of b.history.world t) machine = subst (λ (o : Option Frame). IsMachineOf s o machine) (sym there) ready.known in
-        let none = found s (base_of b.story.begin) (past_of b.story) tied.history own in
+        let none = found s (base_of b.story) (past_of b.story) tied.history own in
         let clash : ◌≡◌ {A = Option Deed} None (Some ready.deed) = sym none ∙ sym moves_there ∙ ready.moves in
         cc
 

@@ -12,7 +12,7 @@ use Rattle.saved_steps.specs.World.{Setting, World, is_same_step}
 use Rattle.saved_steps.specs.declared.fact.Fact.{Fact}
 use Rattle.depends.specs.Dependence.{depends_directly}
 use Rattle.depends.specs.Instance.{steps}
-use Rattle.depends.specs.Laws.{facts_of}
+use Rattle.depends.specs.Laws.{IsFrom, facts_of}
 use Rattle.depends.specs.Plans.{first_dependent}
 use Rattle.depends.proofs.Named.{steps_have_names}
 use Rattle.depends.proofs.Searching.{facts}
@@ -24,7 +24,7 @@ use Rattle.book_log.specs.declared.entry.Entry.TheVariants.{Undo}
 use Rattle.book_log.specs.declared.refusal.Refusal.{Refusal}
 use Rattle.book_log.proofs.Answered.{once, undo_said}
 use Rattle.book_log.proofs.Orders.{order_split}
-use Rattle.book_log.proofs.Standing.{StandsAt, no_frames, past_there, fact_named, stands_undone, step_same}
+use Rattle.book_log.proofs.Standing.{StandsAt, from_start, past_there, fact_named, stands_undone, step_same}
 use Rattle.rollback_book.specs.Book.{Volume, IsAt, IsFreePlace, IsTied}
 use Rattle.rollback_book.specs.Ordering.{left_by, order_refusal, refused_or}
 use Rattle.rollback_book.proofs.Free.{dependent_answer, dependent_within, free_place}
@@ -39,12 +39,12 @@ others s x (t ∷ ts) h =
     rw e (ap (λ (l : List Past). t ∷ l) (others s x ts (λ y i. h y (inr i))))
 
 -- the facts without a step are those without its name's
-left_facts : (s : Setting) (begin : Begin) (ts : List Past) (x : Past) → Once (steps s) (base_of begin) (steps_have_names s (base_of begin) (no_frames begin)) ts → ((t : Past) → In t ts → t.fact.name ≡ name_of t.step)
+left_facts : (s : Setting) (base : World) (from : IsFrom s base) (ts : List Past) (x : Past) → Once (steps s) base (steps_have_names s base from) ts → ((t : Past) → In t ts → t.fact.name ≡ name_of t.step)
     → facts_of (without (steps s) (x ∷ []) ts) ≡ left_by (name_of x.step) (facts_of ts)
-left_facts s begin [] x once named = refl
-left_facts s begin (t ∷ ts) x once named =
+left_facts s base from [] x once named = refl
+left_facts s base from (t ∷ ts) x once named =
     let own : is_same_step (name_of x.step) t.fact.name ≡ is_same_step (name_of x.step) (name_of t.step) = ap (is_same_step (name_of x.step)) (named t (inl refl)) in
-    let rest = left_facts s begin ts x (λ y z b. once y z (inr b)) (λ y i. named y (inr i)) in
+    let rest = left_facts s base from ts x (λ y z b. once y z (inr b)) (λ y i. named y (inr i)) in
     by_bool (is_same_step (name_of x.step) (name_of t.step)) _
     (λ k. let out : is_among (steps s) (x ∷ []) t ≡ true = ap (λ (b : Bool). b || false) k in
     let first = own ∙ k in
@@ -73,7 +73,7 @@ told_by story s w ts h name names (Ok n) rest a =
     let x = (undo_said story s w ts h name n a).0 in
     let left = without (steps s) (x.step ∷ []) ts in
     let told = rest (undone (steps s) w x.step) left (stands_undone story s w ts name x.step h x.free x.named) in
-    let same : facts_of left ≡ left_by name (facts_of ts) = left_facts s story.begin ts x.step (once story s w ts h) (fact_named story s w ts h) ∙ ap (λ (m : StepName). left_by m (facts_of ts)) x.named in
+    let same : facts_of left ≡ left_by name (facts_of ts) = left_facts s (base_of story) (from_start story s w ts h) ts x.step (once story s w ts h) (fact_named story s w ts h) ∙ ap (λ (m : StepName). left_by m (facts_of ts)) x.named in
     one_more story name n names (order_refusal (left_by name (facts_of ts)) names) a
     (subst (λ (fs : List Fact). IsAnswered (accepted story (Undo name)) names (order_refusal fs names)) same told)
 told_by story s w ts h name names (Err e) rest a = ap (λ (r : Result StepName Refusal). once_undone r (order_answer (accepted story (Undo name)) names)) a

@@ -24,10 +24,10 @@ use Rattle.book_log.specs.declared.entry.Entry.{Entry}
 use Rattle.book_log.specs.declared.entry.Entry.TheVariants.{Define, Start, Step as Stepped, Undo, Rollback}
 use Rattle.book_log.specs.declared.refusal.Refusal.{Refusal}
 use Rattle.book_log.specs.declared.refusal.Refusal.TheVariants.{NoStep, Memory}
-use Rattle.book_log.proofs.LegalRuns.{of_log, legal_logs_run}
+use Rattle.book_log.proofs.LegalRuns.{of_log, legal_logs_run, legal_stands}
 use Rattle.book_log.proofs.Counts.{defines-append}
 use Rattle.book_log.proofs.Reruns.{legal_defines, named_chosen, rerun_split, reruns_are_exact, reruns_are_legal}
-use Rattle.book_log.proofs.Standing.{StandsAt}
+use Rattle.book_log.proofs.Standing.{StandsAt, stands_in}
 use Rattle.book_log.proofs.Taking.{start_said, step_said}
 use Rattle.rollback_book.specs.Rerunning.{CanRetake, IsRetaken, MayDefine, Retakes}
 
@@ -100,37 +100,37 @@ module _ (s : Setting) where
 
 -- ---- reruns
 
--- some remaining steps, run from the start
+-- some remaining steps, run from their base
 pub record IsTried (story : Story) (names : List StepName) (again : Story) : Type 0 where
   pub chosen : List Step
   pub world : World
   pub past : List Past
   pub named : steps_named (remaining story) names ≡ Some chosen
-  pub runs : run (steps (setting_of story)) (base_of story.begin) chosen ≡ Some (world, past)
+  pub runs : run (steps (setting_of story)) (base_of story) chosen ≡ Some (world, past)
   pub is : retold story past ≡ again
 
 pub tried : (story : Story) (names : List StepName) (again : Story) → rerun_answer story names ≡ Ok again → IsTried story names again
 unfolding rerun_answer
 tried story names again h =
     let o = rerun_split _ again h in
-    let p = map_some (λ (q : World × List Past). retold story q.1) (option_and_then (run (steps (setting_of story)) (base_of story.begin)) (steps_named (remaining story) names)) again o in
-    let c = and_then_some (run (steps (setting_of story)) (base_of story.begin)) (steps_named (remaining story) names) p.0 p.1 in
+    let p = map_some (λ (q : World × List Past). retold story q.1) (option_and_then (run (steps (setting_of story)) (base_of story)) (steps_named (remaining story) names)) again o in
+    let c = and_then_some (run (steps (setting_of story)) (base_of story)) (steps_named (remaining story) names) p.0 p.1 in
     record { chosen = c.0; world = p.0.0; past = p.0.1; named = c.1; runs = c.2; is = p.2 }
 
-answer_by : (story : Story) (names : List StepName) (chosen : List Step) (o : Option (World × List Past)) → steps_named (remaining story) names ≡ Some chosen → run (steps (setting_of story)) (base_of story.begin) chosen ≡ o
+answer_by : (story : Story) (names : List StepName) (chosen : List Step) (o : Option (World × List Past)) → steps_named (remaining story) names ≡ Some chosen → run (steps (setting_of story)) (base_of story) chosen ≡ o
     → rerun_answer story names ≡ or_no_step (option_map (λ (p : World × List Past). retold story p.1) o)
 unfolding rerun_answer
 answer_by story names chosen o named runs =
-    ap (λ (x : Option (List Step)). or_no_step (option_map (λ (p : World × List Past). retold story p.1) (option_and_then (run (steps (setting_of story)) (base_of story.begin)) x))) named
+    ap (λ (x : Option (List Step)). or_no_step (option_map (λ (p : World × List Past). retold story p.1) (option_and_then (run (steps (setting_of story)) (base_of story)) x))) named
     ∙ ap (λ (x : Option (World × List Past)). or_no_step (option_map (λ (p : World × List Past). retold story p.1) x)) runs
 
 no_answer : (story : Story) (names : List StepName) → steps_named (remaining story) names ≡ None → rerun_answer story names ≡ Err NoStep
 unfolding rerun_answer
-no_answer story names h = ap (λ (x : Option (List Step)). or_no_step (option_map (λ (p : World × List Past). retold story p.1) (option_and_then (run (steps (setting_of story)) (base_of story.begin)) x))) h
+no_answer story names h = ap (λ (x : Option (List Step)). or_no_step (option_map (λ (p : World × List Past). retold story p.1) (option_and_then (run (steps (setting_of story)) (base_of story)) x))) h
 
 -- no steps are taken at first
 none_retold : (story : Story) → rerun_answer story [] ≡ Ok (retold story [])
-none_retold story = answer_by story [] [] (Some (base_of story.begin, [])) refl refl
+none_retold story = answer_by story [] [] (Some (base_of story, [])) refl refl
 
 pub begins : (story : Story) → rerun_answer story [] ≡ Ok (of_log story.begin (defines story.log))
 begins story = none_retold story ∙ ap (λ (l : List Entry). Ok (of_log story.begin l)) (append-nil (defines story.log))
@@ -152,10 +152,9 @@ tried_stands story names again legal a t =
     let past : past_of again ≡ t.past = ap past_of (sym same) ∙ r.4 in
     let lawful = (reruns_are_legal story again names legal a).0 in
     let begin = ap (λ (x : Story). x.begin) (sym t.is) in
-    record {
-      setting = ap₂ (λ (b : Begin) (m : List ℕ → Option Definition). let x : Setting = record { machines = m; table = b.table; schema = b.schema } in x) begin (exact.of_story again a).1;
-      runs = legal_logs_run again lawful ∙ ap₂ (λ (x : World) (l : List Past). Some (x, l)) world past;
-    }
+    stands_in again (setting_of again) (setting_of story) (world_of again) t.world (past_of again) t.past (legal_stands again lawful)
+    (ap₂ (λ (b : Begin) (m : List ℕ → Option Definition). let x : Setting = record { machines = m; table = b.table; schema = b.schema } in x) begin (exact.of_story again a).1)
+    (legal_logs_run again lawful ∙ ap₂ (λ (x : World) (l : List Past). Some (x, l)) world past)
 
 -- what may be entered can be taken
 can_retake : (story : Story) (step : Step) (t : Past) → IsAccepted story (entry_for t step) → CanRetake story step
@@ -175,7 +174,7 @@ module _ (story : Story) (legal : IsLegal story) (front : List StepName) (again 
   one_more step v f named takes =
       answer_by story (front ++ name ∷ []) (at_all.chosen ++ step ∷ []) (Some (v, at_all.past ++ taken_in at_all.world step f ∷ []))
       (named_then (remaining story) name front at_all.chosen step at_all.named named)
-      (run_then (steps (setting_of story)) at_all.chosen (base_of story.begin) at_all.world v at_all.past step f at_all.runs takes)
+      (run_then (steps (setting_of story)) at_all.chosen (base_of story) at_all.world v at_all.past step f at_all.runs takes)
       ∙ ap (λ (x : Story). Ok x) (one_retold story at_all.past (taken_in at_all.world step f) ∙ ap (λ (x : Story). accepted x (entry_of (taken_in at_all.world step f))) at_all.is)
 
   pub none_named : step_named name (remaining story) ≡ None → rerun_answer story (front ++ name ∷ []) ≡ Err NoStep
@@ -196,7 +195,7 @@ module _ (story : Story) (legal : IsLegal story) (front : List StepName) (again 
   not_by : (step : Step) (o : Option (World × Fact)) → step_named name (remaining story) ≡ Some step → (CanRetake again step → ⊥) → take_step (setting_of story) at_all.world step ≡ o → rerun_answer story (front ++ name ∷ []) ≡ Err NoStep
   not_by step None named cannot h =
       answer_by story (front ++ name ∷ []) (at_all.chosen ++ step ∷ []) None (named_then (remaining story) name front at_all.chosen step at_all.named named)
-      (run_stops (setting_of story) at_all.chosen (base_of story.begin) at_all.world at_all.past step at_all.runs h)
+      (run_stops (setting_of story) at_all.chosen (base_of story) at_all.world at_all.past step at_all.runs h)
   not_by step (Some (v, f)) named cannot h =
       let t = taken_in at_all.world step f in
       absurd (cannot (can_retake again step t (last_accepted (entry_of t) (one_more step v f named h))))
@@ -230,7 +229,7 @@ front_answered : (story : Story) (front back : List StepName) (again : Story) �
 front_answered story front back again a =
     let t = tried story (front ++ back) again a in
     let n = named_split (remaining story) front back t.chosen t.named in
-    let r = run_split (setting_of story) n.0 n.1 (base_of story.begin) t.world t.past (ap (run (steps (setting_of story)) (base_of story.begin)) (sym n.3) ∙ t.runs) in
+    let r = run_split (setting_of story) n.0 n.1 (base_of story) t.world t.past (ap (run (steps (setting_of story)) (base_of story)) (sym n.3) ∙ t.runs) in
     (retold story r.1, answer_by story front n.0 (Some (r.0, r.1)) n.2 r.2)
 
 -- where a front is refused, so is the whole

@@ -30,7 +30,7 @@ use Rattle.book_log.specs.declared.entry.Entry.{Entry}
 use Rattle.book_log.specs.declared.entry.Entry.TheVariants.{Define, Start, Step as Stepped, Undo, Rollback}
 use Rattle.book_log.proofs.Answered.{once}
 use Rattle.book_log.proofs.LegalRuns.{of_log, of_legal, legal_stands}
-use Rattle.book_log.proofs.Standing.{is_run, names_there, no_frames, remainder_next, stands_started}
+use Rattle.book_log.proofs.Standing.{is_run, names_there, from_start, remainder_next, stands_started}
 use Rattle.book_log.proofs.Taking.{start_said}
 use Rattle.rollback_book.specs.Rerunning.{Origin, last_start, or_earlier, start_in}
 
@@ -101,7 +101,7 @@ started_anew story x machine exec given input origin legal a i =
     let can = start_said story s w ts h x machine input (start_name x.exec) a.0 a.1 in
     let t = taken_in w (started x.exec machine input) can.fact in
     let there = stands_started story s w can.after ts x machine input can.fact h can.takes in
-    let p = named_place (steps s) (base_of story.begin) (steps_have_names s (base_of story.begin) (no_frames story.begin)) (started exec given origin) ts (subst (In (started exec given origin)) (sym (names_there story s w ts h)) i) in
+    let p = named_place (steps s) (base_of story) (steps_have_names s (base_of story) (from_start story s w ts h)) (started exec given origin) ts (subst (In (started exec given origin)) (sym (names_there story s w ts h)) i) in
     let stood : In p.step ts = subst (In p.step) (sym p.whole) (here p.step p.front p.back) in
     let apart = once (accepted story (Start x machine input)) s can.after (ts ++ t ∷ []) there p.step t (Before-across p.step t ts (t ∷ []) stood (inl refl)) in
     let names : is_same_step (start_name exec) (start_name x.exec) ≡ false = ap (λ (n : StepName). is_same_step n (start_name x.exec)) (ap name_of (sym p.named)) ∙ apart in
@@ -171,5 +171,5 @@ pub legal_numbered : (story : Story) → IsLegal story → (name : StepName) →
 legal_numbered story legal name i =
     let s = setting_of story in
     let h = legal_stands story legal in
-    numbered_along s (past_of story) (base_of story.begin) (world_of story) (from_run (steps s) (past_of story) (base_of story.begin) (world_of story) (is_run story s (world_of story) (past_of story) h)) name
+    numbered_along s (past_of story) (base_of story) (world_of story) (from_run (steps s) (past_of story) (base_of story) (world_of story) (is_run story s (world_of story) (past_of story) h)) name
     (subst (In (moved name)) (sym (names_there story s (world_of story) (past_of story) h)) i)

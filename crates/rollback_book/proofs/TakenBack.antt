@@ -20,7 +20,7 @@ use Rattle.book_log.specs.Story.{accepted, base_of, setting_of, past_of}
 use Rattle.book_log.specs.declared.entry.Entry.{Entry}
 use Rattle.book_log.specs.declared.entry.Entry.TheVariants.{Undo, Rollback}
 use Rattle.book_log.proofs.LegalRuns.{accepted_is_legal}
-use Rattle.book_log.proofs.Standing.{stands_undone, stands_rolled}
+use Rattle.book_log.proofs.Standing.{base_next, stands_undone, stands_rolled}
 use Rattle.rollback_book.specs.Book.{Volume, IsTied, IsFreePlace}
 use Rattle.rollback_book.proofs.Tied.{stands, tied_by, one_fewer, as_many_records}
 use Rattle.rollback_book.proofs.Free.{Stood, stood, freed}
@@ -31,7 +31,7 @@ with_entry b entry history capacity = record { story = accepted b.story entry; h
 
 module _ (b : Volume) (tied : IsTied b) (name : StepName) (h : History) (capacity : ℕ) (grown : b.capacity ≤ capacity) where
   itself : (t : Past) → is_one_step t.step t.step ≡ true
-  itself t = (steps_have_names (setting_of b.story) (base_of b.story.begin) tied.history.none).itself t.step
+  itself t = (steps_have_names (setting_of b.story) (base_of b.story) tied.history.from).itself t.step
 
   among : (xs : List Past) (t : Past) → In t xs → not (is_among (steps (setting_of b.story)) xs t) ≡ false
   among xs t i = ap not (any_one (λ (x : Past). is_one_step x.step t.step) xs t i (itself t))
@@ -48,7 +48,7 @@ module _ (b : Volume) (tied : IsTied b) (name : StepName) (h : History) (capacit
       → IsTied (with_entry b (Undo name) h capacity)
   tied_undone at free undone_it =
       let s = setting_of b.story in
-      let base = base_of b.story.begin in
+      let base = base_of b.story in
       let ts = past_of b.story in
       let t = stood b tied name at free.there in
       let rest = without (steps s) (t.step ∷ []) ts in
@@ -62,8 +62,8 @@ module _ (b : Volume) (tied : IsTied b) (name : StepName) (h : History) (capacit
       let room = tied.room in
       let few = tied.few in
       let bounded = tied.bounded in
-      tied_by (with_entry b entry h capacity) s (undone (steps s) (seen b.history.world) t.step) rest (accepted_is_legal b.story entry tied.legal free.answer)
-      (stands_undone b.story s (seen b.history.world) ts name t.step (stands b tied) (freed b tied name at free) t.named) is tied.machines
+      tied_by (with_entry b entry h capacity) s base (undone (steps s) (seen b.history.world) t.step) rest (accepted_is_legal b.story entry tied.legal free.answer)
+      (stands_undone b.story s (seen b.history.world) ts name t.step (stands b tied) (freed b tied name at free) t.named) (base_next b.story entry) is tied.machines
       (omega (arith, grown, less, now, before, logged, room)) (omega (arith, less, now, before, few)) (omega (arith, less, now, before, logged, bounded))
 
   pub tied_rolled : (at : ℕ) (undone_names : List StepName) (places : List ℕ) → Stood b name at → plan_answer b.story name ≡ Ok undone_names → places ≡ plan (facts_of (past_of b.story)) at
@@ -72,13 +72,13 @@ module _ (b : Volume) (tied : IsTied b) (name : StepName) (h : History) (capacit
       → IsTied (with_entry b (Rollback name undone_names) h capacity)
   tied_rolled at undone_names places t planned placed rolled =
       let s = setting_of b.story in
-      let base = base_of b.story.begin in
+      let base = base_of b.story in
       let ts = past_of b.story in
       let all = after (steps s) ts t.step.step in
       let rest = without (steps s) all ts in
       let is = rolled s base ts at t.step tied.history t.there placed in
       let there : In t.step ts = in_list ts at t.step t.there in
-      let names = steps_have_names s base tied.history.none in
+      let names = steps_have_names s base tied.history.from in
       let own : In t.step all = (least_of (steps s) base names ts t.step (λ x y i. names.once ts (seen b.history.world) x y tied.history.runs i) there).holds.itself in
       let less = fewer all t.step rest own there refl in
       let now = as_many h.world.items h.records.items rest is.records in
@@ -88,6 +88,6 @@ module _ (b : Volume) (tied : IsTied b) (name : StepName) (h : History) (capacit
       let room = tied.room in
       let few = tied.few in
       let bounded = tied.bounded in
-      tied_by (with_entry b entry h capacity) s (undo_each (steps s) (seen b.history.world) (reverse all)) rest (accepted_is_legal b.story entry tied.legal planned)
-      (stands_rolled b.story s (seen b.history.world) ts name undone_names t.step (stands b tied) there t.named) is tied.machines
+      tied_by (with_entry b entry h capacity) s base (undo_each (steps s) (seen b.history.world) (reverse all)) rest (accepted_is_legal b.story entry tied.legal planned)
+      (stands_rolled b.story s (seen b.history.world) ts name undone_names t.step (stands b tied) there t.named) (base_next b.story entry) is tied.machines
       (omega (arith, grown, less, now, before, logged, room)) (omega (arith, less, now, before, few)) (omega (arith, less, now, before, logged, bounded))

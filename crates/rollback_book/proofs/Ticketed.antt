@@ -50,7 +50,7 @@ module _ (b : Volume) (tied : IsTied b) (t : Thread) where
     pub ticketed : (machine : Definition) (readiness : Readiness) → readiness ≡ readiness_at (paths_of (frames_of b.history.world) t.exec) t.path → first.has_move readiness ≡ true
         → Some machine ≡ placed (place_in b.places f.level.machine) → IsTicketed b.story t machine f
     ticketed machine readiness h moves known =
-        let p = frames_stand (setting_of b.story) (base_of b.story.begin) (past_of b.story) b.history t f (legal_whole b.story tied.legal) tied.history (sym there) in
+        let p = frames_stand (setting_of b.story) (base_of b.story) (past_of b.story) b.history t f (legal_whole b.story tied.legal) tied.history (sym there) in
         let own : machine_of b.story f.level.machine ≡ Some machine = sym (tied.machines f.level.machine) ∙ sym known in
         record {
           moving = record { frame = frame_there (Some f) there; known = own; moves = moves_where b tied t ∙ sym (ap first.has_move h) ∙ moves };

@@ -19,31 +19,33 @@ use Rattle.step_history.proofs.Left.{as_many, facts_alike}
 use Rattle.book_log.specs.Answers.{is_full_for_step, is_full_for_define}
 use Rattle.book_log.specs.Legal.{IsLegal}
 use Rattle.book_log.specs.Story.{Story, base_of, remaining, setting_of, world_of, past_of}
-use Rattle.book_log.proofs.Standing.{StandsAt, world_there, past_there, steps_run, names_there, fact_named}
+use Rattle.book_log.proofs.LegalRuns.{legal_stands}
+use Rattle.book_log.proofs.Standing.{StandsAt, stands_in, world_there, past_there, steps_run, names_there, fact_named}
 use Rattle.rollback_book.specs.Book.{Volume, IsTied, place_in, placed}
 
 -- ---- a story that stands somewhere
 
 -- the world of a run is that of the story
-pub stands_as : (story : Story) (s : Setting) (w v : World) (ts : List Past) → StandsAt story s w ts → IsRun (steps s) (base_of story.begin) ts v → StandsAt story s v ts
+pub stands_as : (story : Story) (s : Setting) (w v : World) (ts : List Past) → StandsAt story s w ts → IsRun (steps s) (base_of story) ts v → StandsAt story s v ts
 stands_as story s w v ts h runs =
     let e : (w, ts) ≡ (v, ts) =
-    same_Some (w, ts) (v, ts) (sym (steps_run story s w ts h) ∙ sym (ap (λ l. run (steps s) (base_of story.begin) l) (names_there story s w ts h)) ∙ runs) in
-    record { setting = h.setting; runs = h.runs ∙ ap (λ (p : World × List Past). Some p) e }
+    same_Some (w, ts) (v, ts) (sym (steps_run story s w ts h) ∙ sym (ap (λ l. run (steps s) (base_of story) l) (names_there story s w ts h)) ∙ runs) in
+    stands_in story s s w v ts ts h h.setting (h.runs ∙ ap (λ (p : World × List Past). Some p) e)
 
 -- ---- what is held
 
 -- what is held belongs to a story that stands in the same world
-pub tied_by : (b : Volume) (s : Setting) (w : World) (ts : List Past) → IsLegal b.story → StandsAt b.story s w ts → IsHistory s (base_of b.story.begin) ts b.history
+pub tied_by : (b : Volume) (s : Setting) (base w : World) (ts : List Past) → IsLegal b.story → StandsAt b.story s w ts → base_of b.story ≡ base → IsHistory s base ts b.history
     → ((name : List ℕ) → placed (place_in b.places name) ≡ s.machines name)
     → length b.story.log + length b.history.records.items ≤ b.capacity → length b.history.records.items ≤ 65536 → length b.story.log + length b.history.records.items ≤ 1000000 → IsTied b
-tied_by b s w ts legal h is machines room few bounded =
+tied_by b s base w ts legal h same was machines room few bounded =
+    let is = subst (λ (x : World). IsHistory s x ts b.history) (sym same) was in
     let own = stands_as b.story s w (seen b.history.world) ts h is.runs in
     let past = past_there b.story s (seen b.history.world) ts own in
     record {
       legal = legal;
-      history = subst (λ (x : Setting). IsHistory x (base_of b.story.begin) (past_of b.story) b.history) (sym h.setting)
-          (subst (λ (l : List Past). IsHistory s (base_of b.story.begin) l b.history) (sym past) is);
+      history = subst (λ (x : Setting). IsHistory x (base_of b.story) (past_of b.story) b.history) (sym h.setting)
+          (subst (λ (l : List Past). IsHistory s (base_of b.story) l b.history) (sym past) is);
       run = own.runs ∙ ap (λ (l : List Past). Some (seen b.history.world, l)) (sym past);
       machines = λ name. machines name ∙ ap (λ (x : Setting). x.machines name) (sym h.setting);
       room = room;
@@ -53,7 +55,7 @@ tied_by b s w ts legal h is machines room few bounded =
 
 module _ (b : Volume) (tied : IsTied b) where
   pub stands : StandsAt b.story (setting_of b.story) (seen b.history.world) (past_of b.story)
-  stands = record { setting = refl; runs = tied.run }
+  stands = stands_in b.story (setting_of b.story) (setting_of b.story) (world_of b.story) (seen b.history.world) (past_of b.story) (past_of b.story) (legal_stands b.story tied.legal) refl tied.run
 
   pub world_is : world_of b.story ≡ seen b.history.world
   world_is = world_there b.story (setting_of b.story) (seen b.history.world) (past_of b.story) stands

@@ -44,8 +44,8 @@ volume begin machines history log = record { story = record { begin = begin; log
 -- what a book holds belongs to its story
 pub record IsTied (b : Volume) : Type 0 where
   pub legal : IsLegal b.story
-  -- the history is the run of the remaining steps from the start
-  pub history : IsHistory (setting_of b.story) (base_of b.story.begin) (past_of b.story) b.history
+  -- the history is the run of the remaining steps from their base
+  pub history : IsHistory (setting_of b.story) (base_of b.story) (past_of b.story) b.history
   pub run : run_of b.story ≡ Some (seen b.history.world, past_of b.story)
   pub machines : (name : List ℕ) → placed (place_in b.places name) ≡ machine_of b.story name
   -- there is room for the entry of each remaining step's undoing

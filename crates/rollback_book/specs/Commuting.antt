@@ -16,10 +16,10 @@ use Rattle.book_log.specs.declared.refusal.Refusal.TheVariants.{Memory}
 
 -- ---- undoing
 
--- The steps but these remain, in their order, with their facts and what they kept; and the world is that of their run from the start.
+-- The steps but these remain, in their order, with their facts and what they kept; and the world is that of their run from their base.
 pub record IsRest (before : Story) (xs : List Past) (after : Story) : Type 0 where
   pub past : past_of after ≡ without (steps (setting_of before)) xs (past_of before)
-  pub run : IsRun (steps (setting_of before)) (base_of before.begin) (without (steps (setting_of before)) xs (past_of before)) (world_of after)
+  pub run : IsRun (steps (setting_of before)) (base_of before) (without (steps (setting_of before)) xs (past_of before)) (world_of after)
 
 -- the names are those of steps that may be undone in this order, each free at its turn
 pub record IsAllowedOrder (story : Story) (names : List StepName) (xs : List Past) : Type 0 where
@@ -42,7 +42,7 @@ IsOnlyResult before names after = (others : List StepName) (other : Story) → o
 
 -- ---- taking again
 
--- The steps of these names remain, in their order, and no others; their run from the start of the other story, in its machines, gives
+-- The steps of these names remain, in their order, and no others; their run from the base of the other story, in its machines, gives
 -- the world and what is kept of them. Where they are an arrangement of all the other's steps, that is the other's world, and step by
 -- step the same facts and what was kept.
 pub record IsRerunOf (story : Story) (names : List StepName) (again : Story) : Type 0 where
@@ -51,11 +51,11 @@ pub record IsRerunOf (story : Story) (names : List StepName) (again : Story) : T
   pub begin : again.begin ≡ story.begin
   pub machines : machine_of again ≡ machine_of story
   pub of_story : (step : Step) → In step (remaining again) → In step (remaining story)
-  pub runs : run (steps (setting_of story)) (base_of story.begin) (remaining again) ≡ Some (world_of again, past_of again)
+  pub runs : run (steps (setting_of story)) (base_of story) (remaining again) ≡ Some (world_of again, past_of again)
   pub arranged : IsArrangement (steps (setting_of story)) (past_of story) (remaining again)
       → (world_of again ≡ world_of story) × ((t : Past) → In t (past_of again) ↔ In t (past_of story))
 
 -- no remaining steps of these names can be run in this order
 abbrev pub CannotRun : Story → List StepName → Type 0
 CannotRun story names = (chosen : List Step) (v : World) (ts : List Past) → ((step : Step) → In step chosen → In step (remaining story)) → map name_of chosen ≡ names
-    → run (steps (setting_of story)) (base_of story.begin) chosen ≡ Some (v, ts) → ⊥
+    → run (steps (setting_of story)) (base_of story) chosen ≡ Some (v, ts) → ⊥

@@ -1,5 +1,5 @@
 -- How far the frames of a history count: no further than its steps are many.
-use Rattle.std.proofs.Common.{◌≡◌, ◌≤◌, arith, ℕ, ◌+◌, nat_le, cond, codes, Bool, true, false, List, [], ◌∷◌, length, zero, suc, refl, ap, sym, subst, ◌∙◌, inl, inr, Option, None, Some, Result, Ok, Err}
+use Rattle.std.proofs.Common.{◌≡◌, ◌≤◌, arith, ℕ, ◌+◌, nat_le, cond, codes, Bool, true, false, List, [], ◌∷◌, ◌++◌, length, zero, suc, refl, ap, sym, subst, ◌∙◌, inl, inr, Option, None, Some, Result, Ok, Err}
 use Rattle.std.specs.Prelude.{◌⊎◌, option_map, is_some, slice_get, if◌then◌else◌}
 use Rattle.std.proofs.lemmas.Option.{same_Some}
 use Rattle.json_tree.specs.Data.{Data}
@@ -37,9 +37,12 @@ use Rattle.saved_steps.specs.Steps.{Step, started, moved, start_name, makes, clo
 use Rattle.saved_steps.specs.World.{Setting, World, is_same_thread}
 use Rattle.saved_steps.specs.declared.fact.Fact.{Fact}
 use Rattle.saved_steps.specs.declared.fact.Kind.TheVariants.{Start, Join}
+use Rattle.trace_theory.specs.Traces.{IsRun}
+use Rattle.trace_theory.proofs.Base.{run_from}
 use Rattle.trace_theory.proofs.Lists.{by_bool}
 use Rattle.trace_theory.proofs.Runs.{and_then_some, map_some, Runs, from_run}
 use Rattle.depends.specs.Instance.{steps}
+use Rattle.depends.specs.Laws.{HasNoFrames}
 use Rattle.saved_steps.proofs.Begun.{turn_told}
 use Rattle.depends.proofs.Planned.{planned, numbered}
 use Rattle.depends.proofs.Worlds.{deed_taken}
@@ -217,8 +220,21 @@ counted_along s (t ∷ ts) w v n c h =
     let e : n + 1 + length ts ≡ n + suc (length ts) = omega arith in
     subst (λ (k : ℕ). Counted k v) e (counted_along s ts h.0 v (n + 1) (counted_step s w h.0 t.step t.fact n c h.1.0) h.2)
 
-pub counted : (s : Setting) (base : World) (ts : List Past) (h : History) → IsHistory s base ts h → Counted (length ts) (seen h.world)
-counted s base ts h is =
+no_counts : (first : World) → HasNoFrames first → Counted 0 first
+no_counts first none t f k = let n = sym (none t) ∙ k in cc
+
+-- no frame counts further than a run from a world without executions has steps
+pub counted_run : (s : Setting) (first v : World) (ts : List Past) → HasNoFrames first → IsRun (steps s) first ts v → Counted (length ts) v
+counted_run s first v ts none runs =
     let e : 0 + length ts ≡ length ts = omega arith in
-    subst (λ (k : ℕ). Counted k (seen h.world)) e
-    (counted_along s ts base (seen h.world) 0 (λ t f k. let n = sym (is.none t) ∙ k in cc) (from_run (steps s) ts base (seen h.world) is.runs))
+    subst (λ (k : ℕ). Counted k v) e (counted_along s ts first v 0 (no_counts first none) (from_run (steps s) ts first v runs))
+
+-- a parked frame of a history has made a step
+pub parked_moved : (s : Setting) (base : World) (ts : List Past) (h : History) → IsHistory s base ts h → (t : Thread) (f : Frame) → (seen h.world).frames t ≡ Some f → is_parked f.phase ≡ true → 1 ≤ f.count
+parked_moved s base ts h is t f there =
+    (counted_run s is.from.0 (seen h.world) (is.from.2.0 ++ ts) is.from.1 (run_from (steps s) is.from.0 base is.from.2 ts (seen h.world) is.runs) t f there).parked
+
+pub counted : (s : Setting) (base : World) (ts : List Past) (h : History) (n : ℕ) → ((u : Thread) (g : Frame) → base.frames u ≡ Some g → g.count ≤ n) → IsHistory s base ts h → Counted (n + length ts) (seen h.world)
+counted s base ts h n low is =
+    let c = counted_run s is.from.0 base is.from.2.0 is.from.1 is.from.2.1 in
+    counted_along s ts base (seen h.world) n (λ t f there. record { bound = low t f there; parked = (c t f there).parked }) (from_run (steps s) ts base (seen h.world) is.runs)

@@ -21,6 +21,7 @@ use Rattle.saved_steps.specs.declared.record.StepRecord.{StepRecord}
 use Rattle.trace_theory.specs.Traces.{IsRun}
 use Rattle.trace_theory.proofs.Runs.{run_more}
 use Rattle.depends.specs.Instance.{steps}
+use Rattle.depends.proofs.Lawful.{from_none}
 use Rattle.step_history.specs.History.{Past, IsRecordOf, AreRecordsOf, IsHistory, nothing_over, taken_in}
 use Rattle.step_history.specs.declared.history.History.{History}
 use Rattle.step_history.proofs.Left.{records_kept}
@@ -33,7 +34,7 @@ pub same_history : (s : Setting) (base : model.World) (ts : List Past) (h g : Hi
 same_history s base ts h g world store records is = record {
   table = is.table ∙ sym store.table;
   schema = is.schema ∙ sym store.schema;
-  none = is.none;
+  from = is.from;
   runs = subst (λ (x : model.World). IsRun (steps s) base ts x) (sym world) is.runs;
   records = subst (λ (l : List StepRecord). AreRecordsOf g.world.items l ts) (sym records) (records_kept h.world.items g.world.items h.records.items ts store is.records);
 }
@@ -61,7 +62,7 @@ grown s base ts step d h g m r is does made applied records =
     record {
       table = is.table ∙ sym applied.store.table;
       schema = is.schema ∙ sym applied.store.schema;
-      none = is.none;
+      from = is.from;
       runs = run_more (steps s) base (seen h.world) (seen g.world) ts t is.runs (takes, refl);
       records = subst (λ (l : List StepRecord). AreRecordsOf g.world.items l (ts ++ t ∷ [])) (sym records)
           (one_more g.world.items h.records.items ts r t (records_kept h.world.items g.world.items h.records.items ts applied.store is.records) own);
@@ -72,7 +73,7 @@ pub empty_history : (s : Setting) (items : Store) (h : History) → ((t : Thread
 empty_history s items h frames store none table schema = record {
   table = table ∙ ap (λ (x : Store). x.table) (sym store);
   schema = schema ∙ ap (λ (x : Store). x.schema) (sym store);
-  none = λ t. refl;
+  from = from_none s (nothing_over items) (λ t. refl);
   runs =
       ap (λ (x : model.World). let y : Option (model.World × List Past) = Some (x, []) in y)
       (ap₂ (λ (a : Thread → Option Frame) (b : Table). let x : model.World = record { frames = a; items = b } in x) (fun_ext (λ t. sym (frames t))) (ap items_of (sym store)));

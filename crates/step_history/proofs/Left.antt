@@ -30,7 +30,7 @@ use Rattle.trace_theory.proofs.Commuting.{free_steps_undo}
 use Rattle.trace_theory.proofs.Least.{without_one}
 use Rattle.trace_theory.proofs.Orders.{unneeded_behind}
 use Rattle.depends.specs.Instance.{steps}
-use Rattle.depends.specs.Laws.{HasNoFrames, facts_of}
+use Rattle.depends.specs.Laws.{IsFrom, facts_of}
 use Rattle.depends.specs.Plans.{first_dependent}
 use Rattle.depends.proofs.Consequences.{free_steps_have_no_dependent}
 use Rattle.depends.proofs.Lawful.{steps_are_lawful}
@@ -94,17 +94,17 @@ stands_after w s (Closed f kids) fits l = stands_open w s l (close_is_no_fork s.
 -- ---- a step that is free
 
 -- a step on which no later one depends was the last to touch its thread
-left_free : (s : Setting) (base v : model.World) (front back : List Past) (t : Past) → HasNoFrames base → IsRun (steps s) base (front ++ t ∷ back) v → IsFree (steps s) (front ++ t ∷ back) t → Left v.frames t.fact
-left_free s base v front back t none runs free =
-    let behind = unneeded_behind (steps s) base (steps_have_names s base none) front back t free in
-    left_by s (undone (steps s) v t) v t (free_steps_undo (steps s) base (steps_are_lawful s base none) v front back t runs behind).1
+left_free : (s : Setting) (base v : model.World) (front back : List Past) (t : Past) → IsFrom s base → IsRun (steps s) base (front ++ t ∷ back) v → IsFree (steps s) (front ++ t ∷ back) t → Left v.frames t.fact
+left_free s base v front back t from runs free =
+    let behind = unneeded_behind (steps s) base (steps_have_names s base from) front back t free in
+    left_by s (undone (steps s) v t) v t (free_steps_undo (steps s) base (steps_are_lawful s base from) v front back t runs behind).1
 
-pub can_undo : (s : Setting) (base : model.World) (front back : List Past) (t : Past) (w : World) (r : StepRecord) → HasNoFrames base → IsRun (steps s) base (front ++ t ∷ back) (seen w) → IsFree (steps s) (front ++ t ∷ back) t
+pub can_undo : (s : Setting) (base : model.World) (front back : List Past) (t : Past) (w : World) (r : StepRecord) → IsFrom s base → IsRun (steps s) base (front ++ t ∷ back) (seen w) → IsFree (steps s) (front ++ t ∷ back) t
     → IsRecordOf w.items r t → CanUndo w r
-can_undo s base front back t w r none runs free is = record {
+can_undo s base front back t w r from runs free is = record {
   record_fits = is.fits;
   slot = is.slot;
-  thread = stands_after w r.fact r.saved is.fits (subst (λ (x : Fact). Left (frames_of w) x) (sym is.fact) (left_free s base (seen w) front back t none runs free));
+  thread = stands_after w r.fact r.saved is.fits (subst (λ (x : Fact). Left (frames_of w) x) (sym is.fact) (left_free s base (seen w) front back t from runs free));
 }
 
 -- ---- records
@@ -205,10 +205,10 @@ step_there (t ∷ ts) (suc n) h = step_there ts n (omega (arith, h))
 
 module _ (s : Setting) (base : model.World) (ts : List Past) (n : ℕ) (t : Past) (h : History) (is : IsHistory s base ts h) (here : slice_get ts n ≡ Some t) where
   pub free_by : first_dependent (facts h.records.items) n ≡ None → IsFree (steps s) ts t
-  free_by k = (free_steps_have_no_dependent s base (seen h.world) ts n t is.none is.runs here).0 (subst (λ (l : List Fact). first_dependent l n ≡ None) (facts_alike h.world.items h.records.items ts is.records) k)
+  free_by k = (free_steps_have_no_dependent s base (seen h.world) ts n t is.from is.runs here).0 (subst (λ (l : List Fact). first_dependent l n ≡ None) (facts_alike h.world.items h.records.items ts is.records) k)
 
   pub no_dependent : IsFree (steps s) ts t → first_dependent (facts h.records.items) n ≡ None
-  no_dependent free = subst (λ (l : List Fact). first_dependent l n ≡ None) (sym (facts_alike h.world.items h.records.items ts is.records)) ((free_steps_have_no_dependent s base (seen h.world) ts n t is.none is.runs here).1 free)
+  no_dependent free = subst (λ (l : List Fact). first_dependent l n ≡ None) (sym (facts_alike h.world.items h.records.items ts is.records)) ((free_steps_have_no_dependent s base (seen h.world) ts n t is.from is.runs here).1 free)
 
   -- the record at the step's place can be undone where the step is free
   pub can_undo_at : (r : StepRecord) → slice_get h.records.items n ≡ Some r → IsFree (steps s) ts t → CanUndo h.world r
@@ -216,7 +216,7 @@ module _ (s : Setting) (base : model.World) (ts : List Past) (n : ℕ) (t : Past
       let b = both h.world.items h.records.items ts n t is.records here in
       let e : b.record_there ≡ r = same_Some b.record_there r (sym (there_at h.records.items b.before b.behind b.record_there n b.records b.record_place) ∙ at) in
       subst (λ (x : StepRecord). CanUndo h.world x) e
-      (can_undo s base b.front b.back t h.world b.record_there is.none (subst (λ (l : List Past). IsRun (steps s) base l (seen h.world)) (sym b.steps) is.runs) (subst (λ (l : List Past). IsFree (steps s) l t) (sym b.steps) free) b.is)
+      (can_undo s base b.front b.back t h.world b.record_there is.from (subst (λ (l : List Past). IsRun (steps s) base l (seen h.world)) (sym b.steps) is.runs) (subst (λ (l : List Past). IsFree (steps s) l t) (sym b.steps) free) b.is)
 
   -- and what is left then is the history without the step
   pub undone_history : (g : History) (r : StepRecord) → slice_get h.records.items n ≡ Some r → IsFree (steps s) ts t → g.records.items ≡ remove h.records.items n → IsUndone h.world r g.world
@@ -226,16 +226,16 @@ module _ (s : Setting) (base : model.World) (ts : List Past) (n : ℕ) (t : Past
       let e : b.record_there ≡ r = same_Some b.record_there r (sym (there_at h.records.items b.before b.behind b.record_there n b.records b.record_place) ∙ at) in
       let own : IsRecordOf h.world.items r t = subst (λ (x : StepRecord). IsRecordOf h.world.items x t) e b.is in
       let whole = subst (λ (l : List Past). IsRun (steps s) base l (seen h.world)) (sym b.steps) is.runs in
-      let names = steps_have_names s base is.none in
+      let names = steps_have_names s base is.from in
       let behind = unneeded_behind (steps s) base names b.front b.back t (subst (λ (l : List Past). IsFree (steps s) l t) (sym b.steps) free) in
-      let run = (free_steps_undo (steps s) base (steps_are_lawful s base is.none) (seen h.world) b.front b.back t whole behind).0 in
+      let run = (free_steps_undo (steps s) base (steps_are_lawful s base is.from) (seen h.world) b.front b.back t whole behind).0 in
       let world : seen g.world ≡ undone (steps s) (seen h.world) t = undone_it.world ∙ ap₂ (λ (f : Fact) (k : Kept). undo (seen h.world) f k) own.fact own.kept in
       let rest : b.front ++ b.back ≡ without (steps s) (t ∷ []) ts =
       sym (without_one (steps s) base names b.front b.back t (λ x y i. names.once (b.front ++ t ∷ b.back) (seen h.world) x y whole i)) ∙ ap (without (steps s) (t ∷ [])) b.steps in
       record {
         table = is.table ∙ sym undone_it.store.table;
         schema = is.schema ∙ sym undone_it.store.schema;
-        none = is.none;
+        from = is.from;
         runs = subst (λ (l : List Past). IsRun (steps s) base l (seen g.world)) rest (subst (λ (x : model.World). IsRun (steps s) base (b.front ++ b.back) x) (sym world) run);
         records = subst (λ (l : List StepRecord). AreRecordsOf g.world.items l (without (steps s) (t ∷ []) ts)) (sym (kept ∙ removed_at h.records.items b.before b.behind b.record_there n b.records b.record_place))
             (subst (λ (l : List Past). AreRecordsOf g.world.items (b.before ++ b.behind) l) rest (records_kept h.world.items g.world.items (b.before ++ b.behind) (b.front ++ b.back) undone_it.store b.others));

@@ -50,6 +50,7 @@ use Rattle.saved_steps.specs.declared.fact.Fact.{Fact}
 use Rattle.saved_steps.specs.declared.fact.Kind.TheVariants.{Start, Join}
 use Rattle.saved_steps.proofs.Begun.{turn_told}
 use Rattle.saved_steps.proofs.Turned.{Yields, turn_yields, answer_open, join_open, branch_open}
+use Rattle.trace_theory.proofs.Base.{reached_from}
 use Rattle.trace_theory.proofs.Lists.{by_bool}
 use Rattle.trace_theory.proofs.Runs.{and_then_some, map_some, reached_good}
 use Rattle.depends.specs.Instance.{steps}
@@ -323,4 +324,4 @@ module _ (s : Setting) (whole : HasWholeMachines s) where
 
   pub placed : (base : World) (ts : List Past) (h : History) → IsHistory s base ts h → AllPlaced s (seen h.world)
   placed base ts h is =
-      reached_good (steps s) (AllPlaced s) base (λ t f k. let n = sym (is.none t) ∙ k in cc) kept_placed (seen h.world) (ts, is.runs)
+      reached_good (steps s) (AllPlaced s) is.from.0 (λ t f k. let n = sym (is.from.1 t) ∙ k in cc) kept_placed (seen h.world) (reached_from (steps s) is.from.0 base is.from.2 (seen h.world) (ts, is.runs))

@@ -12,7 +12,7 @@ use Rattle.trace_theory.proofs.Least.{Once, without_one, Once-filter}
 use Rattle.trace_theory.proofs.Orders.{without_none, without_more, without_alike, after_allowed}
 use Rattle.trace_theory.proofs.Lists.{In-reverse}
 use Rattle.depends.specs.Instance.{steps}
-use Rattle.depends.specs.Laws.{HasNoFrames, facts_of}
+use Rattle.depends.specs.Laws.{IsFrom, facts_of}
 use Rattle.depends.specs.Plans as plans
 use Rattle.depends.specs.Plans.{depends_on_some, plan}
 use Rattle.depends.proofs.Consequences.{plans_are_consequences}
@@ -116,12 +116,12 @@ module _ (s : Setting) (base : model.World) (names : HasNames (steps s) base) wh
             (undoes_allowed ps us' xs (Once-filter (steps s) base names _ us once) (still_there us p x ps once here d.0 ∙ rest) a.1 d.1),
       )
 
-pub plan_undoes : (s : Setting) (base v : model.World) (ts : List Past) (at : ℕ) (t : Past) → HasNoFrames base → IsRun (steps s) base ts v → slice_get ts at ≡ Some t
+pub plan_undoes : (s : Setting) (base v : model.World) (ts : List Past) (at : ℕ) (t : Past) → IsFrom s base → IsRun (steps s) base ts v → slice_get ts at ≡ Some t
     → Undoes s ts (plan (facts_of ts) at) (without (steps s) (after (steps s) ts t.step) ts)
-plan_undoes s base v ts at t none runs here =
-    let names = steps_have_names s base none in
+plan_undoes s base v ts at t from runs here =
+    let names = steps_have_names s base from in
     let once : Once (steps s) base names ts = λ x y b. names.once ts v x y runs b in
     let xs = after (steps s) ts t.step in
     subst (Undoes s ts (plan (facts_of ts) at)) (without_alike (steps s) base names (reverse xs) xs ts (λ x i. reverse-In x xs i) (λ x i. In-reverse x xs i))
-    (undoes_allowed s base names (plan (facts_of ts) at) ts (reverse xs) once (plans_are_consequences s base v ts at t none runs here)
+    (undoes_allowed s base names (plan (facts_of ts) at) ts (reverse xs) once (plans_are_consequences s base v ts at t from runs here)
     (after_allowed (steps s) base names ts t once (in_list ts at t here)) (plan_descends (facts_of ts) at))

@@ -24,7 +24,7 @@ RollsBack was planned now places =
 
 pub begins : (was : History) (planned places : List ℕ) → places ≡ planned → RollsBack was planned was places
 begins was planned places same s base ts at t is here e =
-    (ts, is, subst (λ (l : List ℕ). Undoes s ts l (without (steps s) (after (steps s) ts t.step) ts)) (sym (same ∙ e)) (plan_undoes s base (seen was.world) ts at t is.none is.runs here))
+    (ts, is, subst (λ (l : List ℕ). Undoes s ts l (without (steps s) (after (steps s) ts t.step) ts)) (sym (same ∙ e)) (plan_undoes s base (seen was.world) ts at t is.from is.runs here))
 
 pub next_place : (s : Setting) (us : List Past) (places : List ℕ) (i : ℕ) (rest : List Past) → i < length places → Undoes s us (drop i places) rest
     → (x : Past) × (slice_get us (get_or places i 0) ≡ Some x) × IsFree (steps s) us x × Undoes s (without (steps s) (x ∷ []) us) (drop (i + 1) places) rest

@@ -3,7 +3,7 @@ use Rattle.std.specs.Prelude.{◌≡◌, ◌<◌, ℕ, true, List, [], ◌∷◌
 use Rattle.item_store.specs.Store.{Store, items_of}
 pub use Rattle.depends.specs.Instance.{Past, taken_in}
 use Rattle.depends.specs.Instance.{steps}
-use Rattle.depends.specs.Laws.{HasNoFrames}
+use Rattle.depends.specs.Laws.{IsFrom}
 use Rattle.depends.specs.Plans.{plan}
 use Rattle.trace_theory.specs.Traces.{IsRun}
 use Rattle.saved_steps.specs.Held.{seen}
@@ -31,12 +31,12 @@ AreRecordsOf items [] (t ∷ ts) = ⊥
 AreRecordsOf items (r ∷ rs) [] = ⊥
 AreRecordsOf items (r ∷ rs) (t ∷ ts) = IsRecordOf items r t × AreRecordsOf items rs ts
 
--- In this setting the steps were taken one after another from a base without executions; they gave the world, and the records
--- are theirs.
+-- In this setting the steps were taken one after another from a base, which a run reaches from a world without executions; they
+-- gave the world, and the records are theirs.
 pub record IsHistory (s : Setting) (base : World) (ts : List Past) (h : History) : Type 0 where
   pub table : s.table ≡ h.world.items.table
   pub schema : s.schema ≡ h.world.items.schema
-  pub none : HasNoFrames base
+  pub from : IsFrom s base
   pub runs : IsRun (steps s) base ts (seen h.world)
   pub records : AreRecordsOf h.world.items h.records.items ts
 

@@ -1,5 +1,5 @@
 -- What is true of histories.
-use Rattle.std.specs.Prelude.{◌≡◌, ◌≤◌, ℕ, true, List, [], ◌∷◌, ◌++◌, length, Some}
+use Rattle.std.specs.Prelude.{◌≡◌, ◌≤◌, ◌+◌, ℕ, true, List, [], ◌∷◌, ◌++◌, length, Some}
 use Rattle.asl_frames.specs.declared.frame.Frame.{Frame}
 use Rattle.saved_steps.specs.FlatMap.{is_parked}
 use Rattle.step_names.specs.Thread.{Thread}
@@ -11,11 +11,12 @@ pub use Rattle.depends.specs.Laws.{Extends}
 use Rattle.step_history.specs.History.{Past, IsHistory}
 use Rattle.step_history.specs.declared.history.History.{History}
 
--- a frame counts no further than there are steps, and a parked one has made one
+-- a frame counts no further than the base's frames and so many steps more, and a parked one has made one
 abbrev pub FramesAreCounted : Type 0
 FramesAreCounted =
-    (s : Setting) (base : World) (ts : List Past) (h : History) (t : Thread) (f : Frame)
-    → IsHistory s base ts h → frames_of h.world t ≡ Some f → (f.count ≤ length ts) × (is_parked f.phase ≡ true → 1 ≤ f.count)
+    (s : Setting) (base : World) (ts : List Past) (h : History) (t : Thread) (f : Frame) (n : ℕ)
+    → ((u : Thread) (g : Frame) → base.frames u ≡ Some g → g.count ≤ n)
+    → IsHistory s base ts h → frames_of h.world t ≡ Some f → (f.count ≤ n + length ts) × (is_parked f.phase ≡ true → 1 ≤ f.count)
 
 -- a history stays one where machines are defined
 abbrev pub MoreMachinesKeepHistories : Type 0

@@ -3,7 +3,7 @@
 ghost use Rattle.step_history.specs.Levels.{FramesStand, ThreadsMoveWhereReady};
 ghost use Rattle.step_history.specs.Laws.{FramesAreCounted, MoreMachinesKeepHistories, AllowedOrdersUndo, FreeStepsReturn};
 
-/// A frame counts no further than there are steps, and a parked one has made one.
+/// A frame counts no further than the frames of the base and so many steps more, and a parked one has made one.
 pub fn frames_are_counted()
     ensures { FramesAreCounted }
 {}

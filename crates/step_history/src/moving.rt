@@ -39,7 +39,7 @@ impl History {
     ) -> Result<Option<Next>, AllocError>
         requires history { IsSomeHistory self.now }
         requires frame { frames_of self.now.world thread.now ≡ Some frame.now }
-        requires count { length self.now.records.items + 1 < 2 ^ 32 }
+        requires count { frame.now.count + 1 < 2 ^ 32 }
         requires depth { IfSome (frames_of self.now.world thread.now) (HasNamesBelow thread.now) }
         requires begins { frame.now.phase ≡ Phase.Ready → waits (frames_of self.now.world) thread.now frame.now ≡ false }
         ensures { IfOk result (λ next. (s : Setting) (base : World) (ts : List Past) → IsHistory s base ts self.now → IsMachineOf s (frames_of self.now.world thread.now) machine.now → IsMoveOf s self.now.world thread.now next) }

@@ -5,4 +5,4 @@ use Rattle.depends.proofs.Named.{steps_have_names}
 use Rattle.depends.proofs.laws.arrangements_agree.Goals as goal
 
 pub returns : goal.returns
-returns c = λ s base none. law.arrangements_agree (steps s) base (steps_have_names s base none) (steps_are_lawful s base none)
+returns c = λ s base from. law.arrangements_agree (steps s) base (steps_have_names s base from) (steps_are_lawful s base from)

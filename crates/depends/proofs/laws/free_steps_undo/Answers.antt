@@ -4,4 +4,4 @@ use Rattle.depends.proofs.Lawful.{steps_are_lawful}
 use Rattle.depends.proofs.laws.free_steps_undo.Goals as goal
 
 pub returns : goal.returns
-returns c = λ s base none. law.free_steps_undo (steps s) base (steps_are_lawful s base none)
+returns c = λ s base from. law.free_steps_undo (steps s) base (steps_are_lawful s base from)

@@ -5,4 +5,4 @@ use Rattle.depends.proofs.Named.{steps_have_names}
 use Rattle.depends.proofs.laws.held_consequences_are_left.Goals as goal
 
 pub returns : goal.returns
-returns c = λ s base none. held_is_left (steps s) base (steps_have_names s base none) (steps_are_lawful s base none)
+returns c = λ s base from. held_is_left (steps s) base (steps_have_names s base from) (steps_are_lawful s base from)

@@ -4,4 +4,4 @@ use Rattle.depends.proofs.Lawful.{steps_are_lawful}
 use Rattle.depends.proofs.laws.neighbours_swap.Goals as goal
 
 pub returns : goal.returns
-returns c = λ s base none. law.neighbours_swap (steps s) base (steps_are_lawful s base none)
+returns c = λ s base from. law.neighbours_swap (steps s) base (steps_are_lawful s base from)

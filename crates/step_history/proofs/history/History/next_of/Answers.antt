@@ -1,33 +1,22 @@
-use Rattle.std.proofs.Common.{arith, sym, ap, subst}
+use Rattle.std.proofs.Common.{sym, ap, subst}
 use Rattle.saved_steps.specs.FlatMap.{is_parked}
 use Rattle.asl_tree.specs.Definition.{Definition}
 use Rattle.saved_steps.specs.Held.{frames_of}
 use Rattle.step_history.specs.Moves.{IsMachineOf}
-use Rattle.step_history.proofs.Counts.{counted}
-use Rattle.step_history.proofs.Left.{as_many}
+use Rattle.step_history.proofs.Counts.{parked_moved}
 use Rattle.step_history.proofs.Worked.{ok_map, is_over, work_move, close_move}
 use Rattle.step_history.proofs.history.History.next_of.Goals as goal
 
 pub prepare-requires-clause-count : goal.prepare-requires-clause-count
-prepare-requires-clause-count c =
-    let h = c.args.self.now in
-    let k = c.requires.history in
-    let many = as_many h.world.items h.records.items k.2 k.3.records in
-    let b = (counted k.0 k.1 k.2 h k.3 c.args.thread.now c.args.frame.now c.requires.frame).bound in
-    omega (arith, many, b, c.requires.count)
+prepare-requires-clause-count c = c.requires.count
 
 pub close_of-requires-clause-fork : goal.close_of-requires-clause-fork
 close_of-requires-clause-fork c =
     let k = c.requires.history in
-    (counted k.0 k.1 k.2 c.args.self.now k.3 c.args.thread.now c.args.frame.now c.requires.frame).parked (ap is_parked c.in-Parked.is)
+    parked_moved k.0 k.1 k.2 c.args.self.now k.3 c.args.thread.now c.args.frame.now c.requires.frame (ap is_parked c.in-Parked.is)
 
 pub close_of-requires-clause-count : goal.close_of-requires-clause-count
-close_of-requires-clause-count c =
-    let h = c.args.self.now in
-    let k = c.requires.history in
-    let many = as_many h.world.items h.records.items k.2 k.3.records in
-    let b = (counted k.0 k.1 k.2 h k.3 c.args.thread.now c.args.frame.now c.requires.frame).bound in
-    omega (arith, many, b, c.requires.count)
+close_of-requires-clause-count c = c.requires.count
 
 pub returns-in_ok-prepared-in-Ready : goal.returns-in_ok-prepared-in-Ready
 returns-in_ok-prepared-in-Ready c = λ s base ts is machine.
