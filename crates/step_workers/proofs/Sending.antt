@@ -102,6 +102,8 @@ use Rattle.branch_tree.specs.contracts.tree.Tree as tree
 use Rattle.item_store.specs.contracts.store.ItemStore as item_store
 use Rattle.saved_steps.specs.contracts.record.Saved as saved
 use Rattle.saved_steps.specs.contracts.record.StepRecord as step_record
+use Rattle.saved_steps.specs.contracts.places.Places as executions_places
+use Rattle.saved_steps.specs.contracts.executions.Executions as executions
 use Rattle.saved_steps.specs.contracts.world.World as world
 use Rattle.linked_classes.proofs.places.ClassedPlaces.TheSendSync as places
 use Rattle.step_index.specs.contracts.records.StepRecords as step_records
@@ -451,17 +453,41 @@ step_record_field_sync = search (saved_send, saved_sync, saved_field_send, saved
 pub step_record_sync : IsSync step_record.the_row
 step_record_sync = search (saved_send, saved_sync, saved_field_send, saved_field_sync, base) depth 60 fits 20000
 
+pub places_of_field_send : IsSend (executions_places.the_field).row
+places_of_field_send = search (tree_send, tree_sync, tree_field_send, tree_field_sync, base) depth 60 fits 20000
+
+pub places_of_send : IsSend executions_places.the_row
+places_of_send = search (tree_send, tree_sync, tree_field_send, tree_field_sync, base) depth 60 fits 20000
+
+pub places_of_field_sync : IsSync (executions_places.the_field).row
+places_of_field_sync = search (tree_send, tree_sync, tree_field_send, tree_field_sync, base) depth 60 fits 20000
+
+pub places_of_sync : IsSync executions_places.the_row
+places_of_sync = search (tree_send, tree_sync, tree_field_send, tree_field_sync, base) depth 60 fits 20000
+
+pub executions_field_send : IsSend (executions.the_field).row
+executions_field_send = search (places_of_send, places_of_sync, places_of_field_send, places_of_field_sync, tree_send, tree_sync, tree_field_send, tree_field_sync, base) depth 60 fits 20000
+
+pub executions_send : IsSend executions.the_row
+executions_send = search (places_of_send, places_of_sync, places_of_field_send, places_of_field_sync, tree_send, tree_sync, tree_field_send, tree_field_sync, base) depth 60 fits 20000
+
+pub executions_field_sync : IsSync (executions.the_field).row
+executions_field_sync = search (places_of_send, places_of_sync, places_of_field_send, places_of_field_sync, tree_send, tree_sync, tree_field_send, tree_field_sync, base) depth 60 fits 20000
+
+pub executions_sync : IsSync executions.the_row
+executions_sync = search (places_of_send, places_of_sync, places_of_field_send, places_of_field_sync, tree_send, tree_sync, tree_field_send, tree_field_sync, base) depth 60 fits 20000
+
 pub world_field_send : IsSend (world.the_field).row
-world_field_send = search (tree_send, tree_sync, item_send, item_sync, item_store_send, item_store_sync, tree_field_send, tree_field_sync, item_field_send, item_field_sync, item_store_field_send, item_store_field_sync, base) depth 60 fits 20000
+world_field_send = search (executions_send, executions_sync, executions_field_send, executions_field_sync, tree_send, tree_sync, item_send, item_sync, item_store_send, item_store_sync, tree_field_send, tree_field_sync, item_field_send, item_field_sync, item_store_field_send, item_store_field_sync, base) depth 60 fits 20000
 
 pub world_send : IsSend world.the_row
-world_send = search (tree_send, tree_sync, item_send, item_sync, item_store_send, item_store_sync, tree_field_send, tree_field_sync, item_field_send, item_field_sync, item_store_field_send, item_store_field_sync, base) depth 60 fits 20000
+world_send = search (executions_send, executions_sync, executions_field_send, executions_field_sync, tree_send, tree_sync, item_send, item_sync, item_store_send, item_store_sync, tree_field_send, tree_field_sync, item_field_send, item_field_sync, item_store_field_send, item_store_field_sync, base) depth 60 fits 20000
 
 pub world_field_sync : IsSync (world.the_field).row
-world_field_sync = search (tree_send, tree_sync, item_send, item_sync, item_store_send, item_store_sync, tree_field_send, tree_field_sync, item_field_send, item_field_sync, item_store_field_send, item_store_field_sync, base) depth 60 fits 20000
+world_field_sync = search (executions_send, executions_sync, executions_field_send, executions_field_sync, tree_send, tree_sync, item_send, item_sync, item_store_send, item_store_sync, tree_field_send, tree_field_sync, item_field_send, item_field_sync, item_store_field_send, item_store_field_sync, base) depth 60 fits 20000
 
 pub world_sync : IsSync world.the_row
-world_sync = search (tree_send, tree_sync, item_send, item_sync, item_store_send, item_store_sync, tree_field_send, tree_field_sync, item_field_send, item_field_sync, item_store_field_send, item_store_field_sync, base) depth 60 fits 20000
+world_sync = search (executions_send, executions_sync, executions_field_send, executions_field_sync, tree_send, tree_sync, item_send, item_sync, item_store_send, item_store_sync, tree_field_send, tree_field_sync, item_field_send, item_field_sync, item_store_field_send, item_store_field_sync, base) depth 60 fits 20000
 
 pub step_records_field_send : IsSend (step_records.the_field).row
 step_records_field_send = search (step_record_send, step_record_sync, step_record_field_send, step_record_field_sync, places.the_send, places.the_sync, base) depth 60 fits 20000
