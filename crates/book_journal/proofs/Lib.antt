@@ -3,5 +3,6 @@ mod Keeping
 mod Lists
 mod Numbers
 mod Queries
+mod Refusals
 mod Selects
 pub mod Statements

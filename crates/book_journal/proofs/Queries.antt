@@ -1,5 +1,5 @@
 -- What the two queries show of a database that has the journal's table.
-use Rattle.std.proofs.Common.{◌≡◌, ℕ, ℤ, pos, negsuc, ◌+◌, ◌<◌, List, [], ◌∷◌, map, length, get_or, codes, take, Bool, true, false, None, All, Ordering, Less, Equal, Greater, refl, sym, ap, subst, ◌∙◌, arith}
+use Rattle.std.proofs.Common.{◌≡◌, ℕ, ℤ, pos, negsuc, ◌+◌, ◌<◌, List, [], ◌∷◌, map, length, get_or, codes, take, Bool, true, false, None, All, Contains, Ordering, Less, Equal, Greater, refl, sym, ap, subst, ◌∙◌, arith}
 use Rattle.std.specs.Ordering.{is_lt, ordering_then}
 use Rattle.std.specs.List.{AllByRecursion}
 use Rattle.std.specs.List.Sorted.{IsPermutation, IsSorted}
@@ -33,10 +33,10 @@ last_text = codes "SELECT no FROM entry ORDER BY no DESC LIMIT 1"
 abbrev pub all_text : List ℕ
 all_text = codes "SELECT no, line FROM entry ORDER BY no"
 
-abbrev key : Bool → Key
+abbrev pub key : Bool → Key
 key down = record { collation = Binary; descending = down }
 
-abbrev query : List Term → Bool → ℤ → Query
+abbrev pub query : List Term → Bool → ℤ → Query
 query shows down limit = record {
   from = inner 0 end;
   filter = [];
@@ -49,10 +49,10 @@ query shows down limit = record {
   offset = lit (Int (pos 0));
 }
 
-abbrev last_query : Query
+abbrev pub last_query : Query
 last_query = query (col 1 0 ∷ []) true (pos 1)
 
-abbrev all_query : Query
+abbrev pub all_query : Query
 all_query = query (col 1 0 ∷ col 1 2 ∷ []) false (negsuc 0)
 
 last_is : (command_of (understood journal_schema last_text) ≡ Select (record { lets = []; body = last_query }) (codes "no" ∷ [])) × (reads_listing journal_schema last_text ≡ false)
@@ -128,10 +128,12 @@ greatest rows falling top number alike up is = record {
 }
 
 shows_top : (rows falling shown : List Row) → shown ≡ take 1 falling → IsPermutation (numbers rows) (numbers falling) → IsSorted (by_key (key true)) (numbers falling) → ShowLast rows shown
-shows_top rows [] shown is same up = record { none = λ _. no_numbers rows (omega (arith, length_permutation _ _ same)); some = λ row number some. absurd (let e = rw is at some in cc) }
+shows_top rows [] shown is same up = record { none = λ _. no_numbers rows (omega (arith, length_permutation _ _ same)); some = λ row number some. absurd (let e = rw is at some in cc); held = λ row some. absurd (let e = rw is at some in cc) }
 shows_top rows (top ∷ falling) shown is same up = record {
   none = λ none. absurd (let e = rw is at none in cc);
   some = λ row number some row_is. let e : top ≡ row = (let f = rw is at some in cc) in greatest rows falling top number same up (ap number_of e ∙ row_is);
+  held = λ row some. let e : top ≡ row = (let f = rw is at some in cc) in
+      subst (λ (r : Row). Contains (numbers rows) (number_of r)) e (Contains-permutation _ _ (number_of top) (IsPermutation-sym _ _ same) (0, omega arith, refl));
 }
 
 pub shows_all : (old new : State) (rows : List Row) → old.now.schema ≡ journal_schema → Shown all_text [] old new rows → AreInOrder (entries old.now.trees) rows

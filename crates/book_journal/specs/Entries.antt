@@ -82,6 +82,7 @@ HaveGap rows position = (ordered : List Row) × AreInOrder rows ordered × HaveG
 pub record ShowLast (rows shown : List Row) : Type 0 where
   pub none : slice_get shown 0 ≡ None → rows ≡ []
   pub some : (row : Row) (number : ℤ) → slice_get shown 0 ≡ Some row → number_of row ≡ Int number → IsGreatest rows number
+  pub held : (row : Row) → slice_get shown 0 ≡ Some row → Contains (numbers rows) (number_of row)
 
 -- the first two values of a row that a query showed
 abbrev pub pair : Row → Row

@@ -3,12 +3,12 @@
 ghost use Rattle.std.specs.Prelude.{◌≡◌, ◌≢◌, ◌⊎◌, ℕ, pos, [], map, false, Err, OnOk, OnErr, IfOk, IfErr, string_bytes};
 ghost use Rattle.sqlite.specs.declared.types.Value.TheVariants.{Int};
 ghost use Rattle.sqlite.specs.Held.{state};
-ghost use Rattle.sqlite.specs.State.{HasCleanDisk, IsUnchanged, Survives, Shown};
+ghost use Rattle.sqlite.specs.State.{HasCleanDisk, IsUnchanged, FailsToQuery, Survives, Shown};
 ghost use Rattle.sqlite.specs.Given.{IsPlain};
 ghost use Rattle.sqlite.specs.Listing.{understood};
 ghost use Rattle.book_journal.specs.Change.{IsBack};
 ghost use Rattle.book_journal.specs.Entries.{entries, entry, numbered, number_of, pair, IsLast, AreInOrder, HaveGapAt};
-ghost use Rattle.book_journal.specs.Faults.{IsNamed};
+ghost use Rattle.book_journal.specs.Faults.{HasReadCause, HaveUnreadable, IsNamed, IsUnreadable, RefusesRows};
 ghost use Rattle.book_journal.specs.Table.{journal_schema};
 
 use crate::fault::JournalFault;
@@ -27,6 +27,7 @@ fn select<S: Alter>(conn: &mut Connection<S>, sql: &str) -> Result<Vec<Row>, Err
     ensures same { HasCleanDisk (state S.Store conn.new) → OnOk result (IsUnchanged (state S.Store conn.old) (state S.Store conn.new)) }
     ensures err { HasCleanDisk (state S.Store conn.new)
         → OnErr result (IsUnchanged (state S.Store conn.old) (state S.Store conn.new) ⊎ IsBack (state S.Store conn.old) (state S.Store conn.new)) }
+    ensures cause { HasCleanDisk (state S.Store conn.new) → IfErr result (FailsToQuery sql.now [] (state S.Store conn.old) (state S.Store conn.new)) }
     ensures survives { Survives (state S.Store conn.old) (state S.Store conn.new) (λ _. ⊥) }
 {
     conn.query_all(sql, &[])
@@ -40,6 +41,8 @@ pub(crate) fn last_number<S: Alter>(conn: &mut Connection<S>) -> Result<Option<i
     ensures same { HasCleanDisk (state S.Store conn.new) → OnOk result (IsUnchanged (state S.Store conn.old) (state S.Store conn.new)) }
     ensures err { HasCleanDisk (state S.Store conn.new)
         → OnErr result (IsUnchanged (state S.Store conn.old) (state S.Store conn.new) ⊎ IsBack (state S.Store conn.old) (state S.Store conn.new)) }
+    ensures cause { HasCleanDisk (state S.Store conn.new)
+        → IfErr result (RefusesRows (state S.Store conn.old) (state S.Store conn.new) (entries (state S.Store conn.old).now.trees)) }
     ensures survives { Survives (state S.Store conn.old) (state S.Store conn.new) (λ _. ⊥) }
 {
     let rows = select(conn, LAST)?;
@@ -57,6 +60,7 @@ pub(crate) fn all_rows<S: Alter>(conn: &mut Connection<S>) -> Result<Vec<Row>, E
     ensures same { HasCleanDisk (state S.Store conn.new) → OnOk result (IsUnchanged (state S.Store conn.old) (state S.Store conn.new)) }
     ensures err { HasCleanDisk (state S.Store conn.new)
         → OnErr result (IsUnchanged (state S.Store conn.old) (state S.Store conn.new) ⊎ IsBack (state S.Store conn.old) (state S.Store conn.new)) }
+    ensures cause { HasCleanDisk (state S.Store conn.new) → IfErr result (HasReadCause (state S.Store conn.old) (state S.Store conn.new)) }
     ensures survives { Survives (state S.Store conn.old) (state S.Store conn.new) (λ _. ⊥) }
 {
     select(conn, ALL)
@@ -66,6 +70,7 @@ pub(crate) fn all_rows<S: Alter>(conn: &mut Connection<S>) -> Result<Vec<Row>, E
 fn line_at(row: &Row, position: usize) -> Result<String, JournalFault>
     ensures ok { IfOk result (λ line. pair row.now ≡ entry (pos position) (string_bytes line)) }
     ensures gap { (n : ℕ) → result ≡ Err (JournalFault.Gap n) → (n ≡ position) × (number_of row.now ≢ Int (pos position)) }
+    ensures unreadable { (cause : Error) → result ≡ Err (JournalFault.Store cause) → IsUnreadable (pair row.now) }
     ensures named { IfErr result IsNamed }
 {
     let no: i64 = row.get(0)?;
@@ -79,6 +84,7 @@ fn line_at(row: &Row, position: usize) -> Result<String, JournalFault>
 pub(crate) fn lines_of(alloc: Global, rows: &[Row]) -> Result<Vec<String>, JournalFault>
     ensures ok { IfOk result (λ lines. map pair rows.now ≡ numbered (pos 0) (map string_bytes lines.items)) }
     ensures gap { (n : ℕ) → result ≡ Err (JournalFault.Gap n) → HaveGapAt n (map pair rows.now) }
+    ensures unreadable { (cause : Error) → result ≡ Err (JournalFault.Store cause) → HaveUnreadable (map pair rows.now) }
     ensures named { IfErr result IsNamed }
 {
     let mut lines = Vec::new(alloc);

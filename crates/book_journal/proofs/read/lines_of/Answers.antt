@@ -1,11 +1,12 @@
 use Rattle.std.proofs.Common.{◌≡◌, ◌≢◌, ◌∙◌, pos, ◌<◌, ℕ, [], ◌∷◌, map, length, Err, ap, refl, sym, inr, string_bytes, rules}
 use Rattle.std.proofs.lemmas.List.{map-append, length-map}
-use Rattle.book_journal.specs.declared.fault.JournalFault.TheVariants.{Gap, Memory}
+use Rattle.book_journal.specs.declared.fault.JournalFault.TheVariants.{Gap, Memory, Store}
 use Rattle.sqlite.specs.declared.error.ErrorCode.TheVariants.{OutOfMemory}
 use Rattle.sqlite.specs.declared.error.Error.TheVariants.{SqliteFailure}
 use Rattle.sqlite.specs.declared.types.Value.TheVariants.{Int}
 use Rattle.book_journal.specs.Entries.{number_of}
 use Rattle.book_journal.proofs.Numbers.{one_more, gap_at}
+use Rattle.book_journal.proofs.Refusals.{unreadable_at}
 use Rattle.book_journal.proofs.read.lines_of.Goals as goal
 
 pub returns-in_err-line_at-clause-gap : goal.returns-in_err-line_at-clause-gap
@@ -41,3 +42,9 @@ pub returns-in_err-push-clause-named : goal.returns-in_err-push-clause-named
 returns-in_err-push-clause-named c =
     let refused : c.from_residual-in_err-push.result ≡ Err Memory = search rules in
     rw refused (inr (SqliteFailure OutOfMemory, refl))
+
+pub returns-in_err-line_at-clause-unreadable : goal.returns-in_err-line_at-clause-unreadable
+returns-in_err-line_at-clause-unreadable c cause is =
+    let low : c.loop-row.row-index < length c.args.rows.now = search rules in
+    let failed : c.line_at.result ≡ Err (Store cause) = search rules in
+    unreadable_at c.loop-row.row-index c.args.rows.now c.row-item.result low (sym c.row-item.is) (c.line_at.ensures.unreadable cause failed)
