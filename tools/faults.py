@@ -1,7 +1,7 @@
 #!/usr/bin/env python3
 """Tries what a machine does to a program: processes that are killed, files that are damaged, disks that are full.
 
-usage: faults.py [PART..] [--program PATH] [--kills N] [--damages N] [--disks N] [--rounds N] [--seed S] [--jobs N]
+usage: faults.py [PART..] [--program PATH] [--kills N] [--damages N] [--disks N] [--rounds N] [--seed S] [--jobs N] [--limit SECONDS]
 
 A session is drawn (tools/drawn.py): some 200 lines, of starts, steps, drives, rounds of workers, undoings and rollbacks. PART is
 
@@ -15,7 +15,7 @@ A session is drawn (tools/drawn.py): some 200 lines, of starts, steps, drives, r
 - `rounds`: as `kills`, in sessions which are mostly rounds of workers: all steps of a round are in the journal, or none;
 - `files`: what is no journal, can't be read, can't be written, or is another session's: status 3, and the file is as it was.
 
-Trial I of seed S is the same each time, but for the moments. A trial that takes more than a minute has failed. The last line is
+Trial I of seed S is the same each time, but for the moments. A trial that takes more than a minute, or than SECONDS, has failed. The last line is
 `N passed, M failed`; the status is 1 where one failed, or none was run.
 """
 import argparse
@@ -438,10 +438,10 @@ FILES = (try_another_kind, try_two_sessions, try_no_rights)
 # ---- Trials, one after another ----
 
 
-def trial(program, part, seed, number):
+def trial(program, part, seed, number, limit):
     chance = random.Random(f"{part} {seed} {number}")
     signal.signal(signal.SIGALRM, drawn.too_long)
-    signal.alarm(60)
+    signal.alarm(limit)
     with tempfile.TemporaryDirectory() as room:
         try:
             if part == "damages":
@@ -468,6 +468,7 @@ def main():
     parser.add_argument("--rounds", type=int, default=200)
     parser.add_argument("--seed", default="1")
     parser.add_argument("--jobs", type=int, default=os.cpu_count() or 1)
+    parser.add_argument("--limit", type=int, default=60, metavar="SECONDS")
     asked = parser.parse_args()
     program = os.path.abspath(asked.program)
     if not os.access(program, os.X_OK):
@@ -477,7 +478,7 @@ def main():
     counts = {"kills": asked.kills, "damages": asked.damages, "disks": asked.disks, "rounds": asked.rounds, "files": len(FILES)}
     passed, failed, ways = 0, 0, {}
     with concurrent.futures.ProcessPoolExecutor(asked.jobs) as pool:
-        running = [pool.submit(trial, program, part, asked.seed, number) for part in asked.parts or PARTS for number in range(counts[part])]
+        running = [pool.submit(trial, program, part, asked.seed, number, asked.limit) for part in asked.parts or PARTS for number in range(counts[part])]
         for one in concurrent.futures.as_completed(running):
             part, number, way, fault = one.result()
             if fault is None:

@@ -82,7 +82,10 @@ class Book:
         return self._steps(f"drive {most}")
 
     def work(self, workers: int, most: int) -> list[Step]:
-        """Has workers take at most so many steps in all, at once and in an order that isn't told before."""
+        """Has workers take at most so many steps in all, at once and in an order that isn't told before.
+
+        A program without this line answers `BadLine`.
+        """
         return self._steps(f"work {workers} {most}")
 
     def undo(self, step: StepName) -> None:
@@ -93,11 +96,11 @@ class Book:
         return self._steps(f"rollback {step}")
 
     def settle(self) -> None:
-        """Settles all remaining steps: they can't be taken back any more."""
+        """Settles all remaining steps: they can't be taken back any more. A program without this line answers `BadLine`."""
         self.ask("settle")
 
     def hold(self, step: StepName) -> int:
-        """Holds a step with its consequences, and tells how many they are."""
+        """Holds a step with its consequences, and tells how many they are. A program without this line answers `BadLine`."""
         return int(self.ask(f"hold {step}")[0][3:])
 
     # ---- questions
@@ -116,5 +119,5 @@ class Book:
         return self._steps("history")
 
     def held(self) -> list[Step]:
-        """What is left of a hold, the latest first."""
+        """What is left of a hold, the latest first. A program without this line answers `BadLine`."""
         return self._steps("held")
