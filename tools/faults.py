@@ -85,6 +85,7 @@ def drawn_lines(program, chance, count, rounds):
             session.take(line)
         return [line for line in session.lines if line and "\udcff" not in line], sorted(session.seen)
     finally:
+        session.live.process.kill()
         session.live.close()
 
 
@@ -201,18 +202,22 @@ def serve_until(program, lines, path, at_once, last, wait, sent):
     """Serves lines on a file, some of them at once, and kills the process so long after a line was given: what was answered, how many were given, and whether all was answered."""
     process = subprocess.Popen([program, "--journal", path], stdin=subprocess.PIPE, stdout=subprocess.PIPE)
     given, data = 0, b""
-    os.set_blocking(process.stdout.fileno(), False)
+    for stream in (process.stdin, process.stdout):
+        os.set_blocking(stream.fileno(), False)
     try:
         while given <= last:
             group = lines[given : min(given + at_once, last + 1)]
-            process.stdin.write(drawn.bytes_of(group))
-            process.stdin.flush()
             given += len(group)
+            data += give(process, drawn.bytes_of(group))
             if given <= last:
                 data = read_replies(process, data, lines[:given])
         time.sleep(wait)
     except BrokenPipeError:
         pass
+    except Difference:
+        process.kill()
+        process.wait()
+        raise
     process.send_signal(sent)
     process.wait()
     os.set_blocking(process.stdout.fileno(), True)
@@ -224,6 +229,20 @@ def serve_until(program, lines, path, at_once, last, wait, sent):
         pass
     answered = whole_replies(lines, data)
     return answered, given, len(answered) == len(lines)
+
+
+def give(process, data):
+    """Writes lines, and reads replies while the process takes no more of them: it may be waiting for its own to be read."""
+    left, read, ends = memoryview(data), b"", time.monotonic() + 30
+    while left:
+        try:
+            left = left[os.write(process.stdin.fileno(), left) :]
+        except BlockingIOError:
+            read += process.stdout.read() or b""
+            if time.monotonic() > ends:
+                raise Difference("no lines taken within half a minute") from None
+            time.sleep(0.0005)
+    return read
 
 
 def read_replies(process, data, lines):
@@ -265,7 +284,10 @@ def try_damage(program, chance, room):
         serve_until(program, lines, path, len(lines), len(lines) - 1, 0.2, signal.SIGKILL)
     else:
         drawn.served(program, lines, ("--journal", path))
-    hit = path + "-wal" if in_log and os.path.getsize(path + "-wal") else path
+    sizes = {name: os.path.getsize(name) for name in (path, path + "-wal") if os.path.exists(name)}
+    hit = path + "-wal" if in_log and sizes.get(path + "-wal") else path
+    if not sizes.get(hit):
+        return "nothing to damage yet"
     kind = damage(chance, hit)
     copy = os.path.join(room, "copy.db")
     for end in ("", "-wal"):
@@ -323,6 +345,16 @@ def try_disk(program, chance, room, rounds):
                                preexec_fn=lambda: signal.signal(signal.SIGXFSZ, signal.SIG_IGN))
     live = drawn.Session.__new__(drawn.Session)
     live.process = process
+    try:
+        return follow_disk(program, live, lines, early, path, seen)
+    finally:
+        if process.poll() is None:
+            process.kill()
+            process.communicate()
+
+
+def follow_disk(program, live, lines, early, path, seen):
+    process = live.process
     kept = [entry for line, reply in zip(lines, live.ask(lines[:early])) for entry in entries_of(line, reply)]
     sizes = [os.path.getsize(path + end) for end in ("", "-wal") if os.path.exists(path + end)]
     resource.prlimit(process.pid, resource.RLIMIT_FSIZE, (max(sizes), resource.RLIM_INFINITY))

@@ -32,7 +32,6 @@ part rt ci
 part python3 tools/rows.py
 part python3 tools/value_rows.py
 part python3 tools/drawn.py --sessions 400
-part python3 tools/faults.py --kills 60 --damages 60 --disks 20 --rounds 0
 part python3 clients/python/tests
 part sh tools/docs.sh --replies
 echo "$passed passed, $failed failed"
