@@ -115,7 +115,7 @@ impl Book {
     }
 
     /// The least thread outside a set, by the order of names, that has a move. Takes the memory and the time of
-    /// `History::first_ready`: executions that are done or have failed cost a step each and no memory.
+    /// `History::first_ready`: executions that are done or have failed are gone by without memory, and not again by later calls.
     ///
     /// # Errors
     ///
