@@ -14,8 +14,9 @@ use Rattle.depends.specs.Dependence.{depends_directly}
 use Rattle.depends.specs.Instance.{Past, steps}
 use Rattle.depends.specs.Laws.{facts_of}
 use Rattle.depends.proofs.Named.{steps_have_names}
-use Rattle.book_log.specs.Answers.{from_step, free_answer, found_answer, undo_answer}
+use Rattle.book_log.specs.Answers.{from_step, free_answer, found_answer, absent, undo_answer}
 use Rattle.book_log.specs.Story.{Story, base_of, past_of}
+use Rattle.book_log.specs.declared.refusal.Refusal.{Refusal}
 use Rattle.book_log.proofs.Standing.{StandsAt, step_same, step_itself, from_start, past_there, is_run, fact_named}
 
 -- ---- the step of a name
@@ -63,9 +64,9 @@ free_said : (name n : StepName) (o : Option Fact) → free_answer name o ≡ Ok 
 free_said name n None h = (refl, cc)
 free_said name n (Some f) h = cc
 
-found_said : (name n : StepName) (o : Option (Fact × List Fact)) → found_answer name o ≡ Ok n → (p : Fact × List Fact) × (o ≡ Some p) × (find (depends_directly p.0) p.1 ≡ None) × (name ≡ n)
-found_said name n None h = cc
-found_said name n (Some p) h = let k = free_said name n (find (depends_directly p.0) p.1) h in (p, refl, k.0, k.1)
+found_said : (gone : Refusal) (name n : StepName) (o : Option (Fact × List Fact)) → found_answer gone name o ≡ Ok n → (p : Fact × List Fact) × (o ≡ Some p) × (find (depends_directly p.0) p.1 ≡ None) × (name ≡ n)
+found_said gone name n None h = cc
+found_said gone name n (Some p) h = let k = free_said name n (find (depends_directly p.0) p.1) h in (p, refl, k.0, k.1)
 
 -- a step that remains under a name, and is free
 pub record FreeNamed (s : Setting) (ts : List Past) (name : StepName) : Type 0 where
@@ -91,7 +92,7 @@ module _ (story : Story) (s : Setting) (w : World) (ts : List Past) (h : StandsA
   pub undo_said : (name n : StepName) → undo_answer story name ≡ Ok n → FreeNamed s ts name × (name ≡ n)
   unfolding undo_answer
   undo_said name n a =
-      let k = found_said name n (from_step name (facts_of (past_of story))) a in
+      let k = found_said (absent story name) name n (from_step name (facts_of (past_of story))) a in
       (free_found name k.0.0 k.0.1 (found_by name ts k.0.0 k.0.1 (ap (λ (l : List Past). from_step name (facts_of l)) (sym (past_there story s w ts h)) ∙ k.1)) k.2, k.3)
 
   -- where a step of this name is found
@@ -111,4 +112,4 @@ module _ (story : Story) (s : Setting) (w : World) (ts : List Past) (h : StandsA
   free_undone t name free named =
       let p = place t ts free.0 in
       let none = found_none (depends_directly t.fact) p.back (record_free (steps s) (base_of story) (steps_have_names s (base_of story) (from_start story s w ts h)) p.front p.back t (subst (λ l. IsFree (steps s) l t) p.whole free)) in
-      ap (found_answer name) (step_found t name p.front p.back p.whole named) ∙ ap (free_answer name) none
+      ap (found_answer (absent story name) name) (step_found t name p.front p.back p.whole named) ∙ ap (free_answer name) none

@@ -17,15 +17,17 @@ use Rattle.depends.specs.World.{Setting, World}
 use Rattle.depends.specs.Instance.{Past, steps}
 use Rattle.depends.specs.Laws.{IsFrom}
 use Rattle.depends.proofs.Named.{steps_have_names}
-use Rattle.book_log.specs.Answers.{is_full_for_step, is_full_for_define, undo_answer, plan_answer, defines}
+use Rattle.book_log.specs.Answers.{is_full_for_step, is_full_for_define, undo_answer, plan_answer, defines, is_settlement, outline}
 use Rattle.book_log.specs.Laws.{LegalLogsHaveRoom}
 use Rattle.book_log.specs.Legal.{IsAccepted, IsLegal}
-use Rattle.book_log.specs.Story.{Story, Remainder, accepted, after_entry, base_of, settled, remainder, remaining, setting_of, world_of, past_of}
+use Rattle.book_log.specs.Story.{Story, accepted, base_of, settled, remainder, remaining, setting_of, world_of, past_of}
 use Rattle.book_log.specs.declared.begin.Begin.{Begin}
 use Rattle.book_log.specs.declared.entry.Entry.{Entry}
-use Rattle.book_log.specs.declared.entry.Entry.TheVariants.{Define, Start, Step as Stepped, Undo, Rollback}
-use Rattle.book_log.proofs.Standing.{StandsAt, from_start, names_there, remainder_next, settled_next, stands_undone, stands_rolled}
+use Rattle.book_log.specs.declared.entry.Entry.TheVariants.{Define, Start, Step as Stepped, Undo, Rollback, Settle}
+use Rattle.book_log.proofs.Standing.{StandsAt, from_start, names_there, settled_next, steps_next, stands_undone, stands_rolled}
 use Rattle.book_log.proofs.Answered.{once, undo_said}
+use Rattle.book_log.proofs.Outlines.{outline_settled, outline_more, outline_same}
+use Rattle.book_log.proofs.Settling.{settle_room}
 use Rattle.book_log.proofs.Taking.{start_room, step_room}
 use Rattle.book_log.proofs.LegalRuns.{plan_said, of_log, of_legal, legal_stands}
 
@@ -94,9 +96,6 @@ steps_rolled story name undone legal a =
     let some = some_in k.step all (least_of (steps s) (base_of story) (steps_have_names s (base_of story) (from_start story s (world_of story) (past_of story) h)) (past_of story) k.step own k.stood).holds.itself in
     (omega (arith, now, was, out, many), omega (arith, many, some))
 
-steps_next : (story : Story) (e : Entry) → remaining (accepted story e) ≡ (after_entry story.begin (remainder story) e).steps
-steps_next story e = ap (λ (r : Remainder). r.steps) (remainder_next story e)
-
 -- ---- room
 
 pub room_for_step : (story : Story) → is_full_for_step story ≡ false → (length (remaining story) < 65536) × (length story.log + length (remaining story) ≤ 999998)
@@ -123,55 +122,52 @@ abbrev pub IsShallow : Step → Type 0
 IsShallow (started exec machine input) = depth (data_of input) ≤ 127
 IsShallow (moved name) = Unit {0}
 
--- each remaining step and each settled one has its entry, and there is room for one more below a million for each step to be undone
+-- each remaining step and each settled one has its entry, a remaining one not in the outline, and there is room for one more below a
+-- million for each step to be undone
 pub record IsCounted (story : Story) : Type 0 where
   pub some : length (remaining story) ≤ 65536
   pub all : length story.log + length (remaining story) ≤ 1000000
-  pub defined : length (defines story.log) + length (settled story) + length (remaining story) ≤ length story.log
+  pub stepped : length (settled story) + length (remaining story) ≤ length story.log
+  pub outlined : length (outline story.log) + length (remaining story) ≤ length story.log
   pub shallow : (step : Step) → In step (remaining story) → IsShallow step
 
-pub defines-append : (xs ys : List Entry) → defines (xs ++ ys) ≡ defines xs ++ defines ys
-defines-append [] ys = refl
-defines-append (Define name machine ∷ xs) ys = ap (λ (l : List Entry). Define name machine ∷ l) (defines-append xs ys)
-defines-append (Start exec machine input ∷ xs) ys = defines-append xs ys
-defines-append (Stepped name kind ∷ xs) ys = defines-append xs ys
-defines-append (Undo name ∷ xs) ys = defines-append xs ys
-defines-append (Rollback name undone ∷ xs) ys = defines-append xs ys
-
--- an entry that adds no definition
-same_defines : (story : Story) (e : Entry) → defines (e ∷ []) ≡ [] → length (defines (accepted story e).log) ≡ length (defines story.log)
-same_defines story e h = let l = length-append (defines story.log) (defines (e ∷ [])) in let k = ap length (defines-append story.log (e ∷ [])) in let n = ap length h in omega (arith, l, k, n)
+-- an entry that adds nothing to the outline
+same_outline : (story : Story) (e : Entry) → is_settlement e ≡ false → defines (e ∷ []) ≡ [] → length (outline (accepted story e).log) ≡ length (outline story.log)
+same_outline story e other none = ap length (outline_same story.log e other none)
 
 one_more : (story : Story) (e : Entry) → length (accepted story e).log ≡ length story.log + 1
 one_more story e = length-append story.log (e ∷ [])
 
 module _ (story : Story) (p : IsCounted story) where
-  counted_taken : (e : Entry) (step : Step) → remaining (accepted story e) ≡ remaining story ++ step ∷ [] → settled (accepted story e) ≡ settled story → defines (e ∷ []) ≡ [] → IsShallow step → is_full_for_step story ≡ false → IsCounted (accepted story e)
-  counted_taken e step is before none low room =
+  counted_taken : (e : Entry) (step : Step) → remaining (accepted story e) ≡ remaining story ++ step ∷ [] → settled (accepted story e) ≡ settled story → is_settlement e ≡ false → defines (e ∷ []) ≡ [] → IsShallow step → is_full_for_step story ≡ false → IsCounted (accepted story e)
+  counted_taken e step is before other none low room =
       let r = room_for_step story room in
       let few = r.0 in
       let many = r.1 in
       let l : length (remaining (accepted story e)) ≡ length (remaining story) + 1 = ap length is ∙ length-append (remaining story) (step ∷ []) in
-      let d = same_defines story e none in
+      let d = same_outline story e other none in
       let n = one_more story e in
+      let was = p.outlined in
       let b = ap length before in
-      let was = p.defined in
+      let own = p.stepped in
       record {
         some = omega (arith, few, l);
         all = omega (arith, many, l, n);
-        defined = omega (arith, was, b, d, l, n);
+        stepped = omega (arith, own, b, l, n);
+        outlined = omega (arith, was, d, l, n);
         shallow = λ x i. elim (In-split x (remaining story) (step ∷ []) (subst (In x) is i)) [ inl j ↦ p.shallow x j | inr j ↦ elim j [ inl f ↦ subst IsShallow (sym f) low | inr z ↦ absurd z ] ];
       }
 
-  counted_less : (e : Entry) → settled (accepted story e) ≡ settled story → defines (e ∷ []) ≡ [] → length (remaining (accepted story e)) + 1 ≤ length (remaining story) → ((x : Step) → In x (remaining (accepted story e)) → In x (remaining story)) → IsCounted (accepted story e)
-  counted_less e before none less inside =
-      let d = same_defines story e none in
+  counted_less : (e : Entry) → settled (accepted story e) ≡ settled story → is_settlement e ≡ false → defines (e ∷ []) ≡ [] → length (remaining (accepted story e)) + 1 ≤ length (remaining story) → ((x : Step) → In x (remaining (accepted story e)) → In x (remaining story)) → IsCounted (accepted story e)
+  counted_less e before other none less inside =
+      let d = same_outline story e other none in
       let n = one_more story e in
       let some = p.some in
       let all = p.all in
+      let was = p.outlined in
       let b = ap length before in
-      let was = p.defined in
-      record { some = omega (arith, some, less); all = omega (arith, all, less, n); defined = omega (arith, was, b, d, less, n); shallow = λ x i. p.shallow x (inside x i) }
+      let own = p.stepped in
+      record { some = omega (arith, some, less); all = omega (arith, all, less, n); stepped = omega (arith, own, b, less, n); outlined = omega (arith, was, d, less, n); shallow = λ x i. p.shallow x (inside x i) }
 
 -- the names of some steps that are left out are among the names
 names_inside : (s : Setting) (xs ts : List Past) (x : Step) → In x (names_of (steps s) (without (steps s) xs ts)) → In x (names_of (steps s) ts)
@@ -183,17 +179,18 @@ counted_next story (Define name machine) legal p a =
     let e = steps_next story (Define name machine) in
     let l = ap length e in
     let n = one_more story (Define name machine) in
-    let d = ap length (defines-append story.log (Define name machine ∷ [])) in
-    let m = length-append (defines story.log) (Define name machine ∷ []) in
+    let d = ap length (outline_more story.log (Define name machine) refl) in
+    let m = length-append (outline story.log) (Define name machine ∷ []) in
     let some = p.some in
+    let was = p.outlined in
+    let own = p.stepped in
     let b = ap length (settled_next story (Define name machine)) in
-    let was = p.defined in
-    record { some = omega (arith, l, some); all = omega (arith, l, n, r); defined = omega (arith, l, n, b, d, m, was); shallow = λ x i. p.shallow x (subst (In x) e i) }
+    record { some = omega (arith, l, some); all = omega (arith, l, n, r); stepped = omega (arith, l, n, b, own); outlined = omega (arith, l, n, d, m, was); shallow = λ x i. p.shallow x (subst (In x) e i) }
 counted_next story (Start exec machine input) legal p a =
-    counted_taken story p (Start exec machine input) (started exec.exec machine input) (steps_next story (Start exec machine input)) (settled_next story (Start exec machine input)) refl a.2
+    counted_taken story p (Start exec machine input) (started exec.exec machine input) (steps_next story (Start exec machine input)) (settled_next story (Start exec machine input)) refl refl a.2
     (start_room story (setting_of story) (world_of story) (past_of story) (legal_stands story legal) exec machine (start_name exec.exec) a.0)
 counted_next story (Stepped name kind) legal p a =
-    counted_taken story p (Stepped name kind) (moved name) (steps_next story (Stepped name kind)) (settled_next story (Stepped name kind)) refl tt
+    counted_taken story p (Stepped name kind) (moved name) (steps_next story (Stepped name kind)) (settled_next story (Stepped name kind)) refl refl tt
     (step_room story (setting_of story) (world_of story) (past_of story) (legal_stands story legal) name.thread (record { name = name; kind = kind }) a)
 counted_next story (Undo name) legal p a =
     let s = setting_of story in
@@ -201,7 +198,7 @@ counted_next story (Undo name) legal p a =
     let k = (undo_said story s (world_of story) (past_of story) h name name a).0 in
     let now = names_there (accepted story (Undo name)) s _ _ (stands_undone story s (world_of story) (past_of story) name k.step h k.free k.named) in
     let less = steps_undone story name name legal a in
-    counted_less story p (Undo name) (settled_next story (Undo name)) refl (omega (arith, less)) (λ x i. subst (In x) (names_there story s (world_of story) (past_of story) h) (names_inside s (k.step ∷ []) (past_of story) x (subst (In x) (sym now) i)))
+    counted_less story p (Undo name) (settled_next story (Undo name)) refl refl (omega (arith, less)) (λ x i. subst (In x) (names_there story s (world_of story) (past_of story) h) (names_inside s (k.step ∷ []) (past_of story) x (subst (In x) (sym now) i)))
 counted_next story (Rollback name undone) legal p a =
     let s = setting_of story in
     let h = legal_stands story legal in
@@ -210,12 +207,22 @@ counted_next story (Rollback name undone) legal p a =
     let less = steps_rolled story name undone legal a in
     let fewer = less.0 in
     let some = less.1 in
-    counted_less story p (Rollback name undone) (settled_next story (Rollback name undone)) refl (omega (arith, fewer, some))
+    counted_less story p (Rollback name undone) (settled_next story (Rollback name undone)) refl refl (omega (arith, fewer, some))
     (λ x i. subst (In x) (names_there story s (world_of story) (past_of story) h) (names_inside s (after (steps s) (past_of story) k.step.step) (past_of story) x (subst (In x) (sym now) i)))
+counted_next story Settle legal p a =
+    let room = room_for_define story (settle_room story a) in
+    let e = steps_next story Settle in
+    let l = ap length e in
+    let n = one_more story Settle in
+    let o = ap length (outline_settled story.log) in
+    let own = p.stepped in
+    let b = ap length (settled_next story Settle) in
+    let m = length-append (settled story) (remaining story) in
+    record { some = omega (arith, l); all = omega (arith, l, n, room); stepped = omega (arith, l, n, b, m, own); outlined = omega (arith, l, n, o); shallow = λ x i. absurd (subst (In x) e i) }
 
 first_counted : (begin : Begin) → IsLegal (of_log begin []) → IsCounted (of_log begin [])
 unfolding remainder
-first_counted begin legal = record { some = omega arith; all = omega arith; defined = omega arith; shallow = λ x i. absurd i }
+first_counted begin legal = record { some = omega arith; all = omega arith; stepped = omega arith; outlined = omega arith; shallow = λ x i. absurd i }
 
 pub legal_counts : (story : Story) → IsLegal story → IsCounted story
 legal_counts story legal = of_legal IsCounted first_counted counted_next story legal

@@ -11,16 +11,16 @@ use Rattle.depends.specs.World.{Setting, World}
 use Rattle.depends.specs.Fact.{Fact}
 use Rattle.depends.specs.Instance.{Past, steps}
 use Rattle.depends.specs.Laws.{facts_of}
-use Rattle.book_log.specs.Answers.{from_step, names_of_facts, remains, plan_answer}
+use Rattle.book_log.specs.Answers.{from_step, absent, names_of_facts, remains, plan_answer}
 use Rattle.book_log.specs.Beginning.{table_of}
 use Rattle.book_log.specs.Laws.{LegalLogsRun, AcceptedIsLegal}
 use Rattle.book_log.specs.Legal.{IsAccepted, GoesOnLegally, IsLegal}
-use Rattle.book_log.specs.Story.{Story, accepted, first_world, world_after, run_in, remainder, setting_of, world_of, past_of, consequences_of}
+use Rattle.book_log.specs.Story.{Story, accepted, first_world, world_after, base_in, run_in, remainder, setting_of, world_of, past_of, consequences_of}
 use Rattle.book_log.specs.declared.begin.Begin.{Begin}
 use Rattle.book_log.specs.declared.entry.Entry.{Entry}
-use Rattle.book_log.specs.declared.entry.Entry.TheVariants.{Define, Start, Step as Stepped, Undo, Rollback}
-use Rattle.book_log.specs.declared.refusal.Refusal.TheVariants.{NoStep}
-use Rattle.book_log.proofs.Standing.{StandsAt, after_same, past_there, fact_named, consequences_there, stands, stands_defined, stands_started, stands_moved, stands_undone, stands_rolled}
+use Rattle.book_log.specs.declared.entry.Entry.TheVariants.{Define, Start, Step as Stepped, Undo, Rollback, Settle}
+use Rattle.book_log.specs.declared.refusal.Refusal.{Refusal}
+use Rattle.book_log.proofs.Standing.{StandsAt, after_same, past_there, fact_named, consequences_there, stands, stands_defined, stands_started, stands_moved, stands_undone, stands_rolled, stands_settled}
 use Rattle.book_log.proofs.Answered.{Found, found_by, undo_said}
 use Rattle.book_log.proofs.Taking.{start_said, step_said}
 
@@ -34,9 +34,9 @@ pub record PlanNamed (s : Setting) (ts : List Past) (name : StepName) (undone : 
   pub stood : In step ts
   pub names : undone ≡ names_of_facts (reverse (after (steps s) ts step.step))
 
-plan_split : (b : Bool) (names undone : List StepName) → (if b then Ok names else Err NoStep) ≡ Ok undone → (b ≡ true) × (names ≡ undone)
-plan_split true names undone h = (refl, cc)
-plan_split false names undone h = cc
+plan_split : (gone : Refusal) (b : Bool) (names undone : List StepName) → (if b then Ok names else Err gone) ≡ Ok undone → (b ≡ true) × (names ≡ undone)
+plan_split gone true names undone h = (refl, cc)
+plan_split gone false names undone h = cc
 
 one_found : (o : Option (Fact × List Fact)) → is_some o ≡ true → (p : Fact × List Fact) × (o ≡ Some p)
 one_found None h = cc
@@ -59,7 +59,7 @@ plan_found story s w ts h name undone f later g e =
 pub plan_said : (story : Story) (s : Setting) (w : World) (ts : List Past) (h : StandsAt story s w ts) (name : StepName) (undone : List StepName) → plan_answer story name ≡ Ok undone → PlanNamed s ts name undone
 unfolding plan_answer
 plan_said story s w ts h name undone a =
-    let k = plan_split (remains story name) (names_of_facts (reverse (consequences_of story name))) undone a in
+    let k = plan_split (absent story name) (remains story name) (names_of_facts (reverse (consequences_of story name))) undone a in
     let p = one_found (from_step name (facts_of (past_of story))) k.0 in
     plan_found story s w ts h name undone p.0.0 p.0.1 (found_by name ts p.0.0 p.0.1 (ap (λ (l : List Past). from_step name (facts_of l)) (sym (past_there story s w ts h)) ∙ p.1)) k.1
 
@@ -89,6 +89,7 @@ accepted_stands story (Undo name) s w ts h a =
 accepted_stands story (Rollback name undone) s w ts h a =
     let k = plan_said story s w ts h name undone a in
     some_stands _ _ _ _ (stands_rolled story s w ts name undone k.step h k.stood k.named)
+accepted_stands story Settle s w ts h a = some_stands _ _ _ _ (stands_settled story s w ts h)
 
 -- ---- legal logs
 
@@ -121,7 +122,7 @@ of_legal P first more story h = let empty = empty_legal story.begin h.0.0 h.0.1 
 
 -- where a beginning stands
 pub first_stands_there : (begin : Begin) → StandsAt (of_log begin []) (setting_of (of_log begin [])) (first_world begin) []
-unfolding remainder run_in world_after
+unfolding remainder run_in base_in world_after
 first_stands_there begin = record { setting = refl; before = []; leads = refl; runs = refl }
 
 -- a legal story stands in its own world

@@ -2,8 +2,10 @@ pub mod Answered
 pub mod Counts
 pub mod LegalRuns
 pub mod Orders
+pub mod Outlines
 pub mod Refused
 pub mod Reruns
+pub mod Settling
 pub mod Standing
 pub mod TakenBack
 pub mod Taking

@@ -1,5 +1,5 @@
 -- The items of a beginning, one after another.
-use Rattle.std.proofs.Common.{◌≡◌, ◌⊎◌, inl, inr, List, ◌∷◌, ap, ap₂, sym, ◌∙◌, Ok, Err, Result, Some}
+use Rattle.std.proofs.Common.{◌≡◌, ◌⊎◌, inl, inr, List, ◌∷◌, ap, sym, ◌∙◌, Ok, Err, Result, Some}
 use Rattle.json_tree.specs.Data.{Data}
 use Rattle.json_tree.specs.View.{data_of, list_of}
 use Rattle.json_tree.specs.declared.tree.Json.{Json}

@@ -7,20 +7,22 @@ use Rattle.trace_theory.specs.Traces.{In, Before}
 use Rattle.trace_theory.proofs.Arranged.{named_place, In-names}
 use Rattle.trace_theory.proofs.Least.{Once, never_twice}
 use Rattle.trace_theory.proofs.Lists.{by_bool, place, here, In-front, In-split, Before-back, Before-across, Before-first, behind_place, never_both}
-use Rattle.depends.specs.Steps.{name_of}
+use Rattle.depends.specs.Steps.{Step, name_of}
 use Rattle.depends.specs.World.{Setting, World}
 use Rattle.depends.specs.Fact.{Fact}
 use Rattle.depends.specs.Dependence.{depends_directly}
 use Rattle.depends.specs.Instance.{Past, steps}
 use Rattle.depends.specs.Laws.{IsFrom, facts_of}
 use Rattle.depends.proofs.Named.{steps_have_names}
-use Rattle.book_log.specs.Answers.{from_step, free_answer, found_answer, undo_answer}
+use Rattle.book_log.specs.Answers.{from_step, free_answer, found_answer, is_settled, absent, undo_answer}
 use Rattle.book_log.specs.Laws.{IsFirstDependent, UndoAnswersAreExact}
-use Rattle.book_log.specs.Story.{Story, base_of, setting_of, world_of, past_of}
-use Rattle.book_log.specs.declared.refusal.Refusal.TheVariants.{NoStep, HasDependents}
+use Rattle.book_log.specs.Story.{Story, base_of, settled, setting_of, world_of, past_of}
+use Rattle.book_log.specs.declared.refusal.Refusal.{Refusal}
+use Rattle.book_log.specs.declared.refusal.Refusal.TheVariants.{NoStep, HasDependents, Settled}
 use Rattle.book_log.proofs.Standing.{StandsAt, from_start, past_there, names_there, fact_named}
 use Rattle.book_log.proofs.Answered.{Found, found_by, once, undo_said, step_found, free_undone}
 use Rattle.book_log.proofs.LegalRuns.{legal_stands}
+use Rattle.book_log.proofs.Settling.{settled_one, one_settled, absent_settled, absent_none, settled_absent, none_absent, absent_plain, never_settled}
 
 -- the first of some steps whose fact passes
 record FirstOf (p : Fact → Bool) (ts : List Past) (f : Fact) : Type 0 where
@@ -56,17 +58,22 @@ found_first p (z ∷ front) back t h k = let e = h z (inl refl) in rw e (found_f
 
 -- ---- what was answered
 
-no_step_said : (name : StepName) (o : Option (Fact × List Fact)) → found_answer name o ≡ Err NoStep → o ≡ None
-no_step_said name None h = refl
-no_step_said name (Some p) h = absurd (later (find (depends_directly p.0) p.1) h)
-  where
-    later : (o : Option Fact) → free_answer name o ≡ Err NoStep → ⊥
-    later None k = cc
-    later (Some f) k = cc
+-- a refusal that names no dependent
+abbrev IsPlain : Refusal → Type 0
+IsPlain e = (d : StepName) → e ≡ HasDependents d → ⊥
 
-dependent_said : (name d : StepName) (o : Option (Fact × List Fact)) → found_answer name o ≡ Err (HasDependents d) → (p : Fact × List Fact) × (f : Fact) × (o ≡ Some p) × (find (depends_directly p.0) p.1 ≡ Some f) × (f.name ≡ d)
-dependent_said name d None h = cc
-dependent_said name d (Some p) h = let k = later (find (depends_directly p.0) p.1) h in (p, k.0, refl, k.1, k.2)
+-- was given since none was found
+absent_said : (gone e : Refusal) (name : StepName) (o : Option (Fact × List Fact)) → IsPlain e → found_answer gone name o ≡ Err e → (o ≡ None) × (gone ≡ e)
+absent_said gone e name None plain h = (refl, cc)
+absent_said gone e name (Some p) plain h = absurd (later (find (depends_directly p.0) p.1) h)
+  where
+    later : (o : Option Fact) → free_answer name o ≡ Err e → ⊥
+    later None k = cc
+    later (Some f) k = let same : HasDependents f.name ≡ e = cc in plain f.name (sym same)
+
+dependent_said : (gone : Refusal) (name d : StepName) (o : Option (Fact × List Fact)) → ((e : StepName) → gone ≡ HasDependents e → ⊥) → found_answer gone name o ≡ Err (HasDependents d) → (p : Fact × List Fact) × (f : Fact) × (o ≡ Some p) × (find (depends_directly p.0) p.1 ≡ Some f) × (f.name ≡ d)
+dependent_said gone name d None plain h = let same : gone ≡ HasDependents d = cc in absurd (plain d same)
+dependent_said gone name d (Some p) plain h = let k = later (find (depends_directly p.0) p.1) h in (p, k.0, refl, k.1, k.2)
   where
     later : (o : Option Fact) → free_answer name o ≡ Err (HasDependents d) → (f : Fact) × (o ≡ Some f) × (f.name ≡ d)
     later None k = cc
@@ -109,17 +116,25 @@ module _ (s : Setting) (base : World) (from : IsFrom s base) where
 
 module _ (story : Story) (s : Setting) (w : World) (ts : List Past) (h : StandsAt story s w ts) where
   -- without a step of this name
-  none_answered : (name : StepName) → ((t : Past) → In t ts → t.fact.name ≡ name → ⊥) → undo_answer story name ≡ Err NoStep
+  absent_answered : (name : StepName) → ((t : Past) → In t ts → t.fact.name ≡ name → ⊥) → undo_answer story name ≡ Err (absent story name)
   unfolding undo_answer
-  none_answered name none = ap (λ (l : List Past). found_answer name (from_step name (facts_of l))) (past_there story s w ts h) ∙ ap (found_answer name) (not_found name ts none (from_step name (facts_of ts)) refl)
+  absent_answered name none = ap (λ (l : List Past). found_answer (absent story name) name (from_step name (facts_of l))) (past_there story s w ts h) ∙ ap (found_answer (absent story name) name) (not_found name ts none (from_step name (facts_of ts)) refl)
 
-  none_remains : (name : StepName) → undo_answer story name ≡ Err NoStep → (t : Past) → In t ts → t.fact.name ≡ name → ⊥
+  none_remains : (name : StepName) (e : Refusal) → IsPlain e → undo_answer story name ≡ Err e → ((t : Past) → In t ts → t.fact.name ≡ name → ⊥) × (absent story name ≡ e)
   unfolding undo_answer
-  none_remains name a t i e =
-      let p = place t ts i in
-      let there = step_found story s w ts h t name p.front p.back p.whole (sym (fact_named story s w ts h t i) ∙ e) in
-      let none = no_step_said name (from_step name (facts_of (past_of story))) a in
-      cc
+  none_remains name e plain a =
+      let none = absent_said (absent story name) e name (from_step name (facts_of (past_of story))) plain a in (
+        λ t i same.
+            let p = place t ts i in
+            let there = step_found story s w ts h t name p.front p.back p.whole (sym (fact_named story s w ts h t i) ∙ same) in
+            let no_step = none.0 in
+            absurd (cc),
+        none.1,
+      )
+
+  -- a settled name has no step
+  none_settled : (step : Step) (name : StepName) → In step (settled story) → name_of step ≡ name → (t : Past) → In t ts → t.fact.name ≡ name → ⊥
+  none_settled step name i e t j k = never_settled story s w ts h step t i j (e ∙ sym k ∙ fact_named story s w ts h t j)
 
   -- with a later step that depends on it
   abbrev Dependent : StepName → StepName → Type 0
@@ -142,7 +157,7 @@ module _ (story : Story) (s : Setting) (w : World) (ts : List Past) (h : StandsA
   dependent_stands : (name d : StepName) → undo_answer story name ≡ Err (HasDependents d) → Dependent name d
   unfolding undo_answer
   dependent_stands name d a =
-      let k = dependent_said name d (from_step name (facts_of (past_of story))) a in
+      let k = dependent_said (absent story name) name d (from_step name (facts_of (past_of story))) (absent_plain story name) a in
       dependent_behind name d k.0.0 k.1 k.0.1 (found_by name ts k.0.0 k.0.1 (ap (λ (l : List Past). from_step name (facts_of l)) (sym (past_there story s w ts h)) ∙ k.2)) k.3 k.4
 
   dependent_at : (name d : StepName) (front middle back : List Past) (t y : Past) → ts ≡ front ++ t ∷ (middle ++ y ∷ back) → t.fact.name ≡ name → y.fact.name ≡ d → IsFirstDependent s ts t y → undo_answer story name ≡ Err (HasDependents d)
@@ -150,7 +165,7 @@ module _ (story : Story) (s : Setting) (w : World) (ts : List Past) (h : StandsA
   dependent_at name d front middle back t y whole e f is =
       let before = none_before s (base_of story) (from_start story s w ts h) front middle back t y (subst (λ (l : List Past). IsFirstDependent s l t y) whole is) in
       let i : In t ts = subst (In t) (sym whole) (here t front (middle ++ y ∷ back)) in
-      ap (found_answer name) (step_found story s w ts h t name front (middle ++ y ∷ back) whole (sym (fact_named story s w ts h t i) ∙ e))
+      ap (found_answer (absent story name) name) (step_found story s w ts h t name front (middle ++ y ∷ back) whole (sym (fact_named story s w ts h t i) ∙ e))
       ∙ ap (free_answer name) (found_first (depends_directly t.fact) middle back y before is.depends)
       ∙ ap (λ (n : StepName). Err (HasDependents n)) f
 
@@ -176,10 +191,18 @@ undo_answers_are_exact story name legal =
         λ r. free_undone story s w ts h r.0 name r.2 (sym (fact_named story s w ts h r.0 r.2.0) ∙ r.1),
       );
       none = (
-        λ a x i e. let p = named_place (steps s) base have x ts (subst (In x) (sym names) i) in
-            let there : In p.step ts = subst (In p.step) (sym p.whole) (here p.step p.front p.back) in
-            none_remains story s w ts h name a p.step there (fact_named story s w ts h p.step there ∙ ap name_of p.named ∙ e),
-        λ none. none_answered story s w ts h name (λ t i e. none t.step (subst (In t.step) names (In-names (steps s) base have t ts i)) (sym (fact_named story s w ts h t i) ∙ e)),
+        λ a. let k = none_remains story s w ts h name NoStep (λ d e. cc) a in (
+          λ x i e. let p = named_place (steps s) base have x ts (subst (In x) (sym names) i) in
+              let there : In p.step ts = subst (In p.step) (sym p.whole) (here p.step p.front p.back) in
+              k.0 p.step there (fact_named story s w ts h p.step there ∙ ap name_of p.named ∙ e),
+          λ x i e. let b = absent_none story name k.1 in let c = settled_one story x name i e in absurd (cc),
+        ),
+        λ none. absent_answered story s w ts h name (λ t i e. none.0 t.step (subst (In t.step) names (In-names (steps s) base have t ts i)) (sym (fact_named story s w ts h t i) ∙ e))
+            ∙ ap Err (none_absent story name (by_bool (is_settled story name) _ (λ k. let r = one_settled story name k in absurd (none.1 r.0 r.1 r.2)) (λ k. k))),
+      );
+      settled = (
+        λ a. one_settled story name (absent_settled story name (none_remains story s w ts h name Settled (λ d e. cc) a).1),
+        λ r. absent_answered story s w ts h name (none_settled story s w ts h r.0 name r.1 r.2) ∙ ap Err (settled_absent story name (settled_one story r.0 name r.1 r.2)),
       );
       dependent = λ d. (dependent_stands story s w ts h name d, λ r. dependent_answered story s w ts h name d r.0 r.1 r.2 r.3 r.4);
     }

@@ -1,5 +1,5 @@
--- What a rerun answers: the definitions alone, and then the steps, one after another.
-use Rattle.std.proofs.Common.{◌≡◌, ◌≤◌, ◌+◌, List, [], ◌∷◌, ◌++◌, length, length-append, map, append_assoc, arith, refl, ap, ap₂, sym, subst, ◌∙◌, inl, inr, Option, None, Some, Ok, Err}
+-- What a rerun answers: the outline of the log, and then the steps, one after another.
+use Rattle.std.proofs.Common.{◌≡◌, ◌≤◌, ◌+◌, false, List, [], ◌∷◌, ◌++◌, length, length-append, map, append_assoc, arith, refl, ap, ap₂, sym, subst, ◌∙◌, inl, inr, Option, None, Some, Ok, Err}
 use Rattle.std.specs.Prelude.{option_map, option_and_then}
 use Rattle.std.proofs.lemmas.List.{append-nil}
 use Rattle.std.proofs.lemmas.Option.{same_Some}
@@ -16,77 +16,81 @@ use Rattle.depends.specs.Instance.{Past, steps}
 use Rattle.depends.specs.Laws.{IsFrom}
 use Rattle.depends.proofs.Lawful as lawful
 use Rattle.depends.proofs.Named.{steps_have_names}
-use Rattle.book_log.specs.Answers.{step_named, steps_named, defines, entry_for, entry_of, retold, or_no_step, rerun_answer}
+use Rattle.book_log.specs.Answers.{step_named, steps_named, defines, is_settlement, outline, entry_for, entry_of, retold, or_no_step, rerun_answer}
 use Rattle.book_log.specs.Laws as laws
 use Rattle.book_log.specs.Legal.{IsAccepted, IsLegal}
 use Rattle.book_log.specs.Story.{Story, accepted, after_entry, base_in, base_of, settled, world_after, remaining, machine_of, setting_of, setting_in, remainder, world_of, past_of}
 use Rattle.book_log.specs.declared.begin.Begin.{Begin}
 use Rattle.book_log.specs.declared.entry.Entry.{Entry}
-use Rattle.book_log.specs.declared.entry.Entry.TheVariants.{Define, Start, Step as Stepped, Undo, Rollback}
+use Rattle.book_log.specs.declared.entry.Entry.TheVariants.{Define, Start, Step as Stepped, Undo, Rollback, Settle}
 use Rattle.book_log.specs.declared.refusal.Refusal.{Refusal}
 use Rattle.book_log.specs.declared.refusal.Refusal.TheVariants.{NoStep}
-use Rattle.book_log.proofs.Standing.{StandsAt, step_same, step_itself, from_start, world_there, past_there, names_there, is_run, remainder_next, settled_next, base_next, knowing, stands_defined, base_defined}
+use Rattle.book_log.proofs.Standing.{StandsAt, step_same, step_itself, from_start, world_there, past_there, names_there, is_run, remainder_next, settled_next, base_kept, knowing, stands_defined, base_defined, stands_settled, base_settled}
 use Rattle.book_log.proofs.Answered.{once}
 use Rattle.book_log.proofs.LegalRuns.{of_log, of_legal, accepted_is_legal, legal_stands, first_stands_there}
-use Rattle.book_log.proofs.Counts.{IsShallow, defines-append, room_for_define, has_room_for_define, has_room_for_step, steps_there, legal_counts}
+use Rattle.book_log.proofs.Counts.{IsShallow, room_for_define, has_room_for_define, has_room_for_step, steps_there, legal_counts}
+use Rattle.book_log.proofs.Outlines.{outline_settled, outline_more, outline_same}
 use Rattle.book_log.proofs.TakenBack.{entry_accepted, stands_again}
 
--- ---- the definitions alone
+-- ---- the outline alone
 
--- the definitions of a log are a legal one, and leave no steps; the base is as it was
+-- the outline of a log is a legal one, and leaves no steps; what was settled is as it was, and so is the base
 pub record IsDefined (story : Story) : Type 0 where
-  pub legal : IsLegal (of_log story.begin (defines story.log))
-  pub there : StandsAt (of_log story.begin (defines story.log)) (setting_of story) (base_of story) []
-  pub settles : settled (of_log story.begin (defines story.log)) ≡ settled story
+  pub legal : IsLegal (of_log story.begin (outline story.log))
+  pub there : StandsAt (of_log story.begin (outline story.log)) (setting_of story) (base_of story) []
+  pub settles : settled (of_log story.begin (outline story.log)) ≡ settled story
 
--- in which setting it is, what was settled, and from which base it goes on
-abbrev IsOver : Story → Setting → World → List Step → List Entry → Type 0
-IsOver story s base before log = StandsAt (of_log story.begin log) s base [] × (settled (of_log story.begin log) ≡ before)
+-- a story of the same beginning whose log is the outline of another's
+outlined : (story : Story) (log : List Entry) → outline story.log ≡ log → IsLegal (of_log story.begin log) → StandsAt (of_log story.begin log) (setting_of story) (base_of story) [] → settled (of_log story.begin log) ≡ settled story → IsDefined story
+outlined story log is legal there settles = record {
+  legal = subst (λ l. IsLegal (of_log story.begin l)) (sym is) legal;
+  there = subst (λ l. StandsAt (of_log story.begin l) (setting_of story) (base_of story) []) (sym is) there;
+  settles = subst (λ l. settled (of_log story.begin l) ≡ settled story) (sym is) settles;
+}
 
 -- an entry that is no definition and settles nothing
-defined_still : (story : Story) (e : Entry) → defines (e ∷ []) ≡ [] → setting_of (accepted story e) ≡ setting_of story → base_of (accepted story e) ≡ base_of story → settled (accepted story e) ≡ settled story → IsDefined story → IsDefined (accepted story e)
-defined_still story e none setting base before p =
-    let log : defines (story.log ++ e ∷ []) ≡ defines story.log = defines-append story.log (e ∷ []) ∙ ap (λ (l : List Entry). defines story.log ++ l) none ∙ append-nil (defines story.log) in
-    let is = subst (λ s. IsOver story s (base_of (accepted story e)) (settled (accepted story e)) (defines story.log)) (sym setting)
-    (subst (λ w. IsOver story (setting_of story) w (settled (accepted story e)) (defines story.log)) (sym base)
-    (subst (λ l. IsOver story (setting_of story) (base_of story) l (defines story.log)) (sym before) (p.there, p.settles))) in
-    record {
-      legal = subst (λ l. IsLegal (of_log story.begin l)) (sym log) p.legal;
-      there = subst (λ l. StandsAt (of_log story.begin l) (setting_of (accepted story e)) (base_of (accepted story e)) []) (sym log) is.0;
-      settles = subst (λ l. settled (of_log story.begin l) ≡ settled (accepted story e)) (sym log) is.1;
-    }
+defined_still : (story : Story) (e : Entry) → is_settlement e ≡ false → defines (e ∷ []) ≡ [] → setting_of (accepted story e) ≡ setting_of story → base_of (accepted story e) ≡ base_of story → settled (accepted story e) ≡ settled story → IsDefined story → IsDefined (accepted story e)
+defined_still story e other none setting base before p =
+    outlined (accepted story e) (outline story.log) (outline_same story.log e other none) p.legal
+    (subst (λ s. StandsAt (of_log story.begin (outline story.log)) s (base_of (accepted story e)) []) (sym setting)
+    (subst (λ w. StandsAt (of_log story.begin (outline story.log)) (setting_of story) w []) (sym base) p.there))
+    (p.settles ∙ sym before)
 
 setting_next : (story : Story) (e : Entry) → setting_of (accepted story e) ≡ setting_in story.begin (after_entry story.begin (remainder story) e)
 setting_next story e = ap (setting_in story.begin) (remainder_next story e)
 
 defined_next : (story : Story) (e : Entry) → IsLegal story → IsDefined story → IsAccepted story e → IsDefined (accepted story e)
 defined_next story (Define name machine) legal p a =
+    let e = Define name machine in
     let s = setting_of story in
     let h = legal_stands story legal in
-    let alone = of_log story.begin (defines story.log) in
+    let alone = of_log story.begin (outline story.log) in
     let room = room_for_define story a.1 in
-    let count = (legal_counts story legal).defined in
+    let count = (legal_counts story legal).outlined in
     let none = steps_there alone s (base_of story) [] p.there in
-    let new : IsAccepted alone (Define name machine) = (ap (λ (x : Setting). x.machines name) p.there.setting ∙ a.0, has_room_for_define alone (omega (arith, room, count, none)), a.2) in
-    let log = defines-append story.log (Define name machine ∷ []) in
+    let new : IsAccepted alone e = (ap (λ (x : Setting). x.machines name) p.there.setting ∙ a.0, has_room_for_define alone (omega (arith, room, count, none)), a.2) in
     let there = stands_defined alone s (base_of story) [] name machine p.there a.0 in
-    let same : setting_of (accepted story (Define name machine)) ≡ knowing s name machine = setting_next story (Define name machine) in
+    let same : setting_of (accepted story e) ≡ knowing s name machine = setting_next story e in
     let base = base_defined story s (world_of story) (past_of story) name machine h a.0 in
-    let before : settled (accepted alone (Define name machine)) ≡ settled (accepted story (Define name machine)) = settled_next alone (Define name machine) ∙ p.settles ∙ sym (settled_next story (Define name machine)) in
-    record {
-      legal = subst (λ l. IsLegal (of_log story.begin l)) (sym log) (accepted_is_legal alone (Define name machine) p.legal new);
-      there = subst (λ l. StandsAt (of_log story.begin l) (setting_of (accepted story (Define name machine))) (base_of (accepted story (Define name machine))) []) (sym log)
-          (subst (λ w. StandsAt (accepted alone (Define name machine)) (setting_of (accepted story (Define name machine))) w []) (sym base)
-          (subst (λ x. StandsAt (accepted alone (Define name machine)) x (base_of story) []) (sym same) there));
-      settles = subst (λ l. settled (of_log story.begin l) ≡ settled (accepted story (Define name machine))) (sym log) before;
-    }
-defined_next story (Start exec machine input) legal p a = let e = Start exec machine input in defined_still story e refl (setting_next story e) (base_next story e) (settled_next story e) p
-defined_next story (Stepped name kind) legal p a = let e = Stepped name kind in defined_still story e refl (setting_next story e) (base_next story e) (settled_next story e) p
-defined_next story (Undo name) legal p a = let e = Undo name in defined_still story e refl (setting_next story e) (base_next story e) (settled_next story e) p
-defined_next story (Rollback name undone) legal p a = let e = Rollback name undone in defined_still story e refl (setting_next story e) (base_next story e) (settled_next story e) p
+    outlined (accepted story e) (outline story.log ++ e ∷ []) (outline_more story.log e refl) (accepted_is_legal alone e p.legal new)
+    (subst (λ w. StandsAt (accepted alone e) (setting_of (accepted story e)) w []) (sym base) (subst (λ x. StandsAt (accepted alone e) x (base_of story) []) (sym same) there))
+    (settled_next alone e ∙ p.settles ∙ sym (settled_next story e))
+defined_next story (Start exec machine input) legal p a = let e = Start exec machine input in defined_still story e refl refl (setting_next story e) (base_kept story e refl refl) (settled_next story e) p
+defined_next story (Stepped name kind) legal p a = let e = Stepped name kind in defined_still story e refl refl (setting_next story e) (base_kept story e refl refl) (settled_next story e) p
+defined_next story (Undo name) legal p a = let e = Undo name in defined_still story e refl refl (setting_next story e) (base_kept story e refl refl) (settled_next story e) p
+defined_next story (Rollback name undone) legal p a = let e = Rollback name undone in defined_still story e refl refl (setting_next story e) (base_kept story e refl refl) (settled_next story e) p
+defined_next story Settle legal p a =
+    let s = setting_of story in
+    let w = world_of story in
+    let h = legal_stands story legal in
+    let next = accepted story Settle in
+    let there = stands_settled story s w (past_of story) h in
+    outlined next next.log (outline_settled story.log) (accepted_is_legal story Settle legal a)
+    (subst (λ x. StandsAt next (setting_of next) x []) (sym (base_settled story s w (past_of story) h)) (subst (λ x. StandsAt next x w []) (sym there.setting) there))
+    refl
 
 first_defined : (begin : Begin) → IsLegal (of_log begin []) → IsDefined (of_log begin [])
-unfolding remainder world_after
+unfolding remainder base_in world_after
 first_defined begin legal = record { legal = legal; there = first_stands_there begin; settles = refl }
 
 pub legal_defines : (story : Story) → IsLegal story → IsDefined story
@@ -195,10 +199,10 @@ retold_run story ss v us legal inside runs =
     let few = no_more_than (λ (t : Past). t.step) us (remaining story) (λ x y b e. let k = have.once us v x y is b in let l = ap ((steps s).is_same x.step) (sym e) ∙ have.itself x.step in absurd (cc)) own in
     let some = counts.some in
     let all = counts.all in
-    let defined = counts.defined in
+    let defined = counts.outlined in
     let d = legal_defines story legal in
     subst (λ l. IsRetold story.begin (retold story us).log s l v us) d.settles
-    (retell us (of_log story.begin (defines story.log)) s base v [] d.legal d.there (from_run (steps s) us base v is) (λ t i. counts.shallow t.step (own t i)) (omega (arith, few, some)) (omega (arith, few, all, defined)))
+    (retell us (of_log story.begin (outline story.log)) s base v [] d.legal d.there (from_run (steps s) us base v is) (λ t i. counts.shallow t.step (own t i)) (omega (arith, few, some)) (omega (arith, few, all, defined)))
 
 pub rerun_split : (o : Option Story) (again : Story) → or_no_step o ≡ Ok again → o ≡ Some again
 rerun_split None again h = cc
@@ -248,8 +252,8 @@ reruns_are_exact story names legal =
           let n = named_chosen (remaining story) names c.0 c.1 in
           let k = retold_run story c.0 p.0.0 p.0.1 legal n.1 c.2 in
           let own : remaining (retold story p.0.1) ≡ c.0 = sym (names_there (retold story p.0.1) s p.0.0 p.0.1 k.there) ∙ run_names (steps s) c.0 base p.0.0 p.0.1 c.2 in
-          subst (λ x. ((step : Step) → In step (remaining x) → In step (remaining story)) × (machine_of x ≡ machine_of story)) p.2
-          (λ step i. n.1 step (subst (In step) own i), ap (λ (x : Setting). x.machines) k.there.setting);
+          subst (λ x. ((step : Step) → In step (remaining x) → In step (remaining story)) × (machine_of x ≡ machine_of story) × (settled x ≡ settled story)) p.2
+          (λ step i. n.1 step (subst (In step) own i), ap (λ (x : Setting). x.machines) k.there.setting, k.settles);
       runnable = λ chosen v us inside e runs.
           let named : steps_named (remaining story) (map name_of chosen) ≡ Some chosen = ap (λ (l : List Step). steps_named l (map name_of chosen)) (sym there) ∙ all_named s base (from_start story s w ts h) ts chosen (once story s w ts h) (λ x i. subst (In x) (sym there) (inside x i)) in
           let k = retold_run story chosen v us legal inside runs in

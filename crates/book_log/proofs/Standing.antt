@@ -3,6 +3,7 @@ use Rattle.std.proofs.Common.{◌≡◌, ℕ, ◌==◌, Bool, true, false, List,
 use Rattle.std.specs.Prelude.{◌||◌, not, reverse, unwrap_or}
 use Rattle.std.specs.Cmp.Lexicographic.{same_text}
 use Rattle.std.proofs.lemmas.Bool.{and_parts, eqb-true}
+use Rattle.std.proofs.lemmas.List.{map-append}
 use Rattle.std.proofs.lemmas.List.Sums.{fold-append}
 use Rattle.json_tree.specs.declared.tree.Json.{Json}
 use Rattle.asl_machine.specs.Fields.{is_text}
@@ -12,7 +13,7 @@ use Rattle.step_names.specs.declared.step.StepName.{StepName}
 use Rattle.step_names.proofs.OrderLaws.{thread_same, thread_itself}
 use Rattle.trace_theory.specs.Traces.{In, run, names_of, after, without, undone, undo_each, IsRun, IsFree}
 use Rattle.trace_theory.proofs.Lists.{by_bool, filter-same}
-use Rattle.trace_theory.proofs.Runs.{Runs, from_run, to_run}
+use Rattle.trace_theory.proofs.Runs.{Runs, Runs-append, from_run, to_run}
 use Rattle.trace_theory.proofs.Records.{run_names, run_is, run_then, names-without}
 use Rattle.trace_theory.proofs.Orders.{undo_free, after_undoes}
 use Rattle.depends.specs.Run.{take_step}
@@ -30,7 +31,7 @@ use Rattle.depends.proofs.Extended.{runs_more}
 use Rattle.book_log.specs.Story.{Story, Remainder, accepted, setting_in, first_world, world_after, base_in, base_of, settled, settled_after, steps_after, run_in, world_in, past_in, consequences_in, but, rolled_back, with_machine, after_entry, nothing, remainder, remaining, setting_of, run_of, world_of, past_of, consequences_of}
 use Rattle.book_log.specs.declared.begin.Begin.{Begin}
 use Rattle.book_log.specs.declared.entry.Entry.{Entry}
-use Rattle.book_log.specs.declared.entry.Entry.TheVariants.{Define, Start, Step as Stepped, Undo, Rollback}
+use Rattle.book_log.specs.declared.entry.Entry.TheVariants.{Define, Start, Step as Stepped, Undo, Rollback, Settle}
 
 -- ---- names
 
@@ -84,12 +85,12 @@ run_there begin r s e = ap (λ (x : Setting). run (steps x) (base_in begin r) r.
 
 -- the base that a run of the settled steps gives
 base_given : (begin : Begin) (r : Remainder) (s : Setting) (base : World) (before : List Past) → setting_in begin r ≡ s → run (steps s) (first_world begin) r.settled ≡ Some (base, before) → base_in begin r ≡ base
-unfolding world_after
+unfolding base_in world_after
 base_given begin r s base before e h =
     ap (λ (x : Setting). (unwrap_or (run (steps x) (first_world begin) r.settled) (first_world begin, [])).0) e
     ∙ ap (λ (o : Option (World × List Past)). (unwrap_or o (first_world begin, [])).0) h
 
-no_frames : (begin : Begin) → HasNoFrames (first_world begin)
+pub no_frames : (begin : Begin) → HasNoFrames (first_world begin)
 no_frames begin t = refl
 
 module _ (story : Story) (s : Setting) (w : World) (ts : List Past) (h : StandsAt story s w ts) where
@@ -111,6 +112,23 @@ module _ (story : Story) (s : Setting) (w : World) (ts : List Past) (h : StandsA
 
   pub names_there : names_of (steps s) ts ≡ remaining story
   names_there = run_names (steps s) (remaining story) (base_of story) w ts steps_run
+
+  -- the settled steps by themselves, and with those that remain after them
+  pub settled_names : names_of (steps s) h.before ≡ settled story
+  settled_names = run_names (steps s) (settled story) (first_world story.begin) (base_of story) h.before h.leads
+
+  pub all_run : IsRun (steps s) (first_world story.begin) (h.before ++ ts) w
+  all_run =
+      let first = first_world story.begin in
+      let base = base_of story in
+      to_run (steps s) (h.before ++ ts) first w
+      (Runs-append (steps s) h.before ts first base w (from_run (steps s) h.before first base (run_is (steps s) (settled story) first base h.before h.leads)) (from_run (steps s) ts base w is_run))
+
+  all_named : names_of (steps s) (h.before ++ ts) ≡ settled story ++ remaining story
+  all_named = map-append (λ (t : Past). t.step) h.before ts ∙ ap₂ (λ (a b : List Step). a ++ b) settled_names names_there
+
+  pub settled_run : run (steps s) (first_world story.begin) (settled story ++ remaining story) ≡ Some (w, h.before ++ ts)
+  settled_run = subst (λ l. run (steps s) (first_world story.begin) l ≡ Some (w, h.before ++ ts)) all_named all_run
 
   pub fact_named : (t : Past) → In t ts → t.fact.name ≡ name_of t.step
   fact_named t i = named_along s ts (base_of story) w (from_run (steps s) ts (base_of story) w is_run) t i
@@ -135,6 +153,7 @@ stands story s w ts h =
 
 -- stories that settled the same go on from one base
 pub base_same : (a b : Story) → setting_of a ≡ setting_of b → a.begin ≡ b.begin → settled a ≡ settled b → base_of a ≡ base_of b
+unfolding base_in
 base_same a b setting begin same =
     ap (λ (x : Setting). world_after x a.begin (settled a)) setting
     ∙ ap₂ (λ (x : Begin) (l : List Step). world_after (setting_of b) x l) begin same
@@ -148,8 +167,12 @@ remainder_next story e = fold-append (after_entry story.begin) nothing story.log
 pub settled_next : (story : Story) (e : Entry) → settled (accepted story e) ≡ settled_after (remainder story) e
 settled_next story e = ap (λ (r : Remainder). r.settled) (remainder_next story e)
 
-pub base_next : (story : Story) (e : Entry) → base_of (accepted story e) ≡ base_in story.begin (after_entry story.begin (remainder story) e)
-base_next story e = ap (base_in story.begin) (remainder_next story e)
+-- an entry that defines nothing and settles nothing leaves the base
+pub base_kept : (story : Story) (e : Entry) → setting_in story.begin (after_entry story.begin (remainder story) e) ≡ setting_of story → settled_after (remainder story) e ≡ settled story → base_of (accepted story e) ≡ base_of story
+base_kept story e setting same = base_same (accepted story e) story (ap (setting_in story.begin) (remainder_next story e) ∙ setting) refl (settled_next story e ∙ same)
+
+pub steps_next : (story : Story) (e : Entry) → remaining (accepted story e) ≡ steps_after story.begin (remainder story) e
+steps_next story e = ap (λ (r : Remainder). r.steps) (remainder_next story e)
 
 -- after an entry a story stands where the settled steps and those that remain then are run
 pub stands_next : (story : Story) (e : Entry) (s : Setting) (base w : World) (before ts : List Past) → setting_in story.begin (after_entry story.begin (remainder story) e) ≡ s
@@ -245,3 +268,10 @@ stands_rolled story s w ts name undone_names t h i e =
     (subst (λ l. run (steps s) (base_of story) l ≡ Some (undo_each (steps s) w (reverse all), without (steps s) all ts))
     (ap (λ (l : List Past). names_of (steps s) (without (steps s) l ts)) (after_same s t.step (moved name) ts e) ∙ sym (rolled_there story s w ts name h))
     (after_undoes (steps s) (base_of story) (steps_have_names s (base_of story) (from_start story s w ts h)) (steps_are_lawful s (base_of story) (from_start story s w ts h)) w ts t (is_run story s w ts h) i).1)
+
+-- what remained is settled: the story stands where it stood, at its new base
+pub stands_settled : (story : Story) (s : Setting) (w : World) (ts : List Past) → StandsAt story s w ts → StandsAt (accepted story Settle) s w []
+stands_settled story s w ts h = stands_next story Settle s w w (h.before ++ ts) [] h.setting (settled_run story s w ts h) refl
+
+pub base_settled : (story : Story) (s : Setting) (w : World) (ts : List Past) → StandsAt story s w ts → base_of (accepted story Settle) ≡ w
+base_settled story s w ts h = let k = stands_settled story s w ts h in from_run (steps s) [] (base_of (accepted story Settle)) w (is_run (accepted story Settle) s w [] k)

@@ -1,6 +1,6 @@
 -- What a command is answered, memory apart: each refusal exactly where it stands, in the order in which they are tested.
-use Rattle.std.specs.Prelude.{◌≡◌, ℕ, ◌+◌, ◌||◌, List, [], ◌∷◌, ◌++◌, length, map, reverse, Bool, Option, None, Some, Result, Ok, Err, is_some, IsSome, IsTrue, ◌⊎◌, nat_le, nat_lt, if◌then◌else◌, option_map, option_and_then}
-use Rattle.std.specs.List.{find}
+use Rattle.std.specs.Prelude.{◌≡◌, ℕ, ◌+◌, ◌||◌, List, [], ◌∷◌, ◌++◌, length, map, reverse, Bool, true, false, Option, None, Some, Result, Ok, Err, is_some, IsSome, IsTrue, ◌⊎◌, nat_le, nat_lt, if◌then◌else◌, option_map, option_and_then}
+use Rattle.std.specs.List.{find, list_any}
 use Rattle.serde_json.specs.Data.{Data}
 use Rattle.asl_machine.specs.Refusal.{Names}
 use Rattle.asl_machine.specs.Definition.{Definition}
@@ -19,12 +19,12 @@ use Rattle.depends.specs.World.{is_same_step}
 use Rattle.depends.specs.Fact.{Fact}
 use Rattle.depends.specs.Dependence.{depends_directly}
 use Rattle.depends.specs.Instance.{Past, steps}
-use Rattle.book_log.specs.Story.{Story, accepted, base_of, remaining, machine_of, setting_of, world_of, facts_of, consequences_of}
+use Rattle.book_log.specs.Story.{Story, accepted, base_of, settled, remaining, machine_of, setting_of, world_of, facts_of, consequences_of}
 use Rattle.book_log.specs.declared.entry.Entry.{Entry}
-use Rattle.book_log.specs.declared.entry.Entry.TheVariants.{Define, Start, Step as Stepped, Undo, Rollback}
+use Rattle.book_log.specs.declared.entry.Entry.TheVariants.{Define, Start, Step as Stepped, Undo, Rollback, Settle}
 use Rattle.book_log.specs.declared.moved.Moved.{Moved}
 use Rattle.book_log.specs.declared.refusal.Refusal.{Refusal}
-use Rattle.book_log.specs.declared.refusal.Refusal.TheVariants.{NoMachine, MachineTaken, BadMachine, ExecTaken, NoThread, NotReady, NoStep, HasDependents, Full, Memory}
+use Rattle.book_log.specs.declared.refusal.Refusal.TheVariants.{NoMachine, MachineTaken, BadMachine, ExecTaken, NoThread, NotReady, NoStep, HasDependents, Full, Memory, Settled}
 
 -- an answer that is given, but for want of memory where it isn't refused
 abbrev pub Gives : {T : Type 0} → Result T Refusal → Result T Refusal → Type 0
@@ -56,6 +56,7 @@ most_before_a_step = 999998
 unfoldable pub is_full_for_step : Story → Bool
 is_full_for_step story = nat_le most_steps (length (remaining story)) || nat_lt most_before_a_step (length story.log + length (remaining story))
 
+-- an entry that needs no place for an undoing is too many where the most places are taken: a definition's, or a settlement's
 unfoldable pub is_full_for_define : Story → Bool
 is_full_for_define story = nat_le most_places (length story.log + length (remaining story))
 
@@ -108,13 +109,21 @@ abbrev pub free_answer : StepName → Option Fact → Result StepName Refusal
 free_answer name (Some dependent) = Err (HasDependents dependent.name)
 free_answer name None = Ok name
 
+-- some step that can't be taken back any more has this name
+unfoldable pub is_settled : Story → StepName → Bool
+is_settled story name = list_any (λ s. is_same_step name (name_of s)) (settled story)
+
+-- why a step that doesn't remain can't be taken back: it was settled, or there was none
+abbrev pub absent : Story → StepName → Refusal
+absent story name = if is_settled story name then Settled else NoStep
+
 -- it is undone where no later step depends directly on it, and else refused for the first that does
-abbrev pub found_answer : StepName → Option (Fact × List Fact) → Result StepName Refusal
-found_answer name None = Err NoStep
-found_answer name (Some p) = free_answer name (find (depends_directly p.0) p.1)
+abbrev pub found_answer : Refusal → StepName → Option (Fact × List Fact) → Result StepName Refusal
+found_answer gone name None = Err gone
+found_answer gone name (Some p) = free_answer name (find (depends_directly p.0) p.1)
 
 unfoldable pub undo_answer : Story → StepName → Result StepName Refusal
-undo_answer story name = found_answer name (from_step name (facts_of story))
+undo_answer story name = found_answer (absent story name) name (from_step name (facts_of story))
 
 -- where a step is undone, what comes after that
 abbrev pub once_undone : Result StepName Refusal → Result Story Refusal → Result Story Refusal
@@ -137,7 +146,13 @@ remains story name = is_some (from_step name (facts_of story))
 
 -- a remaining step and its consequences, the latest first
 unfoldable pub plan_answer : Story → StepName → Result (List StepName) Refusal
-plan_answer story name = if remains story name then Ok (names_of_facts (reverse (consequences_of story name))) else Err NoStep
+plan_answer story name = if remains story name then Ok (names_of_facts (reverse (consequences_of story name))) else Err (absent story name)
+
+-- ---- settle
+
+-- what remains is settled where there is room for the entry
+unfoldable pub settle_answer : Story → Result (Unit {0}) Refusal
+settle_answer story = if is_full_for_define story then Err Full else Ok tt
 
 -- ---- rerun
 
@@ -157,6 +172,16 @@ defines (Start exec machine input ∷ log) = defines log
 defines (Stepped name kind ∷ log) = defines log
 defines (Undo name ∷ log) = defines log
 defines (Rollback name undone ∷ log) = defines log
+defines (Settle ∷ log) = defines log
+
+abbrev pub is_settlement : Entry → Bool
+is_settlement Settle = true
+is_settlement _ = false
+
+-- the entries of a log up to its last settlement, and of those after it the definitions
+abbrev pub outline : List Entry → List Entry
+outline [] = []
+outline (e ∷ log) = if list_any is_settlement (e ∷ log) then e ∷ outline log else defines (e ∷ log)
 
 -- the entry that takes a step
 abbrev pub entry_for : Past → Step → Entry
@@ -166,9 +191,9 @@ entry_for t (moved name) = Stepped name t.fact.kind
 abbrev pub entry_of : Past → Entry
 entry_of t = entry_for t t.step
 
--- the definitions, and then these steps
+-- what stands up to the last settlement, the definitions since, and then these steps
 abbrev pub retold : Story → List Past → Story
-retold story ts = record { begin = story.begin; log = defines story.log ++ map entry_of ts }
+retold story ts = record { begin = story.begin; log = outline story.log ++ map entry_of ts }
 
 abbrev pub or_no_step : Option Story → Result Story Refusal
 or_no_step (Some story) = Ok story

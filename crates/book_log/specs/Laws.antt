@@ -10,11 +10,11 @@ use Rattle.depends.specs.Kind.{Kind}
 use Rattle.depends.specs.Instance.{Past, steps}
 use Rattle.book_log.specs.Answers.{undo_answer, order_answer, plan_answer, rerun_answer, is_full_for_step, names_of_facts, entry_of, most_steps, most_places}
 use Rattle.book_log.specs.Legal.{IsAccepted, IsLegal}
-use Rattle.book_log.specs.Story.{Story, accepted, base_of, remaining, machine_of, setting_of, run_of, world_of, past_of, consequences_of}
+use Rattle.book_log.specs.Story.{Story, accepted, base_of, settled, remaining, machine_of, setting_of, run_of, world_of, past_of, consequences_of}
 use Rattle.book_log.specs.declared.entry.Entry.{Entry}
-use Rattle.book_log.specs.declared.entry.Entry.TheVariants.{Start, Step as Stepped, Undo, Rollback}
+use Rattle.book_log.specs.declared.entry.Entry.TheVariants.{Start, Step as Stepped, Undo, Rollback, Settle}
 use Rattle.book_log.specs.declared.refusal.Refusal.{Refusal}
-use Rattle.book_log.specs.declared.refusal.Refusal.TheVariants.{NoStep, HasDependents}
+use Rattle.book_log.specs.declared.refusal.Refusal.TheVariants.{NoStep, HasDependents, Settled}
 use Rattle.asl_machine.specs.PathSame.{IsExact}
 use Rattle.book_log.specs.EntrySame.{same_entry}
 
@@ -68,15 +68,33 @@ pub record IsFirstDependent (s : Setting) (ts : List Past) (t : Past) (y : Past)
   pub depends : needs (steps s) t y ≡ true
   pub first : (z : Past) → Before t z ts → Before z y ts → needs (steps s) t z ≡ false
 
--- A step is undone exactly where it remains and no later one depends directly on it. Its undoing is refused where it doesn't
--- remain, and for the first that depends directly on it, and only there.
+-- A step is undone exactly where it remains and no later one depends directly on it. Its undoing is refused where it was settled, where
+-- it neither remains nor was, and for the first that depends directly on it, and only there.
 pub record AreUndoAnswers (story : Story) (name : StepName) : Type 0 where
   pub undone : (undo_answer story name ≡ Ok name) ↔ ((t : Past) × (t.fact.name ≡ name) × IsFree (steps (setting_of story)) (past_of story) t)
-  pub none : (undo_answer story name ≡ Err NoStep) ↔ ((step : Step) → In step (remaining story) → name_of step ≡ name → ⊥)
+  pub none : (undo_answer story name ≡ Err NoStep) ↔ (((step : Step) → In step (remaining story) → name_of step ≡ name → ⊥) × ((step : Step) → In step (settled story) → name_of step ≡ name → ⊥))
+  pub settled : (undo_answer story name ≡ Err Settled) ↔ ((step : Step) × In step (settled story) × (name_of step ≡ name))
   pub dependent : (d : StepName) → (undo_answer story name ≡ Err (HasDependents d)) ↔ ((t : Past) × (y : Past) × (t.fact.name ≡ name) × (y.fact.name ≡ d) × IsFirstDependent (setting_of story) (past_of story) t y)
 
 abbrev pub UndoAnswersAreExact : Type 0
 UndoAnswersAreExact = (story : Story) (name : StepName) → IsLegal story → AreUndoAnswers story name
+
+-- ---- settlements
+
+-- The remaining steps are settled: the world is as it was, and is the base of the steps to come.
+pub record IsSettledIn (before after : Story) : Type 0 where
+  pub world : world_of after ≡ world_of before
+  pub base : base_of after ≡ world_of before
+  pub setting : setting_of after ≡ setting_of before
+  pub steps : remaining after ≡ []
+  pub settled : settled after ≡ settled before ++ remaining before
+
+abbrev pub SettlingKeepsTheWorld : Type 0
+SettlingKeepsTheWorld = (story : Story) → IsLegal story → IsAccepted story Settle → IsSettledIn story (accepted story Settle)
+
+-- whatever commands come, a step that was settled stays so
+abbrev pub SettledStaysSettled : Type 0
+SettledStaysSettled = (story : Story) (log : List Entry) (step : Step) → In step (settled story) → In step (settled (record { begin = story.begin; log = story.log ++ log }))
 
 -- ---- orders
 
@@ -119,9 +137,9 @@ abbrev pub RerunsAreLegal : Type 0
 RerunsAreLegal = (story again : Story) (names : List StepName) → IsLegal story → rerun_answer story names ≡ Ok again → IsLegal again × (map name_of (remaining again) ≡ names)
 
 -- A rerun has steps of the story and its machines; each list of remaining steps that can be run is answered, by its run; and else no
--- refusal is given but that there is no such step.
+-- refusal is given but that there is no such step. What was settled stays so.
 pub record IsRerun (story : Story) (names : List StepName) : Type 0 where
-  pub of_story : (again : Story) → rerun_answer story names ≡ Ok again → ((step : Step) → In step (remaining again) → In step (remaining story)) × (machine_of again ≡ machine_of story)
+  pub of_story : (again : Story) → rerun_answer story names ≡ Ok again → ((step : Step) → In step (remaining again) → In step (remaining story)) × (machine_of again ≡ machine_of story) × (settled again ≡ settled story)
   pub runnable : (chosen : List Step) (v : World) (ts : List Past) → ((step : Step) → In step chosen → In step (remaining story)) → map name_of chosen ≡ names
       → run (steps (setting_of story)) (base_of story) chosen ≡ Some (v, ts)
       → (again : Story) × (rerun_answer story names ≡ Ok again) × (remaining again ≡ chosen) × (world_of again ≡ v) × (past_of again ≡ ts)

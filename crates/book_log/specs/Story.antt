@@ -12,7 +12,7 @@ use Rattle.depends.specs.Instance.{Past, steps}
 use Rattle.book_log.specs.Beginning.{first_items}
 use Rattle.book_log.specs.declared.begin.Begin.{Begin}
 use Rattle.book_log.specs.declared.entry.Entry.{Entry}
-use Rattle.book_log.specs.declared.entry.Entry.TheVariants.{Define, Start, Step as Stepped, Undo, Rollback}
+use Rattle.book_log.specs.declared.entry.Entry.TheVariants.{Define, Start, Step as Stepped, Undo, Rollback, Settle}
 
 pub record Story : Type 0 where
   pub begin : Begin
@@ -43,7 +43,7 @@ unfoldable pub world_after : Setting → Begin → List Step → World
 world_after s begin ss = (unwrap_or (run (steps s) (first_world begin) ss) (first_world begin, [])).0
 
 -- the base of the remaining steps: the world that the settled ones give
-abbrev pub base_in : Begin → Remainder → World
+unfoldable pub base_in : Begin → Remainder → World
 base_in begin r = world_after (setting_in begin r) begin r.settled
 
 -- the remaining steps alone, run forward from their base: the world that they give, and each with its fact and what it kept
@@ -80,6 +80,7 @@ machines_after r (Start exec machine input) = r.machines
 machines_after r (Stepped name kind) = r.machines
 machines_after r (Undo name) = r.machines
 machines_after r (Rollback name undone) = r.machines
+machines_after r Settle = r.machines
 
 abbrev pub settled_after : Remainder → Entry → List Step
 settled_after r (Define name machine) = r.settled
@@ -87,6 +88,7 @@ settled_after r (Start exec machine input) = r.settled
 settled_after r (Stepped name kind) = r.settled
 settled_after r (Undo name) = r.settled
 settled_after r (Rollback name undone) = r.settled
+settled_after r Settle = r.settled ++ r.steps
 
 abbrev pub steps_after : Begin → Remainder → Entry → List Step
 steps_after begin r (Define name machine) = r.steps
@@ -94,6 +96,7 @@ steps_after begin r (Start exec machine input) = r.steps ++ started exec.exec ma
 steps_after begin r (Stepped name kind) = r.steps ++ moved name ∷ []
 steps_after begin r (Undo name) = but name r.steps
 steps_after begin r (Rollback name undone) = rolled_back begin r name
+steps_after begin r Settle = []
 
 abbrev pub after_entry : Begin → Remainder → Entry → Remainder
 after_entry begin r e = record { machines = machines_after r e; settled = settled_after r e; steps = steps_after begin r e }

@@ -6,7 +6,8 @@ use json_tree::{Json, Text};
 use step_names::{StepName, ThreadName};
 
 /// A command that was accepted, with its reply: a start's is the name `E#0`, a step's its name and kind, a rollback's the
-/// names of the steps that it took back, the latest first. The others have none.
+/// names of the steps that it took back, the latest first. The others have none. After a settlement none of the steps before it can
+/// be taken back.
 #[derive(Debug, Drop)]
 pub enum Entry {
     Define {
@@ -29,4 +30,5 @@ pub enum Entry {
         step: StepName,
         undone: StepNames,
     },
+    Settle,
 }

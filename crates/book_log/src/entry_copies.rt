@@ -37,6 +37,7 @@ impl Entry {
             Entry::Step { name, kind } => copy_step(name, *kind),
             Entry::Undo { step } => Ok(Entry::Undo { step: step.copy()? }),
             Entry::Rollback { step, undone } => copy_rollback(step, undone),
+            Entry::Settle => Ok(Entry::Settle),
         }
     }
 }

@@ -91,6 +91,7 @@ impl PartialEq for Entry {
                     undone: names,
                 },
             ) => step == other && undone == names,
+            (Entry::Settle, Entry::Settle) => true,
             _ => false,
         }
     }

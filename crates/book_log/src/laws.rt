@@ -1,6 +1,6 @@
 //! Laws of logs: each function's contract is the law, and it does nothing.
 
-ghost use Rattle.book_log.specs.Laws.{EqualityIsOfEntries, LegalLogsRun, AcceptedIsLegal, LegalLogsHaveRoom, UndoTakesBack, UndoTakesBackStart, AgainGivesBack, UndoAnswersAreExact, AllowedOrdersAreAccepted, AcceptedOrdersAreWhole, OrdersAgree, RollbackIsExact, RerunsAreLegal, RerunsAreExact, ArrangementsAgree};
+ghost use Rattle.book_log.specs.Laws.{EqualityIsOfEntries, LegalLogsRun, AcceptedIsLegal, LegalLogsHaveRoom, UndoTakesBack, UndoTakesBackStart, AgainGivesBack, UndoAnswersAreExact, AllowedOrdersAreAccepted, AcceptedOrdersAreWhole, OrdersAgree, SettlingKeepsTheWorld, SettledStaysSettled, RollbackIsExact, RerunsAreLegal, RerunsAreExact, ArrangementsAgree};
 
 /// What remains of a legal log can be run from the start, a legal log with an entry that is accepted is one, and its limits leave
 /// room to undo each remaining step.
@@ -18,9 +18,16 @@ pub fn undoing_is_exact()
     ensures again { AgainGivesBack }
 {}
 
-/// A step is undone exactly where it remains and nothing depends directly on it, and refused for the first that does.
+/// A step is undone exactly where it remains and nothing depends directly on it, and refused for the first that does, and where it
+/// was settled.
 pub fn undo_answers_are_exact()
     ensures { UndoAnswersAreExact }
+{}
+
+/// A settlement leaves the world as it was, as the base of the steps to come; and what was settled stays so.
+pub fn settling_is_for_good()
+    ensures world { SettlingKeepsTheWorld }
+    ensures stays { SettledStaysSettled }
 {}
 
 /// Every order in which each step is free at its turn is accepted, one result for the same steps; and one that is accepted holds

@@ -29,6 +29,8 @@ pub enum Refusal {
     Full,
     /// 11: memory was refused.
     Memory,
+    /// 12: the step was settled, and can't be taken back any more.
+    Settled,
 }
 
 impl From<AllocError> for Refusal {

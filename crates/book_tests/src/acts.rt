@@ -9,9 +9,10 @@ use std::process::Abort;
 use std::test::Fail;
 use step_names::{StepName, ThreadName};
 
-const PASS: &str = r#"{"StartAt":"P","States":{"P":{"Type":"Pass","Result":7,"End":true}}}"#;
+pub(crate) const PASS: &str =
+    r#"{"StartAt":"P","States":{"P":{"Type":"Pass","Result":7,"End":true}}}"#;
 
-const PUT: &str =
+pub(crate) const PUT: &str =
     r#"{"StartAt":"W","States":{"W":{"Type":"Task","Resource":"arn:aws:states:::dynamodb:putItem","Parameters":{"TableName":"items","Item":{"id":{"S":"k"},"v":{"S.$":"$.v"}}},"End":true}}}"#;
 
 const GET: &str =
@@ -71,6 +72,7 @@ pub(crate) enum Act {
     Rerun(&'static [&'static str]),
     /// A rollback of the first step that is planned before the second one is undone.
     LateRollback(&'static str, &'static str),
+    Settle,
 }
 
 fn thread_of(alloc: Global, name: &str) -> Result<ThreadName, Refusal> {
@@ -226,6 +228,8 @@ fn is_refused(alloc: Global, refusal: &Refusal, want: &str) -> Result<bool, Allo
     match refusal {
         Refusal::Memory => Err(AllocError),
         Refusal::NoStep => Ok(want == "no step"),
+        Refusal::Settled => Ok(want == "settled"),
+        Refusal::ExecTaken => Ok(want == "taken"),
         Refusal::Stale(entries) => Ok(*entries == 7 && want == "stale at 7"),
         Refusal::HasDependents(name) => {
             let name = name.write_text(alloc)?;
@@ -261,6 +265,7 @@ pub(crate) fn is_answered(
         Act::CanUndo(name) => can_undo(alloc, book, name),
         Act::UndoOrder(names) => undo_order(alloc, book, names),
         Act::LateRollback(name, other) => roll_back_late(alloc, book, name, other),
+        Act::Settle => book.settle(alloc),
         Act::Rerun(names) => return rerun(alloc, book, names, want),
     };
     is_told(alloc, told, want)
@@ -372,7 +377,12 @@ pub(crate) fn expect(
     Ok(())
 }
 
-fn expect_over(rt: &impl Abort, alloc: Global, items: &str, rows: &[Row]) -> Result<(), Fail> {
+pub(crate) fn expect_over(
+    rt: &impl Abort,
+    alloc: Global,
+    items: &str,
+    rows: &[Row],
+) -> Result<(), Fail> {
     let mut book = book_over(alloc, items)?;
     let told = expect(rt, alloc, &mut book, rows);
     drop(book);
@@ -492,6 +502,15 @@ const GROWING: &[Row] = &[
     ),
     (Act::UndoOrder(&["e/1.0#1", "e#1"]), "needed by e/1.1#1"),
     (Act::UndoOrder(&["e/1.0#1", "e/1.1#1"]), "ok"),
+    (Act::Settle, "ok"),
+    (Act::Undo("e#1"), "settled"),
+    (Act::Step("e/1.1"), "ok"),
+    (Act::Settle, "ok"),
+    (Act::Step("e/1.0"), "ok"),
+    (
+        Act::Rerun(&["e/1.0#1"]),
+        r#"e/1.0#1 {"id":{"S":"k"},"v":{"S":"1"}}"#,
+    ),
 ];
 
 /// For tools/refused-growths.sh: whichever growth is refused, its command changes nothing, and is answered when it is given again.

@@ -12,4 +12,6 @@ mod orders;
 #[cfg(test)]
 mod plans;
 #[cfg(test)]
+mod settling;
+#[cfg(test)]
 mod trees;

@@ -139,6 +139,7 @@ refusal_reply (refusals.HasDependents step) = refused_for_step 8 step
 refusal_reply (refusals.Stale entries) = refused 9
 refusal_reply refusals.Full = refused 10
 refusal_reply refusals.Memory = memory_reply
+refusal_reply refusals.Settled = refused 12
 
 -- ---- JSON that is none
 

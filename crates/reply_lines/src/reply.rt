@@ -216,6 +216,7 @@ impl Reply {
             Refusal::Stale(_) => self.refuse(9),
             Refusal::Full => self.refuse(10),
             Refusal::Memory => Err(AllocError),
+            Refusal::Settled => self.refuse(12),
         }
     }
 

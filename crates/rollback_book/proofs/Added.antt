@@ -1,5 +1,5 @@
 -- A book whose places and room are made, and after a command that adds to it.
-use Rattle.std.proofs.Common.{◌≡◌, ◌≤◌, arith, ℕ, false, cond, List, [], ◌∷◌, ◌++◌, length, length-append, refl, ap, ap₂, sym, subst, ◌∙◌, None, Some, Result, Ok, Err}
+use Rattle.std.proofs.Common.{◌≡◌, ◌≤◌, arith, ℕ, false, cond, List, [], ◌∷◌, ◌++◌, length, length-append, map, refl, ap, ap₂, sym, subst, ◌∙◌, None, Some, Result, Ok, Err}
 use Rattle.std.specs.Prelude.{option_map, is_err, OnOk}
 use Rattle.std.proofs.lemmas.Option.{same_Some}
 use Rattle.json_tree.specs.Data.{depth}
@@ -16,7 +16,7 @@ use Rattle.saved_steps.specs.Deeds.{Deed}
 use Rattle.saved_steps.specs.Held.{seen}
 use Rattle.saved_steps.specs.Made.{CanApply, IsMadeFor}
 use Rattle.saved_steps.specs.Run.{carried_out, take_step}
-use Rattle.saved_steps.specs.Steps.{Step, started, moved, start_name}
+use Rattle.saved_steps.specs.Steps.{Step, started, moved, name_of, start_name}
 use Rattle.saved_steps.specs.World.{Setting, World}
 use Rattle.saved_steps.specs.declared.fact.Kind.TheVariants as kind
 use Rattle.saved_steps.specs.declared.made.Made.{Made as MadeStep}
@@ -27,12 +27,12 @@ use Rattle.step_history.proofs.Extended.{more_machines}
 use Rattle.step_history.proofs.Left.{as_many}
 use Rattle.book_log.specs.Answers.{start_answer, is_full_for_step, is_full_for_define}
 use Rattle.book_log.specs.Legal.{IsAccepted}
-use Rattle.book_log.specs.Story.{Story, accepted, base_of, machine_of, past_of, setting_of, world_of}
+use Rattle.book_log.specs.Story.{Story, accepted, base_of, settled, machine_of, past_of, setting_of, world_of}
 use Rattle.book_log.specs.declared.entry.Entry.{Entry}
-use Rattle.book_log.specs.declared.entry.Entry.TheVariants.{Define, Start, Step as Stepped, Undo, Rollback}
+use Rattle.book_log.specs.declared.entry.Entry.TheVariants.{Define, Start, Step as Stepped, Undo, Rollback, Settle}
 use Rattle.book_log.proofs.Counts.{room_for_step, room_for_define}
 use Rattle.book_log.proofs.LegalRuns.{accepted_is_legal}
-use Rattle.book_log.proofs.Standing.{StandsAt, knowing, extended, base_next, base_defined, stands_defined, stands_started, stands_moved}
+use Rattle.book_log.proofs.Standing.{StandsAt, knowing, extended, base_kept, base_defined, stands_defined, stands_started, stands_moved}
 use Rattle.rollback_book.specs.Book.{Volume, Places, IsTied, place_in, placed}
 use Rattle.rollback_book.specs.Making.{CanEnter, Fits, HasLogRoom, IsStepFor}
 use Rattle.rollback_book.specs.Ready.{IsMadeIn, IsStartOf}
@@ -42,7 +42,7 @@ use Rattle.rollback_book.specs.declared.making.Made.{Made}
 use Rattle.rollback_book.specs.declared.making.MadeChange.TheVariants as made
 use Rattle.rollback_book.proofs.Refusing.{start_not_full, step_not_full}
 use Rattle.rollback_book.proofs.TakenBack.{with_entry}
-use Rattle.rollback_book.proofs.Tied.{stands, tied_by, many, world_is}
+use Rattle.rollback_book.proofs.Tied.{stands, same_names, tied_by, many, world_is}
 
 pub on_ok : {T E : Type 0} (r : Result T E) (P : Type 0) → is_err r ≡ false → OnOk r P → P
 on_ok (Ok x) P h p = p
@@ -54,7 +54,7 @@ on_any (Err e) P p = tt
 
 -- the same story, with more room
 abbrev pub with_room : Volume → History → Places → ℕ → Volume
-with_room b h places capacity = record { story = b.story; history = h; places = places; capacity = capacity }
+with_room b h places capacity = record { story = b.story; history = h; places = places; capacity = capacity; settled = b.settled }
 
 pub tied_room : (b : Volume) (h : History) (places : Places) (capacity : ℕ) → IsTied b → seen h.world ≡ seen b.history.world
     → ((s : Setting) (base : World) (ts : List Past) → IsHistory s base ts b.history → IsHistory s base ts h)
@@ -71,6 +71,7 @@ tied_room b h places capacity tied world kept same grown =
       history = is;
       run = tied.run ∙ ap (λ (w : World). Some (w, past_of b.story)) (sym world);
       machines = λ name. same name ∙ tied.machines name;
+      names = tied.names;
       room = omega (arith, room, now, before, grown);
       few = omega (arith, few, now, before);
       bounded = omega (arith, bounded, now, before);
@@ -87,7 +88,7 @@ module _ (b : Volume) (tied : IsTied b) (capacity : ℕ) (log_room : HasLogRoom 
 
   pub tied_defined : (entry : Entry) (name : List ℕ) (machine : Definition) (places : Places) → IsAccepted b.story entry → Fits b entry (made.Define name machine)
       → ((n : List ℕ) → placed (place_in places n) ≡ cond (is_text name n) (Some machine) (placed (place_in b.places n)))
-      → IsTied (record { story = accepted b.story entry; history = b.history; places = places; capacity = capacity })
+      → IsTied (record { story = accepted b.story entry; history = b.history; places = places; capacity = capacity; settled = b.settled })
   tied_defined (Define n m) name machine places a fits filled =
       let s = setting_of b.story in
       let more = knowing s n m in
@@ -99,15 +100,16 @@ module _ (b : Volume) (tied : IsTied b) (capacity : ℕ) (log_room : HasLogRoom 
       let own : (x : List ℕ) → placed (place_in places x) ≡ more.machines x = λ x.
       filled x ∙ ap (cond (is_text name x) (Some machine)) (tied.machines x)
       ∙ ap₂ (λ (y : List ℕ) (z : Definition). cond (is_text y x) (Some z) (s.machines x)) fits.0 fits.1 in
-      tied_by (record { story = accepted b.story entry; history = b.history; places = places; capacity = capacity }) more (base_of b.story) (seen b.history.world) (past_of b.story)
+      tied_by (record { story = accepted b.story entry; history = b.history; places = places; capacity = capacity; settled = b.settled }) more (base_of b.story) (seen b.history.world) (past_of b.story)
       (accepted_is_legal b.story entry tied.legal a) (stands_defined b.story s (seen b.history.world) (past_of b.story) n m (stands b tied) a.0)
       (base_defined b.story s (seen b.history.world) (past_of b.story) n m (stands b tied) a.0)
-      (more_machines s more (base_of b.story) (past_of b.story) b.history (extended s n m a.0) tied.history) own
+      (more_machines s more (base_of b.story) (past_of b.story) b.history (extended s n m a.0) tied.history) own (same_names b entry tied refl)
       (omega (arith, log_room, grown, logged)) few (omega (arith, free, count, logged))
   tied_defined (Start exec machine input) name shared places a fits filled = absurd fits
   tied_defined (Stepped n kind) name shared places a fits filled = absurd fits
   tied_defined (Undo n) name shared places a fits filled = absurd fits
   tied_defined (Rollback n undone) name shared places a fits filled = absurd fits
+  tied_defined Settle name shared places a fits filled = absurd fits
 
   -- ---- a step
 
@@ -124,10 +126,10 @@ module _ (b : Volume) (tied : IsTied b) (capacity : ℕ) (log_room : HasLogRoom 
       (s : Setting) (base : World) (ts : List Past) (step : Step) (d : Deed) → IsHistory s base ts b.history → deeds.deed s (seen b.history.world) step ≡ Some d → IsMadeFor m d
       → IsHistory s base (ts ++ taken_in (seen b.history.world) step d.fact ∷ []) h
 
-  entered : (entry : Entry) (m : MadeStep) (h : History) (step : Step) (f : IsStepFor b step m) → IsAccepted b.story entry → is_full_for_step b.story ≡ false → base_of (accepted b.story entry) ≡ base_of b.story → Grows h m
+  entered : (entry : Entry) (m : MadeStep) (h : History) (step : Step) (f : IsStepFor b step m) → IsAccepted b.story entry → is_full_for_step b.story ≡ false → base_of (accepted b.story entry) ≡ base_of b.story → b.settled.items ≡ map name_of (settled (accepted b.story entry)) → Grows h m
       → StandsAt (accepted b.story entry) (setting_of b.story) (carried_out (seen b.history.world) f.deed) (past_of b.story ++ taken_in (seen b.history.world) step f.deed.fact ∷ [])
       → IsTied (with_entry b entry h capacity)
-  entered entry m h step f a room same grows there =
+  entered entry m h step f a room same names grows there =
       let s = setting_of b.story in
       let t = taken_in (seen b.history.world) step f.deed.fact in
       let ts = past_of b.story ++ t ∷ [] in
@@ -140,7 +142,7 @@ module _ (b : Volume) (tied : IsTied b) (capacity : ℕ) (log_room : HasLogRoom 
       let few = free.0 in
       let bounded = free.1 in
       let logged = length-append b.story.log (entry ∷ []) in
-      tied_by (with_entry b entry h capacity) s (base_of b.story) (carried_out (seen b.history.world) f.deed) ts (accepted_is_legal b.story entry tied.legal a) there same is tied.machines
+      tied_by (with_entry b entry h capacity) s (base_of b.story) (carried_out (seen b.history.world) f.deed) ts (accepted_is_legal b.story entry tied.legal a) there same is tied.machines names
       (omega (arith, log_room, grown, logged, now, before, one)) (omega (arith, few, count, now, before, one)) (omega (arith, bounded, count, logged, now, before, one))
 
   pub tied_stepped : (entry : Entry) (m : MadeStep) (h : History) → IsAccepted b.story entry → Fits b entry (made.Step m) → Grows h m → IsTied (with_entry b entry h capacity)
@@ -148,14 +150,15 @@ module _ (b : Volume) (tied : IsTied b) (capacity : ℕ) (log_room : HasLogRoom 
   tied_stepped (Start exec machine input) m h a fits grows =
       let step = started exec.exec machine input in
       let does = taken step fits.deed fits.is in
-      entered (Start exec machine input) m h step fits a (start_not_full b.story exec machine (start_name exec.exec) a.0) (base_next b.story (Start exec machine input)) grows
+      entered (Start exec machine input) m h step fits a (start_not_full b.story exec machine (start_name exec.exec) a.0) (base_kept b.story (Start exec machine input) refl refl) (same_names b (Start exec machine input) tied refl) grows
       (stands_started b.story (setting_of b.story) (seen b.history.world) (carried_out (seen b.history.world) fits.deed) (past_of b.story) exec machine input fits.deed.fact (stands b tied) (steps_once step fits.deed does))
   tied_stepped (Stepped name kind) m h a fits grows =
       let does = taken (moved name) fits.deed fits.is in
-      entered (Stepped name kind) m h (moved name) fits a (step_not_full b.story name.thread (record { name = name; kind = kind }) a) (base_next b.story (Stepped name kind)) grows
+      entered (Stepped name kind) m h (moved name) fits a (step_not_full b.story name.thread (record { name = name; kind = kind }) a) (base_kept b.story (Stepped name kind) refl refl) (same_names b (Stepped name kind) tied refl) grows
       (stands_moved b.story (setting_of b.story) (seen b.history.world) (carried_out (seen b.history.world) fits.deed) (past_of b.story) name kind fits.deed.fact (stands b tied) (steps_once (moved name) fits.deed does))
   tied_stepped (Undo n) m h a fits grows = absurd fits
   tied_stepped (Rollback n undone) m h a fits grows = absurd fits
+  tied_stepped Settle m h a fits grows = absurd fits
 
 -- a step that fits can be applied
 pub can_apply : (b : Volume) (entry : Entry) (m : MadeStep) → Fits b entry (made.Step m) → CanApply b.history.world m × HasRoom b.history
@@ -164,6 +167,7 @@ can_apply b (Start exec machine input) m fits = (fits.ready, fits.room)
 can_apply b (Stepped name kind) m fits = (fits.ready, fits.room)
 can_apply b (Undo n) m fits = absurd fits
 can_apply b (Rollback n undone) m fits = absurd fits
+can_apply b Settle m fits = absurd fits
 
 -- a machine that fits has its place
 pub has_place : (b : Volume) (entry : Entry) (name : List ℕ) (machine : Definition) → Fits b entry (made.Define name machine) → place_in b.places name ≡ Some None
@@ -172,6 +176,7 @@ has_place b (Start exec known input) name machine fits = absurd fits
 has_place b (Stepped n kind) name machine fits = absurd fits
 has_place b (Undo n) name machine fits = absurd fits
 has_place b (Rollback n undone) name machine fits = absurd fits
+has_place b Settle name machine fits = absurd fits
 
 -- ---- a start for which everything is made
 

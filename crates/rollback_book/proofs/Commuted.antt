@@ -12,14 +12,13 @@ use Rattle.step_history.specs.History.{Past}
 use Rattle.book_log.specs.Answers.{order_answer, plan_answer, rerun_answer, undo_answer}
 use Rattle.book_log.specs.Legal.{IsLegal}
 use Rattle.book_log.specs.Story.{Story, accepted, base_of, settled, consequences_of, past_of, remaining, setting_of, world_of}
-use Rattle.book_log.specs.declared.begin.Begin.{Begin}
 use Rattle.book_log.specs.declared.entry.Entry.TheVariants.{Undo, Rollback}
 use Rattle.book_log.specs.declared.refusal.Refusal.{Refusal}
 use Rattle.book_log.specs.declared.refusal.Refusal.TheVariants.{Memory, NoStep}
 use Rattle.book_log.proofs.Answered.{once}
 use Rattle.book_log.proofs.LegalRuns.{legal_stands, plan_said}
 use Rattle.book_log.proofs.Orders.{accepted_orders_are_whole, allowed_is_taken, order_settles, order_split, orders_agree_all}
-use Rattle.book_log.proofs.Reruns.{arrangements_agree_all, reruns_are_exact, reruns_are_legal, reruns_settle}
+use Rattle.book_log.proofs.Reruns.{arrangements_agree_all, reruns_are_exact, reruns_are_legal}
 use Rattle.book_log.proofs.Standing.{StandsAt, after_same, base_same, consequences_there, from_start, is_run, names_there, settled_next, past_there, stands_rolled, world_there}
 use Rattle.rollback_book.specs.Commuting.{CannotRun, HasConsequences, IsAllowedOrder, IsOnlyResult, IsRerunOf, IsRest, UndoesAllowed}
 use Rattle.rollback_book.proofs.Rerun.{tried, tried_stands}
@@ -132,8 +131,9 @@ module _ (story : Story) (legal : IsLegal story) (names : List StepName) where
         named = k.1;
         begin = begin;
         machines = (exact.of_story again a).1;
+        settled = (exact.of_story again a).2;
         of_story = (exact.of_story again a).0;
-        runs = subst (λ (b : World). run (steps s) b (remaining again) ≡ Some (world_of again, past_of again)) (base_same again story there.setting begin (reruns_settle story again names legal a)) runs;
+        runs = subst (λ (b : World). run (steps s) b (remaining again) ≡ Some (world_of again, past_of again)) (base_same again story there.setting begin (exact.of_story again a).2) runs;
         arranged = λ arranged.
             let r = arrangements_agree_all story (remaining again) legal arranged in
             let same = same_end r.0 again (rerun_answer story names) (ap (rerun_answer story) (sym k.1) ∙ r.1) a in

@@ -1,5 +1,5 @@
 -- A book without entries.
-use Rattle.std.proofs.Common.{◌≡◌, arith, ℕ, List, [], length, refl, ap, sym, subst, None, Option, Ok, Result}
+use Rattle.std.proofs.Common.{◌≡◌, arith, ℕ, List, [], length, map, refl, ap, sym, subst, ◌∙◌, None, Option, Ok, Result}
 use Rattle.std.specs.Prelude.{vec_capacity}
 use Rattle.std.specs.Global.{Vec}
 use Rattle.std.specs.BTreeMap.{BTreeMap}
@@ -7,13 +7,15 @@ use Rattle.attr_values.specs.declared.fault.ItemFault.{ItemFault}
 use Rattle.asl_tree.specs.Definition.{Definition}
 use Rattle.item_store.specs.Store.{Store, items_of}
 use Rattle.item_store.specs.Table.{Table}
+use Rattle.saved_steps.specs.Steps.{name_of}
 use Rattle.saved_steps.specs.World.{Setting, World}
+use Rattle.settled_names.specs.Names.{Names}
 use Rattle.step_history.specs.History.{IsHistory, nothing_over}
 use Rattle.step_history.specs.declared.history.History.{History}
 use Rattle.step_history.proofs.Left.{as_many}
 use Rattle.book_log.specs.Beginning.{table_of, or_empty}
 use Rattle.book_log.specs.Legal.{IsLegal}
-use Rattle.book_log.specs.Story.{Story, base_of, first_world, setting_in, nothing, remainder, run_in, world_after}
+use Rattle.book_log.specs.Story.{Story, base_in, base_of, first_world, settled, setting_in, nothing, remainder, run_in, world_after}
 use Rattle.book_log.specs.declared.begin.Begin.{Begin}
 use Rattle.book_log.specs.declared.entry.Entry.{Entry}
 use Rattle.book_log.proofs.Standing.{StandsAt}
@@ -28,12 +30,16 @@ unfolding IsLegal
 legal_empty begin items e = ((items, e), tt)
 
 stands_empty : (begin : Begin) → StandsAt (beginning begin) (setting_in begin nothing) (first_world begin) []
-unfolding remainder run_in world_after
+unfolding remainder run_in base_in world_after
 stands_empty begin = record { setting = refl; before = []; leads = refl; runs = refl }
 
 base_empty : (begin : Begin) → base_of (beginning begin) ≡ first_world begin
-unfolding remainder world_after
+unfolding remainder base_in world_after
 base_empty begin = refl
+
+none_settled : (begin : Begin) → map name_of (settled (beginning begin)) ≡ []
+unfolding remainder
+none_settled begin = refl
 
 no_place : (places : Places) → places ≡ [] → (name : List ℕ) → placed (place_in places name) ≡ None
 no_place places e name = ap (λ (l : Places). placed (place_in l name)) e
@@ -42,13 +48,13 @@ no_place places e name = ap (λ (l : Places). placed (place_in l name)) e
 base_is : (begin : Begin) (items : Store) → table_of begin ≡ Ok (items_of items) → nothing_over items ≡ first_world begin
 base_is begin items e = ap (λ (t : Result Table ItemFault). let w : World = record { frames = λ t. None; items = or_empty t } in w) (sym e)
 
-pub tied_empty : (begin : Begin) (machines : BTreeMap (List ℕ) (Option Definition)) (h : History) (log : Vec Entry) (items : Store) → machines.entries ≡ [] → log.items ≡ []
+pub tied_empty : (begin : Begin) (machines : BTreeMap (List ℕ) (Option Definition)) (h : History) (log : Vec Entry) (names : Names) (items : Store) → machines.entries ≡ [] → log.items ≡ []
     → table_of begin ≡ Ok (items_of items) → items.table ≡ begin.table → items.schema ≡ begin.schema
-    → ((s : Setting) → s.table ≡ items.table → s.schema ≡ items.schema → IsHistory s (nothing_over items) [] h) → IsTied (volume begin machines h log)
-tied_empty begin machines h log items no_machines no_entries table name schema new =
+    → ((s : Setting) → s.table ≡ items.table → s.schema ≡ items.schema → IsHistory s (nothing_over items) [] h) → names.items ≡ [] → IsTied (volume begin machines h log names)
+tied_empty begin machines h log names items no_machines no_entries table name schema new none =
     let s = setting_in begin nothing in
     let is : IsHistory s (first_world begin) [] h = subst (λ (w : World). IsHistory s w [] h) (base_is begin items table) (new s (sym name) (sym schema)) in
     let n : length h.records.items ≡ 0 = as_many h.world.items h.records.items [] is.records in
-    subst (λ (l : List Entry). IsTied (record { story = record { begin = begin; log = l }; history = h; places = machines.entries; capacity = vec_capacity log })) (sym no_entries)
-    (tied_by (record { story = beginning begin; history = h; places = machines.entries; capacity = vec_capacity log }) s (first_world begin) (first_world begin) [] (legal_empty begin (items_of items) table)
-    (stands_empty begin) (base_empty begin) is (no_place machines.entries no_machines) (omega (arith, n)) (omega (arith, n)) (omega (arith, n)))
+    subst (λ (l : List Entry). IsTied (record { story = record { begin = begin; log = l }; history = h; places = machines.entries; capacity = vec_capacity log; settled = names })) (sym no_entries)
+    (tied_by (record { story = beginning begin; history = h; places = machines.entries; capacity = vec_capacity log; settled = names }) s (first_world begin) (first_world begin) [] (legal_empty begin (items_of items) table)
+    (stands_empty begin) (base_empty begin) is (no_place machines.entries no_machines) (none ∙ sym (none_settled begin)) (omega (arith, n)) (omega (arith, n)) (omega (arith, n)))

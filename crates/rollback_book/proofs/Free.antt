@@ -18,9 +18,9 @@ use Rattle.depends.proofs.Searching as searching
 use Rattle.step_history.specs.History.{Past}
 use Rattle.step_history.proofs.Left.{step_there, free_by}
 use Rattle.step_history.proofs.Planned.{in_list}
-use Rattle.book_log.specs.Answers.{undo_answer, found_answer, free_answer, from_step, plan_answer, remains, names_of_facts}
+use Rattle.book_log.specs.Answers.{absent, undo_answer, found_answer, free_answer, from_step, plan_answer, remains, names_of_facts}
 use Rattle.book_log.specs.Story.{setting_of, base_of, past_of, consequences_of}
-use Rattle.book_log.specs.declared.refusal.Refusal.TheVariants.{NoStep, HasDependents}
+use Rattle.book_log.specs.declared.refusal.Refusal.TheVariants.{HasDependents}
 use Rattle.book_log.proofs.Standing.{fact_named, consequences_there, after_same}
 use Rattle.rollback_book.specs.Book.{Volume, IsTied, IsAt, IsFreePlace}
 use Rattle.rollback_book.proofs.Searching.{step_at, no_step, dependent_at, no_dependent_at, behind}
@@ -35,12 +35,12 @@ pub record Stood (b : Volume) (name : StepName) (at : ℕ) : Type 0 where
   pub named : name_of step.step ≡ name
 
 module _ (b : Volume) (tied : IsTied b) (name : StepName) where
-  answer_by : undo_answer b.story name ≡ found_answer name (from_step name (facts b.history.records.items))
+  answer_by : undo_answer b.story name ≡ found_answer (absent b.story name) name (from_step name (facts b.history.records.items))
   unfolding undo_answer
-  answer_by = ap (λ (fs : List Fact). found_answer name (from_step name fs)) (sym (facts_are b tied))
+  answer_by = ap (λ (fs : List Fact). found_answer (absent b.story name) name (from_step name fs)) (sym (facts_are b tied))
 
-  pub no_step_answer : position (λ (r : StepRecord). is_same_step r.fact.name name) b.history.records.items ≡ None → undo_answer b.story name ≡ Err NoStep
-  no_step_answer h = answer_by ∙ ap (found_answer name) (no_step name b.history.records.items h)
+  pub no_step_answer : position (λ (r : StepRecord). is_same_step r.fact.name name) b.history.records.items ≡ None → undo_answer b.story name ≡ Err (absent b.story name)
+  no_step_answer h = answer_by ∙ ap (found_answer (absent b.story name) name) (no_step name b.history.records.items h)
 
   within_records : (i : ℕ) (f : Fact) → slice_get (facts b.history.records.items) i ≡ Some f → i < length b.history.records.items
   within_records i f h = let k = slice_get_within (facts b.history.records.items) i f h in let m = searching.as_many b.history.records.items in omega (arith, k, m)
@@ -88,13 +88,13 @@ module _ (b : Volume) (tied : IsTied b) (name : StepName) where
         let d = dependent_at (facts b.history.records.items) at dependent fact_here here h in
         let same : d.fact ≡ r.fact =
         same_Some d.fact r.fact (sym d.there ∙ slice_get-map (λ (x : StepRecord). x.fact) b.history.records.items dependent ∙ ap (option_map (λ (x : StepRecord). x.fact)) k) in
-        answer_by ∙ ap (found_answer name) found ∙ ap (free_answer name) d.found ∙ ap (λ (f : Fact). Err (HasDependents f.name)) same
+        answer_by ∙ ap (found_answer (absent b.story name) name) found ∙ ap (free_answer name) d.found ∙ ap (λ (f : Fact). Err (HasDependents f.name)) same
 
     pub free_place : first_dependent (facts b.history.records.items) at ≡ None → IsFreePlace b name at
     free_place h = record {
       there = is_at;
       free = h;
-      answer = answer_by ∙ ap (found_answer name) found ∙ ap (free_answer name) (no_dependent_at (facts b.history.records.items) at fact_here here h);
+      answer = answer_by ∙ ap (found_answer (absent b.story name) name) found ∙ ap (free_answer name) (no_dependent_at (facts b.history.records.items) at fact_here here h);
     }
 
     pub stood : Stood b name at
@@ -107,7 +107,7 @@ module _ (b : Volume) (tied : IsTied b) (name : StepName) where
     pub plan_is : plan_answer b.story name ≡ Ok (names_of_facts (reverse (after (steps (setting_of b.story)) (past_of b.story) stood.step.step)))
     unfolding plan_answer
     plan_is =
-        ap (λ (x : Bool). cond x (Ok (names_of_facts (reverse (consequences_of b.story name)))) (Err NoStep)) remains_there
+        ap (λ (x : Bool). cond x (Ok (names_of_facts (reverse (consequences_of b.story name)))) (Err (absent b.story name))) remains_there
         ∙ ap (λ (l : List Past). Ok (names_of_facts (reverse l)))
         (consequences_there b.story (setting_of b.story) (seen b.history.world) (past_of b.story) (stands b tied) name
         ∙ after_same (setting_of b.story) (moved name) stood.step.step (past_of b.story) (sym stood.named))
@@ -116,10 +116,10 @@ module _ (b : Volume) (tied : IsTied b) (name : StepName) where
     places_are =
         plans_are_consequences (setting_of b.story) (base_of b.story) (seen b.history.world) (past_of b.story) at stood.step tied.history.from tied.history.runs stood.there
 
-  pub no_plan : position (λ (r : StepRecord). is_same_step r.fact.name name) b.history.records.items ≡ None → plan_answer b.story name ≡ Err NoStep
+  pub no_plan : position (λ (r : StepRecord). is_same_step r.fact.name name) b.history.records.items ≡ None → plan_answer b.story name ≡ Err (absent b.story name)
   unfolding plan_answer
   no_plan h =
-      ap (λ (x : Bool). cond x (Ok (names_of_facts (reverse (consequences_of b.story name)))) (Err NoStep))
+      ap (λ (x : Bool). cond x (Ok (names_of_facts (reverse (consequences_of b.story name)))) (Err (absent b.story name)))
       (ap (λ (fs : List Fact). is_some (from_step name fs)) (sym (facts_are b tied)) ∙ ap is_some (no_step name b.history.records.items h))
 
   -- the step at a place that may be undone is free

@@ -1,5 +1,6 @@
 pub mod Threads
 pub mod Searching
+pub mod Settled
 pub mod Tied
 pub mod Free
 pub mod TakenBack
@@ -14,6 +15,7 @@ pub mod Ticketed
 pub mod Looking
 pub mod Ordered
 pub mod Rerun
+pub mod Outlined
 pub mod Started
 pub mod Retaken
 pub mod Commuted

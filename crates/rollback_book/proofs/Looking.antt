@@ -1,5 +1,5 @@
 -- What is left while an order is looked at.
-use Rattle.std.proofs.Common.{◌≡◌, ◌≤◌, arith, ℕ, ◌+◌, ◌-◌, Bool, true, false, cond, List, [], ◌∷◌, ◌++◌, drop, get_or, length, zero, suc, refl, ap, sym, subst, ◌∙◌, Option, None, Some, Result, Ok, Err, Bor}
+use Rattle.std.proofs.Common.{◌≡◌, ◌≤◌, arith, ℕ, ◌+◌, ◌-◌, Bool, true, false, cond, List, [], ◌∷◌, drop, get_or, length, suc, refl, ap, sym, subst, ◌∙◌, Option, None, Some, Err, Bor}
 use Rattle.std.specs.Prelude.{slice_get, position, option_map}
 use Rattle.std.specs.List.{find, position_from, remove}
 use Rattle.std.proofs.lemmas.Iterator.Adapters.{position_from-zero}
@@ -11,7 +11,7 @@ use Rattle.saved_steps.specs.declared.fact.Fact.{Fact}
 use Rattle.saved_steps.specs.declared.record.StepRecord.{StepRecord}
 use Rattle.depends.specs.Dependence.{depends_directly}
 use Rattle.book_log.specs.Answers.{from_step, found_answer, free_answer}
-use Rattle.book_log.specs.declared.refusal.Refusal.TheVariants.{NoStep}
+use Rattle.book_log.specs.declared.refusal.Refusal.{Refusal}
 use Rattle.rollback_book.specs.Ordering.{facts_left, left_by}
 
 -- the step of a name is taken out at its place
@@ -66,24 +66,24 @@ none_from name (r ∷ rs) from h =
     by_bool (is_of name r) _ (λ k. let e : ◌≡◌ {A = Option ℕ} (Some from) None = rw k at h in cc)
     (λ k. ap (λ (b : Bool). cond b (Some (r.now.fact, facts_left rs)) (from_step name (facts_left rs))) k ∙ none_from name rs (from + 1) (rw k at h))
 
-pub none_there : (name : StepName) (rs : List (Bor StepRecord)) → position (λ r. is_same_step name r.now.fact.name) rs ≡ None → found_answer name (from_step name (facts_left rs)) ≡ Err NoStep
-none_there name rs h = ap (found_answer name) (none_from name rs 0 (sym (position_from-zero (is_of name) rs) ∙ h))
+pub none_there : (gone : Refusal) (name : StepName) (rs : List (Bor StepRecord)) → position (λ r. is_same_step name r.now.fact.name) rs ≡ None → found_answer gone name (from_step name (facts_left rs)) ≡ Err gone
+none_there gone name rs h = ap (found_answer gone name) (none_from name rs 0 (sym (position_from-zero (is_of name) rs) ∙ h))
 
 found_in : (q : Fact → Bool) (rs : List (Bor StepRecord)) → find q (facts_left rs) ≡ option_map (λ r. r.now.fact) (find (λ r. q r.now.fact) rs)
 found_in q [] = refl
 found_in q (r ∷ rs) = by_bool (q r.now.fact) _ (λ k. rw k refl) (λ k. rw k (found_in q rs))
 
 -- what a step that is found is answered
-pub out_answer : (name : StepName) (rs : List (Bor StepRecord)) (i : ℕ) (k : TakenOut name rs i) (o : Option (Bor StepRecord)) → o ≡ find (λ r. depends_directly k.step.now.fact r.now.fact) (drop i (remove rs i))
-    → found_answer name (from_step name (facts_left rs)) ≡ free_answer name (option_map (λ r. r.now.fact) o)
-out_answer name rs i k o h = ap (found_answer name) k.found ∙ ap (free_answer name) (found_in (depends_directly k.step.now.fact) (drop i (remove rs i)) ∙ ap (option_map (λ r. r.now.fact)) (sym h))
+pub out_answer : (gone : Refusal) (name : StepName) (rs : List (Bor StepRecord)) (i : ℕ) (k : TakenOut name rs i) (o : Option (Bor StepRecord)) → o ≡ find (λ r. depends_directly k.step.now.fact r.now.fact) (drop i (remove rs i))
+    → found_answer gone name (from_step name (facts_left rs)) ≡ free_answer name (option_map (λ r. r.now.fact) o)
+out_answer gone name rs i k o h = ap (found_answer gone name) k.found ∙ ap (free_answer name) (found_in (depends_directly k.step.now.fact) (drop i (remove rs i)) ∙ ap (option_map (λ r. r.now.fact)) (sym h))
 
 -- what a step that is found is answered, where it is read and what is left is searched
-pub searched : (name : StepName) (rs left later : List (Bor StepRecord)) (at : ℕ) (step : Bor StepRecord) (o : Option (Bor StepRecord)) → position (λ r. is_same_step name r.now.fact.name) rs ≡ Some at → step ≡ get_or rs at step → left ≡ remove rs at → later ≡ drop at left
-    → o ≡ find (λ r. depends_directly step.now.fact r.now.fact) later → found_answer name (from_step name (facts_left rs)) ≡ free_answer name (option_map (λ r. r.now.fact) o)
-searched name rs left later at step o here read gone rest h =
+pub searched : (gone : Refusal) (name : StepName) (rs left later : List (Bor StepRecord)) (at : ℕ) (step : Bor StepRecord) (o : Option (Bor StepRecord)) → position (λ r. is_same_step name r.now.fact.name) rs ≡ Some at → step ≡ get_or rs at step → left ≡ remove rs at → later ≡ drop at left
+    → o ≡ find (λ r. depends_directly step.now.fact r.now.fact) later → found_answer gone name (from_step name (facts_left rs)) ≡ free_answer name (option_map (λ r. r.now.fact) o)
+searched gone name rs left later at step o here read out rest h =
     let k = out_at name rs at here in
     let there : slice_get rs at ≡ Some step = slice_get_read rs (length rs) at step refl (slice_get_within rs at k.step k.there) read in
     let same : step ≡ k.step = same_Some step k.step (sym there ∙ k.there) in
-    let own : later ≡ drop at (remove rs at) = rest ∙ ap (drop at) gone in
-    out_answer name rs at k o (h ∙ ap (λ (s : Bor StepRecord). find (λ r. depends_directly s.now.fact r.now.fact) later) same ∙ ap (find (λ r. depends_directly k.step.now.fact r.now.fact)) own)
+    let own : later ≡ drop at (remove rs at) = rest ∙ ap (drop at) out in
+    out_answer gone name rs at k o (h ∙ ap (λ (s : Bor StepRecord). find (λ r. depends_directly s.now.fact r.now.fact) later) same ∙ ap (find (λ r. depends_directly k.step.now.fact r.now.fact)) own)

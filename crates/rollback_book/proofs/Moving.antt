@@ -107,7 +107,7 @@ module _ (b : Volume) (tied : IsTied b) (t : Thread) where
     pub few_steps : f.count + 1 < 2 ^ 32
     few_steps =
         let c = (counted (setting_of b.story) (base_of b.story) (past_of b.story) b.history (length (settled b.story)) (base_counts b tied) tied.history t f there).bound in
-        let all = (legal_counts b.story tied.legal).defined in
+        let all = (legal_counts b.story tied.legal).stepped in
         let bounded = tied.bounded in
         let many = as_many_records b tied in
         let own = many_steps b tied in

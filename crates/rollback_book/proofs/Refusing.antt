@@ -26,7 +26,7 @@ use Rattle.book_log.specs.Answers.{IsReadRefusal, IsDefineRefusal, is_full_for_s
 use Rattle.book_log.specs.Story.{Story, machine_of, setting_of, world_of}
 use Rattle.book_log.specs.declared.moved.Moved.{Moved}
 use Rattle.book_log.specs.declared.refusal.Refusal.{Refusal}
-use Rattle.book_log.specs.declared.refusal.Refusal.TheVariants.{NoMachine, MachineTaken, BadMachine, ExecTaken, NoThread, NotReady, NoStep, HasDependents, Stale, Full, Memory}
+use Rattle.book_log.specs.declared.refusal.Refusal.TheVariants.{NoMachine, MachineTaken, BadMachine, ExecTaken, NoThread, NotReady, NoStep, HasDependents, Stale, Full, Memory, Settled}
 use Rattle.rollback_book.specs.Book.{Volume, IsTied}
 use Rattle.rollback_book.specs.Ready.{IsStartOf}
 use Rattle.rollback_book.proofs.Tied.{world_is}
@@ -60,6 +60,7 @@ read_is_define story name d (NotReady readiness) free h = absurd h
 read_is_define story name d NoStep free h = absurd h
 read_is_define story name d (HasDependents step) free h = absurd h
 read_is_define story name d (Stale entries) free h = absurd h
+read_is_define story name d Settled free h = absurd h
 
 -- a machine that was read is refused for want of room or memory alone
 pub room_is_define : (story : Story) (name : List ℕ) (d : Data) (machine : Definition) (e : Refusal) → machine_of story name ≡ None → Defines d machine

@@ -16,16 +16,16 @@ use Rattle.saved_steps.specs.declared.fact.Fact.{Fact}
 use Rattle.saved_steps.specs.declared.fact.Kind.{Kind}
 use Rattle.depends.specs.Instance.{steps}
 use Rattle.step_history.specs.History.{Past, taken_in}
-use Rattle.book_log.specs.Answers.{defines, entry_for, entry_of, or_no_step, rerun_answer, retold, step_named, steps_named}
+use Rattle.book_log.specs.Answers.{outline, entry_for, entry_of, or_no_step, rerun_answer, retold, step_named, steps_named}
 use Rattle.book_log.specs.Legal.{GoesOnLegally, IsAccepted, IsLegal}
 use Rattle.book_log.specs.Story.{Story, accepted, base_of, remaining, setting_of, past_of, world_of}
 use Rattle.book_log.specs.declared.begin.Begin.{Begin}
 use Rattle.book_log.specs.declared.entry.Entry.{Entry}
-use Rattle.book_log.specs.declared.entry.Entry.TheVariants.{Define, Start, Step as Stepped, Undo, Rollback}
+use Rattle.book_log.specs.declared.entry.Entry.TheVariants.{Define, Start, Step as Stepped, Undo, Rollback, Settle}
 use Rattle.book_log.specs.declared.refusal.Refusal.{Refusal}
 use Rattle.book_log.specs.declared.refusal.Refusal.TheVariants.{NoStep, Memory}
 use Rattle.book_log.proofs.LegalRuns.{of_log, legal_logs_run, legal_stands}
-use Rattle.book_log.proofs.Counts.{defines-append}
+use Rattle.book_log.proofs.Outlines.{outline_more}
 use Rattle.book_log.proofs.Reruns.{legal_defines, named_chosen, rerun_split, reruns_are_exact, reruns_are_legal}
 use Rattle.book_log.proofs.Standing.{StandsAt, stands_in}
 use Rattle.book_log.proofs.Taking.{start_said, step_said}
@@ -132,13 +132,13 @@ no_answer story names h = ap (λ (x : Option (List Step)). or_no_step (option_ma
 none_retold : (story : Story) → rerun_answer story [] ≡ Ok (retold story [])
 none_retold story = answer_by story [] [] (Some (base_of story, [])) refl refl
 
-pub begins : (story : Story) → rerun_answer story [] ≡ Ok (of_log story.begin (defines story.log))
-begins story = none_retold story ∙ ap (λ (l : List Entry). Ok (of_log story.begin l)) (append-nil (defines story.log))
+pub begins : (story : Story) → rerun_answer story [] ≡ Ok (of_log story.begin (outline story.log))
+begins story = none_retold story ∙ ap (λ (l : List Entry). Ok (of_log story.begin l)) (append-nil (outline story.log))
 
 one_retold : (story : Story) (ts : List Past) (t : Past) → retold story (ts ++ t ∷ []) ≡ accepted (retold story ts) (entry_of t)
 one_retold story ts t =
     ap (λ (l : List Entry). of_log story.begin l)
-    (ap (λ (l : List Entry). defines story.log ++ l) (map-append entry_of ts (t ∷ [])) ∙ sym (append_assoc (defines story.log) (map entry_of ts) (entry_of t ∷ [])))
+    (ap (λ (l : List Entry). outline story.log ++ l) (map-append entry_of ts (t ∷ [])) ∙ sym (append_assoc (outline story.log) (map entry_of ts) (entry_of t ∷ [])))
 
 -- what an answered rerun has stands in the world of its run
 pub tried_stands : (story : Story) (names : List StepName) (again : Story) → IsLegal story → (a : rerun_answer story names ≡ Ok again) (t : IsTried story names again) → StandsAt again (setting_of story) t.world t.past
@@ -260,14 +260,27 @@ module _ (story : Story) (legal : IsLegal story) (front : List StepName) (again 
   ends_here T back e (Some step) later named (inl m) = inl m
   ends_here T back e (Some step) later named (inr n) = inr (refused_here back e n.0 (not_retaken story legal front again a name step named n.1))
 
--- ---- definitions
+-- ---- outlines
 
--- a definition of a legal log is accepted after those before it
-pub may_define : (begin : Begin) (front back : List Entry) (e : Entry) → IsLegal (of_log begin (front ++ e ∷ back)) → MayDefine (of_log begin (defines front)) e
+-- a beginning of a legal log is legal
+front_legal : (front back : List Entry) (before : Story) → GoesOnLegally before (front ++ back) → GoesOnLegally before front
+front_legal [] back before h = tt
+front_legal (e ∷ front) back before h = (h.0, front_legal front back (accepted before e) h.1)
+
+pub legal_front : (begin : Begin) (front back : List Entry) → IsLegal (of_log begin (front ++ back)) → IsLegal (of_log begin front)
+unfolding IsLegal
+legal_front begin front back h = (h.0, front_legal front back (of_log begin []) h.1)
+
+-- a definition of a legal log is accepted after the outline of those before it
+pub may_define : (begin : Begin) (front back : List Entry) (e : Entry) → IsLegal (of_log begin (front ++ e ∷ back)) → MayDefine (of_log begin (outline front)) e
 may_define begin front back (Define name machine) legal =
-    let d = (legal_defines (of_log begin (front ++ Define name machine ∷ back)) legal).legal in
-    legal_entry (of_log begin (defines (front ++ Define name machine ∷ back))) (defines front) (defines back) (Define name machine) d (defines-append front (Define name machine ∷ back))
+    let e = Define name machine in
+    let parts = append_assoc front (e ∷ []) back in
+    let here = legal_front begin (front ++ e ∷ []) back (subst (λ (l : List Entry). IsLegal (of_log begin l)) (sym parts) legal) in
+    let d = (legal_defines (of_log begin (front ++ e ∷ [])) here).legal in
+    legal_entry (of_log begin (outline (front ++ e ∷ []))) (outline front) [] e d (outline_more front e refl)
 may_define begin front back (Start exec machine input) legal = tt
 may_define begin front back (Stepped name kind) legal = tt
 may_define begin front back (Undo name) legal = tt
 may_define begin front back (Rollback name undone) legal = tt
+may_define begin front back Settle legal = tt

@@ -20,14 +20,14 @@ use Rattle.book_log.specs.Story.{accepted, base_of, setting_of, past_of}
 use Rattle.book_log.specs.declared.entry.Entry.{Entry}
 use Rattle.book_log.specs.declared.entry.Entry.TheVariants.{Undo, Rollback}
 use Rattle.book_log.proofs.LegalRuns.{accepted_is_legal}
-use Rattle.book_log.proofs.Standing.{base_next, stands_undone, stands_rolled}
+use Rattle.book_log.proofs.Standing.{base_kept, stands_undone, stands_rolled}
 use Rattle.rollback_book.specs.Book.{Volume, IsTied, IsFreePlace}
-use Rattle.rollback_book.proofs.Tied.{stands, tied_by, one_fewer, as_many_records}
+use Rattle.rollback_book.proofs.Tied.{stands, same_names, tied_by, one_fewer, as_many_records}
 use Rattle.rollback_book.proofs.Free.{Stood, stood, freed}
 
 -- the book with one more entry, and this history
 abbrev pub with_entry : Volume → Entry → History → ℕ → Volume
-with_entry b entry history capacity = record { story = accepted b.story entry; history = history; places = b.places; capacity = capacity }
+with_entry b entry history capacity = record { story = accepted b.story entry; history = history; places = b.places; capacity = capacity; settled = b.settled }
 
 module _ (b : Volume) (tied : IsTied b) (name : StepName) (h : History) (capacity : ℕ) (grown : b.capacity ≤ capacity) where
   itself : (t : Past) → is_one_step t.step t.step ≡ true
@@ -63,7 +63,7 @@ module _ (b : Volume) (tied : IsTied b) (name : StepName) (h : History) (capacit
       let few = tied.few in
       let bounded = tied.bounded in
       tied_by (with_entry b entry h capacity) s base (undone (steps s) (seen b.history.world) t.step) rest (accepted_is_legal b.story entry tied.legal free.answer)
-      (stands_undone b.story s (seen b.history.world) ts name t.step (stands b tied) (freed b tied name at free) t.named) (base_next b.story entry) is tied.machines
+      (stands_undone b.story s (seen b.history.world) ts name t.step (stands b tied) (freed b tied name at free) t.named) (base_kept b.story entry refl refl) is tied.machines (same_names b entry tied refl)
       (omega (arith, grown, less, now, before, logged, room)) (omega (arith, less, now, before, few)) (omega (arith, less, now, before, logged, bounded))
 
   pub tied_rolled : (at : ℕ) (undone_names : List StepName) (places : List ℕ) → Stood b name at → plan_answer b.story name ≡ Ok undone_names → places ≡ plan (facts_of (past_of b.story)) at
@@ -89,5 +89,5 @@ module _ (b : Volume) (tied : IsTied b) (name : StepName) (h : History) (capacit
       let few = tied.few in
       let bounded = tied.bounded in
       tied_by (with_entry b entry h capacity) s base (undo_each (steps s) (seen b.history.world) (reverse all)) rest (accepted_is_legal b.story entry tied.legal planned)
-      (stands_rolled b.story s (seen b.history.world) ts name undone_names t.step (stands b tied) there t.named) (base_next b.story entry) is tied.machines
+      (stands_rolled b.story s (seen b.history.world) ts name undone_names t.step (stands b tied) there t.named) (base_kept b.story entry refl refl) is tied.machines (same_names b entry tied refl)
       (omega (arith, grown, less, now, before, logged, room)) (omega (arith, less, now, before, few)) (omega (arith, less, now, before, logged, bounded))

@@ -1,5 +1,5 @@
 -- The step that a thread is answered is its own.
-use Rattle.std.proofs.Common.{◌≡◌, Bool, true, false, Option, None, Some, Result, Ok, Err, cond, refl, sym, ap, ◌∙◌}
+use Rattle.std.proofs.Common.{◌≡◌, Bool, true, false, Option, None, Some, Ok, Err, cond, refl, sym, ap, ◌∙◌}
 use Rattle.trace_theory.proofs.Runs.{and_then_some}
 use Rattle.step_history.specs.Frame.{Frame}
 use Rattle.branch_tree.specs.Ready.{readiness_at}

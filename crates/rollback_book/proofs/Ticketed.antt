@@ -1,5 +1,5 @@
 -- Which threads have a ticket, and where a prepared turn is still its thread's.
-use Rattle.std.proofs.Common.{◌≡◌, ◌+◌, Bool, true, false, refl, ap, sym, subst, ◌∙◌, Option, None, Some}
+use Rattle.std.proofs.Common.{◌≡◌, Bool, true, false, refl, ap, sym, subst, ◌∙◌, Option, None, Some}
 use Rattle.std.specs.Prelude.{IsSome, is_some, not, option_and_then}
 use Rattle.std.proofs.lemmas.Option.{same_Some}
 use Rattle.asl_machine.specs.MachineSame.{same_definition, definition_exact}
@@ -11,24 +11,22 @@ use Rattle.step_history.specs.Frame.{Frame}
 use Rattle.step_history.specs.FrameSame.{same_frame, frame_exact}
 use Rattle.step_history.specs.Prepared.{Prepared}
 use Rattle.step_history.specs.Turn.{standing}
-use Rattle.step_history.specs.History.{Past, IsHistory}
-use Rattle.step_history.specs.Moves.{IsMachineOf, IsMoveOf}
 use Rattle.step_history.proofs.Movable.{frames_stand}
 use Rattle.step_history.proofs.Worked.{is_over, work_move}
 use Rattle.step_names.specs.Thread.{Thread}
 use Rattle.step_names.specs.declared.step.StepName.{StepName}
 use Rattle.saved_steps.specs.Deeds.{frame_deed, next_step}
 use Rattle.saved_steps.specs.Held.{frames_of, paths_of}
-use Rattle.saved_steps.specs.World.{Setting, World}
+use Rattle.saved_steps.specs.World.{World}
 use Rattle.saved_steps.specs.declared.next.Next.TheVariants.{Work}
 use Rattle.saved_steps.proofs.Moves.{work_is_deed}
 use Rattle.book_log.specs.Answers.{has_move, is_full_for_step}
 use Rattle.book_log.specs.Story.{Story, base_of, machine_of, past_of, setting_of, world_of}
 use Rattle.book_log.specs.declared.refusal.Refusal.{Refusal}
-use Rattle.book_log.specs.declared.refusal.Refusal.TheVariants.{NoMachine, MachineTaken, BadMachine, ExecTaken, NoThread, NotReady, NoStep, HasDependents, Stale, Full, Memory}
+use Rattle.book_log.specs.declared.refusal.Refusal.TheVariants.{NoMachine, MachineTaken, BadMachine, ExecTaken, NoThread, NotReady, NoStep, HasDependents, Stale, Full, Memory, Settled}
 use Rattle.rollback_book.specs.Book.{Volume, IsTied, place_in, placed}
 use Rattle.rollback_book.specs.Commits.{IsFresh, IsSource}
-use Rattle.rollback_book.specs.Ready.{IsNextOf, IsReadyTo}
+use Rattle.rollback_book.specs.Ready.{IsNextOf}
 use Rattle.rollback_book.specs.Tickets.{IsTicketed, IsTicketRefusal, readiness_in}
 use Rattle.rollback_book.proofs.Moving.{few_steps, moves_where, next_is, ready_to, told_there}
 use Rattle.rollback_book.proofs.Tied.{world_is}
@@ -122,3 +120,4 @@ memory_alone story t NoStep moves h = absurd h
 memory_alone story t (HasDependents step) moves h = absurd h
 memory_alone story t (Stale entries) moves h = absurd h
 memory_alone story t Full moves h = absurd h
+memory_alone story t Settled moves h = absurd h

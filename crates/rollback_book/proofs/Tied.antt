@@ -18,9 +18,10 @@ use Rattle.step_history.specs.History.{Past, IsHistory}
 use Rattle.step_history.proofs.Left.{as_many, facts_alike}
 use Rattle.book_log.specs.Answers.{is_full_for_step, is_full_for_define}
 use Rattle.book_log.specs.Legal.{IsLegal}
-use Rattle.book_log.specs.Story.{Story, base_of, remaining, setting_of, world_of, past_of}
+use Rattle.book_log.specs.Story.{Story, accepted, base_of, settled, settled_after, remainder, remaining, setting_of, world_of, past_of}
+use Rattle.book_log.specs.declared.entry.Entry.{Entry}
 use Rattle.book_log.proofs.LegalRuns.{legal_stands}
-use Rattle.book_log.proofs.Standing.{StandsAt, stands_in, world_there, past_there, steps_run, names_there, fact_named}
+use Rattle.book_log.proofs.Standing.{StandsAt, stands_in, settled_next, world_there, past_there, steps_run, names_there, fact_named}
 use Rattle.rollback_book.specs.Book.{Volume, IsTied, place_in, placed}
 
 -- ---- a story that stands somewhere
@@ -36,9 +37,9 @@ stands_as story s w v ts h runs =
 
 -- what is held belongs to a story that stands in the same world
 pub tied_by : (b : Volume) (s : Setting) (base w : World) (ts : List Past) → IsLegal b.story → StandsAt b.story s w ts → base_of b.story ≡ base → IsHistory s base ts b.history
-    → ((name : List ℕ) → placed (place_in b.places name) ≡ s.machines name)
+    → ((name : List ℕ) → placed (place_in b.places name) ≡ s.machines name) → b.settled.items ≡ map name_of (settled b.story)
     → length b.story.log + length b.history.records.items ≤ b.capacity → length b.history.records.items ≤ 65536 → length b.story.log + length b.history.records.items ≤ 1000000 → IsTied b
-tied_by b s base w ts legal h same was machines room few bounded =
+tied_by b s base w ts legal h same was machines names room few bounded =
     let is = subst (λ (x : World). IsHistory s x ts b.history) (sym same) was in
     let own = stands_as b.story s w (seen b.history.world) ts h is.runs in
     let past = past_there b.story s (seen b.history.world) ts own in
@@ -48,10 +49,15 @@ tied_by b s base w ts legal h same was machines room few bounded =
           (subst (λ (l : List Past). IsHistory s (base_of b.story) l b.history) (sym past) is);
       run = own.runs ∙ ap (λ (l : List Past). Some (seen b.history.world, l)) (sym past);
       machines = λ name. machines name ∙ ap (λ (x : Setting). x.machines name) (sym h.setting);
+      names = names;
       room = room;
       few = few;
       bounded = bounded;
     }
+
+-- an entry that settles nothing leaves the names of what was settled
+pub same_names : (b : Volume) (e : Entry) → IsTied b → settled_after (remainder b.story) e ≡ settled b.story → b.settled.items ≡ map name_of (settled (accepted b.story e))
+same_names b e tied same = tied.names ∙ ap (map name_of) (sym (settled_next b.story e ∙ same))
 
 module _ (b : Volume) (tied : IsTied b) where
   pub stands : StandsAt b.story (setting_of b.story) (seen b.history.world) (past_of b.story)

@@ -8,7 +8,9 @@ use Rattle.std.specs.Map.{lookup}
 use Rattle.asl_tree.specs.Definition.{Definition}
 use Rattle.depends.specs.Plans.{first_dependent}
 use Rattle.saved_steps.specs.Held.{seen}
+use Rattle.saved_steps.specs.Steps.{name_of}
 use Rattle.saved_steps.specs.World.{is_same_step}
+use Rattle.settled_names.specs.Names.{Names}
 use Rattle.step_names.specs.declared.step.StepName.{StepName}
 use Rattle.step_history.specs.History.{IsHistory}
 use Rattle.step_history.specs.declared.history.History.{History}
@@ -16,7 +18,7 @@ use Rattle.book_log.specs.Answers.{undo_answer, most_steps, most_places}
 use Rattle.book_log.specs.Legal.{IsLegal}
 use Rattle.book_log.specs.declared.begin.Begin.{Begin}
 use Rattle.book_log.specs.declared.entry.Entry.{Entry}
-use Rattle.book_log.specs.Story.{Story, base_of, machine_of, past_of, run_of, setting_of}
+use Rattle.book_log.specs.Story.{Story, base_of, settled, machine_of, past_of, run_of, setting_of}
 
 -- places of machines, each with its name: a place may be empty
 abbrev pub Places : Type 0
@@ -30,16 +32,18 @@ abbrev pub placed : Option (Option Definition) → Option Definition
 placed None = None
 placed (Some place) = place
 
--- The story is what a book is; it holds the history of its remaining steps, places for machines, and room for so many entries.
+-- The story is what a book is; it holds the history of its remaining steps, places for machines, room for so many entries, and the
+-- names of the steps that were settled.
 pub record Volume : Type 0 where
   pub story : Story
   pub history : History
   pub places : Places
   pub capacity : ℕ
+  pub settled : Names
 
 -- a book of these fields
-abbrev pub volume : Begin → BTreeMap (List ℕ) (Option Definition) → History → Vec Entry → Volume
-volume begin machines history log = record { story = record { begin = begin; log = log.items }; history = history; places = machines.entries; capacity = vec_capacity log }
+abbrev pub volume : Begin → BTreeMap (List ℕ) (Option Definition) → History → Vec Entry → Names → Volume
+volume begin machines history log settled = record { story = record { begin = begin; log = log.items }; history = history; places = machines.entries; capacity = vec_capacity log; settled = settled }
 
 -- what a book holds belongs to its story
 pub record IsTied (b : Volume) : Type 0 where
@@ -48,6 +52,7 @@ pub record IsTied (b : Volume) : Type 0 where
   pub history : IsHistory (setting_of b.story) (base_of b.story) (past_of b.story) b.history
   pub run : run_of b.story ≡ Some (seen b.history.world, past_of b.story)
   pub machines : (name : List ℕ) → placed (place_in b.places name) ≡ machine_of b.story name
+  pub names : b.settled.items ≡ map name_of (settled b.story)
   -- there is room for the entry of each remaining step's undoing
   pub room : length b.story.log + length b.history.records.items ≤ b.capacity
   pub few : length b.history.records.items ≤ most_steps

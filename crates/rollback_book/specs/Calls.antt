@@ -6,13 +6,13 @@ use Rattle.json_tree.specs.declared.tree.Json.{Json}
 use Rattle.step_history.specs.Frame.{Frame}
 use Rattle.step_names.specs.Thread.{Thread}
 use Rattle.step_names.specs.declared.step.StepName.{StepName}
-use Rattle.book_log.specs.Answers.{Gives, plan_answer, start_answer, step_answer, undo_answer}
+use Rattle.book_log.specs.Answers.{Gives, plan_answer, settle_answer, start_answer, step_answer, undo_answer}
 use Rattle.book_log.specs.Laws.{IsRolledBack}
 use Rattle.book_log.specs.Legal.{IsLegal}
 use Rattle.book_log.specs.Story.{Story, accepted, consequences_of, world_of}
 use Rattle.book_log.specs.declared.begin.Begin.{Begin}
 use Rattle.book_log.specs.declared.entry.Entry.{Entry}
-use Rattle.book_log.specs.declared.entry.Entry.TheVariants.{Start, Step as Stepped, Undo, Rollback}
+use Rattle.book_log.specs.declared.entry.Entry.TheVariants.{Start, Step as Stepped, Undo, Rollback, Settle}
 use Rattle.book_log.specs.declared.moved.Moved.{Moved}
 use Rattle.book_log.specs.declared.refusal.Refusal.{Refusal}
 use Rattle.book_log.specs.declared.refusal.Refusal.TheVariants.{Memory, NoThread, Stale}
@@ -32,6 +32,12 @@ pub record Starts (before after : Story) (exec : Thread) (machine : List ℕ) (i
 pub record Steps (before after : Story) (thread : Thread) (result : Result Moved Refusal) : Type 0 where
   pub answer : Gives result (step_answer before thread)
   pub ok : IfOk result (λ m. after ≡ accepted before (Stepped m.name m.kind))
+  pub err : OnErr result (after ≡ before)
+
+-- so is a settlement
+pub record Settles (before after : Story) (result : Result (Unit {0}) Refusal) : Type 0 where
+  pub answer : Gives result (settle_answer before)
+  pub ok : OnOk result (after ≡ accepted before Settle)
   pub err : OnErr result (after ≡ before)
 
 -- room for the undoing of this step, refused for memory alone

@@ -3,7 +3,7 @@ use Rattle.std.specs.Prelude.{◌≡◌, ◌⊎◌, Bool, true, false, Option, S
 use Rattle.branch_tree.specs.First as first
 use Rattle.step_history.specs.Frame.{Frame}
 use Rattle.step_history.specs.Phase.{Phase}
-use Rattle.step_history.specs.Phase.TheVariants.{Ready, Parked, Done, Failed}
+use Rattle.step_history.specs.Phase.TheVariants.{Ready}
 use Rattle.step_history.specs.Prepared.{Prepared}
 use Rattle.step_names.specs.Thread.{Thread}
 use Rattle.book_log.specs.Answers.{is_full_for_step, step_answer}

@@ -10,7 +10,7 @@ use Rattle.step_history.specs.History.{Past}
 use Rattle.book_log.specs.Answers.{names_of_facts, order_answer}
 use Rattle.book_log.specs.Laws.{LeavesTheSame}
 use Rattle.book_log.specs.Legal.{IsLegal}
-use Rattle.book_log.specs.Story.{Story, base_of, consequences_of, machine_of, past_of, remaining, setting_of, world_of}
+use Rattle.book_log.specs.Story.{Story, base_of, settled, consequences_of, machine_of, past_of, remaining, setting_of, world_of}
 use Rattle.book_log.specs.declared.refusal.Refusal.{Refusal}
 use Rattle.book_log.specs.declared.refusal.Refusal.TheVariants.{Memory}
 
@@ -42,7 +42,7 @@ IsOnlyResult before names after = (others : List StepName) (other : Story) → o
 
 -- ---- taking again
 
--- The steps of these names remain, in their order, and no others; their run from the base of the other story, in its machines, gives
+-- The steps of these names remain, in their order, and no others, and what was settled is the same; their run from the base of the other story, in its machines, gives
 -- the world and what is kept of them. Where they are an arrangement of all the other's steps, that is the other's world, and step by
 -- step the same facts and what was kept.
 pub record IsRerunOf (story : Story) (names : List StepName) (again : Story) : Type 0 where
@@ -50,6 +50,7 @@ pub record IsRerunOf (story : Story) (names : List StepName) (again : Story) : T
   pub named : map name_of (remaining again) ≡ names
   pub begin : again.begin ≡ story.begin
   pub machines : machine_of again ≡ machine_of story
+  pub settled : settled again ≡ settled story
   pub of_story : (step : Step) → In step (remaining again) → In step (remaining story)
   pub runs : run (steps (setting_of story)) (base_of story) (remaining again) ≡ Some (world_of again, past_of again)
   pub arranged : IsArrangement (steps (setting_of story)) (past_of story) (remaining again)

@@ -3,6 +3,7 @@ pub mod Making
 pub mod Ready
 pub mod Ordering
 pub mod Rerunning
+pub mod Settling
 pub mod Commuting
 pub mod Calls
 pub mod Tickets

@@ -11,12 +11,13 @@ use Rattle.saved_steps.specs.Made.{CanApply, IsMadeFor}
 use Rattle.saved_steps.specs.Steps.{Step, started, moved}
 use Rattle.saved_steps.specs.declared.made.Made.{Made as MadeStep}
 use Rattle.step_history.specs.History.{Past, HasRoom}
+use Rattle.settled_names.specs.Names.{HasRoomFor}
 use Rattle.step_names.specs.declared.step.StepName.{StepName}
-use Rattle.book_log.specs.Answers.{IsDefineRefusal, start_answer, step_answer, plan_answer}
+use Rattle.book_log.specs.Answers.{IsDefineRefusal, settle_answer, start_answer, step_answer, plan_answer}
 use Rattle.book_log.specs.Legal.{IsAccepted}
 use Rattle.book_log.specs.Story.{Story, facts_of, setting_of, world_of}
 use Rattle.book_log.specs.declared.entry.Entry.{Entry}
-use Rattle.book_log.specs.declared.entry.Entry.TheVariants.{Define, Start, Step as Stepped}
+use Rattle.book_log.specs.declared.entry.Entry.TheVariants.{Define, Start, Step as Stepped, Settle}
 use Rattle.book_log.specs.declared.moved.Moved.{Moved}
 use Rattle.book_log.specs.declared.refusal.Refusal.{Refusal}
 use Rattle.book_log.specs.declared.refusal.Refusal.TheVariants.{Memory}
@@ -50,18 +51,24 @@ abbrev pub AnswersStep : Result Moved Refusal → Result Made Refusal → Type 0
 AnswersStep answer (Ok m) = (moved : Moved) × (answer ≡ Ok moved) × Tells m (Stepped moved.name moved.kind) (entered.Stepped moved)
 AnswersStep answer (Err e) = OrMemory answer e
 
+abbrev pub AnswersSettle : Result (Unit {0}) Refusal → Result Made Refusal → Type 0
+AnswersSettle answer (Ok m) = (answer ≡ Ok tt) × Tells m Settle entered.Settled
+AnswersSettle answer (Err e) = OrMemory answer e
+
 -- the command that a change is, with its answer, or why it is refused
 abbrev pub Answers : Story → Change → Result Made Refusal → Type 0
 Answers story (change.Define name d) (Ok m) = (machine : Definition) × Defines (view d.now) machine × Tells m (Define name.now machine) entered.Defined
 Answers story (change.Define name d) (Err e) = IsDefineRefusal story name.now (view d.now) e
 Answers story (change.Start exec machine input) result = AnswersStart (start_answer story exec.now machine.now) (Start exec.now machine.now input) result
 Answers story (change.Step thread) result = AnswersStep (step_answer story thread.now) result
+Answers story change.Settle result = AnswersSettle (settle_answer story) result
 
 -- a start's execution has no branches, and its input nests at most 127 deep
 abbrev pub IsProper : Change → Type 0
 IsProper (change.Define name d) = Unit {0}
 IsProper (change.Start exec machine input) = (exec.now.path ≡ []) × (depth (data_of input) ≤ most_levels)
 IsProper (change.Step thread) = Unit {0}
+IsProper change.Settle = Unit {0}
 
 -- ---- what can be entered
 
@@ -73,11 +80,12 @@ pub record IsStepFor (b : Volume) (step : Step) (m : MadeStep) : Type 0 where
   pub ready : CanApply b.history.world m
   pub room : HasRoom b.history
 
--- a definition has an empty place, and a step can be applied
+-- a definition has an empty place, a step can be applied, and there is room for the names of what is settled
 abbrev pub Fits : Volume → Entry → MadeChange → Type 0
 Fits b (Define name machine) (made.Define place shared) = (place ≡ name) × (shared ≡ machine) × (place_in b.places name ≡ Some None)
 Fits b (Start exec machine input) (made.Step m) = IsStepFor b (started exec.exec machine input) m
 Fits b (Stepped name kind) (made.Step m) = IsStepFor b (moved name) m
+Fits b Settle made.Settle = HasRoomFor b.settled (length b.history.records.items)
 Fits b _ _ = ⊥
 
 -- there is room for one more entry, and for that of its undoing

@@ -21,7 +21,7 @@ abbrev pub refused_or : Result StepName Refusal → Option Refusal → Option Re
 refused_or (Ok name) rest = rest
 refused_or (Err e) rest = Some e
 
--- why the first name that can't be undone at its turn can't be
-abbrev pub order_refusal : List Fact → List StepName → Option Refusal
-order_refusal fs [] = None
-order_refusal fs (name ∷ names) = refused_or (found_answer name (from_step name fs)) (order_refusal (left_by name fs) names)
+-- why the first name that can't be undone at its turn can't be; the first argument says why, where its step doesn't remain
+abbrev pub order_refusal : (StepName → Refusal) → List Fact → List StepName → Option Refusal
+order_refusal gone fs [] = None
+order_refusal gone fs (name ∷ names) = refused_or (found_answer (gone name) name (from_step name fs)) (order_refusal gone (left_by name fs) names)

@@ -12,7 +12,7 @@ use Rattle.book_log.specs.Story.{Story, accepted}
 use Rattle.book_log.specs.declared.refusal.Refusal.{Refusal}
 use Rattle.book_log.specs.declared.refusal.Refusal.TheVariants.{NoStep, Memory}
 use Rattle.book_log.specs.declared.entry.Entry.{Entry}
-use Rattle.book_log.specs.declared.entry.Entry.TheVariants.{Define, Start, Step as Stepped, Undo, Rollback}
+use Rattle.book_log.specs.declared.entry.Entry.TheVariants.{Define, Start, Step as Stepped, Undo, Rollback, Settle}
 
 -- what a start has: its machine's name and its input
 abbrev pub Origin : Type 0
@@ -25,6 +25,7 @@ start_in t (Start exec machine input) = if is_same_thread t exec then Some (mach
 start_in t (Stepped name kind) = None
 start_in t (Undo name) = None
 start_in t (Rollback name undone) = None
+start_in t Settle = None
 
 abbrev pub or_earlier : Option Origin → Option Origin → Option Origin
 or_earlier (Some origin) earlier = Some origin
@@ -64,3 +65,4 @@ MayDefine story (Start exec machine input) = Unit {0}
 MayDefine story (Stepped name kind) = Unit {0}
 MayDefine story (Undo name) = Unit {0}
 MayDefine story (Rollback name undone) = Unit {0}
+MayDefine story Settle = Unit {0}

@@ -3,20 +3,21 @@ ghost use Rattle.std.specs.Prelude.{◌≡◌, ◌^◌, ◌<◌, ◌⊎◌, [], 
 ghost use Rattle.item_store.specs.Listing.{IsListing, items_left};
 ghost use Rattle.saved_steps.specs.Steps.{name_of};
 ghost use Rattle.step_history.specs.History.{AreRecordsOf};
-ghost use Rattle.book_log.specs.Answers.{undo_answer};
+ghost use Rattle.book_log.specs.Answers.{absent, undo_answer};
 ghost use Rattle.book_log.specs.Beginning.{table_of};
 ghost use Rattle.book_log.specs.Story.{accepted, past_of, remaining, world_of};
 ghost use Rattle.rollback_book.specs.Book.{IsAt, IsFreePlace};
 ghost use Rattle.rollback_book.specs.Calls.{IsLogOf, MakesRoom, PlansRollback, RollsBack, Shows, Undoes};
 ghost use Rattle.rollback_book.specs.Making.{IsPlanned, WasPlanned};
 
-use crate::lists::{names_at, push_with_room};
+use crate::lists::{absent_in, names_at, push_with_room};
 use crate::machines::Machines;
 use crate::room::{PlanRoom, Room};
 use attr_values::ItemFault;
 use book_log::{Begin, Entry, Refusal, StepNames, first_store};
 use item_store::Items;
 use saved_steps::StepRecord;
+use settled_names::SettledNames;
 use std::alloc::{AllocError, Global};
 use std::collections::BTreeMap;
 use std::marker::Model;
@@ -35,6 +36,7 @@ pub struct Book {
     pub(crate) machines: Machines,
     pub(crate) history: History,
     pub(crate) log: Vec<Entry>,
+    pub(crate) settled: SettledNames,
 }
 
 impl Model for Book {
@@ -49,9 +51,9 @@ impl Model for Book {
 
     ghost coded = { Prim.hlevel (codes, begin_row.the_row.coded, entry_row.the_row.coded, history_row.the_row.coded, definition_code) };
 
-    ghost view = { λ b. volume b.begin b.machines b.history b.log };
+    ghost view = { λ b. volume b.begin b.machines b.history b.log b.settled };
 
-    ghost invariant = { λ b. IsTied (volume b.begin b.machines b.history b.log) };
+    ghost invariant = { λ b. IsTied (volume b.begin b.machines b.history b.log b.settled) };
 }
 
 impl Book {
@@ -72,6 +74,7 @@ impl Book {
                 machines: BTreeMap::new(alloc),
                 history: History::new(alloc, items),
                 log: Vec::new(alloc),
+                settled: SettledNames::new(alloc),
             }),
             Err(fault) => {
                 drop(begin);
@@ -113,7 +116,7 @@ impl Book {
         ensures { PlansRollback self.now.story step.now result }
     {
         let Some(at) = self.history.find(step) else {
-            return Err(Refusal::NoStep);
+            return Err(self.absent(step));
         };
         match self.plan_at(alloc, step, at) {
             Ok(room) => Ok(room),
@@ -186,7 +189,9 @@ impl Book {
             (λ e. undo_answer self.now.story room.step ≡ Err e) }
     {
         let Some(at) = self.history.find(&room.step) else {
-            return Err(Refusal::NoStep);
+            let gone = self.absent(&room.step);
+            drop(room);
+            return Err(gone);
         };
         let Some(dependent) = self.history.first_dependent(at) else {
             return Ok((at, room));
@@ -194,6 +199,13 @@ impl Book {
         let Room { step: _, spare } = room;
         let needing = &self.history.records()[dependent];
         Err(Refusal::HasDependents(spare.step(&needing.fact.name)))
+    }
+
+    /// Why a step that doesn't remain can't be taken back.
+    fn absent(&self, name: &StepName) -> Refusal
+        ensures { result ≡ absent self.now.story name.now }
+    {
+        absent_in(&self.settled, name)
     }
 
     /// The plan of the step at a place.

@@ -88,6 +88,7 @@ impl Book {
                 input,
             } => self.ready_start(alloc, exec, machine, input),
             Change::Step { thread } => self.ready_step(alloc, thread),
+            Change::Settle => self.ready_settle(),
         }
     }
 
@@ -105,6 +106,7 @@ impl Book {
         match change {
             MadeChange::Define { name, machine } => self.enter_define(entry, name, machine),
             MadeChange::Step(step) => self.enter_step(entry, step),
+            MadeChange::Settle => self.enter_settle(entry),
         }
         answer
     }

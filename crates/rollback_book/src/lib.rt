@@ -12,6 +12,7 @@ mod making;
 mod ordering;
 mod rerunning;
 mod room;
+mod settling;
 mod stepping;
 mod ticket;
 mod tickets;

@@ -2,10 +2,13 @@
 ghost use Rattle.std.specs.Prelude.{◌≡◌, ◌+◌, ◌<◌, ◌≤◌, ◌∷◌, ◌++◌, [], Some, IfOk, OnOk, map, length, option_map, slice_get, vec_len, vec_capacity};
 ghost use Rattle.std.specs.List.{All};
 ghost use Rattle.book_log.specs.Answers.{most_steps};
+ghost use Rattle.rollback_book.specs.Settling.{absent_in};
 
-use book_log::{Entry, StepNames};
+use book_log::{Entry, Refusal, StepNames};
 use saved_steps::StepRecord;
+use settled_names::SettledNames;
 use std::alloc::{AllocError, Global};
+use step_names::StepName;
 
 /// Makes room for one more entry, and for those of the undoing of it and of so many steps.
 pub fn reserve_entries(log: &mut Vec<Entry>, steps: usize) -> Result<(), AllocError>
@@ -24,6 +27,18 @@ pub fn push_with_room<T: Drop>(list: &mut Vec<T>, item: T)
     ensures kept { vec_capacity list.old ≤ vec_capacity list.new }
 {
     let _ = list.push(item);
+}
+
+/// Why a step that doesn't remain can't be taken back, where the steps of these names were settled. Takes no memory.
+#[tactic(auto, unfolding(crate::specs::Settling::absent_in))]
+pub fn absent_in(settled: &SettledNames, name: &StepName) -> Refusal
+    ensures { result ≡ absent_in settled.now.items name.now }
+{
+    if settled.contains(name) {
+        Refusal::Settled
+    } else {
+        Refusal::NoStep
+    }
 }
 
 /// The names of the steps at some places.

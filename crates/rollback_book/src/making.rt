@@ -23,6 +23,7 @@ pub enum Change<'a> {
     Step {
         thread: &'a ThreadName,
     },
+    Settle,
 }
 
 /// What the caller of a command is told.
@@ -31,6 +32,7 @@ pub enum Entered {
     Defined,
     Started(StepName),
     Stepped(Moved),
+    Settled,
 }
 
 /// What a command puts into a book beside its entry.
@@ -38,6 +40,7 @@ pub enum Entered {
 pub enum MadeChange {
     Define { name: Text, machine: SharedMachine },
     Step(saved_steps::Made),
+    Settle,
 }
 
 /// A command for which everything is made.

@@ -7,11 +7,14 @@ ghost use Rattle.book_log.specs.Answers.{from_step, found_answer, order_answer, 
 ghost use Rattle.book_log.specs.Story.{Story, accepted};
 ghost use Rattle.rollback_book.specs.Commuting.{HasConsequences, IsOnlyResult, UndoesAllowed};
 ghost use Rattle.rollback_book.specs.Ordering.{facts_left, left_by, order_refusal};
+ghost use Rattle.rollback_book.specs.Settling.{absent_in};
 
 use crate::book::Book;
+use crate::lists::absent_in;
 use book_log::{Entry, Refusal};
 use depends::depends;
 use saved_steps::StepRecord;
+use settled_names::SettledNames;
 use std::alloc::{AllocError, Global};
 use step_names::StepName;
 
@@ -22,7 +25,7 @@ impl Book {
     ///
     /// # Errors
     ///
-    /// That of the first name that can't be undone at its turn, `NoStep` or `HasDependents`; and `Memory`.
+    /// That of the first name that can't be undone at its turn, `NoStep`, `Settled` or `HasDependents`; and `Memory`.
     pub fn undo_order(&mut self, alloc: Global, steps: &[StepName]) -> Result<(), Refusal>
         ensures answer { MatchResult result
             (λ _. order_answer self.old.story steps.now ≡ Ok self.new.story)
@@ -32,7 +35,7 @@ impl Book {
         ensures one { OnOk result (IsOnlyResult self.old.story steps.now self.new.story) }
         ensures err { OnErr result (self.new.story ≡ self.old.story) }
     {
-        match look_at_order(alloc, self.history.records(), steps) {
+        match look_at_order(alloc, &self.settled, self.history.records(), steps) {
             Ok(()) => self.take_back_in_order(alloc, steps),
             Err(refusal) => Err(refusal),
         }
@@ -88,14 +91,19 @@ fn last_first(alloc: Global, names: &[StepName]) -> Result<Vec<StepName>, AllocE
 }
 
 /// Whether the steps of these names can be undone one by one in this order.
-fn look_at_order(alloc: Global, records: &[StepRecord], steps: &[StepName]) -> Result<(), Refusal>
+fn look_at_order(
+    alloc: Global,
+    settled: &SettledNames,
+    records: &[StepRecord],
+    steps: &[StepName],
+) -> Result<(), Refusal>
     ensures { MatchResult result
-        (λ _. order_refusal (map (λ r. r.fact) records.now) steps.now ≡ None)
-        (λ e. (e ≡ Refusal.Memory) ⊎ (order_refusal (map (λ r. r.fact) records.now) steps.now ≡ Some e)) }
+        (λ _. order_refusal (absent_in settled.now.items) (map (λ r. r.fact) records.now) steps.now ≡ None)
+        (λ e. (e ≡ Refusal.Memory) ⊎ (order_refusal (absent_in settled.now.items) (map (λ r. r.fact) records.now) steps.now ≡ Some e)) }
 {
     let mut left = references(alloc, records)?;
     for name in steps {
-        take_out(&mut left, name)?;
+        take_out(settled, &mut left, name)?;
     }
     Ok(())
 }
@@ -113,13 +121,17 @@ fn references(alloc: Global, records: &[StepRecord]) -> Result<Vec<&StepRecord>,
 }
 
 /// Takes the step of a name out of those that are left, where it may be undone among them.
-fn take_out(left: &mut Vec<&StepRecord>, name: &StepName) -> Result<(), Refusal>
+fn take_out(
+    settled: &SettledNames,
+    left: &mut Vec<&StepRecord>,
+    name: &StepName,
+) -> Result<(), Refusal>
     ensures { MatchResult result
-        (λ _. (found_answer name.now (from_step name.now (facts_left left.old.items)) ≡ Ok name.now) × (facts_left left.new.items ≡ left_by name.now (facts_left left.old.items)))
-        (λ e. (e ≡ Refusal.Memory) ⊎ (found_answer name.now (from_step name.now (facts_left left.old.items)) ≡ Err e)) }
+        (λ _. (found_answer (absent_in settled.now.items name.now) name.now (from_step name.now (facts_left left.old.items)) ≡ Ok name.now) × (facts_left left.new.items ≡ left_by name.now (facts_left left.old.items)))
+        (λ e. (e ≡ Refusal.Memory) ⊎ (found_answer (absent_in settled.now.items name.now) name.now (from_step name.now (facts_left left.old.items)) ≡ Err e)) }
 {
     let Some(at) = place_in(left.as_slice(), name) else {
-        return Err(Refusal::NoStep);
+        return Err(absent_in(settled, name));
     };
     let step = left.remove(at);
     if let Some(dependent) = first_needing(step, &left[at..]) {

@@ -1,10 +1,11 @@
 // A book whose steps are taken again in another order.
-ghost use Rattle.std.specs.Prelude.{◌≡◌, ◌⊎◌, ◌≤◌, ◌++◌, ◌∷◌, [], Some, Ok, Err, IfOk, IfErr, IsSome, MatchResult, OnOk, option_map, option_copied};
+ghost use Rattle.std.specs.Prelude.{◌≡◌, ◌⊎◌, ◌≤◌, ◌++◌, ◌∷◌, [], Some, Ok, Err, IfOk, IfErr, IsSome, MatchResult, OnOk, drop, false, length, option_map, option_copied, take};
+ghost use Rattle.std.specs.List.{list_any};
 ghost use Rattle.json_tree.specs.Data.{depth, most_levels};
 ghost use Rattle.json_tree.specs.View.{data_of};
 ghost use Rattle.saved_steps.specs.Held.{frames_of, seen};
 ghost use Rattle.saved_steps.specs.Steps.{started, moved};
-ghost use Rattle.book_log.specs.Answers.{defines, rerun_answer, step_named};
+ghost use Rattle.book_log.specs.Answers.{defines, is_settlement, outline, rerun_answer, step_named};
 ghost use Rattle.book_log.specs.Legal.{IsAccepted, IsLegal};
 ghost use Rattle.book_log.specs.Story.{accepted, remaining, world_of};
 ghost use Rattle.rollback_book.specs.Commuting.{CannotRun, IsRerunOf};
@@ -21,9 +22,10 @@ use step_names::{StepName, ThreadName};
 
 impl Book {
     /// A new book from the same beginning and the same machines, in which these steps were taken in this order; each start has
-    /// the machine and the input that it has here. Its log has the definitions of this one's, and then an entry for each step.
-    /// Takes what `open` takes, a share of each machine, and what the steps take; for each name it looks through the remaining
-    /// steps, and for a start through the log, from their ends.
+    /// the machine and the input that it has here. Its log has what this one's has up to its last settlement, the definitions after
+    /// that, and then an entry for each step. Takes what `open` takes, a share of each machine, what the commands up to the last
+    /// settlement took, and what the steps take; for each name it looks through the remaining steps, and for a start through the
+    /// log, from their ends.
     ///
     /// # Errors
     ///
@@ -35,7 +37,7 @@ impl Book {
         ensures ok { IfOk result (λ b. IsRerunOf self.now.story steps.now b.story) }
         ensures err { IfErr result (λ e. (e ≡ Refusal.Memory) ⊎ ((e ≡ Refusal.NoStep) × CannotRun self.now.story steps.now)) }
     {
-        let mut again = Book::defining(alloc, &self.begin, self.log.as_slice())?;
+        let mut again = Book::outlining(alloc, &self.begin, self.log.as_slice())?;
         for name in steps {
             match self.take_again(alloc, &mut again, name) {
                 Ok(()) => {}
@@ -45,26 +47,61 @@ impl Book {
         Ok(again)
     }
 
-    /// A book with a copy of a beginning and the machines of a log, and no steps.
-    fn defining(alloc: Global, begin: &Begin, log: &[Entry]) -> Result<Book, AllocError>
+    /// A book with a copy of a beginning, what a log has up to its last settlement, and the machines that it defines after that.
+    fn outlining(alloc: Global, begin: &Begin, log: &[Entry]) -> Result<Book, Refusal>
         requires { IsLegal (record { begin = begin.now; log = log.now }) }
-        ensures { IfOk result (λ b. b.story ≡ record { begin = begin.now; log = defines log.now }) }
+        ensures ok { IfOk result (λ b. b.story ≡ record { begin = begin.now; log = outline log.now }) }
+        ensures err { IfErr result (λ e. e ≡ Refusal.Memory) }
     {
         let begin = copy_begin(begin)?;
         let Ok(mut book) = Book::open(alloc, begin) else {
-            return Err(AllocError);
+            return Err(Refusal::Memory);
         };
-        book.define_each(log)?;
-        Ok(book)
+        match book.outline(alloc, log) {
+            Ok(()) => Ok(book),
+            Err(refusal) => {
+                drop(book);
+                Err(refusal)
+            }
+        }
     }
 
-    /// Defines the machines of a log.
-    fn define_each(&mut self, log: &[Entry]) -> Result<(), AllocError>
+    /// Enters what a log has up to its last settlement, and defines the machines that it defines after that.
+    fn outline(&mut self, alloc: Global, log: &[Entry]) -> Result<(), Refusal>
         requires empty { self.old.story.log ≡ [] }
         requires legal { IsLegal (record { begin = self.old.story.begin; log = log.now }) }
-        ensures { OnOk result (self.new.story ≡ record { begin = self.old.story.begin; log = defines log.now }) }
+        ensures ok { OnOk result (self.new.story ≡ record { begin = self.old.story.begin; log = outline log.now }) }
+        ensures err { IfErr result (λ e. e ≡ Refusal.Memory) }
     {
-        for entry in log {
+        let settled = settled_end(log);
+        self.enter_each(alloc, log, settled)?;
+        self.define_each(log, settled)?;
+        Ok(())
+    }
+
+    /// Enters the first entries of a log, so many, as they stand there.
+    fn enter_each(&mut self, alloc: Global, log: &[Entry], end: usize) -> Result<(), Refusal>
+        requires empty { self.old.story.log ≡ [] }
+        requires legal { IsLegal (record { begin = self.old.story.begin; log = log.now }) }
+        requires end { end ≤ length log.now }
+        ensures ok { OnOk result (self.new.story ≡ record { begin = self.old.story.begin; log = take end log.now }) }
+        ensures err { IfErr result (λ e. e ≡ Refusal.Memory) }
+    {
+        for entry in &log[..end] {
+            self.enter_again(alloc, entry)?;
+        }
+        Ok(())
+    }
+
+    /// Defines the machines of a log from an entry on, in a book that has the outline up to it.
+    fn define_each(&mut self, log: &[Entry], from: usize) -> Result<(), AllocError>
+        requires from { from ≤ length log.now }
+        requires outlined { self.old.story.log ≡ outline (take from log.now) }
+        requires legal { IsLegal (record { begin = self.old.story.begin; log = log.now }) }
+        requires unsettled { list_any is_settlement (drop from log.now) ≡ false }
+        ensures { OnOk result (self.new.story ≡ record { begin = self.old.story.begin; log = outline log.now }) }
+    {
+        for entry in &log[from..] {
             self.define_again(entry)?;
         }
         Ok(())
@@ -82,7 +119,11 @@ impl Book {
     }
 
     /// Defines a machine of another book.
-    fn share_machine(&mut self, name: &Text, machine: &SharedMachine) -> Result<(), AllocError>
+    pub(crate) fn share_machine(
+        &mut self,
+        name: &Text,
+        machine: &SharedMachine,
+    ) -> Result<(), AllocError>
         requires { IsAccepted self.old.story (Entry.Define name.now machine.now) }
         ensures { OnOk result (self.new.story ≡ accepted self.old.story (Entry.Define name.now machine.now)) }
     {
@@ -193,6 +234,28 @@ fn or_no_step(refusal: Refusal) -> Refusal
             Refusal::NoStep
         }
     }
+}
+
+/// How many entries there are up to the last settlement, with it.
+fn settled_end(log: &[Entry]) -> usize
+    ensures within { result ≤ length log.now }
+    ensures whole { outline (take result log.now) ≡ take result log.now }
+    ensures last { list_any is_settlement (drop result log.now) ≡ false }
+{
+    let mut end = log.len();
+    while 0 < end {
+        if is_settlement(&log[end - 1]) {
+            return end;
+        }
+        end -= 1;
+    }
+    0
+}
+
+fn is_settlement(entry: &Entry) -> bool
+    ensures { result ≡ is_settlement entry.now }
+{
+    matches!(entry, Entry::Settle)
 }
 
 /// With what the last start of an execution started it.

@@ -7,7 +7,7 @@ use Rattle.json_tree.specs.declared.tree.Json.{Json}
 use Rattle.step_names.specs.Thread.{Thread}
 use Rattle.step_names.specs.declared.step.StepName.{StepName}
 use Rattle.rollback_book.specs.Fact.{Fact}
-use Rattle.book_log.specs.Answers.{Gives, found_answer, free_answer, from_step, has_move, start_answer, step_answer, undo_answer}
+use Rattle.book_log.specs.Answers.{Gives, absent, found_answer, free_answer, from_step, has_move, start_answer, step_answer, undo_answer}
 use Rattle.book_log.specs.Legal.{IsAccepted, IsLegal}
 use Rattle.book_log.specs.Story.{Story, accepted, facts_of}
 use Rattle.book_log.specs.declared.entry.Entry.{Entry}
@@ -81,13 +81,13 @@ free_is : (name n : StepName) (o : Option Fact) → free_answer name o ≡ Ok n 
 free_is name n None h = cc
 free_is name n (Some f) h = cc
 
-found_is : (name n : StepName) (o : Option (Fact × List Fact)) → found_answer name o ≡ Ok n → n ≡ name
-found_is name n None h = cc
-found_is name n (Some p) h = free_is name n _ h
+found_is : (gone : Refusal) (name n : StepName) (o : Option (Fact × List Fact)) → found_answer gone name o ≡ Ok n → n ≡ name
+found_is gone name n None h = cc
+found_is gone name n (Some p) h = free_is name n _ h
 
 undo_is : (story : Story) (name n : StepName) → undo_answer story name ≡ Ok n → n ≡ name
 unfolding undo_answer
-undo_is story name n h = found_is name n (from_step name (facts_of story)) h
+undo_is story name n h = found_is (absent story name) name n (from_step name (facts_of story)) h
 
 pub undo_accepted : (story : Story) (name n : StepName) → Ok n ≡ undo_answer story name → IsAccepted story (Undo name)
 undo_accepted story name n h = sym h ∙ ap Ok (undo_is story name n (sym h))

@@ -201,6 +201,7 @@ pub(crate) fn spelled(alloc: Global, receipt: &Receipt) -> Result<String, AllocE
             let count = undone.names().len();
             format!(in alloc; "{number} rollback {step} of {count}")
         }
+        Entry::Settle => format!(in alloc; "{number} settle"),
     }
 }
 

@@ -2,6 +2,7 @@ pub mod Open
 pub mod Left
 pub mod Planned
 pub mod Rolled
+pub mod Settled
 pub mod Grown
 pub mod Counts
 pub mod Closing

@@ -5,6 +5,7 @@ mod history;
 mod laws;
 mod making;
 mod moving;
+mod settling;
 mod undoing;
 
 pub use asl_forward as turns;

@@ -21,6 +21,7 @@ use linked_classes::ClassedPlaces;
 use saved_steps::{Kind, StepRecord};
 use std::alloc::{AllocError, Global};
 use std::marker::Model;
+use std::mem;
 use step_names::StepName;
 
 /// Records of steps in the order in which they were added. Contracts see their list, and whether there is room for one more.
@@ -138,6 +139,16 @@ impl StepRecords {
         self.keys.remove(at);
         self.writes.remove(at);
         self.records.remove(at)
+    }
+
+    /// Takes all records out, in their order: none is left, and no room. Takes no memory; what was kept for the classes is given back.
+    pub fn take_all(&mut self) -> Vec<StepRecord>
+        ensures taken { result.items ≡ self.old.items }
+        ensures items { self.new.items ≡ [] }
+    {
+        let alloc = *self.records.allocator();
+        let all = mem::replace(self, StepRecords::new(alloc));
+        all.records
     }
 
     /// The place of the first step of a name. Takes no memory; looks at the steps whose names have its hash.

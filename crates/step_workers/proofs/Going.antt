@@ -2,7 +2,7 @@
 use Rattle.std.proofs.Common.{◌≡◌, ℕ, ◌+◌, ◌≤◌, List, [], ◌∷◌, ◌++◌, length, refl, ap, ◌∙◌, arith}
 use Rattle.step_names.specs.Thread.{Thread}
 use Rattle.book_log.specs.declared.entry.Entry.{Entry}
-use Rattle.book_log.specs.declared.entry.Entry.TheVariants.{Define, Start, Step as Stepped, Undo, Rollback}
+use Rattle.book_log.specs.declared.entry.Entry.TheVariants.{Define, Start, Step as Stepped, Undo, Rollback, Settle}
 use Rattle.shared_book.specs.Calls.{IsStepOf}
 use Rattle.shared_book.specs.Views.{PassView}
 use Rattle.shared_book.specs.declared.receipt.Receipt.{Receipt}
@@ -14,6 +14,7 @@ is_step t (Define _ _) s = s
 is_step t (Start _ _ _) s = s
 is_step t (Undo _) s = s
 is_step t (Rollback _ _) s = s
+is_step t Settle s = s
 
 append_none : (xs : List Receipt) → xs ≡ xs ++ []
 append_none [] = refl

@@ -21,7 +21,7 @@ returns-then-not-has_move c =
 
 pub returns-then-is_full_for_step : goal.returns-then-is_full_for_step
 returns-then-is_full_for_step c =
-    let b = volume c.self.inside.begin c.self.inside.machines c.self.inside.history c.self.inside.log in
+    let b = volume c.self.inside.begin c.self.inside.machines c.self.inside.history c.self.inside.log c.self.inside.settled in
     let told = sym (ap has_move c.in-Some.ensures.ready) ∙ sym c.has_move.ensures ∙ c.if-not-has_move.false in
     let full = full_by b c.self.invariant c.len.result c.len-2.result c.is_full_for_step.result (c.len.ensures ∙ c.self.inside.log.ok.0) c.len-2.ensures c.is_full_for_step.ensures ∙ c.if-is_full_for_step.true in
     subst (λ (b : Volume). step_answer b.story c.args.thread.now ≡ Err Full) c.self.view_is (step_full b c.self.invariant c.args.thread.now c.in-Some.frame.now (sym c.in-Some.ensures.frame) told full)
@@ -31,7 +31,7 @@ unreachable-requires c = machine_known _ c.self.invariant c.args.thread.now c.in
 
 pub returns : goal.returns
 returns c =
-    let b = volume c.self.inside.begin c.self.inside.machines c.self.inside.history c.self.inside.log in
+    let b = volume c.self.inside.begin c.self.inside.machines c.self.inside.history c.self.inside.log c.self.inside.settled in
     let told = sym (ap has_move c.in-Some.ensures.ready) ∙ sym c.has_move.ensures ∙ c.if-not-has_move.false in
     let full = full_by b c.self.invariant c.len.result c.len-2.result c.is_full_for_step.result (c.len.ensures ∙ c.self.inside.log.ok.0) c.len-2.ensures c.is_full_for_step.ensures ∙ c.if-is_full_for_step.false in
     subst (λ (b : Volume). IsReadyTo b c.args.thread.now c.in-Some-machine_in.machine.now c.in-Some.frame.now) c.self.view_is

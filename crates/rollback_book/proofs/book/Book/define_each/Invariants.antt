@@ -1,7 +1,7 @@
-use Rattle.std.proofs.Common.{◌≡◌, take}
-use Rattle.book_log.specs.Answers.{defines}
+use Rattle.std.proofs.Common.{◌≡◌, ◌++◌, take}
+use Rattle.book_log.specs.Answers.{outline}
 use Rattle.rollback_book.proofs.book.Book.define_each.Given as goal
 
--- the definitions so far
+-- the outline so far
 abbrev pub invariant-loop-entry : goal.invariant-loop-entry
-invariant-loop-entry l = l.self.story ≡ record { begin = l.fn.self.story.begin; log = defines (take l.entry-index l.log) }
+invariant-loop-entry l = l.self.story ≡ record { begin = l.fn.self.story.begin; log = outline (take l.from l.log ++ take l.entry-index l.entry-items) }

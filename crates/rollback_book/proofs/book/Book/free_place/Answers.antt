@@ -1,16 +1,16 @@
 use Rattle.std.proofs.Common.{◌≡◌, arith, refl, ◌∙◌, ap, sym, subst, length, Err}
 use Rattle.std.proofs.lemmas.Option.{slice_get_read}
 use Rattle.step_names.specs.declared.step.StepName.{StepName}
-use Rattle.book_log.specs.Answers.{undo_answer}
-use Rattle.book_log.specs.declared.refusal.Refusal.TheVariants.{NoStep, HasDependents}
+use Rattle.book_log.specs.Answers.{absent, undo_answer}
+use Rattle.book_log.specs.declared.refusal.Refusal.TheVariants.{HasDependents}
 use Rattle.rollback_book.specs.Book.{Volume, IsFreePlace}
 use Rattle.rollback_book.proofs.Free.{no_step_answer, free_place, dependent_within, dependent_answer}
 use Rattle.rollback_book.proofs.book.Book.free_place.Goals as goal
 
 pub returns-in_default : goal.returns-in_default
 returns-in_default c =
-    subst (λ (b : Volume). undo_answer b.story c.args.room.step ≡ Err NoStep) c.self.view_is
-    (no_step_answer _ c.self.invariant c.args.room.step (sym c.in_default.ensures))
+    subst (λ (b : Volume). undo_answer b.story c.args.room.step ≡ Err (absent b.story c.args.room.step)) c.self.view_is
+    (no_step_answer _ c.self.invariant c.args.room.step (sym c.in_default.ensures)) ∙ ap Err (sym c.absent-gone.ensures)
 
 pub returns-in_default-first_dependent : goal.returns-in_default-first_dependent
 returns-in_default-first_dependent c = (

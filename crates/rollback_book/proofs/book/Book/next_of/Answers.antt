@@ -26,7 +26,7 @@ next_of-requires-clause-begins c ready =
 
 pub unreachable-requires : goal.unreachable-requires
 unreachable-requires c =
-    let b = volume c.self.inside.begin c.self.inside.machines c.self.inside.history c.self.inside.log in
+    let b = volume c.self.inside.begin c.self.inside.machines c.self.inside.history c.self.inside.log c.self.inside.settled in
     let t = c.args.thread.now in
     let m = c.in_ok-machine.machine.now in
     let f = c.in_ok-machine.frame.now in
@@ -35,7 +35,7 @@ unreachable-requires c =
 
 pub returns-in-Ok-Some : goal.returns-in-Ok-Some
 returns-in-Ok-Some c =
-    let b = volume c.self.inside.begin c.self.inside.machines c.self.inside.history c.self.inside.log in
+    let b = volume c.self.inside.begin c.self.inside.machines c.self.inside.history c.self.inside.log c.self.inside.settled in
     let t = c.args.thread.now in
     let m = c.in_ok-machine.machine.now in
     let f = c.in_ok-machine.frame.now in

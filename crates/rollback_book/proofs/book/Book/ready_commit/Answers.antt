@@ -12,19 +12,19 @@ use Rattle.rollback_book.proofs.book.Book.ready_commit.Goals as goal
 
 pub returns-then-is_full_for_step-clause-answer : goal.returns-then-is_full_for_step-clause-answer
 returns-then-is_full_for_step-clause-answer c =
-    let b = volume c.self.inside.begin c.self.inside.machines c.self.inside.history c.self.inside.log in
+    let b = volume c.self.inside.begin c.self.inside.machines c.self.inside.history c.self.inside.log c.self.inside.settled in
     subst (λ (b : Volume). is_full_for_step b.story ≡ true) c.self.view_is
     (full_by b c.self.invariant c.len.result c.len-2.result c.is_full_for_step.result (c.len.ensures ∙ c.self.inside.log.ok.0) c.len-2.ensures c.is_full_for_step.ensures ∙ c.if-is_full_for_step.true)
 
 pub returns-in_default-clause-answer : goal.returns-in_default-clause-answer
 returns-in_default-clause-answer c =
-    let b = volume c.self.inside.begin c.self.inside.machines c.self.inside.history c.self.inside.log in
+    let b = volume c.self.inside.begin c.self.inside.machines c.self.inside.history c.self.inside.log c.self.inside.settled in
     subst (λ (b : Volume). is_full_for_step b.story ≡ false) c.self.view_is
     (full_by b c.self.invariant c.len.result c.len-2.result c.is_full_for_step.result (c.len.ensures ∙ c.self.inside.log.ok.0) c.len-2.ensures c.is_full_for_step.ensures ∙ c.if-is_full_for_step.false)
 
 pub ready_next-requires : goal.ready_next-requires
 ready_next-requires c =
-    let b = volume c.self.inside.begin c.self.inside.machines c.self.inside.history c.self.inside.log in
+    let b = volume c.self.inside.begin c.self.inside.machines c.self.inside.history c.self.inside.log c.self.inside.settled in
     let t = c.args.thread.now in
     let p = c.args.prepared in
     let fresh = subst (λ (b : Volume). IsFresh b.story t p) (sym c.self.view_is) c.requires in
@@ -36,6 +36,6 @@ ready_next-requires c =
 
 pub returns-in-Err-clause-answer : goal.returns-in-Err-clause-answer
 returns-in-Err-clause-answer c =
-    let b = volume c.self.inside.begin c.self.inside.machines c.self.inside.history c.self.inside.log in
+    let b = volume c.self.inside.begin c.self.inside.machines c.self.inside.history c.self.inside.log c.self.inside.settled in
     subst (λ (b : Volume). is_full_for_step b.story ≡ false) c.self.view_is
     (full_by b c.self.invariant c.len.result c.len-2.result c.is_full_for_step.result (c.len.ensures ∙ c.self.inside.log.ok.0) c.len-2.ensures c.is_full_for_step.ensures ∙ c.if-is_full_for_step.false)

@@ -1,6 +1,6 @@
 use Rattle.std.proofs.Common.{List, drop, take, suc, refl, ap, sym, subst, ◌∙◌, inl, inr, Ok}
 use Rattle.std.proofs.lemmas.List.{take_all}
-use Rattle.book_log.specs.Answers.{defines, rerun_answer, step_named}
+use Rattle.book_log.specs.Answers.{outline, rerun_answer, step_named}
 use Rattle.book_log.specs.Legal.{IsLegal}
 use Rattle.book_log.specs.Story.{Story, remaining}
 use Rattle.book_log.specs.declared.entry.Entry.{Entry}
@@ -10,13 +10,13 @@ use Rattle.rollback_book.proofs.Commuted.{cannot_run, rerun_of}
 use Rattle.rollback_book.proofs.Rerun.{begins, ends_here, goes_on, parts_at, take_next}
 use Rattle.rollback_book.proofs.book.Book.rerun.Goals as goal
 
-pub defining-requires : goal.defining-requires
-defining-requires c = subst (λ (l : List Entry). IsLegal (of_log c.self.inside.begin l)) (sym c.as_slice.ensures.value) c.self.invariant.legal
+pub outlining-requires : goal.outlining-requires
+outlining-requires c = subst (λ (l : List Entry). IsLegal (of_log c.self.inside.begin l)) (sym c.as_slice.ensures.value) c.self.invariant.legal
 
 pub loop-name-init : goal.loop-name-init
 loop-name-init c =
     begins c.args.self.now.story
-    ∙ ap (λ (s : Story). Ok s) (sym (c.in_ok-again.ensures ∙ ap (λ (l : List Entry). of_log c.self.inside.begin (defines l)) c.as_slice.ensures.value ∙ ap (λ (b : Volume). of_log b.story.begin (defines b.story.log)) c.self.view_is))
+    ∙ ap (λ (s : Story). Ok s) (sym (c.in_ok-again.ensures.ok ∙ ap (λ (l : List Entry). of_log c.self.inside.begin (outline l)) c.as_slice.ensures.value ∙ ap (λ (b : Volume). of_log b.story.begin (outline b.story.log)) c.self.view_is))
 
 pub returns-in-Err-clause-answer : goal.returns-in-Err-clause-answer
 returns-in-Err-clause-answer c =

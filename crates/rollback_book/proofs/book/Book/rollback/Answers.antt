@@ -18,14 +18,14 @@ use Rattle.rollback_book.proofs.book.Book.rollback.Goals as goal
 
 pub rollback-requires-clause-plan : goal.rollback-requires-clause-plan
 rollback-requires-clause-plan c =
-    let b = volume c.self.inside.begin c.self.inside.machines c.self.inside.history c.self.inside.log in
+    let b = volume c.self.inside.begin c.self.inside.machines c.self.inside.history c.self.inside.log c.self.inside.settled in
     let was = subst (λ (b : Volume). WasPlanned b.story c.args.room) (sym c.self.view_is) c.requires in
     let p = still_planned b.story c.args.room was (sym (c.len.ensures ∙ c.self.inside.log.ok.0) ∙ c.if-len-room.false) in
     plan_of b c.self.invariant c.args.room p
 
 pub invariant_of-self : goal.invariant_of-self
 invariant_of-self c =
-    let b = volume c.self.inside.begin c.self.inside.machines c.self.inside.history c.self.inside.log in
+    let b = volume c.self.inside.begin c.self.inside.machines c.self.inside.history c.self.inside.log c.self.inside.settled in
     let was = subst (λ (b : Volume). WasPlanned b.story c.args.room) (sym c.self.view_is) c.requires in
     let p = still_planned b.story c.args.room was (sym (c.len.ensures ∙ c.self.inside.log.ok.0) ∙ c.if-len-room.false) in
     let answer : plan_answer b.story c.args.room.step ≡ Ok c.args.room.undone = p.names ∙ ap (λ (ns : List StepName). Ok ns) (sym p.kept) in
@@ -35,7 +35,7 @@ invariant_of-self c =
 
 pub returns : goal.returns
 returns c =
-    let b = volume c.self.inside.begin c.self.inside.machines c.self.inside.history c.self.inside.log in
+    let b = volume c.self.inside.begin c.self.inside.machines c.self.inside.history c.self.inside.log c.self.inside.settled in
     let was = subst (λ (b : Volume). WasPlanned b.story c.args.room) (sym c.self.view_is) c.requires in
     let p = still_planned b.story c.args.room was (sym (c.len.ensures ∙ c.self.inside.log.ok.0) ∙ c.if-len-room.false) in
     let step = c.args.room.step in

@@ -2,7 +2,7 @@ use Rattle.std.proofs.Common.{◌≡◌, ◌∙◌, ap, inl, inr, refl, sym, sub
 use Rattle.branch_tree.specs.First as first
 use Rattle.step_history.specs.Frame.{Frame}
 use Rattle.book_log.specs.Story.{world_of}
-use Rattle.rollback_book.specs.Book.{Volume, volume}
+use Rattle.rollback_book.specs.Book.{Volume}
 use Rattle.rollback_book.specs.Tickets.{readiness_in}
 use Rattle.rollback_book.proofs.Ticketed.{frame_there, fresh_by, readiness_told}
 use Rattle.rollback_book.proofs.book.Book.staleness.Goals as goal

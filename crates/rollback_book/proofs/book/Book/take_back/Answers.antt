@@ -6,6 +6,6 @@ use Rattle.rollback_book.proofs.book.Book.take_back.Goals as goal
 
 pub invariant_of-self : goal.invariant_of-self
 invariant_of-self c =
-    let b = volume c.self.inside.begin c.self.inside.machines c.self.inside.history c.self.inside.log in
+    let b = volume c.self.inside.begin c.self.inside.machines c.self.inside.history c.self.inside.log c.self.inside.settled in
     let free = subst (λ (b : Volume). IsFreePlace b c.args.step c.args.at) (sym c.self.view_is) c.requires in
     rw c.push_with_room.ensures.items (tied_undone b c.self.invariant c.args.step c.undo.new.self (vec_capacity c.push_with_room.new.list) c.push_with_room.ensures.kept c.args.at free c.undo.ensures)

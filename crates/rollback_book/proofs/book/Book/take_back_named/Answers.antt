@@ -1,6 +1,5 @@
 use Rattle.std.proofs.Common.{◌≡◌, Ok, Err, sym, subst, ◌∙◌}
-use Rattle.book_log.specs.Answers.{undo_answer}
-use Rattle.book_log.specs.declared.refusal.Refusal.TheVariants.{NoStep}
+use Rattle.book_log.specs.Answers.{absent, undo_answer}
 use Rattle.rollback_book.specs.Book.{Volume, IsFreePlace}
 use Rattle.rollback_book.proofs.Free.{no_step_answer}
 use Rattle.rollback_book.proofs.Ordered.{undone_free}
@@ -8,7 +7,7 @@ use Rattle.rollback_book.proofs.book.Book.take_back_named.Goals as goal
 
 pub unreachable-requires : goal.unreachable-requires
 unreachable-requires c =
-    let none = subst (λ (b : Volume). undo_answer b.story c.args.step ≡ Err NoStep) c.self.view_is (no_step_answer _ c.self.invariant c.args.step (sym c.in_default.ensures)) in
+    let none = subst (λ (b : Volume). undo_answer b.story c.args.step ≡ Err (absent b.story c.args.step)) c.self.view_is (no_step_answer _ c.self.invariant c.args.step (sym c.in_default.ensures)) in
     let clash = sym c.requires ∙ none in
     cc
 

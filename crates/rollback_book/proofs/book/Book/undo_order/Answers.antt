@@ -6,6 +6,7 @@ use Rattle.book_log.specs.Legal.{IsLegal}
 use Rattle.book_log.specs.Story.{Story}
 use Rattle.rollback_book.specs.Book.{Volume}
 use Rattle.rollback_book.specs.Ordering.{order_refusal}
+use Rattle.rollback_book.specs.Settling.{absent_in}
 use Rattle.rollback_book.proofs.Commuted.{holds_consequences, leaves_one, only_memory, undoes}
 use Rattle.rollback_book.proofs.Ordered.{order_answered}
 use Rattle.rollback_book.proofs.book.Book.undo_order.Goals as goal
@@ -17,14 +18,14 @@ returns-in-Err-clause-answer c =
     elim c.in-Err.ensures [
       | inl m ↦ inl m
       | inr h ↦ inr (subst (λ (b : Volume). order_answer b.story steps ≡ Err e) c.self.view_is
-          (order_answered _ c.self.invariant steps (Some e) (ap (λ (rs : List StepRecord). order_refusal (facts rs) steps) (sym c.records.ensures) ∙ h)))
+          (order_answered _ c.self.invariant steps (Some e) (ap (λ (rs : List StepRecord). order_refusal (absent_in c.self.inside.settled.items) (facts rs) steps) (sym c.records.ensures) ∙ h)))
     ]
 
 pub take_back_in_order-requires : goal.take_back_in_order-requires
 take_back_in_order-requires c =
     let steps = c.args.steps.now in
     subst (λ (b : Volume). (after : Story) × (order_answer b.story steps ≡ Ok after)) c.self.view_is
-    (order_answered _ c.self.invariant steps None (ap (λ (rs : List StepRecord). order_refusal (facts rs) steps) (sym c.records.ensures) ∙ c.in-Ok.ensures))
+    (order_answered _ c.self.invariant steps None (ap (λ (rs : List StepRecord). order_refusal (absent_in c.self.inside.settled.items) (facts rs) steps) (sym c.records.ensures) ∙ c.in-Ok.ensures))
 
 pub returns-in-Ok-clause-allowed : goal.returns-in-Ok-clause-allowed
 returns-in-Ok-clause-allowed c =

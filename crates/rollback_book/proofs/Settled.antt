@@ -1,0 +1,140 @@
+-- What a book holds of the steps that were settled says of its story why a step is absent; and a book after a settlement.
+use Rattle.std.proofs.Common.{◌≡◌, ◌≤◌, arith, ℕ, Bool, true, false, cond, List, [], ◌∷◌, ◌++◌, length, length-append, map, refl, ap, ap₂, sym, ◌∙◌, Err, inl, inr, Result, Ok}
+use Rattle.std.specs.Prelude.{◌||◌}
+use Rattle.std.specs.List.{list_any}
+use Rattle.std.specs.Ordering.{eq_by_cmp}
+use Rattle.std.proofs.lemmas.List.{map-append}
+use Rattle.step_names.specs.Order.{step_cmp}
+use Rattle.step_names.specs.declared.step.StepName.{StepName}
+use Rattle.step_names.proofs.OrderLaws as order
+use Rattle.settled_names.specs.Names.{HasRoomFor, Names, is_among}
+use Rattle.trace_theory.proofs.Lists.{by_bool}
+use Rattle.saved_steps.specs.Held.{seen}
+use Rattle.saved_steps.specs.Steps.{Step, name_of}
+use Rattle.saved_steps.specs.World.{Setting, World, is_same_step}
+use Rattle.saved_steps.specs.declared.record.StepRecord.{StepRecord}
+use Rattle.step_history.specs.History.{Past, IsHistory}
+use Rattle.step_history.specs.declared.history.History.{History}
+use Rattle.book_log.specs.Answers.{Gives, absent, is_full_for_define, is_settled, settle_answer}
+use Rattle.book_log.specs.Legal.{IsAccepted}
+use Rattle.book_log.specs.Story.{Story, accepted, base_of, settled, remaining, setting_of, past_of}
+use Rattle.book_log.specs.declared.entry.Entry.{Entry}
+use Rattle.book_log.specs.declared.entry.Entry.TheVariants.{Define, Start, Step as Stepped, Undo, Rollback, Settle}
+use Rattle.book_log.specs.declared.refusal.Refusal.{Refusal}
+use Rattle.book_log.specs.declared.refusal.Refusal.TheVariants.{NoStep, Settled, Full, Memory}
+use Rattle.book_log.proofs.Counts.{room_for_define}
+use Rattle.book_log.proofs.LegalRuns.{accepted_is_legal}
+use Rattle.book_log.proofs.Settling.{room_settles, settle_room}
+use Rattle.book_log.proofs.Standing.{base_settled, settled_next, stands_settled, step_same, step_itself}
+use Rattle.rollback_book.specs.Book.{Volume, IsTied}
+use Rattle.rollback_book.specs.Making.{CanEnter, Fits, HasLogRoom, OrMemory}
+use Rattle.rollback_book.specs.declared.making.Entered.TheVariants as told
+use Rattle.rollback_book.specs.declared.making.MadeChange.TheVariants as made
+use Rattle.rollback_book.specs.Settling.{absent_in}
+use Rattle.rollback_book.proofs.Tied.{many, names_are, stands, tied_by}
+
+-- ---- names
+
+-- equality by the order of names is that of names
+same_either : (n name : StepName) → eq_by_cmp step_cmp n name ≡ is_same_step name n
+same_either n name =
+    by_bool (is_same_step name n) _
+    (λ k. let e = step_same name n k in ap (λ (x : StepName). eq_by_cmp step_cmp n x) e ∙ order.step_itself n ∙ sym k)
+    (λ k. by_bool (eq_by_cmp step_cmp n name) _
+    (λ j. let e = order.step_same n name j in let f = ap (is_same_step name) e ∙ step_itself name in let clash = sym k ∙ f in absurd (cc))
+    (λ j. j ∙ sym k))
+
+among_is : (ss : List Step) (name : StepName) → is_among name (map name_of ss) ≡ list_any (λ (s : Step). is_same_step name (name_of s)) ss
+among_is [] name = refl
+among_is (s ∷ ss) name = ap₂ (λ (a b : Bool). a || b) (same_either (name_of s) name) (among_is ss name)
+
+module _ (b : Volume) (tied : IsTied b) where
+  pub absent_is : (name : StepName) → absent_in b.settled.items name ≡ absent b.story name
+  unfolding absent_in is_settled
+  absent_is name = ap (λ (x : Bool). cond x Settled NoStep) (ap (is_among name) tied.names ∙ among_is (settled b.story) name)
+
+  -- the same names, with more room
+  pub tied_names : (names : Names) → names.items ≡ b.settled.items → IsTied (record { story = b.story; history = b.history; places = b.places; capacity = b.capacity; settled = names })
+  tied_names names same = record {
+    legal = tied.legal;
+    history = tied.history;
+    run = tied.run;
+    machines = tied.machines;
+    names = same ∙ tied.names;
+    room = tied.room;
+    few = tied.few;
+    bounded = tied.bounded;
+  }
+
+  -- ---- a settlement
+
+  pub tied_settled : (h : History) (names : Names) (capacity : ℕ) → IsAccepted b.story Settle → HasLogRoom b → b.capacity ≤ capacity
+      → h.records.items ≡ [] → ((s : Setting) (base : World) (ts : List Past) → IsHistory s base ts b.history → IsHistory s (seen b.history.world) [] h)
+      → names.items ≡ b.settled.items ++ map (λ (r : StepRecord). r.fact.name) b.history.records.items
+      → IsTied (record { story = accepted b.story Settle; history = h; places = b.places; capacity = capacity; settled = names })
+  tied_settled h names capacity a log_room grown none settles named =
+      let s = setting_of b.story in
+      let w = seen b.history.world in
+      let ts = past_of b.story in
+      let there = stands b tied in
+      let free = room_for_define b.story (settle_room b.story a) in
+      let count = many b tied in
+      let logged = length-append b.story.log (Settle ∷ []) in
+      let empty = ap length none in
+      let all : names.items ≡ map name_of (settled (accepted b.story Settle)) =
+      named ∙ ap₂ (λ (x y : List StepName). x ++ y) tied.names (names_are b tied) ∙ sym (map-append name_of (settled b.story) (remaining b.story)) ∙ ap (map name_of) (sym (settled_next b.story Settle)) in
+      tied_by (record { story = accepted b.story Settle; history = h; places = b.places; capacity = capacity; settled = names }) s w w [] (accepted_is_legal b.story Settle tied.legal a)
+      (stands_settled b.story s w ts there) (base_settled b.story s w ts there) (settles s (base_of b.story) ts tied.history) tied.machines all
+      (omega (arith, log_room, grown, logged, empty)) (omega (arith, empty)) (omega (arith, free, count, logged, empty))
+
+  pub tied_after : (entry : Entry) (h : History) (names : Names) (capacity : ℕ) → IsAccepted b.story entry → Fits b entry made.Settle → HasLogRoom b → b.capacity ≤ capacity
+      → h.records.items ≡ [] → ((s : Setting) (base : World) (ts : List Past) → IsHistory s base ts b.history → IsHistory s (seen b.history.world) [] h)
+      → names.items ≡ b.settled.items ++ map (λ (r : StepRecord). r.fact.name) b.history.records.items
+      → IsTied (record { story = accepted b.story entry; history = h; places = b.places; capacity = capacity; settled = names })
+  tied_after (Define n machine) h names capacity a fits log_room grown none settles named = absurd fits
+  tied_after (Start exec machine input) h names capacity a fits log_room grown none settles named = absurd fits
+  tied_after (Stepped n kind) h names capacity a fits log_room grown none settles named = absurd fits
+  tied_after (Undo n) h names capacity a fits log_room grown none settles named = absurd fits
+  tied_after (Rollback n undone) h names capacity a fits log_room grown none settles named = absurd fits
+  tied_after Settle h names capacity a fits log_room grown none settles named = tied_settled h names capacity a log_room grown none settles named
+
+-- there is room for the names of a settlement that fits
+pub names_fit : (b : Volume) (entry : Entry) → Fits b entry made.Settle → HasRoomFor b.settled (length b.history.records.items)
+names_fit b (Define n machine) fits = absurd fits
+names_fit b (Start exec machine input) fits = absurd fits
+names_fit b (Stepped n kind) fits = absurd fits
+names_fit b (Undo n) fits = absurd fits
+names_fit b (Rollback n undone) fits = absurd fits
+names_fit b Settle fits = fits
+
+-- ---- what is answered
+
+pub settle_full : (story : Story) → is_full_for_define story ≡ true → settle_answer story ≡ Err Full
+unfolding settle_answer
+settle_full story h = rw h refl
+
+-- a settlement for which everything is made
+pub settle_ready : (before after : Volume) → after.story ≡ before.story → is_full_for_define before.story ≡ false → HasRoomFor after.settled (length after.history.records.items) → HasLogRoom after
+    → CanEnter after (record { entry = Settle; answer = told.Settled; change = made.Settle })
+settle_ready before after same free names room = record { accepted = ap settle_answer same ∙ room_settles before.story free; fits = names; room = room }
+
+-- a settlement that is answered is given
+pub settle_given : (answer r : Result (Unit {0}) Refusal) → answer ≡ r → Gives r answer
+settle_given (Ok x) r h = inl (sym h)
+settle_given (Err e) r h = sym h
+
+pub refused_given : {T : Type 0} (answer : Result T Refusal) (e : Refusal) → OrMemory answer e → Gives (Err e) answer
+refused_given (Ok x) e h = inr (ap Err h)
+refused_given (Err f) e h = ap Err h
+
+-- ---- what is accepted is refused for memory alone
+
+pub accepted_memory : {T : Type 0} (answer : Result T Refusal) (x : T) (e : Refusal) → answer ≡ Ok x → Gives (Err e) answer → e ≡ Memory
+accepted_memory (Ok y) x e h (inl k) = cc
+accepted_memory (Ok y) x e h (inr k) = cc
+accepted_memory (Err f) x e h k = cc
+
+pub accepted_given : {T : Type 0} (answer : Result T Refusal) (x y : T) → answer ≡ Ok x → Gives (Ok y) answer → y ≡ x
+accepted_given (Ok z) x y h (inl k) = cc
+accepted_given (Ok z) x y h (inr k) = cc
+accepted_given (Err f) x y h k = cc

@@ -1,0 +1,11 @@
+-- no entry from here on is a settlement
+use Rattle.std.proofs.Common.{◌≡◌, ◌≤◌, false, drop, length}
+use Rattle.std.specs.List.{list_any}
+use Rattle.book_log.specs.Answers.{is_settlement}
+use Rattle.rollback_book.proofs.rerunning.settled_end.Given as goal
+
+abbrev pub invariant-loop-end : goal.invariant-loop-end
+invariant-loop-end l = (l.end ≤ length l.log) × (list_any is_settlement (drop l.end l.log) ≡ false)
+
+abbrev pub decreases-loop-end : goal.decreases-loop-end
+decreases-loop-end l = l.end
