@@ -7,12 +7,12 @@ use Rattle.step_names.specs.Thread.{Thread, execution, is_name, is_name_byte}
 use Rattle.step_names.specs.Written.{thread_text}
 use Rattle.step_names.proofs.Parts.{lacks, lacks-append, passing_lacks}
 use Rattle.step_names.proofs.Numbers.{number_reads}
-use Rattle.step_names.proofs.Spelling.{thread_reads, step_reads}
+use Rattle.step_names.proofs.Spelling.{decimal_lacks, thread_reads, step_reads}
 use Rattle.attr_values.specs.declared.key.KeyAttribute.{KeyAttribute}
 use Rattle.attr_values.specs.declared.key.KeyType.{KeyType}
 use Rattle.attr_values.specs.declared.key.KeyType.TheVariants.{S, N}
 use Rattle.asl_fields.specs.Fields.{is_text}
-use Rattle.command_lines.specs.Grammar.{Spoken, table, define, start, step, undo, plan, rollback, drive, show, items, history, is_table_name, is_table_name_byte, execution_in, count_in, type_in, key_name_in, key_in, first_word, table_by, table_of, define_of, start_of, words_command}
+use Rattle.command_lines.specs.Grammar.{Spoken, table, define, start, step, undo, plan, rollback, settle, drive, work, show, items, history, is_table_name, is_table_name_byte, execution_in, count_in, workers_in, work_of, type_in, key_name_in, key_in, first_word, table_by, table_of, define_of, start_of, words_command}
 use Rattle.command_lines.specs.Spelled.{type_text, key_text, items_text, is_key_name, IsExecution, IsSort, IsProper, line_of}
 use Rattle.command_lines.specs.GrammarLaws.{LineIsRead}
 use Rattle.command_lines.proofs.Cuts.{cut_some}
@@ -44,6 +44,9 @@ thread_lacks c thread apart kept =
 
 count_reads : (count : ℕ) → (1 ≤ count) × (count ≤ 65536) → count_in (decimal count) ≡ Some count
 count_reads count kept = rw (number_reads count (omega (arith, kept.1)), le-leb 1 count kept.0, le-leb count 65536 kept.1)
+
+workers_reads : (workers : ℕ) → (1 ≤ workers) × (workers ≤ 8) → workers_in (decimal workers) ≡ Some workers
+workers_reads workers kept = rw (number_reads workers (omega (arith, kept.1)), le-leb 1 workers kept.0, le-leb workers 8 kept.1)
 
 -- ---- keys
 
@@ -102,6 +105,13 @@ start_reads exec machine json kept h = rw (
   h,
 )
 
+work_reads : (workers moves : ℕ) → (1 ≤ workers) × (workers ≤ 8) → (1 ≤ moves) × (moves ≤ 65536) → work_of (decimal workers ++ 32 ∷ decimal moves) ≡ Some (work workers moves)
+work_reads workers moves few some = rw (
+  cut_some 32 (decimal workers) (decimal moves) (decimal_lacks 32 workers refl (omega (arith, few.1))),
+  workers_reads workers few,
+  count_reads moves some,
+)
+
 text_reads : (command : Spoken) → IsProper command → words_command (line_of command) ≡ Some command
 text_reads (table name schema json) kept = table_reads name schema.partition schema.sort json kept.0 kept.1 kept.2
 text_reads (define name json) kept = define_reads name json kept
@@ -110,7 +120,9 @@ text_reads (step thread) kept = rw (thread_reads thread kept)
 text_reads (undo named) kept = rw (step_reads named kept)
 text_reads (plan named) kept = rw (step_reads named kept)
 text_reads (rollback named) kept = rw (step_reads named kept)
+text_reads settle kept = refl
 text_reads (drive count) kept = rw (count_reads count kept)
+text_reads (work workers moves) kept = work_reads workers moves kept.0 kept.1
 text_reads (show thread) kept = rw (thread_reads thread kept)
 text_reads items kept = refl
 text_reads history kept = refl

@@ -15,7 +15,7 @@ use Rattle.attr_values.specs.declared.key.KeyAttribute.{KeyAttribute}
 use Rattle.attr_values.specs.declared.key.KeyType.{KeyType}
 use Rattle.attr_values.specs.declared.key.KeyType.TheVariants.{S, N}
 use Rattle.asl_fields.specs.Fields.{is_text}
-use Rattle.command_lines.specs.Grammar.{Spoken, table, step, undo, plan, rollback, drive, show, items, history, cut_at, is_table_name, execution_in, within_drive, count_in, type_in, key_name_in, key_in, first_word, table_by, table_of, define_of, start_of, command_by, is_one_line, text_command, words_command}
+use Rattle.command_lines.specs.Grammar.{Spoken, table, step, undo, plan, rollback, settle, drive, show, items, history, cut_at, is_table_name, execution_in, within_drive, count_in, within_workers, workers_in, work_of, type_in, key_name_in, key_in, first_word, table_by, table_of, define_of, start_of, command_by, is_one_line, text_command, words_command}
 use Rattle.command_lines.specs.Spelled.{type_text, key_text, items_text, is_key_name, IsExecution, IsSort, IsProper, line_of}
 use Rattle.command_lines.specs.GrammarLaws.{LineSaysOne, LineIsSpelled}
 
@@ -72,6 +72,14 @@ count_says word count h =
     let bounds = and_parts (nat_le 1 number.0) (nat_le number.0 65536) found.0 in
     subst (λ (n : ℕ). ((1 ≤ n) × (n ≤ 65536)) × (word ≡ decimal n)) found.1
     ((leb-true 1 number.0 bounds.0, leb-true number.0 65536 bounds.1), sym (number_writes word number.0 number.1))
+
+workers_say : (word : List ℕ) (workers : ℕ) → workers_in word ≡ Some workers → ((1 ≤ workers) × (workers ≤ 8)) × (word ≡ decimal workers)
+workers_say word workers h =
+    let number = bind_found (read_number word) within_workers workers h in
+    let found = test_found (nat_le 1 number.0 && nat_le number.0 8) number.0 workers number.2 in
+    let bounds = and_parts (nat_le 1 number.0) (nat_le number.0 8) found.0 in
+    subst (λ (n : ℕ). ((1 ≤ n) × (n ≤ 8)) × (word ≡ decimal n)) found.1
+    ((leb-true 1 number.0 bounds.0, leb-true number.0 8 bounds.1), sym (number_writes word number.0 number.1))
 
 -- ---- lines
 
@@ -205,6 +213,18 @@ drive_line text command h =
     let count = count_says text found.0 found.1 in
     subst (λ (s : Spoken). IsProper s × (codes "drive " ++ text ≡ line_of s)) found.2 (count.0, ap (λ (w : List ℕ). codes "drive " ++ w) count.1)
 
+work_line : (text : List ℕ) (command : Spoken) → work_of text ≡ Some command → IsProper command × (codes "work " ++ text ≡ line_of command)
+work_line text command h =
+    let cut = bind_found (cut_at 32 text) _ command h in
+    let workers = bind_found (workers_in cut.0.0) _ command cut.2 in
+    let moves = bind_found (count_in cut.0.1) _ command workers.2 in
+    let first = workers_say cut.0.0 workers.0 workers.1 in
+    let second = count_says cut.0.1 moves.0 moves.1 in
+    let joined : text ≡ decimal workers.0 ++ 32 ∷ decimal moves.0 =
+    (cut_back 32 text cut.0 cut.1).0 ∙ ap (λ (w : List ℕ). w ++ 32 ∷ cut.0.1) first.1 ∙ ap (λ (w : List ℕ). decimal workers.0 ++ 32 ∷ w) second.1 in
+    subst (λ (s : Spoken). IsProper s × (codes "work " ++ text ≡ line_of s)) (same_some _ command moves.2)
+    ((first.0, second.0), ap (λ (w : List ℕ). codes "work " ++ w) joined)
+
 by_word : (keyword text word : List ℕ) (command : Spoken) → is_text keyword word ≡ true → IsProper command × (word ++ 32 ∷ text ≡ line_of command)
     → IsProper command × (keyword ++ 32 ∷ text ≡ line_of command)
 by_word keyword text word command same says = (says.0, ap (λ (w : List ℕ). w ++ 32 ∷ text) ((bytes_decides keyword word).0 same) ∙ says.1)
@@ -226,9 +246,12 @@ command_says keyword text command h = elim (choice_found (is_text keyword (codes
               | inl w ↦ by_word keyword text (codes "rollback") command w.0 (rollback_line text command w.1)
               | inr h7 ↦ elim (choice_found (is_text keyword (codes "drive")) (option_map drive (count_in text)) _ command h7) [
                 | inl w ↦ by_word keyword text (codes "drive") command w.0 (drive_line text command w.1)
-                | inr h8 ↦ elim (choice_found (is_text keyword (codes "show")) (option_map show (read_thread text)) _ command h8) [
-                  | inl w ↦ by_word keyword text (codes "show") command w.0 (show_line text command w.1)
-                  | inr h9 ↦ cc
+                | inr h8 ↦ elim (choice_found (is_text keyword (codes "work")) (work_of text) _ command h8) [
+                  | inl w ↦ by_word keyword text (codes "work") command w.0 (work_line text command w.1)
+                  | inr h9 ↦ elim (choice_found (is_text keyword (codes "show")) (option_map show (read_thread text)) _ command h9) [
+                    | inl w ↦ by_word keyword text (codes "show") command w.0 (show_line text command w.1)
+                    | inr h10 ↦ cc
+                  ]
                 ]
               ]
             ]
@@ -244,10 +267,13 @@ text_says text command h = elim (choice_found (is_text text (codes "items")) (So
   | inl w ↦ subst (λ (s : Spoken). IsProper s × (text ≡ line_of s)) (same_some items command w.1) (tt, (bytes_decides text (codes "items")).0 w.0)
   | inr h1 ↦ elim (choice_found (is_text text (codes "history")) (Some history) _ command h1) [
     | inl w ↦ subst (λ (s : Spoken). IsProper s × (text ≡ line_of s)) (same_some history command w.1) (tt, (bytes_decides text (codes "history")).0 w.0)
-    | inr h2 ↦
-        let cut = bind_found (cut_at 32 text) _ command h2 in
-        let says = command_says cut.0.0 cut.0.1 command cut.2 in
-        (says.0, (cut_back 32 text cut.0 cut.1).0 ∙ says.1)
+    | inr h2 ↦ elim (choice_found (is_text text (codes "settle")) (Some settle) _ command h2) [
+      | inl w ↦ subst (λ (s : Spoken). IsProper s × (text ≡ line_of s)) (same_some settle command w.1) (tt, (bytes_decides text (codes "settle")).0 w.0)
+      | inr h3 ↦
+          let cut = bind_found (cut_at 32 text) _ command h3 in
+          let says = command_says cut.0.0 cut.0.1 command cut.2 in
+          (says.0, (cut_back 32 text cut.0 cut.1).0 ∙ says.1)
+    ]
   ]
 ]
 

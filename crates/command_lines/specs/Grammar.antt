@@ -2,10 +2,10 @@
 --
 --     table NAME2 K:TYPE [K:TYPE] J        step T        plan S          items
 --     define NAME J                        show T        rollback S      history
---     start NAME NAME J                    undo S        drive K
+--     start NAME NAME J                    undo S        drive K         work W K        settle
 --
 -- Between two words stands one space and no more, and J is all that is left. A line has at most 1,048,576 bytes, and no line feed in it. NAME is the name of an execution or a machine.
--- T is a thread and S a step, written as these names are; K is a number from 1 to 65,536.
+-- T is a thread and S a step, written as these names are; K is a number from 1 to 65,536, and W one from 1 to 8.
 use Rattle.std.specs.Prelude.{◌≡◌, ℕ, ◌==◌, Bool, not, ◌&&◌, ◌||◌, List, [], ◌∷◌, length, nat_le, if◌then◌else◌, Option, Some, None, option_and_then, option_map, codes}
 use Rattle.std.specs.List.{list_all}
 use Rattle.std.specs.Option.{option_map_or}
@@ -20,7 +20,7 @@ use Rattle.attr_values.specs.declared.key.KeyType.{KeyType}
 use Rattle.attr_values.specs.declared.key.KeyType.TheVariants.{S, N}
 use Rattle.command_lines.specs.declared.words.KeyWord.{KeyWord}
 use Rattle.command_lines.specs.declared.command.Command.{Command}
-use Rattle.command_lines.specs.declared.command.Command.TheVariants.{Table, Define, Start, Step, Undo, Plan, Rollback, Drive, Show, Items, History}
+use Rattle.command_lines.specs.declared.command.Command.TheVariants.{Table, Define, Start, Step, Undo, Plan, Rollback, Settle, Drive, Work, Show, Items, History}
 
 -- A command: of a table its name, its key and its items' JSON; of a definition the machine's name and the definition's
 -- JSON; of a start the execution's thread, the machine's name and the input's JSON. Texts are their bytes.
@@ -32,7 +32,9 @@ pub data Spoken : Type 0 where
   undo : StepName → Spoken
   plan : StepName → Spoken
   rollback : StepName → Spoken
+  settle : Spoken
   drive : ℕ → Spoken
+  work : ℕ → ℕ → Spoken
   show : Thread → Spoken
   items : Spoken
   history : Spoken
@@ -70,7 +72,7 @@ table_name_in word = if is_table_name word then Some word else None
 abbrev pub execution_in : List ℕ → Option Thread
 execution_in word = if is_name word then Some (execution word) else None
 
--- a drive takes at most so many steps
+-- a drive or a round takes at most so many steps
 abbrev pub most_driven : ℕ
 most_driven = 65536
 
@@ -80,6 +82,17 @@ within_drive number = if nat_le 1 number && nat_le number most_driven then Some 
 
 abbrev pub count_in : List ℕ → Option ℕ
 count_in word = read_number word >>= within_drive
+
+-- a round has at most so many workers
+abbrev pub most_workers : ℕ
+most_workers = 8
+
+-- W: a number from 1 to 8
+abbrev pub within_workers : ℕ → Option ℕ
+within_workers number = if nat_le 1 number && nat_le number most_workers then Some number else None
+
+abbrev pub workers_in : List ℕ → Option ℕ
+workers_in word = read_number word >>= within_workers
 
 -- K: it isn't empty, and has no `[` in front
 abbrev pub key_name_in : List ℕ → Option (List ℕ)
@@ -131,6 +144,14 @@ start_of text = do
   machine ← name_in second
   Some (start thread machine json)
 
+-- W K
+abbrev pub work_of : List ℕ → Option Spoken
+work_of text = do
+  (first, second) ← cut_at 32 text
+  workers ← workers_in first
+  moves ← count_in second
+  Some (work workers moves)
+
 -- by the first word, from what stands after it
 abbrev pub command_by : List ℕ → List ℕ → Option Spoken
 command_by keyword text =
@@ -142,17 +163,19 @@ command_by keyword text =
     else (if is_text keyword (codes "plan") then option_map plan (read_step text)
     else (if is_text keyword (codes "rollback") then option_map rollback (read_step text)
     else (if is_text keyword (codes "drive") then option_map drive (count_in text)
+    else (if is_text keyword (codes "work") then work_of text
     else (if is_text keyword (codes "show") then option_map show (read_thread text)
-    else None))))))))
+    else None)))))))))
 
 -- of a text whose words are these
 abbrev pub words_command : List ℕ → Option Spoken
 words_command text =
     if is_text text (codes "items") then Some items
     else (if is_text text (codes "history") then Some history
+    else (if is_text text (codes "settle") then Some settle
     else (do
       (keyword, rest) ← cut_at 32 text
-      command_by keyword rest))
+      command_by keyword rest)))
 
 -- a line has at most so many bytes, without its end
 abbrev pub longest_line : ℕ
@@ -187,7 +210,9 @@ spoken (Step thread) = step thread
 spoken (Undo named) = undo named
 spoken (Plan named) = plan named
 spoken (Rollback named) = rollback named
+spoken Settle = settle
 spoken (Drive count) = drive count
+spoken (Work workers moves) = work workers moves
 spoken (Show thread) = show thread
 spoken Items = items
 spoken History = history

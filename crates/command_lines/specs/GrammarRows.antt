@@ -2,7 +2,7 @@
 use Rattle.std.specs.Prelude.{◌≡◌, [], ◌∷◌, codes, Some, None, refl}
 use Rattle.step_names.specs.Thread.{execution}
 use Rattle.attr_values.specs.declared.key.KeyType.TheVariants.{S, N}
-use Rattle.command_lines.specs.Grammar.{table, define, start, step, undo, plan, rollback, drive, show, items, history, text_command}
+use Rattle.command_lines.specs.Grammar.{table, define, start, step, undo, plan, rollback, settle, drive, work, show, items, history, text_command}
 
 row_one_key : text_command (codes "table items id:S []")
     ≡ Some (table (codes "items") (record { partition = record { name = codes "id"; kind = S }; sort = None }) (codes "[]"))
@@ -67,6 +67,30 @@ row_drive_nothing = refl
 row_drive_more : text_command (codes "drive 65537") ≡ None
 row_drive_more = refl
 
+row_work : text_command (codes "work 8 65536") ≡ Some (work 8 65536)
+row_work = refl
+
+row_work_one : text_command (codes "work 1 1") ≡ Some (work 1 1)
+row_work_one = refl
+
+row_no_workers : text_command (codes "work 0 1") ≡ None
+row_no_workers = refl
+
+row_workers_more : text_command (codes "work 9 1") ≡ None
+row_workers_more = refl
+
+row_work_nothing : text_command (codes "work 1 0") ≡ None
+row_work_nothing = refl
+
+row_work_more : text_command (codes "work 1 65537") ≡ None
+row_work_more = refl
+
+row_work_alone : text_command (codes "work 1") ≡ None
+row_work_alone = refl
+
+row_work_three : text_command (codes "work 1 2 3") ≡ None
+row_work_three = refl
+
 row_leading_zero : text_command (codes "undo a#01") ≡ None
 row_leading_zero = refl
 
@@ -84,6 +108,12 @@ row_space_after = refl
 
 row_history : text_command (codes "history") ≡ Some history
 row_history = refl
+
+row_settle : text_command (codes "settle") ≡ Some settle
+row_settle = refl
+
+row_settle_a_step : text_command (codes "settle a#1") ≡ None
+row_settle_a_step = refl
 
 row_nothing : text_command [] ≡ None
 row_nothing = refl

@@ -1,7 +1,7 @@
 // The commands, read from lines.
 ghost use Rattle.std.specs.Prelude.{◌≡◌, ◌↔◌, None, Some, IfOk, IsErrOf, MatchResult, option_map};
 ghost use Rattle.step_names.specs.Grammar as grammar;
-ghost use Rattle.command_lines.specs.Grammar.{cut_at, command_of, text_command, words_command, command_by, table_of, define_of, start_of, execution_in, count_in, spoken, attribute_of};
+ghost use Rattle.command_lines.specs.Grammar.{cut_at, command_of, text_command, words_command, command_by, table_of, define_of, start_of, execution_in, count_in, workers_in, work_of, spoken, attribute_of};
 
 pub use crate::execution::Execution;
 pub use crate::words::LONGEST_LINE;
@@ -70,8 +70,15 @@ pub enum Command<'a> {
     Plan(StepName),
     /// To take back a step and its consequences.
     Rollback(StepName),
+    /// To settle the remaining steps, which can't be taken back then.
+    Settle,
     /// At most so many steps, from 1 to 65,536.
     Drive(u32),
+    /// A round of so many workers, from 1 to 8, that take at most so many steps together, from 1 to 65,536.
+    Work {
+        workers: u32,
+        moves: u32,
+    },
     /// To tell where a thread stands.
     Show(ThreadName),
     /// To list the items.
@@ -116,6 +123,7 @@ fn read_spelled(alloc: Global, text: &str) -> Result<Command<'_>, CommandFault>
     match text {
         "items" => Ok(Command::Items),
         "history" => Ok(Command::History),
+        "settle" => Ok(Command::Settle),
         _ => match cut(text, ' ') {
             Some((keyword, rest)) => read_words(alloc, keyword, rest),
             None => Err(CommandFault::BadLine),
@@ -137,6 +145,7 @@ fn read_words<'a>(alloc: Global, keyword: &str, rest: &'a str) -> Result<Command
         "plan" => Ok(Command::Plan(read_step(alloc, rest)?)),
         "rollback" => Ok(Command::Rollback(read_step(alloc, rest)?)),
         "drive" => Ok(Command::Drive(read_count(rest)?)),
+        "work" => read_work(rest),
         "show" => Ok(Command::Show(read_thread(alloc, rest)?)),
         _ => Err(CommandFault::BadLine),
     }
@@ -263,15 +272,38 @@ fn read_step(alloc: Global, word: &str) -> Result<StepName, CommandFault>
     }
 }
 
-/// A drive takes at most so many steps.
+/// A drive or a round takes at most so many steps.
 const MOST_DRIVEN: u32 = 65_536;
 
-/// A number of steps, from 1 to the most that a drive takes.
+/// A number of steps, from 1 to the most that a drive or a round takes.
 fn read_count(word: &str) -> Result<u32, CommandFault>
     ensures { MatchResult result (λ n. count_in word.now ≡ Some n) (λ e. (e ≡ CommandFault.BadLine) × (count_in word.now ≡ None)) }
 {
     match read_number(word) {
         Some(count) if 1 <= count && count <= MOST_DRIVEN => Ok(count),
+        _ => Err(CommandFault::BadLine),
+    }
+}
+
+fn read_work(text: &str) -> Result<Command<'_>, CommandFault>
+    ensures { MatchResult result (λ c. work_of text.now ≡ Some (spoken c)) (λ e. (e ≡ CommandFault.BadLine) × (work_of text.now ≡ None)) }
+{
+    let (workers, moves) = parted(text)?;
+    Ok(Command::Work {
+        workers: read_workers(workers)?,
+        moves: read_count(moves)?,
+    })
+}
+
+/// A round has at most so many workers.
+const MOST_WORKERS: u32 = 8;
+
+/// A number of workers, from 1 to the most that a round has.
+fn read_workers(word: &str) -> Result<u32, CommandFault>
+    ensures { MatchResult result (λ n. workers_in word.now ≡ Some n) (λ e. (e ≡ CommandFault.BadLine) × (workers_in word.now ≡ None)) }
+{
+    match read_number(word) {
+        Some(count) if 1 <= count && count <= MOST_WORKERS => Ok(count),
         _ => Err(CommandFault::BadLine),
     }
 }

@@ -11,6 +11,7 @@ use Rattle.book_log.specs.declared.begin.Begin.{Begin}
 use Rattle.book_log.specs.declared.entry.Entry.{Entry}
 use Rattle.book_log.proofs.LegalRuns.{accepted_is_legal}
 use Rattle.journaled_book.specs.Lines.{IsBeginLine, IsLineOf, AreEntryLines, AreLinesOf, IsDamaged, Follows}
+use Rattle.journaled_book.specs.Journaled.{GoesOnBy}
 use Rattle.journaled_book.specs.Reading.{fault_at}
 use Rattle.journaled_book.specs.declared.fault.LineFault.{LineFault}
 use Rattle.journaled_book.specs.declared.fault.LineFault.TheVariants as line_fault
@@ -24,6 +25,19 @@ more_entry_lines [] [] line entry h is = (is, tt)
 more_entry_lines [] (x ∷ log) line entry h is = absurd h
 more_entry_lines (l ∷ lines) [] line entry h is = absurd h
 more_entry_lines (l ∷ lines) (x ∷ log) line entry h is = (h.0, more_entry_lines lines log line entry h.1 is)
+
+pub both_entry_lines : (lines more : List (List ℕ)) (log es : List Entry) → AreEntryLines lines log → AreEntryLines more es → AreEntryLines (lines ++ more) (log ++ es)
+both_entry_lines [] more [] es h k = k
+both_entry_lines [] more (x ∷ log) es h k = absurd h
+both_entry_lines (l ∷ lines) more [] es h k = absurd h
+both_entry_lines (l ∷ lines) more (x ∷ log) es h k = (h.0, both_entry_lines lines more log es h.1 k)
+
+-- the lines of a story that went on
+pub gone_on : (lines more : List (List ℕ)) (before : Option Story) (after : Story) → AreLinesOf lines before → GoesOnBy more before after → AreLinesOf (lines ++ more) (Some after)
+gone_on lines more None after h goes = absurd goes
+gone_on [] more (Some before) after h goes = absurd h
+gone_on (l ∷ lines) more (Some before) after h goes =
+    subst (λ (s : Story). AreLinesOf (l ∷ (lines ++ more)) (Some s)) (sym goes.1) (h.0, both_entry_lines lines more before.log goes.0 h.1 goes.2)
 
 pub more_lines : (lines : List (List ℕ)) (story : Story) (line : List ℕ) (entry : Entry) → AreLinesOf lines (Some story) → IsLineOf line entry → AreLinesOf (lines ++ line ∷ []) (Some (accepted story entry))
 more_lines [] story line entry h is = absurd h

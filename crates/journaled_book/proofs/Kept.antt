@@ -10,11 +10,11 @@ use Rattle.book_log.specs.declared.entry.Entry.{Entry}
 use Rattle.book_journal.specs.Entries.{entries, HoldLines}
 use Rattle.book_journal.specs.Kept.{lines_in, IsAtRest, IsSame, MayAdd}
 use Rattle.rollback_book.specs.Book.{Volume}
-use Rattle.journaled_book.specs.Changes.{Appends, IsRead}
-use Rattle.journaled_book.specs.Journaled.{HasLinesOf, IsJournalOf}
+use Rattle.journaled_book.specs.Changes.{Appends, AppendsAll, IsRead}
+use Rattle.journaled_book.specs.Journaled.{GoesOnBy, HasLinesOf, IsJournalOf}
 use Rattle.journaled_book.specs.Lines.{AreLinesOf, IsBeginLine, IsLineOf}
 use Rattle.journaled_book.specs.Opening.{OpensTo}
-use Rattle.journaled_book.proofs.Given.{first_line, more_lines}
+use Rattle.journaled_book.proofs.Given.{first_line, gone_on, more_lines}
 
 clean_before : (old new : State) (P : Trees → Type 0) → Survives old new P → HasCleanDisk new → HasCleanDisk old
 clean_before old new P survives clean = omega (arith, survives.clean, clean)
@@ -74,6 +74,24 @@ module _ {T E : Type 0} (old new : State) (line : List ℕ) where
   pub retold : {U : Type 0} → (result : Result T E) (x : T) (y : U) → result ≡ Ok x → Appends old new line result → Appends {T = U} {E = E} old new line (Ok y)
   retold (Ok z) x y is a = record { ok = a.ok; err = λ clean. tt; crash = a.crash; survives = a.survives; at_rest = a.at_rest }
   retold (Err e) x y is a = cc
+
+-- ---- after an append of lines
+
+module _ {T E : Type 0} (old new : State) (more : List (List ℕ)) where
+  pub all_refused : (e : E) (story : Option Story) → IsJournalOf old story → AppendsAll {T = T} {E = E} old new more (Err e) → IsJournalOf new story
+  all_refused e story h a = record {
+    lines = λ clean up. same_lines old new story (a.err clean) up (h.lines (clean_before old new (MayAdd old more) a.survives clean));
+    rest = a.at_rest;
+  }
+
+  pub all_added : (x : T) (before : Option Story) (after : Story) → IsJournalOf old before → GoesOnBy more before after → AppendsAll {T = T} {E = E} old new more (Ok x) → IsJournalOf new (Some after)
+  all_added x before after h goes a = record {
+    lines = λ clean up.
+        let it = a.ok clean in
+        let held = h.lines (clean_before old new (MayAdd old more) a.survives clean) it.was_open in
+        (held.0 ++ more, it.lines held.0 held.1, gone_on held.0 more before after held.2 goes);
+    rest = a.at_rest;
+  }
 
 -- ---- without an append
 

@@ -18,15 +18,15 @@ use Rattle.step_names.specs.declared.step.StepName.{StepName}
 use Rattle.rollback_book.specs.Kind.{Kind}
 use Rattle.rollback_book.specs.Fact.{Fact}
 use Rattle.rollback_book.specs.Dependence.{depends_directly}
-use Rattle.book_log.specs.Answers.{free_answer, found_answer, from_step, IsDefineRefusal, is_full_for_define, start_answer, step_answer, undo_answer, plan_answer}
+use Rattle.book_log.specs.Answers.{absent, settle_answer, free_answer, found_answer, from_step, IsDefineRefusal, is_full_for_define, start_answer, step_answer, undo_answer, plan_answer}
 use Rattle.book_log.specs.Beginning.{table_of}
 use Rattle.book_log.specs.Legal.{IsAccepted}
 use Rattle.book_log.specs.Story.{Story, accepted, facts_of, machine_of}
 use Rattle.book_log.specs.declared.begin.Begin.{Begin}
 use Rattle.book_log.specs.declared.entry.Entry.{Entry}
-use Rattle.book_log.specs.declared.entry.Entry.TheVariants.{Define, Start, Step as Stepped, Undo, Rollback}
+use Rattle.book_log.specs.declared.entry.Entry.TheVariants.{Define, Start, Step as Stepped, Undo, Rollback, Settle}
 use Rattle.book_log.specs.declared.refusal.Refusal.{Refusal}
-use Rattle.book_log.specs.declared.refusal.Refusal.TheVariants.{NoMachine, MachineTaken, BadMachine, ExecTaken, NoThread, NotReady, NoStep, HasDependents, Stale, Full, Memory}
+use Rattle.book_log.specs.declared.refusal.Refusal.TheVariants.{NoMachine, MachineTaken, BadMachine, ExecTaken, NoThread, NotReady, NoStep, HasDependents, Stale, Full, Memory, Settled}
 use Rattle.command_lines.specs.Grammar as spoken
 use Rattle.command_lines.specs.Grammar.{Spoken, command_of}
 use Rattle.rollback_book.specs.Making.{Answers, OrMemory}
@@ -46,9 +46,11 @@ is_entry (spoken.start exec machine json) = true
 is_entry (spoken.step thread) = true
 is_entry (spoken.undo name) = true
 is_entry (spoken.rollback name) = true
+is_entry spoken.settle = true
 is_entry (spoken.table name schema json) = false
 is_entry (spoken.plan name) = false
 is_entry (spoken.drive count) = false
+is_entry (spoken.work workers moves) = false
 is_entry (spoken.show thread) = false
 is_entry spoken.items = false
 is_entry spoken.history = false
@@ -64,6 +66,7 @@ module _ (line : List ℕ) where
   no_entry c is none (Stepped name kind) h = let e = both c (spoken.step name.thread) is h in let f : is_entry (spoken.step name.thread) ≡ false = ap is_entry (sym e) ∙ none in cc
   no_entry c is none (Undo name) h = let e = both c (spoken.undo name) is h in let f : is_entry (spoken.undo name) ≡ false = ap is_entry (sym e) ∙ none in cc
   no_entry c is none (Rollback name undone) h = let e = both c (spoken.rollback name) is h in let f : is_entry (spoken.rollback name) ≡ false = ap is_entry (sym e) ∙ none in cc
+  no_entry c is none Settle h = let e = both c spoken.settle is h in let f : is_entry spoken.settle ≡ false = ap is_entry (sym e) ∙ none in cc
 
   module _ (P : Entry → Type 0) where
     pub by_define : (name json : List ℕ) → command_of line ≡ Some (spoken.define name json) → ((machine : Definition) (d : source.Data) → source_text.read json ≡ Some d → Defines d machine → P (Define name machine)) → (entry : Entry) → IsLineOf line entry → P entry
@@ -76,6 +79,7 @@ module _ (line : List ℕ) where
     by_define name json is p (Stepped n kind) h = let e = both (spoken.define name json) (spoken.step n.thread) is h in cc
     by_define name json is p (Undo n) h = let e = both (spoken.define name json) (spoken.undo n) is h in cc
     by_define name json is p (Rollback n undone) h = let e = both (spoken.define name json) (spoken.rollback n) is h in cc
+    by_define name json is p Settle h = let e = both (spoken.define name json) spoken.settle is h in cc
 
     pub by_start : (exec : Thread) (machine json : List ℕ) → command_of line ≡ Some (spoken.start exec machine json) → ((input : Json) → read_json json ≡ Some (data_of input) → P (Start exec machine input)) → (entry : Entry) → IsLineOf line entry → P entry
     by_start exec machine json is p (Start x m input) h =
@@ -88,6 +92,7 @@ module _ (line : List ℕ) where
     by_start exec machine json is p (Stepped n kind) h = let e = both (spoken.start exec machine json) (spoken.step n.thread) is h in cc
     by_start exec machine json is p (Undo n) h = let e = both (spoken.start exec machine json) (spoken.undo n) is h in cc
     by_start exec machine json is p (Rollback n undone) h = let e = both (spoken.start exec machine json) (spoken.rollback n) is h in cc
+    by_start exec machine json is p Settle h = let e = both (spoken.start exec machine json) spoken.settle is h in cc
 
     pub by_step : (thread : Thread) → command_of line ≡ Some (spoken.step thread) → ((name : StepName) (kind : Kind) → name.thread ≡ thread → P (Stepped name kind)) → (entry : Entry) → IsLineOf line entry → P entry
     by_step thread is p (Stepped name kind) h = let e = both (spoken.step name.thread) (spoken.step thread) h is in let same : name.thread ≡ thread = cc in p name kind same
@@ -95,6 +100,7 @@ module _ (line : List ℕ) where
     by_step thread is p (Start exec machine input) h = let e = both (spoken.step thread) (spoken.start exec machine h.json) is h.is_start in cc
     by_step thread is p (Undo n) h = let e = both (spoken.step thread) (spoken.undo n) is h in cc
     by_step thread is p (Rollback n undone) h = let e = both (spoken.step thread) (spoken.rollback n) is h in cc
+    by_step thread is p Settle h = let e = both (spoken.step thread) spoken.settle is h in cc
 
     pub by_undo : (name : StepName) → command_of line ≡ Some (spoken.undo name) → P (Undo name) → (entry : Entry) → IsLineOf line entry → P entry
     by_undo name is p (Undo n) h = let e = both (spoken.undo name) (spoken.undo n) is h in let same : name ≡ n = cc in subst (λ (x : StepName). P (Undo x)) same p
@@ -102,6 +108,7 @@ module _ (line : List ℕ) where
     by_undo name is p (Start exec machine input) h = let e = both (spoken.undo name) (spoken.start exec machine h.json) is h.is_start in cc
     by_undo name is p (Stepped n kind) h = let e = both (spoken.undo name) (spoken.step n.thread) is h in cc
     by_undo name is p (Rollback n undone) h = let e = both (spoken.undo name) (spoken.rollback n) is h in cc
+    by_undo name is p Settle h = let e = both (spoken.undo name) spoken.settle is h in cc
 
     pub by_rollback : (name : StepName) → command_of line ≡ Some (spoken.rollback name) → ((undone : List StepName) → P (Rollback name undone)) → (entry : Entry) → IsLineOf line entry → P entry
     by_rollback name is p (Rollback n undone) h = let e = both (spoken.rollback name) (spoken.rollback n) is h in let same : name ≡ n = cc in subst (λ (x : StepName). P (Rollback x undone)) same (p undone)
@@ -109,6 +116,15 @@ module _ (line : List ℕ) where
     by_rollback name is p (Start exec machine input) h = let e = both (spoken.rollback name) (spoken.start exec machine h.json) is h.is_start in cc
     by_rollback name is p (Stepped n kind) h = let e = both (spoken.rollback name) (spoken.step n.thread) is h in cc
     by_rollback name is p (Undo n) h = let e = both (spoken.rollback name) (spoken.undo n) is h in cc
+    by_rollback name is p Settle h = let e = both (spoken.rollback name) spoken.settle is h in cc
+
+    pub by_settle : command_of line ≡ Some spoken.settle → P Settle → (entry : Entry) → IsLineOf line entry → P entry
+    by_settle is p Settle h = p
+    by_settle is p (Define n m) h = let e = both spoken.settle (spoken.define n h.json) is h.is_define in cc
+    by_settle is p (Start exec machine input) h = let e = both spoken.settle (spoken.start exec machine h.json) is h.is_start in cc
+    by_settle is p (Stepped n kind) h = let e = both spoken.settle (spoken.step n.thread) is h in cc
+    by_settle is p (Undo n) h = let e = both spoken.settle (spoken.undo n) is h in cc
+    by_settle is p (Rollback n undone) h = let e = both spoken.settle (spoken.rollback n) is h in cc
 
 -- ---- the table's line
 
@@ -147,6 +163,7 @@ made_said story (change.Define name definition) made line h says =
 made_said story (change.Start exec machine input) made line h says = subst (IsLineOf line) (sym h.2.0) says
 made_said story (change.Step thread) made line h says =
     subst (IsLineOf line) (sym h.2.0) (says ∙ ap (λ (t : Thread). Some (spoken.step t)) (sym (step_thread story thread.now h.0 h.1)))
+made_said story change.Settle made line h says = subst (IsLineOf line) (sym h.1.0) says
 
 pub said_if_ok : (story : Story) (what : Change) (r : Result Made Refusal) → Answers story what r → IfOk r (λ made. (line : List ℕ) → SaysChange what line → IsLineOf line made.entry)
 said_if_ok story what (Ok made) h = λ line says. made_said story what made line h says
@@ -191,6 +208,7 @@ define_refused story name d (NotReady readiness) h told machine defines free roo
 define_refused story name d NoStep h told machine defines free room = absurd h
 define_refused story name d (HasDependents step) h told machine defines free room = absurd h
 define_refused story name d (Stale entries) h told machine defines free room = absurd h
+define_refused story name d Settled h told machine defines free room = absurd h
 
 pub refused_said : (story : Story) (what : Change) (e : Refusal) (line : List ℕ) → Answers story what (Err e) → refused_line e ≡ line_fault.Damaged → SaysChange what line → IsDamaged (Some story) line
 refused_said story (change.Define name definition) e line h told says =
@@ -202,6 +220,7 @@ refused_said story (change.Start exec machine input) e line h told says =
 refused_said story (change.Step thread) e line h told says =
     by_step line (λ entry. IsAccepted story entry → ⊥) thread.now says
     (λ name kind same ok. or_memory (step_answer story thread.now) e _ h told (ap (step_answer story) (sym same) ∙ ok))
+refused_said story change.Settle e line h told says = by_settle line (λ entry. IsAccepted story entry → ⊥) says (λ ok. or_memory (settle_answer story) e tt h told ok)
 
 -- ---- each command
 
@@ -226,13 +245,13 @@ free_itself : (name x : StepName) (o : Option Fact) → free_answer name o ≡ O
 free_itself name x None e = cc
 free_itself name x (Some dependent) e = cc
 
-found_itself : (name x : StepName) (o : Option (Fact × List Fact)) → found_answer name o ≡ Ok x → x ≡ name
-found_itself name x None e = cc
-found_itself name x (Some p) e = free_itself name x (find (depends_directly p.0) p.1) e
+found_itself : (gone : Refusal) (name x : StepName) (o : Option (Fact × List Fact)) → found_answer gone name o ≡ Ok x → x ≡ name
+found_itself gone name x None e = cc
+found_itself gone name x (Some p) e = free_itself name x (find (depends_directly p.0) p.1) e
 
 undo_itself : (story : Story) (name x : StepName) → undo_answer story name ≡ Ok x → x ≡ name
 unfolding undo_answer
-undo_itself story name x e = found_itself name x (from_step name (facts_of story)) e
+undo_itself story name x e = found_itself (absent story name) name x (from_step name (facts_of story)) e
 
 pub undo_added : (story after : Story) (name step x : StepName) → name ≡ step → Ok x ≡ undo_answer story name → after ≡ accepted story (Undo name) → AddsBy story (spoken.undo step) after
 undo_added story after name step x same answer is line says =

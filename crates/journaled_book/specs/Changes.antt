@@ -30,21 +30,25 @@ use Rattle.journaled_book.specs.declared.fault.ChangeFault.TheVariants as change
 
 -- ---- the journal
 
--- the line stands after those from before; the connection was open, and is
-pub record HasLine (old new : State) (line : List ℕ) : Type 0 where
+-- the lines stand after those from before; the connection was open, and is
+pub record HasLines (old new : State) (more : List (List ℕ)) : Type 0 where
   pub was_open : IsTrue old.is_open
   pub is_open : IsTrue new.is_open
-  pub added : AddLines (lines_in old) (line ∷ []) (lines_in new)
-  pub lines : (before : List (List ℕ)) → HoldLines (lines_in old) before → HoldLines (lines_in new) (before ++ line ∷ [])
+  pub added : AddLines (lines_in old) more (lines_in new)
+  pub lines : (before : List (List ℕ)) → HoldLines (lines_in old) before → HoldLines (lines_in new) (before ++ more)
 
--- The line is appended, or the journal is as it was. A crash leaves the lines from before, with this one or without; once the call
--- has returned, those that the journal has.
-pub record Appends {T E : Type 0} (old new : State) (line : List ℕ) (result : Result T E) : Type 0 where
-  pub ok : HasCleanDisk new → OnOk result (HasLine old new line)
+-- The lines are appended, all of them, or the journal is as it was. A crash leaves the lines from before, with these or without; once
+-- the call has returned, those that the journal has.
+pub record AppendsAll {T E : Type 0} (old new : State) (more : List (List ℕ)) (result : Result T E) : Type 0 where
+  pub ok : HasCleanDisk new → OnOk result (HasLines old new more)
   pub err : HasCleanDisk new → OnErr result (IsSame old new)
-  pub crash : LeavesAllOrNone old (line ∷ []) new
-  pub survives : Survives old new (MayAdd old (line ∷ []))
+  pub crash : LeavesAllOrNone old more new
+  pub survives : Survives old new (MayAdd old more)
   pub at_rest : IsAtRest new
+
+-- one line is
+abbrev pub Appends : {T E : Type 0} → State → State → List ℕ → Result T E → Type 0
+Appends old new line result = AppendsAll old new (line ∷ []) result
 
 -- the journal is as it was, and nothing was written
 pub record IsRead (old new : State) : Type 0 where

@@ -1,5 +1,5 @@
 -- A book and its journal as their contracts see them.
-use Rattle.std.specs.Prelude.{ℕ, List, Option, option_map, IsTrue, refl}
+use Rattle.std.specs.Prelude.{◌≡◌, ℕ, List, ◌++◌, Option, None, Some, option_map, Result, Ok, Err, IsTrue, refl}
 use Rattle.std.specs.Coded.{Coded, code_by, coded×}
 use Rattle.sqlite.specs.Held.{Held, held_code}
 use Rattle.sqlite.specs.State.{State, HasCleanDisk}
@@ -8,7 +8,7 @@ use Rattle.book_log.specs.declared.entry.Entry.{Entry}
 use Rattle.book_journal.specs.Entries.{HoldLines}
 use Rattle.book_journal.specs.Kept.{lines_in, IsAtRest}
 use Rattle.rollback_book.specs.Book.{Volume}
-use Rattle.journaled_book.specs.Lines.{AreLinesOf}
+use Rattle.journaled_book.specs.Lines.{AreEntryLines, AreLinesOf}
 
 -- the book, none before its table is given, and what the journal's connection holds
 pub record Journaled (S : Type 0) : Type 0 where
@@ -24,6 +24,16 @@ story_of book = option_map (λ b. b.story) book
 
 abbrev pub with_entry : Option Story → Entry → Option Story
 with_entry story entry = option_map (λ s. accepted s entry) story
+
+-- the journal of a book that went on, or of one that is away
+abbrev pub journal_of : {S : Type 0} → Result (Journaled S) (Journaled S) → Held S
+journal_of (Ok book) = book.journal
+journal_of (Err away) = away.journal
+
+-- the story went on by entries that these lines say
+abbrev pub GoesOnBy : List (List ℕ) → Option Story → Story → Type 0
+GoesOnBy lines None after = ⊥
+GoesOnBy lines (Some before) after = (more : List Entry) × (after ≡ record { begin = before.begin; log = before.log ++ more }) × AreEntryLines lines more
 
 -- the journal holds lines of this story
 abbrev pub HasLinesOf : State → Option Story → Type 0

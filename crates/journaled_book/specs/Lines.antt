@@ -15,7 +15,7 @@ use Rattle.book_log.specs.Legal.{IsAccepted}
 use Rattle.book_log.specs.Story.{Story, accepted}
 use Rattle.book_log.specs.declared.begin.Begin.{Begin}
 use Rattle.book_log.specs.declared.entry.Entry.{Entry}
-use Rattle.book_log.specs.declared.entry.Entry.TheVariants.{Define, Start, Step as Stepped, Undo, Rollback}
+use Rattle.book_log.specs.declared.entry.Entry.TheVariants.{Define, Start, Step as Stepped, Undo, Rollback, Settle}
 use Rattle.command_lines.specs.Grammar as spoken
 use Rattle.command_lines.specs.Grammar.{command_of}
 use Rattle.rollback_book.specs.declared.making.Change.{Change}
@@ -48,6 +48,7 @@ IsLineOf line (Start exec machine input) = IsStartLine line exec machine input
 IsLineOf line (Stepped name kind) = command_of line ≡ Some (spoken.step name.thread)
 IsLineOf line (Undo name) = command_of line ≡ Some (spoken.undo name)
 IsLineOf line (Rollback name undone) = command_of line ≡ Some (spoken.rollback name)
+IsLineOf line Settle = command_of line ≡ Some spoken.settle
 
 -- the line defines what this JSON is under this name
 abbrev pub SaysDefine : List ℕ → source.Data → List ℕ → Type 0
@@ -58,6 +59,7 @@ abbrev pub SaysChange : Change → List ℕ → Type 0
 SaysChange (change.Define name definition) line = SaysDefine name.now (view definition.now) line
 SaysChange (change.Start exec machine input) line = IsStartLine line exec.now machine.now input
 SaysChange (change.Step thread) line = command_of line ≡ Some (spoken.step thread.now)
+SaysChange change.Settle line = command_of line ≡ Some spoken.settle
 
 -- one line for each entry
 abbrev pub AreEntryLines : List (List ℕ) → List Entry → Type 0

@@ -27,8 +27,8 @@ use step_names::StepName;
 /// journal's lines are those of the book's story.
 #[derive(Drop)]
 pub struct JournaledBook<S: Alter> {
-    book: Option<Book>,
-    journal: Journal<S>,
+    pub(crate) book: Option<Book>,
+    pub(crate) journal: Journal<S>,
 }
 
 impl<S: Alter> Model for JournaledBook<S> {

@@ -6,7 +6,7 @@ ghost use Rattle.json_tree.specs.Data.{depth, most_levels};
 ghost use Rattle.json_tree.specs.View.{data_of};
 ghost use Rattle.asl_tree.specs.Definition.{Definition};
 ghost use Rattle.rollback_book.specs.Profile.{Defines};
-ghost use Rattle.book_log.specs.Answers.{start_answer, step_answer};
+ghost use Rattle.book_log.specs.Answers.{settle_answer, start_answer, step_answer};
 ghost use Rattle.command_lines.specs.Grammar as grammar;
 ghost use Rattle.command_lines.specs.Grammar.{command_of};
 ghost use Rattle.journaled_book.specs.Changes.{AnswersChange, Appends, RefusesDefine};
@@ -116,6 +116,30 @@ impl<S: Alter> JournaledBook<S> {
         };
         match self.enter(made, line) {
             Ok(Entered::Stepped(moved)) => Ok(moved),
+            Ok(_) => unreachable!(),
+            Err(fault) => Err(ChangeFault::Journal(fault)),
+        }
+    }
+
+    /// Settles the remaining steps, as `Book::settle`, and appends its line before.
+    ///
+    /// # Errors
+    ///
+    /// As the book refuses, before anything is appended; or as the journal refuses the line. The story and the journal are as before then.
+    pub fn settle(&mut self, alloc: Global, line: &str) -> Result<(), ChangeFault>
+        requires open { IsSome self.old.book }
+        requires line { command_of line.now ≡ Some grammar.settle }
+        ensures answer { IfSome self.old.book (λ b. AnswersChange (settle_answer b.story) result) }
+        ensures ok { OnOk result (story_of self.new.book ≡ with_entry (story_of self.old.book) Entry.Settle) }
+        ensures err { OnErr result (story_of self.new.book ≡ story_of self.old.book) }
+        ensures journal { Appends (state S.Store self.old.journal) (state S.Store self.new.journal) line.now result }
+    {
+        let made = match self.ready(alloc, Change::Settle) {
+            Ok(made) => made,
+            Err(refusal) => return Err(ChangeFault::Book(refusal)),
+        };
+        match self.enter(made, line) {
+            Ok(Entered::Settled) => Ok(()),
             Ok(_) => unreachable!(),
             Err(fault) => Err(ChangeFault::Journal(fault)),
         }

@@ -4,6 +4,7 @@
 //!
 //! For each command all growths come first, then the line is appended, and then the book is changed, which takes no memory and
 //! can't be refused. So a refused append leaves book and journal as they were.
+mod away;
 mod book;
 mod changing;
 mod commands;
@@ -12,6 +13,7 @@ mod lines;
 mod loading;
 mod parts;
 
+pub use away::AwayBook;
 pub use book::JournaledBook;
 pub use fault::{BeginRefusal, ChangeFault, OpenFault};
 pub use rollback_book as books;

@@ -122,6 +122,7 @@ fn enter_command(alloc: Global, book: &mut Book, command: Command<'_>) -> Result
         Command::Step(thread) => enter_step(alloc, book, &thread),
         Command::Undo(step) => enter_undo(alloc, book, &step),
         Command::Rollback(step) => enter_rollback(alloc, book, &step),
+        Command::Settle => enter_settle(alloc, book),
         other => {
             drop(other);
             Err(LineFault::Damaged)
@@ -176,6 +177,13 @@ fn enter_step(alloc: Global, book: &mut Book, thread: &ThreadName) -> Result<(),
     ensures damaged { result ≡ Err LineFault.Damaged → IsDamagedBy (Some book.old.story) (grammar.step thread.now) }
 {
     enter_change(alloc, book, Change::Step { thread })
+}
+
+fn enter_settle(alloc: Global, book: &mut Book) -> Result<(), LineFault>
+    ensures ok { OnOk result (AddsBy book.old.story grammar.settle book.new.story) }
+    ensures damaged { result ≡ Err LineFault.Damaged → IsDamagedBy (Some book.old.story) grammar.settle }
+{
+    enter_change(alloc, book, Change::Settle)
 }
 
 fn enter_change(alloc: Global, book: &mut Book, change: Change<'_>) -> Result<(), LineFault>

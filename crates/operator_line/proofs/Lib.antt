@@ -5,3 +5,4 @@ pub mod Sessions
 pub mod Json
 pub mod Feeds
 pub mod Refused
+pub mod Settling

@@ -8,7 +8,7 @@ use Rattle.json_tree.specs.Data.{Data, null, boolean, whole, text, list, fields}
 use Rattle.json_tree.specs.Reading.{source_of, whole_of}
 use Rattle.step_names.specs.declared.step.StepName.{StepName}
 use Rattle.book_log.specs.Story.{Story, world_of}
-use Rattle.book_log.specs.Answers.{start_answer, step_answer, undo_answer, plan_answer}
+use Rattle.book_log.specs.Answers.{settle_answer, start_answer, step_answer, undo_answer, plan_answer}
 use Rattle.book_log.specs.declared.begin.Begin.{Begin}
 use Rattle.journaled_book.specs.Frame.{Frame}
 use Rattle.book_log.specs.declared.entry.Entry.{Entry}
@@ -20,7 +20,7 @@ use Rattle.book_log.specs.declared.moved.Moved.{Moved}
 use Rattle.journaled_book.specs.declared.fault.ChangeFault.{ChangeFault}
 use Rattle.command_lines.specs.Grammar as spoken
 use Rattle.command_lines.specs.Grammar.{Spoken, command_of}
-use Rattle.operator_line.specs.Answers.{Tells, Enters, OfWhole, OfSource, AnswersBegin, AnswersItems, AnswersDefine, AnswersStarted, AnswersStep, AnswersUndo, AnswersPlan, AnswersRollback, Drives, drive_reply, AnswersDrive, AnswersShow, AnswersOpen, AnswersClosed, AnswersSpoken, AnswersText, AnswersLine}
+use Rattle.operator_line.specs.Answers.{Tells, Enters, OfWhole, OfSource, AnswersBegin, AnswersItems, AnswersDefine, AnswersStarted, AnswersStep, AnswersUndo, AnswersPlan, AnswersRollback, AnswersSettle, Drives, drive_reply, AnswersDrive, AnswersWork, AnswersShow, AnswersOpen, AnswersClosed, AnswersSpoken, AnswersText, AnswersLine}
 use Rattle.operator_line.specs.LineLaws.{is_refusal}
 
 -- what changes nothing where it is refused
@@ -88,6 +88,10 @@ rollback_keeps : (story : Story) (name : StepName) (answer : Result (List StepNa
 rollback_keeps story name (Ok names) = enters _ _ _ refl
 rollback_keeps story name (Err refusal) = keeps _ _
 
+settle_keeps : (story : Story) (answer : Result (Unit {0}) Refusal) → Unchanging (AnswersSettle story answer) (Some story)
+settle_keeps story (Ok done) = enters _ _ _ refl
+settle_keeps story (Err refusal) = keeps _ _
+
 drive_told : (story last : Story) (count : ℕ) (names : List StepName) (stop : Option ChangeFault) → Drives count story names stop last
     → Unchanging (Tells (drive_reply names stop) (Some last)) (Some story)
 drive_told story last count [] None d = accepts _ _ _ refl
@@ -97,6 +101,10 @@ drive_told story last count (name ∷ names) stop d = accepts _ _ _ refl
 
 drive_keeps : (story : Story) (count : ℕ) → Unchanging (AnswersDrive story count) (Some story)
 drive_keeps story count reply after h refused = drive_told story h.last count h.names h.stop h.drives reply after h.told refused
+
+work_keeps : (story : Story) (moves : ℕ) → Unchanging (AnswersWork story moves) (Some story)
+work_keeps story moves reply after (inl h) refused = accepts _ _ _ refl reply after h.told refused
+work_keeps story moves reply after (inr h) refused = keeps _ _ reply after h.told refused
 
 show_keeps : (story : Story) (found : Option Frame) → Unchanging (AnswersShow story found) (Some story)
 show_keeps story None = keeps _ _
@@ -111,7 +119,9 @@ open_keeps story (spoken.step thread) = step_keeps story (step_answer story thre
 open_keeps story (spoken.undo name) = undo_keeps story name (undo_answer story name)
 open_keeps story (spoken.plan name) = plan_keeps story (plan_answer story name)
 open_keeps story (spoken.rollback name) = rollback_keeps story name (plan_answer story name)
+open_keeps story spoken.settle = settle_keeps story (settle_answer story)
 open_keeps story (spoken.drive count) = drive_keeps story count
+open_keeps story (spoken.work workers moves) = work_keeps story moves
 open_keeps story (spoken.show thread) = show_keeps story ((world_of story).frames thread)
 open_keeps story spoken.items = λ reply after h. accepts _ _ _ refl reply after h.told
 open_keeps story spoken.history = keeps _ _
@@ -125,7 +135,9 @@ closed_keeps (spoken.step thread) = keeps _ _
 closed_keeps (spoken.undo name) = keeps _ _
 closed_keeps (spoken.plan name) = keeps _ _
 closed_keeps (spoken.rollback name) = keeps _ _
+closed_keeps spoken.settle = keeps _ _
 closed_keeps (spoken.drive count) = keeps _ _
+closed_keeps (spoken.work workers moves) = keeps _ _
 closed_keeps (spoken.show thread) = keeps _ _
 closed_keeps spoken.items = keeps _ _
 closed_keeps spoken.history = keeps _ _

@@ -12,7 +12,7 @@ use Rattle.journaled_book.specs.StepRecord.{StepRecord}
 use Rattle.book_log.specs.Story.{Story, accepted}
 use Rattle.book_log.specs.Answers.{step_answer}
 use Rattle.book_log.specs.declared.entry.Entry.{Entry}
-use Rattle.book_log.specs.declared.entry.Entry.TheVariants.{Step as Stepped}
+use Rattle.book_log.specs.declared.entry.Entry.TheVariants.{Step as Stepped, Settle}
 use Rattle.book_log.specs.declared.refusal.Refusal.{Refusal}
 use Rattle.book_log.specs.declared.refusal.Refusal.TheVariants.{Memory}
 use Rattle.book_log.specs.declared.moved.Moved.{Moved}
@@ -22,8 +22,8 @@ use Rattle.journaled_book.specs.Changes.{RefusesChange, RefusesDefine as Refuses
 use Rattle.journaled_book.specs.Journaled.{story_of}
 use Rattle.journaled_book.specs.declared.fault.ChangeFault.{ChangeFault}
 use Rattle.journaled_book.specs.declared.fault.ChangeFault.TheVariants as by
-use Rattle.operator_line.specs.Answers.{Tells, journal_reply, change_reply, AnswersDefine, AnswersStep, AnswersStarted, MovesFirst, StopsDrive}
-use Rattle.reply_lines.specs.Replies.{moved_reply, step_reply, refusal_reply}
+use Rattle.operator_line.specs.Answers.{Tells, journal_reply, change_reply, AnswersDefine, AnswersSettle, AnswersStep, AnswersStarted, MovesFirst, StopsDrive}
+use Rattle.reply_lines.specs.Replies.{done_reply, moved_reply, step_reply, refusal_reply}
 
 -- what holds of a book's story holds of this one
 pub in_story : (P : Story → Type 0) (book : Option Volume) (story : Story) → story_of book ≡ Some story → IfSome book (λ b. P b.story) → P story
@@ -61,6 +61,16 @@ start-done story after entry name answer r text is a w = subst (λ (x : Result S
 pub start-refused : {U : Type 0} → (story : Story) (after : Option Story) (entry : Entry) (fault : ChangeFault) (answer : Result StepName Refusal) (r : Result U AllocError) (text : List ℕ) → RefusesChange answer fault
     → after ≡ Some story → (fault ≡ by.Book Memory → OnOk r ⊥) → OnOk r (text ≡ change_reply fault) → OnOk r (AnswersStarted story entry answer text after)
 start-refused story after entry fault answer r text = change-refused (AnswersStarted story entry) story (λ e text after h. h) (λ m text after h. inr h) fault answer r text after
+
+-- ---- a settlement
+
+pub settle-done : {U : Type 0} → (story : Story) (after : Option Story) (answer : Result (Unit {0}) Refusal) (r : Result U AllocError) (text : List ℕ) → answer ≡ Ok tt
+    → after ≡ Some (accepted story Settle) → OnOk r (text ≡ done_reply) → OnOk r (AnswersSettle story answer text after)
+settle-done story after answer r text is a w = subst (λ (x : Result (Unit {0}) Refusal). OnOk r (AnswersSettle story x text after)) (sym is) (on_ok_weaker r (λ e. inl (e, a)) w)
+
+pub settle-refused : {U : Type 0} → (story : Story) (after : Option Story) (fault : ChangeFault) (answer : Result (Unit {0}) Refusal) (r : Result U AllocError) (text : List ℕ) → RefusesChange answer fault
+    → after ≡ Some story → (fault ≡ by.Book Memory → OnOk r ⊥) → OnOk r (text ≡ change_reply fault) → OnOk r (AnswersSettle story answer text after)
+settle-refused story after fault answer r text = change-refused (AnswersSettle story) story (λ e text after h. h) (λ m text after h. inr h) fault answer r text after
 
 -- ---- a definition
 

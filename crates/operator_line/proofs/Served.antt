@@ -9,9 +9,9 @@ use Rattle.book_log.specs.Story.{Story}
 use Rattle.operator_line.specs.Lines.{grown, kept, within_limit, without_return, ended_line, last_line}
 use Rattle.operator_line.specs.Texts.{lines_of, lines_after, has_no_feed}
 use Rattle.operator_line.specs.Answers.{AnswersLine, AnswersLines}
-use Rattle.operator_line.specs.Serving.{AnswersUntil, AnswersBefore, AnswersPart, AnswersUpTo, AnswersRead, ServesLine, ServesLast, ServesPiece, ServesRead, Serves}
+use Rattle.operator_line.specs.Serving.{AnswersUntil, AnswersBefore, AnswersPart, AnswersUpTo, AnswersFailed, AnswersRead, FailsLine, fails, has_failed, WritesPart, WritesReply, ServesLine, ServesLast, ServesPiece, ServesRead, Serves}
 use Rattle.operator_line.specs.declared.serving.ServeFault.{ServeFault}
-use Rattle.operator_line.specs.declared.serving.ServeFault.TheVariants.{Read, Write, Memory}
+use Rattle.operator_line.specs.declared.serving.ServeFault.TheVariants.{Read, Write, Journal, Memory}
 
 -- ---- answers
 
@@ -54,6 +54,29 @@ until-up_to x y a b c o p n h k = record {
   until = until-then x y (k.line ∷ k.later) a b k.between o p k.contents h k.until;
   part = k.part;
 }
+
+pub until-failed : (x y : List (Option (List ℕ))) (a b c : Option Story) (o p n : Option (List ℕ)) → AnswersUntil x y a b o p → AnswersFailed y b c p n → AnswersFailed x a c o n
+until-failed x y a b c o p n h k = record {
+  line = k.line;
+  later = k.later;
+  between = k.between;
+  contents = k.contents;
+  until = until-then x y (k.line ∷ k.later) a b k.between o p k.contents h k.until;
+  fails = k.fails;
+}
+
+-- a reply that is written in one go, or a part of it
+reply_part : (result : Result Unit ServeFault) (reply : List ℕ) (o n : Option (List ℕ)) → WritesReply result reply o n → WritesPart reply o n
+reply_part (Ok u) reply o n w = record { written = reply; unwritten = []; parted = sym (append-nil reply); appended = w }
+reply_part (Err Write) reply o n w = record { written = w.0; unwritten = w.1; parted = w.2; appended = w.3 }
+reply_part (Err Read) reply o n w = absurd w
+reply_part (Err Journal) reply o n w = absurd w
+reply_part (Err Memory) reply o n w = absurd w
+
+pub part_kept : (result : Result Unit ServeFault) (reply : List ℕ) (o p n : Option (List ℕ)) → WritesReply result reply o p → Keeps p n → WritesPart reply o n
+part_kept result reply o p n w keeps =
+    let part = reply_part result reply o p w in
+    record { written = part.written; unwritten = part.unwritten; parted = part.parted; appended = Appends-kept o p n part.written part.appended keeps }
 
 -- a reply that is written whole is no less than a part of it
 pub part-whole : (line : Option (List ℕ)) (reply : List ℕ) (a b : Option Story) (o n : Option (List ℕ)) → AnswersLine a line reply b → Appends o n reply → AnswersPart line a b o n
@@ -133,6 +156,16 @@ module _ (front bytes rest : List ℕ) (h : has_no_feed bytes ≡ true) (a b : O
     part = part;
   }
 
+  pub line-lost : FailsLine (ended_line (grown bytes (kept front))) a b o n → AnswersFailed (lines_after front (bytes ++ 10 ∷ rest)) a b o n
+  line-lost fails = record {
+    line = ended_line (grown bytes (kept front));
+    later = lines_after [] rest;
+    between = a;
+    contents = o;
+    until = subst (λ (l : List (Option (List ℕ))). AnswersUntil l (ended_line (grown bytes (kept front)) ∷ lines_after [] rest) a a o o) (sym line_is) (until-none (ended_line (grown bytes (kept front)) ∷ lines_after [] rest) a o);
+    fails = fails;
+  }
+
 pub up_to-kept : (lines : List (Option (List ℕ))) (a b : Option Story) (o p n : Option (List ℕ)) → AnswersUpTo lines a b o p → Keeps p n → AnswersUpTo lines a b o n
 up_to-kept lines a b o p n h keeps = record {
   line = h.line;
@@ -170,6 +203,10 @@ line-failed Write front piece tail bytes after line s t u o p n h until w = λ m
     (subst (λ (l : List ℕ). AnswersUntil (lines_after front (piece ++ more)) (lines_after tail l) s t o p) (append_assoc bytes (10 ∷ after) more) (until more))
     (line-part tail bytes (after ++ more) h t u p n w)
 line-failed Read front piece tail bytes after line s t u o p n h until w = absurd w
+line-failed Journal front piece tail bytes after line s t u o p n h until w = λ more.
+    until-failed (lines_after front (piece ++ more)) (lines_after tail (bytes ++ 10 ∷ (after ++ more))) s t u o p n
+    (subst (λ (l : List ℕ). AnswersUntil (lines_after front (piece ++ more)) (lines_after tail l) s t o p) (append_assoc bytes (10 ∷ after) more) (until more))
+    (line-lost tail bytes (after ++ more) h t u p n w)
 line-failed Memory front piece tail bytes after line s t u o p n h until w = λ more.
     until-before (lines_after front (piece ++ more)) (lines_after tail ((bytes ++ 10 ∷ after) ++ more)) s t u o p n (until more) (none-before _ t u p n w.0 w.1)
 
@@ -204,6 +241,8 @@ last-failed : (e : ServeFault) (line : Option (List ℕ)) (input : List ℕ) (a 
 last-failed Write line input a t b o p n until w =
     until-up_to (lines_of input) (line ∷ []) a t b o p n until (record { line = line; later = []; between = t; contents = p; until = until-none (line ∷ []) t p; part = w })
 last-failed Read line input a t b o p n until w = absurd w
+last-failed Journal line input a t b o p n until w =
+    until-failed (lines_of input) (line ∷ []) a t b o p n until (record { line = line; later = []; between = t; contents = p; until = until-none (line ∷ []) t p; fails = w })
 last-failed Memory line input a t b o p n until w = until-before (lines_of input) (line ∷ []) a t b o p n until (none-before (line ∷ []) t b p n w.0 w.1)
 
 last-line : (result : Result Unit ServeFault) (line : Option (List ℕ)) (input : List ℕ) (a t b : Option Story) (o p n : Option (List ℕ)) → AnswersUntil (lines_of input) (line ∷ []) a t o p → ServesLine result line t b p n → Serves result input a b o n
@@ -235,6 +274,7 @@ pub read-failed : (e : ServeFault) (front text input : List ℕ) (left line : Op
     → ServesRead (Err e) front text left line t b p n → Serves (Err e) input a b o n
 read-failed Write front text input left line a t b o p n until w = until-up_to (lines_of input) (lines_after front text) a t b o p n until w
 read-failed Read front text input left line a t b o p n until w = until-before (lines_of input) (lines_after front text) a t b o p n until (none-before (lines_after front text) t b p n w.1 w.2)
+read-failed Journal front text input left line a t b o p n until w = until-failed (lines_of input) (lines_after front text) a t b o p n until w
 read-failed Memory front text input left line a t b o p n until w = until-before (lines_of input) (lines_after front text) a t b o p n until w
 
 pub if_some : {P : List ℕ → Type 0} → (o : Option (List ℕ)) → ((x : List ℕ) → o ≡ Some x → P x) → IfSome o P
@@ -366,6 +406,23 @@ failed-answers r e is o s u w n h = if_some o (λ input f. subst (λ (x : Result
 
 pub failed-whole : (r : Result Unit ServeFault) (e : ServeFault) → r ≡ Err e → (o : Option (List ℕ)) (P : Type 0) → IfSome o (λ _. OnOk r P)
 failed-whole r e is o P = if_some o (λ _ _. subst (λ (x : Result Unit ServeFault). OnOk x P) (sym is) tt)
+
+-- ---- ends by which a session doesn't fail
+
+pub flush_keeps : (r : Result Unit ServeFault) → IfErr r (λ e. e ≡ Write) → has_failed r ≡ false
+flush_keeps (Ok u) is = refl
+flush_keeps (Err e) is = ap fails is
+
+pub add_keeps : (r : Result Unit ServeFault) → IfErr r (λ e. e ≡ Memory) → has_failed r ≡ false
+add_keeps (Ok u) is = refl
+add_keeps (Err e) is = ap fails is
+
+pub write_keeps : (r : Result Unit ServeFault) (reply : List ℕ) (o n : Option (List ℕ)) → WritesReply r reply o n → has_failed r ≡ false
+write_keeps (Ok u) reply o n w = refl
+write_keeps (Err Write) reply o n w = refl
+write_keeps (Err Read) reply o n w = absurd w
+write_keeps (Err Journal) reply o n w = absurd w
+write_keeps (Err Memory) reply o n w = absurd w
 
 -- ---- a reader that failed
 

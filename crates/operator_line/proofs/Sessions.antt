@@ -1,15 +1,20 @@
 -- Sessions with a book, and without.
-use Rattle.std.proofs.Common.{◌≡◌, ℕ, List, Bool, true, false, if◌then◌else◌, Option, None, Some, Ok, Err, OnOk, OnErr, refl, sym, ap, subst}
-use Rattle.std.specs.Prelude.{Result, is_some, IfSome, IsSome}
+use Rattle.std.proofs.Common.{◌≡◌, ℕ, List, [], ◌∷◌, Bool, true, false, if◌then◌else◌, Option, None, Some, Ok, Err, OnOk, OnErr, inl, inr, refl, sym, ap, subst}
+use Rattle.std.specs.Prelude.{Result, is_some, IfOk, IfSome, IsSome}
 use Rattle.std.specs.Str.{is_utf8}
 use Rattle.std.specs.declared.alloc.AllocError.{AllocError}
 use Rattle.book_log.specs.Story.{Story}
 use Rattle.book_log.specs.declared.entry.Entry.{Entry}
-use Rattle.command_lines.specs.Grammar.{Spoken, command_of, text_command}
+use Rattle.command_lines.specs.Grammar.{Spoken, command_of, text_command, spoken}
+use Rattle.command_lines.specs.declared.command.Command.{Command}
+use Rattle.command_lines.specs.declared.command.Command.TheVariants.{Table, Define, Start, Step, Undo, Plan, Rollback, Settle, Drive, Work, Show, Items, History}
 use Rattle.journaled_book.specs.Book.{Volume}
 use Rattle.journaled_book.specs.Journaled.{story_of, with_entry}
 use Rattle.reply_lines.specs.Replies.{refused}
 use Rattle.operator_line.specs.Answers.{AnswersOpen, AnswersClosed, AnswersCommand, AnswersSpoken}
+use Rattle.operator_line.specs.Answering.{AnswersBy, AnswersTextBy, is_work}
+use Rattle.operator_line.specs.declared.session.Answered.{Answered}
+use Rattle.operator_line.specs.declared.session.Answered.TheVariants.{Told, Lost}
 
 pub answers_open : {U : Type 0} → (book : Option Volume) (command : Spoken) (r : Result U AllocError) (text : List ℕ) (after : Option Story) → is_some book ≡ true
     → ((b : Volume) → book ≡ Some b → OnOk r (AnswersOpen b.story command text after)) → OnOk r (AnswersCommand (story_of book) command text after)
@@ -52,7 +57,41 @@ on_err-from (Ok x) P p = tt
 on_err-from (Err e) P p = p
 
 -- a line that is no text
-pub not_text : (before : Option Story) (line text : List ℕ) → is_utf8 line ≡ false → text ≡ refused 20 → AnswersSpoken before (command_of line) text before
-not_text before line text wrong e =
-    let none : command_of line ≡ None = ap (λ (u : Bool). if u then text_command line else None) wrong in
-    subst (λ (o : Option Spoken). AnswersSpoken before o text before) (sym none) (e, refl)
+pub no_text : (line : List ℕ) → is_utf8 line ≡ false → command_of line ≡ None
+no_text line wrong = ap (λ (u : Bool). if u then text_command line else None) wrong
+
+-- ---- lines that are none
+
+pub line_refused : (r : Result Answered AllocError) (said : Option Spoken) (text : List ℕ) (before : Option Story) → said ≡ None → IfOk r (λ a. (a ≡ Told) × (text ≡ refused 20))
+    → IfOk r (λ a. AnswersTextBy a before said text before)
+line_refused (Ok Told) said text before none h = subst (λ (o : Option Spoken). AnswersSpoken before o text before) (sym none) (h.1, refl)
+line_refused (Ok Lost) said text before none h = let wrong = h.0 in cc
+line_refused (Err e) said text before none h = tt
+
+pub long_refused : (r : Result Answered AllocError) (text : List ℕ) (before : Option Story) → IfOk r (λ a. (a ≡ Told) × (text ≡ refused 20)) → IfOk r (λ a. AnswersBy a before None text before)
+long_refused (Ok Told) text before h = inr (h.1, refl)
+long_refused (Ok Lost) text before h = let wrong = h.0 in cc
+long_refused (Err e) text before h = tt
+
+pub bytes_answered : (r : Result Answered AllocError) (bytes text : List ℕ) (before after : Option Story) → (bytes ≡ [] → ⊥) → IfOk r (λ a. AnswersTextBy a before (command_of bytes) text after)
+    → IfOk r (λ a. AnswersBy a before (Some bytes) text after)
+bytes_answered r [] text before after some h = absurd (some refl)
+bytes_answered (Ok Told) (b ∷ bytes) text before after some h = inr h
+bytes_answered (Ok Lost) (b ∷ bytes) text before after some h = (record { workers = h.0.0; moves = h.0.1; said = h.0.2 }, h.1, h.2)
+bytes_answered (Err e) (b ∷ bytes) text before after some h = tt
+
+-- any command but a round's
+pub no_round : (c : Command) → ((workers moves : ℕ) → c ≡ Work workers moves → ⊥) → is_work (spoken c) ≡ false
+no_round (Table name schema items) apart = refl
+no_round (Define name definition) apart = refl
+no_round (Start exec machine input) apart = refl
+no_round (Step thread) apart = refl
+no_round (Undo step) apart = refl
+no_round (Plan step) apart = refl
+no_round (Rollback step) apart = refl
+no_round Settle apart = refl
+no_round (Drive count) apart = refl
+no_round (Work workers moves) apart = absurd (apart workers moves refl)
+no_round (Show thread) apart = refl
+no_round Items apart = refl
+no_round History apart = refl

@@ -1,6 +1,6 @@
 -- What lines are answered, and what the book is afterwards. Open are want of memory and the journal's refusal of a line, which are
 -- told and change nothing, where a drive stops early because of them, and which fault of a definition is told, among those that stand.
-use Rattle.std.specs.Prelude.{◌≡◌, ℕ, zero, suc, ◌⊎◌, List, [], ◌∷◌, ◌++◌, map, false, true, Option, None, Some, option_and_then, Result, Ok, Err, IsOk}
+use Rattle.std.specs.Prelude.{◌≡◌, ◌≤◌, ℕ, zero, suc, ◌⊎◌, List, [], ◌∷◌, ◌++◌, length, map, false, true, Option, None, Some, option_and_then, Result, Ok, Err, IsOk}
 use Rattle.std.specs.declared.cmp.Ordering.TheVariants.{Less}
 use Rattle.serde_json.specs.Data as source
 use Rattle.serde_json.specs.Read as source_text
@@ -23,15 +23,15 @@ use Rattle.step_names.specs.Thread.{Thread, IsThread}
 use Rattle.step_names.specs.Written.{step_text}
 use Rattle.step_names.specs.declared.step.StepName.{StepName}
 use Rattle.journaled_book.specs.Steps.{name_of}
-use Rattle.book_log.specs.Answers.{IsDefineRefusal, start_answer, step_answer, undo_answer, plan_answer, has_move}
+use Rattle.book_log.specs.Answers.{settle_answer, IsDefineRefusal, start_answer, step_answer, undo_answer, plan_answer, has_move, is_full_for_step}
 use Rattle.book_log.specs.Beginning.{table_of}
 use Rattle.book_log.specs.Story.{Story, accepted, remaining, world_of}
 use Rattle.book_log.specs.declared.begin.Begin.{Begin}
 use Rattle.book_log.specs.declared.entry.Entry.{Entry}
-use Rattle.book_log.specs.declared.entry.Entry.TheVariants.{Define, Start, Step as Stepped, Undo, Rollback}
+use Rattle.book_log.specs.declared.entry.Entry.TheVariants.{Define, Start, Step as Stepped, Undo, Rollback, Settle}
 use Rattle.book_log.specs.declared.moved.Moved.{Moved}
 use Rattle.book_log.specs.declared.refusal.Refusal.{Refusal}
-use Rattle.book_log.specs.declared.refusal.Refusal.TheVariants.{Memory}
+use Rattle.book_log.specs.declared.refusal.Refusal.TheVariants.{Full, Memory}
 use Rattle.journaled_book.specs.declared.fault.ChangeFault.{ChangeFault}
 use Rattle.journaled_book.specs.declared.fault.ChangeFault.TheVariants as by
 use Rattle.command_lines.specs.Grammar as spoken
@@ -135,6 +135,10 @@ abbrev pub AnswersRollback : Story → StepName → Result (List StepName) Refus
 AnswersRollback story name (Ok names) = Enters (names_reply names) (Some (accepted story (Rollback name names))) (Some story)
 AnswersRollback story name (Err refusal) = Tells (refusal_reply refusal) (Some story)
 
+abbrev pub AnswersSettle : Story → Result (Unit {0}) Refusal → List ℕ → Option Story → Type 0
+AnswersSettle story (Ok done) = Enters done_reply (Some (accepted story Settle)) (Some story)
+AnswersSettle story (Err refusal) = Tells (refusal_reply refusal) (Some story)
+
 abbrev pub AnswersShow : Story → Option Frame → List ℕ → Option Story → Type 0
 AnswersShow story None = Tells (refused 5) (Some story)
 AnswersShow story (Some f) = Tells (frame_reply f) (Some story)
@@ -197,6 +201,30 @@ pub record AnswersDrive (story : Story) (count : ℕ) (reply : List ℕ) (after 
   pub drives : Drives count story names stop last
   pub told : Tells (drive_reply names stop) (Some last) reply after
 
+-- ---- a round of workers
+
+-- these steps were taken one after another, each a move where it stands
+abbrev pub Takes : Story → List StepName → Story → Type 0
+Takes story [] after = after ≡ story
+Takes story (name ∷ names) after =
+    (m : Moved) × (step_answer story name.thread ≡ Ok m) × (name ≡ m.name) × Takes (accepted story (Stepped m.name m.kind)) names after
+
+-- some steps are taken, at most so many: which they are, and in which order, is open
+pub record Works (story : Story) (moves : ℕ) (reply : List ℕ) (after : Option Story) : Type 0 where
+  pub names : List StepName
+  pub last : Story
+  pub few : length names ≤ moves
+  pub takes : Takes story names last
+  pub told : Tells (names_reply names) (Some last) reply after
+
+-- none is, where there is no room for one
+pub record HasNoRoom (story : Story) (reply : List ℕ) (after : Option Story) : Type 0 where
+  pub full : is_full_for_step story ≡ true
+  pub told : Tells (refusal_reply Full) (Some story) reply after
+
+abbrev pub AnswersWork : Story → ℕ → List ℕ → Option Story → Type 0
+AnswersWork story moves reply after = Works story moves reply after ⊎ HasNoRoom story reply after
+
 -- ---- a line
 
 -- of a session with a book
@@ -208,7 +236,9 @@ AnswersOpen story (spoken.step thread) = AnswersStep story (step_answer story th
 AnswersOpen story (spoken.undo name) = AnswersUndo story name (undo_answer story name)
 AnswersOpen story (spoken.plan name) = AnswersPlan story (plan_answer story name)
 AnswersOpen story (spoken.rollback name) = AnswersRollback story name (plan_answer story name)
+AnswersOpen story spoken.settle = AnswersSettle story (settle_answer story)
 AnswersOpen story (spoken.drive count) = AnswersDrive story count
+AnswersOpen story (spoken.work workers moves) = AnswersWork story moves
 AnswersOpen story (spoken.show thread) = AnswersShow story ((world_of story).frames thread)
 AnswersOpen story spoken.items = AnswersListing story
 AnswersOpen story spoken.history = Tells (history_reply story) (Some story)
@@ -222,7 +252,9 @@ AnswersClosed (spoken.step thread) = Tells (refused no_table) None
 AnswersClosed (spoken.undo name) = Tells (refused no_table) None
 AnswersClosed (spoken.plan name) = Tells (refused no_table) None
 AnswersClosed (spoken.rollback name) = Tells (refused no_table) None
+AnswersClosed spoken.settle = Tells (refused no_table) None
 AnswersClosed (spoken.drive count) = Tells (refused no_table) None
+AnswersClosed (spoken.work workers moves) = Tells (refused no_table) None
 AnswersClosed (spoken.show thread) = Tells (refused no_table) None
 AnswersClosed spoken.items = Tells (refused no_table) None
 AnswersClosed spoken.history = Tells (refused no_table) None

@@ -5,6 +5,7 @@ pub mod LineLaws
 pub mod Serving
 pub mod Driving
 pub mod Sessions
+pub mod Answering
 mod AnswerRows
 -- what stands below and is named by the crates above
 pub use Rattle.book_log.specs.Story

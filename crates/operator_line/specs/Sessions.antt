@@ -1,8 +1,34 @@
--- A session, as its contracts see it: a book whose commands stand in a journal.
-use Rattle.std.specs.Prelude.{Option}
+-- A session, as its contracts see it: a book whose commands stand in a journal; or, where the book was lost, that journal, and the
+-- book that its lines are of.
+use Rattle.std.specs.Prelude.{Bool, true, false, Option, refl}
+use Rattle.std.specs.Coded.{Coded, code_by, coded×, coded_bool}
+use Rattle.sqlite.specs.Held.{Held}
 use Rattle.book_log.specs.Story.{Story}
+use Rattle.journaled_book.specs.Book.{Volume}
 use Rattle.journaled_book.specs.Journaled.{Journaled, story_of}
+use Rattle.operator_line.specs.declared.session.Hand.{Hand}
+use Rattle.operator_line.specs.declared.session.Hand.TheVariants.{Open, Failed}
 
--- the book's story, none before its table is given
-abbrev pub told : {S : Type 0} → Journaled S → Option Story
+pub record Sitting (S : Type 0) : Type 0 where
+  pub is_failed : Bool
+  pub book : Option Volume
+  pub journal : Held S
+
+abbrev pub sitting : {S : Type 0} → Bool → Journaled S → Sitting S
+sitting is_failed held = record { is_failed = is_failed; book = held.book; journal = held.journal }
+
+abbrev pub sitting_code : {S : Type 0} → Coded (Journaled S) → Coded (Sitting S)
+sitting_code {S} held =
+    code_by (Bool × Journaled S) (coded× coded_bool held) (λ s. (s.is_failed, record { book = s.book; journal = s.journal })) (λ p. sitting p.0 p.1) (λ _. refl)
+
+abbrev pub sitting_of : {S : Type 0} → Hand S → Sitting S
+sitting_of (Open held) = sitting false held
+sitting_of (Failed held) = sitting true held
+
+-- the story of the journal's lines, none before a table is given
+abbrev pub told : {S : Type 0} → Sitting S → Option Story
 told session = story_of session.book
+
+-- the same of a session that hasn't failed
+abbrev pub story_in : {S : Type 0} → Journaled S → Option Story
+story_in held = story_of held.book

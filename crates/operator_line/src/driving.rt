@@ -2,10 +2,10 @@
 ghost use Rattle.std.specs.Prelude.{◌≡◌, ◌+◌, ◌<◌, ◌^◌, [], IfOk, IfErr, IfSome, IsSome, string_bytes, string_len, OnOk, OnErr};
 ghost use Rattle.operator_line.specs.Answers.{AnswersDrive};
 ghost use Rattle.operator_line.specs.Driving.{IsFirst, TakenOf, TakesOneOf};
-ghost use Rattle.operator_line.specs.Sessions.{told};
+ghost use Rattle.operator_line.specs.Sessions.{story_in};
 ghost use Rattle.reply_lines.specs.Replying.{AreLines, has_room_for_lines};
 
-use crate::session::refuse_change;
+use crate::open_session::refuse_change;
 use book_log::Refusal;
 use command_lines::step_line;
 use journaled_book::{ChangeFault, JournaledBook};
@@ -25,8 +25,8 @@ pub(crate) fn drive<S: Alter>(
 ) -> Result<(), AllocError>
     requires open { IsSome book.old.book }
     requires empty { string_bytes reply.old.text ≡ [] }
-    ensures ok { IfSome (told book.old) (λ story. OnOk result (AnswersDrive story count (string_bytes reply.new.text) (told book.new))) }
-    ensures err { OnErr result (told book.new ≡ told book.old) }
+    ensures ok { IfSome (story_in book.old) (λ story. OnOk result (AnswersDrive story count (string_bytes reply.new.text) (story_in book.new))) }
+    ensures err { OnErr result (story_in book.new ≡ story_in book.old) }
 {
     let mut lines = Lines::new(alloc);
     reply.reserve_lines(&lines)?;
@@ -47,7 +47,7 @@ fn take_steps<S: Alter>(
     requires open { IsSome book.old.book }
     requires empty { AreLines lines.old [] }
     requires room { has_room_for_lines reply.old.text (string_len lines.old.text) }
-    ensures taken { TakenOf count (told book.old) (told book.new) lines.new result }
+    ensures taken { TakenOf count (story_in book.old) (story_in book.new) lines.new result }
     ensures text { string_bytes reply.new.text ≡ string_bytes reply.old.text }
     ensures room { has_room_for_lines reply.new.text (string_len lines.new.text) }
 {
@@ -73,7 +73,7 @@ fn take_step<S: Alter>(
     requires open { IsSome book.old.book }
     requires few { lines.old.count + 1 < 2 ^ 32 }
     requires room { has_room_for_lines reply.old.text (string_len lines.old.text) }
-    ensures step { TakesOneOf (told book.old) (told book.new) lines.old lines.new result }
+    ensures step { TakesOneOf (story_in book.old) (story_in book.new) lines.old lines.new result }
     ensures open { IsSome book.new.book }
     ensures text { string_bytes reply.new.text ≡ string_bytes reply.old.text }
     ensures room { has_room_for_lines reply.new.text (string_len lines.new.text) }
@@ -97,7 +97,7 @@ fn first_ready<S: Alter>(
     book: &JournaledBook<S>,
 ) -> Result<Option<ThreadName>, Refusal>
     requires { IsSome book.now.book }
-    ensures first { IfSome (told book.now) (λ story. IfOk result (IsFirst story)) }
+    ensures first { IfSome (story_in book.now) (λ story. IfOk result (IsFirst story)) }
     ensures memory { IfErr result (λ e. e ≡ Refusal.Memory) }
 {
     let Some(book) = book.book() else {

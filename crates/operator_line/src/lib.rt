@@ -4,8 +4,10 @@
 mod driving;
 mod laws;
 mod line;
+mod open_session;
 mod serving;
 mod session;
+mod working;
 
 pub use command_lines::{Command, CommandFault, Execution, lines_are_spelled};
 pub use journaled_book as journaled;

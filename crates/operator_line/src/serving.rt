@@ -2,17 +2,19 @@
 ghost use Rattle.std.specs.Prelude.{◌≡◌, ◌<◌, ◌≤◌, ℕ, List, ◌∷◌, ◌++◌, [], true, false, Some, None, Ok, Err, IfSome, IfErr, IsTrue, length, slice_index, take, MatchOption, OnOk};
 ghost use Rattle.std.specs.Io.KnownBytes.{Keeps};
 ghost use Rattle.operator_line.specs.Lines.{grown, ended_line, last_line, bytes_of, kept};
-ghost use Rattle.operator_line.specs.Serving.{AnswersRead, ServesLast, ServesLine, ServesPiece, ServesRead, Serves, WritesReply};
+ghost use Rattle.operator_line.specs.Serving.{AnswersRead, IsGone, has_failed, lost_reply, ServesLast, ServesLine, ServesPiece, ServesRead, Serves, WritesPart, WritesReply};
 ghost use Rattle.operator_line.specs.Sessions.{told};
 ghost use Rattle.operator_line.specs.Texts.{has_no_feed};
 
 use crate::line::{Line, LineBuffer};
-use crate::session::Session;
+use crate::session::{Answered, Session};
 use memchr::memchr;
 use reply_lines::Reply;
 use sqlite::Alter;
 use std::alloc::{AllocError, Global};
 use std::io::{ErrorKind, Read, Write};
+use std::sync::Wait;
+use std::thread::Threads;
 use thiserror::Error;
 
 /// How many bytes the reader is asked for at once.
@@ -20,6 +22,9 @@ const PIECE: usize = 65_536;
 
 /// What a refused growth is answered, from no memory.
 const MEMORY: &[u8] = b"no 11\n";
+
+/// What a round is answered whose steps couldn't be written down, from no memory.
+const LOST: &[u8] = b"no 24\n";
 
 /// Why serving ended before the input did.
 #[derive(Clone, Copy, Debug, PartialEq, Eq, Error)]
@@ -30,6 +35,9 @@ pub enum ServeFault {
     /// The writer refused, or took nothing.
     #[error("the output can't be written")]
     Write,
+    /// The steps of a round couldn't be written down, now or in an earlier call: the session has failed.
+    #[error("the journal can't be written")]
+    Journal,
     /// Memory for a line was refused.
     #[error("out of memory for a line")]
     Memory,
@@ -48,19 +56,47 @@ struct Buffers {
 /// the reader fails, would be asked more than 4,294,967,295 times, or memory for a line is refused, nothing of that line
 /// is applied.
 ///
+/// Where the steps of a round can't be written into the journal, serving ends with `Journal`, whether or not that reply could be
+/// written. The session has failed then: each later call reads nothing and answers `Journal`.
+///
 /// Takes a block of 65,536 bytes and the room of the longest line and of the longest reply. The replies to the lines of
 /// one piece of the input are flushed together.
-pub fn serve<R: Read, W: Write, S: Alter>(
+pub fn serve<T: Threads + Wait + Sync, R: Read, W: Write, S: Alter>(
+    rt: &T,
     alloc: Global,
     reader: &mut R,
     writer: &mut W,
     session: &mut Session<S>,
 ) -> Result<(), ServeFault>
+    ensures answers { session.old.is_failed ≡ false → IfSome (R.remaining reader.old) (λ input.
+        Serves result input (told session.old) (told session.new) (W.contents writer.old) (W.contents writer.new)) }
+    ensures read { result ≡ Err ServeFault.Read → IfSome (R.remaining reader.old) (λ input.
+        AnswersRead input (R.remaining reader.new) (told session.old) (told session.new) (W.contents writer.old) (W.contents writer.new)) }
+    ensures whole { IfSome (R.remaining reader.old) (λ _. OnOk result (R.remaining reader.new ≡ Some [])) }
+    ensures failed { session.old.is_failed ≡ false → session.new.is_failed ≡ has_failed result }
+    ensures gone { session.old.is_failed ≡ true → IsGone result session.old session.new (R.remaining reader.old) (R.remaining reader.new) (W.contents writer.old) (W.contents writer.new) }
+{
+    if session.is_failed() {
+        return Err(ServeFault::Journal);
+    }
+    serve_all(rt, alloc, reader, writer, session)
+}
+
+/// As `serve`, of a session that hasn't failed.
+fn serve_all<T: Threads + Wait + Sync, R: Read, W: Write, S: Alter>(
+    rt: &T,
+    alloc: Global,
+    reader: &mut R,
+    writer: &mut W,
+    session: &mut Session<S>,
+) -> Result<(), ServeFault>
+    requires here { session.old.is_failed ≡ false }
     ensures answers { IfSome (R.remaining reader.old) (λ input.
         Serves result input (told session.old) (told session.new) (W.contents writer.old) (W.contents writer.new)) }
     ensures read { result ≡ Err ServeFault.Read → IfSome (R.remaining reader.old) (λ input.
         AnswersRead input (R.remaining reader.new) (told session.old) (told session.new) (W.contents writer.old) (W.contents writer.new)) }
     ensures whole { IfSome (R.remaining reader.old) (λ _. OnOk result (R.remaining reader.new ≡ Some [])) }
+    ensures failed { session.new.is_failed ≡ has_failed result }
 {
     let Ok(mut piece) = vec![in alloc; 0u8; PIECE] else {
         return Err(ServeFault::Memory);
@@ -70,29 +106,32 @@ pub fn serve<R: Read, W: Write, S: Alter>(
         reply: Reply::new(alloc),
     };
     for _ in 0..u32::MAX {
-        if !serve_read(reader, &mut piece, &mut buffers, writer, session)? {
-            return serve_last(&mut buffers, writer, session);
+        if !serve_read(rt, reader, &mut piece, &mut buffers, writer, session)? {
+            return serve_last(rt, &mut buffers, writer, session);
         }
     }
     Err(ServeFault::Read)
 }
 
 /// Asks the reader once and answers the lines that end in what it gives. Answers whether there may be more.
-fn serve_read<R: Read, W: Write, S: Alter>(
+fn serve_read<T: Threads + Wait + Sync, R: Read, W: Write, S: Alter>(
+    rt: &T,
     reader: &mut R,
     piece: &mut [u8],
     buffers: &mut Buffers,
     writer: &mut W,
     session: &mut Session<S>,
 ) -> Result<bool, ServeFault>
-    requires { 0 < length piece.old }
-    ensures { (front : List ℕ) (text : List ℕ) → buffers.old.line ≡ kept front → R.remaining reader.old ≡ Some text
+    requires some { 0 < length piece.old }
+    requires here { session.old.is_failed ≡ false }
+    ensures failed { session.new.is_failed ≡ has_failed result }
+    ensures read { (front : List ℕ) (text : List ℕ) → buffers.old.line ≡ kept front → R.remaining reader.old ≡ Some text
         → ServesRead result front text (R.remaining reader.new) buffers.new.line (told session.old) (told session.new) (W.contents writer.old) (W.contents writer.new) }
 {
     match reader.read(piece) {
         Ok(0) => Ok(false),
         Ok(count) => {
-            serve_piece(&piece[..count], buffers, writer, session)?;
+            serve_piece(rt, &piece[..count], buffers, writer, session)?;
             Ok(true)
         }
         Err(error) => {
@@ -106,19 +145,23 @@ fn serve_read<R: Read, W: Write, S: Alter>(
 }
 
 /// Answers the lines that end in a piece of the input, and keeps what comes after them.
-fn serve_piece<W: Write, S: Alter>(
+#[tactic(auto, using(crate::proofs::Served::flush_keeps, crate::proofs::Served::add_keeps))]
+fn serve_piece<T: Threads + Wait + Sync, W: Write, S: Alter>(
+    rt: &T,
     piece: &[u8],
     buffers: &mut Buffers,
     writer: &mut W,
     session: &mut Session<S>,
 ) -> Result<(), ServeFault>
-    ensures { (front : List ℕ) → buffers.old.line ≡ kept front
+    requires here { session.old.is_failed ≡ false }
+    ensures failed { session.new.is_failed ≡ has_failed result }
+    ensures piece { (front : List ℕ) → buffers.old.line ≡ kept front
         → ServesPiece result front piece.now buffers.new.line (told session.old) (told session.new) (W.contents writer.old) (W.contents writer.new) }
 {
     let mut rest = piece;
     let mut has_line = false;
     while let Some((front, after)) = cut_line(rest) {
-        serve_line(front, buffers, writer, session)?;
+        serve_line(rt, front, buffers, writer, session)?;
         has_line = true;
         rest = after;
     }
@@ -151,33 +194,47 @@ fn line_len(bytes: &[u8]) -> usize
 }
 
 /// Answers the line that these bytes end, before a line feed.
-fn serve_line<W: Write, S: Alter>(
+#[tactic(auto, using(crate::proofs::Served::add_keeps))]
+fn serve_line<T: Threads + Wait + Sync, W: Write, S: Alter>(
+    rt: &T,
     front: &[u8],
     buffers: &mut Buffers,
     writer: &mut W,
     session: &mut Session<S>,
 ) -> Result<(), ServeFault>
+    requires here { session.old.is_failed ≡ false }
+    ensures failed { session.new.is_failed ≡ has_failed result }
     ensures answers { ServesLine result (ended_line (grown front.now buffers.old.line)) (told session.old) (told session.new) (W.contents writer.old) (W.contents writer.new) }
     ensures begun { OnOk result (buffers.new.line ≡ Some []) }
 {
     add(&mut buffers.line, front)?;
-    write_answer(buffers.line.ended(), &mut buffers.reply, writer, session)?;
+    write_answer(
+        rt,
+        buffers.line.ended(),
+        &mut buffers.reply,
+        writer,
+        session,
+    )?;
     buffers.line.clear();
     Ok(())
 }
 
 /// Answers what stands after the last line feed, if anything does.
-fn serve_last<W: Write, S: Alter>(
+#[tactic(auto, using(crate::proofs::Served::flush_keeps, crate::proofs::Served::add_keeps))]
+fn serve_last<T: Threads + Wait + Sync, W: Write, S: Alter>(
+    rt: &T,
     buffers: &mut Buffers,
     writer: &mut W,
     session: &mut Session<S>,
 ) -> Result<(), ServeFault>
-    ensures { ServesLast result (last_line buffers.old.line) (told session.old) (told session.new) (W.contents writer.old) (W.contents writer.new) }
+    requires here { session.old.is_failed ≡ false }
+    ensures failed { session.new.is_failed ≡ has_failed result }
+    ensures last { ServesLast result (last_line buffers.old.line) (told session.old) (told session.new) (W.contents writer.old) (W.contents writer.new) }
 {
     let Some(last) = buffers.line.last() else {
         return Ok(());
     };
-    write_answer(last, &mut buffers.reply, writer, session)?;
+    write_answer(rt, last, &mut buffers.reply, writer, session)?;
     flush(writer)
 }
 
@@ -192,19 +249,36 @@ fn add(line: &mut LineBuffer, bytes: &[u8]) -> Result<(), ServeFault>
 }
 
 /// Answers a line, and writes its reply.
-fn write_answer<W: Write, S: Alter>(
+#[tactic(auto, using(crate::proofs::Served::write_keeps))]
+fn write_answer<T: Threads + Wait + Sync, W: Write, S: Alter>(
+    rt: &T,
     line: Line<'_>,
     reply: &mut Reply,
     writer: &mut W,
     session: &mut Session<S>,
 ) -> Result<(), ServeFault>
+    requires here { session.old.is_failed ≡ false }
+    ensures failed { session.new.is_failed ≡ has_failed result }
     ensures answers { ServesLine result (bytes_of line.entry) (told session.old) (told session.new) (W.contents writer.old) (W.contents writer.new) }
     ensures no_memory { result ≡ Err ServeFault.Memory → ⊥ }
 {
-    match session.answer(line, reply) {
-        Ok(()) => write_all(writer, reply.as_bytes()),
+    match session.answer(rt, line, reply) {
+        Ok(Answered::Told) => write_all(writer, reply.as_bytes()),
+        Ok(Answered::Lost) => {
+            tell_lost(writer);
+            Err(ServeFault::Journal)
+        }
         Err(AllocError) => write_all(writer, MEMORY),
     }
+}
+
+/// Tells that the steps of a round couldn't be written down. What the writer refuses then is told nobody.
+#[tactic(auto, using(crate::proofs::Served::part_kept))]
+fn tell_lost<W: Write>(writer: &mut W)
+    ensures { WritesPart lost_reply (W.contents writer.old) (W.contents writer.new) }
+{
+    let _ = write_all(writer, LOST);
+    let _ = flush(writer);
 }
 
 /// Writes all of a reply, in as many calls as the writer needs. Takes no memory, and doesn't flush.

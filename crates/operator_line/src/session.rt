@@ -1,66 +1,73 @@
-// A session: a book whose commands stand in a journal, and the commands that are given to it.
-ghost use Rattle.std.specs.Prelude.{◌≡◌, [], Some, None, option_map, string_bytes, IfOk, IfErr, IsSome, MatchResult, OnOk, OnErr};
+// A session: a book whose commands stand in a journal, until a round of workers is lost.
+ghost use Rattle.std.specs.Prelude.{◌≡◌, ◌≤◌, [], false, None, option_map, string_bytes, if◌then◌else◌, IfOk, IfErr, MatchResult, OnOk, OnErr};
 ghost use Rattle.sqlite.specs.Held.{state};
 ghost use Rattle.sqlite.specs.State.{HasCleanDisk};
 ghost use Rattle.book_journal.specs.Kept.{lines_in};
 ghost use Rattle.book_journal.specs.declared.fault.JournalFault.TheVariants as journal_fault;
 ghost use Rattle.journaled_book.specs.Changes.{IsRead};
-ghost use Rattle.journaled_book.specs.Journaled.{IsJournalOf, story_of};
-ghost use Rattle.journaled_book.specs.Lines.{IsBeginLine};
+ghost use Rattle.journaled_book.specs.Journaled.{IsJournalOf};
 ghost use Rattle.journaled_book.specs.Opening.{OpensTo, RefusesOpen};
-ghost use Rattle.operator_line.specs.Answers.{AnswersBeginning, AnswersCommand, AnswersLine, AnswersSpoken, change_reply};
-ghost use Rattle.operator_line.specs.Sessions.{told};
+ghost use Rattle.operator_line.specs.Answering.{AnswersBy, AnswersTextBy, WorksBy, is_gone, is_lost, is_work};
+ghost use Rattle.operator_line.specs.Sessions.{sitting_of, told};
 ghost use Rattle.command_lines.specs.Grammar as grammar;
 ghost use Rattle.command_lines.specs.Grammar.{command_of, spoken};
 ghost use Rattle.operator_line.specs.Lines.{bytes_of};
-ghost use Rattle.reply_lines.specs.Replies.{json_reply, item_fault_reply};
-ghost use Rattle.reply_lines.specs.Replying.{Writes};
+ghost use Rattle.reply_lines.specs.Replies.{bad_line, refused};
 
-use crate::driving::drive;
 use crate::line::Line;
-use attr_values::{ItemFault, KeySchema};
+use crate::open_session::{BAD_LINE, OpenSession};
+use crate::working::{Worked, work_on};
 use book_journal::Journal;
-use book_log::Refusal;
-use command_lines::{Command, CommandFault, Execution};
-use journaled_book::books::{Begin, Book, Room};
-use journaled_book::{BeginRefusal, ChangeFault, JournaledBook, OpenFault};
-use json_tree::{Json, JsonFault, Text, read};
+use command_lines::{Command, CommandFault};
+use core::mem::replace_with;
+use journaled_book::books::Book;
+use journaled_book::{AwayBook, JournaledBook, OpenFault};
 use reply_lines::Reply;
-use serde_json::Value;
 use sqlite::Alter;
 use std::alloc::{AllocError, Global};
 use std::marker::Model;
-use step_names::{StepName, ThreadName};
+use std::sync::Wait;
+use std::thread::Threads;
 
-const BAD_LINE: u32 = 20;
+/// What a session has.
+#[derive(Drop)]
+pub(crate) enum Hand<S: Alter> {
+    /// Book and journal.
+    Open(OpenSession<S>),
+    /// The journal of a book that was lost in a round.
+    Failed(AwayBook<S>),
+}
 
-const NO_TABLE: u32 = 21;
-
-const TABLE_TAKEN: u32 = 22;
-
-const BAD_BEGIN: u32 = 23;
-
-const NO_JOURNAL: u32 = 24;
-
-const BAD_JSON: u32 = 25;
+/// What came of a line.
+#[derive(Clone, Copy)]
+pub(crate) enum Answered {
+    /// Its reply is there.
+    Told,
+    /// A round's steps couldn't be written down, and the session has failed.
+    Lost,
+}
 
 /// The book of one session, none before its table is given, and the journal of its accepted lines. Contracts see both.
+///
+/// Where the steps of a round of workers can't be written down, the session has failed: the book is gone, and the journal is the one from
+/// before the round, of which a session can be opened.
 #[derive(Drop)]
 pub struct Session<S: Alter> {
     alloc: Global,
-    book: JournaledBook<S>,
+    hand: Hand<S>,
 }
 
 impl<S: Alter> Model for Session<S> {
     ghost use Rattle.std.specs.Coded.{coded_option};
     ghost use Rattle.journaled_book.specs.BookContract as book_row;
-    ghost use Rattle.journaled_book.specs.Journaled.{Journaled, journaled_code};
+    ghost use Rattle.journaled_book.specs.Journaled.{journaled_code};
+    ghost use Rattle.operator_line.specs.Sessions.{Sitting, sitting_code, sitting_of};
 
-    ghost Value = { Journaled S };
+    ghost Value = { Sitting S };
 
-    ghost coded = { journaled_code (coded_option book_row.the_row.coded) S.code };
+    ghost coded = { sitting_code (journaled_code (coded_option book_row.the_row.coded) S.code) };
 
-    ghost view = { λ s. s.book };
+    ghost view = { λ s. sitting_of s.hand };
 }
 
 impl<S: Alter> Session<S> {
@@ -75,360 +82,183 @@ impl<S: Alter> Session<S> {
         ensures refused { IfErr result (λ e. HasCleanDisk (state S.Store e.1) → RefusesOpen (lines_in (state S.Store journal)) e.0) }
         ensures memory { IfErr result (λ e. ¬ (e.0 ≡ OpenFault.Journal journal_fault.Memory)) }
         ensures read { MatchResult result (λ s. IsRead (state S.Store journal) (state S.Store s.journal)) (λ e. IsRead (state S.Store journal) (state S.Store e.1)) }
+        ensures here { IfOk result (λ s. s.is_failed ≡ false) }
     {
         match JournaledBook::open(alloc, journal) {
-            Ok(book) => Ok(Session { alloc, book }),
+            Ok(book) => Ok(Session {
+                alloc,
+                hand: Hand::Open(OpenSession { alloc, book }),
+            }),
             Err(refused) => Err(refused),
         }
     }
 
-    /// The book, once its table was given. Takes no memory.
+    /// The book, once its table was given, and none of a session that has failed. Takes no memory.
     pub fn book(&self) -> Option<&Book>
-        ensures book { option_map (λ book. book.now) result ≡ self.now.book }
+        ensures book { option_map (λ book. book.now) result ≡ (if self.now.is_failed then None else self.now.book) }
         ensures journal { IsJournalOf (state S.Store self.now.journal) (told self.now) }
     {
-        self.book.book()
+        match &self.hand {
+            Hand::Open(open) => open.book.book(),
+            Hand::Failed(away) => {
+                // (what it promises holds of a session that has failed)
+                let _journal = away.journal();
+                None
+            }
+        }
     }
 
-    /// The journal, which holds the lines of the book.
+    /// Whether the session has failed.
+    pub fn is_failed(&self) -> bool
+        ensures { result ≡ self.now.is_failed }
+    {
+        matches!(self.hand, Hand::Failed(_))
+    }
+
+    /// The journal, which holds the lines of the book, or of the one from before the round that was lost.
     pub fn into_journal(self) -> Journal<S>
         ensures same { result ≡ self.journal }
         ensures journal { IsJournalOf (state S.Store result) (told self) }
     {
-        let Session { alloc: _, book } = self;
-        book.into_journal()
+        let Session { alloc: _, hand } = self;
+        match hand {
+            Hand::Open(open) => {
+                let OpenSession { alloc: _, book } = open;
+                book.into_journal()
+            }
+            Hand::Failed(away) => away.into_journal(),
+        }
     }
 
     /// Gives one line to the book, and writes its reply: none to an empty line. Where memory is refused, nothing has
-    /// changed.
-    pub(crate) fn answer(&mut self, line: Line<'_>, reply: &mut Reply) -> Result<(), AllocError>
-        ensures ok { OnOk result (AnswersLine (told self.old) (bytes_of line.entry) (string_bytes reply.new.text) (told self.new)) }
+    /// changed. Where the session fails, there is no reply.
+    #[tactic(auto, using(crate::proofs::Sessions::bytes_answered, crate::proofs::Sessions::long_refused))]
+    pub(crate) fn answer<R: Threads + Wait + Sync>(
+        &mut self,
+        rt: &R,
+        line: Line<'_>,
+        reply: &mut Reply,
+    ) -> Result<Answered, AllocError>
+        requires here { self.old.is_failed ≡ false }
+        ensures ok { IfOk result (λ answered. AnswersBy answered (told self.old) (bytes_of line.entry) (string_bytes reply.new.text) (told self.new)) }
         ensures err { OnErr result (told self.new ≡ told self.old) }
         ensures empty { bytes_of line.entry ≡ Some [] → OnErr result ⊥ }
+        ensures failed { self.new.is_failed ≡ is_lost result }
     {
         reply.clear();
         match line {
-            Line::Whole([]) => Ok(()),
-            Line::Whole(bytes) => self.answer_bytes(bytes, reply),
-            Line::TooLong => reply.refuse(BAD_LINE),
+            Line::Whole([]) => Ok(Answered::Told),
+            Line::Whole(bytes) => self.answer_bytes(rt, bytes, reply),
+            Line::TooLong => refuse_line(reply),
         }
     }
 
-    fn answer_bytes(&mut self, line: &[u8], reply: &mut Reply) -> Result<(), AllocError>
-        requires { string_bytes reply.old.text ≡ [] }
-        ensures ok { OnOk result (AnswersSpoken (told self.old) (command_of line.now) (string_bytes reply.new.text) (told self.new)) }
+    fn answer_bytes<R: Threads + Wait + Sync>(
+        &mut self,
+        rt: &R,
+        line: &[u8],
+        reply: &mut Reply,
+    ) -> Result<Answered, AllocError>
+        requires here { self.old.is_failed ≡ false }
+        requires empty { string_bytes reply.old.text ≡ [] }
+        ensures ok { IfOk result (λ answered. AnswersTextBy answered (told self.old) (command_of line.now) (string_bytes reply.new.text) (told self.new)) }
         ensures err { OnErr result (told self.new ≡ told self.old) }
+        ensures failed { self.new.is_failed ≡ is_lost result }
     {
         match str::from_utf8(line) {
-            Ok(text) => self.answer_text(text, reply),
-            Err(_) => reply.refuse(BAD_LINE),
+            Ok(text) => self.answer_text(rt, text, reply),
+            Err(_) => refuse_line(reply),
         }
     }
 
-    fn answer_text(&mut self, line: &str, reply: &mut Reply) -> Result<(), AllocError>
-        requires { string_bytes reply.old.text ≡ [] }
-        ensures ok { OnOk result (AnswersSpoken (told self.old) (command_of line.now) (string_bytes reply.new.text) (told self.new)) }
+    #[tactic(auto, using(crate::proofs::Sessions::line_refused, crate::proofs::Sessions::no_round))]
+    fn answer_text<R: Threads + Wait + Sync>(
+        &mut self,
+        rt: &R,
+        line: &str,
+        reply: &mut Reply,
+    ) -> Result<Answered, AllocError>
+        requires here { self.old.is_failed ≡ false }
+        requires empty { string_bytes reply.old.text ≡ [] }
+        ensures ok { IfOk result (λ answered. AnswersTextBy answered (told self.old) (command_of line.now) (string_bytes reply.new.text) (told self.new)) }
         ensures err { OnErr result (told self.new ≡ told self.old) }
+        ensures failed { self.new.is_failed ≡ is_lost result }
     {
         match Command::read(self.alloc, line.as_bytes()) {
+            Ok(Command::Work { workers, moves }) => self.work(rt, workers, moves, reply),
             Ok(command) => self.run(command, line, reply),
-            Err(CommandFault::BadLine) => reply.refuse(BAD_LINE),
+            Err(CommandFault::BadLine) => refuse_line(reply),
             Err(CommandFault::Memory) => Err(AllocError),
         }
     }
 
-    fn run(&mut self, command: Command<'_>, line: &str, reply: &mut Reply) -> Result<(), AllocError>
+    fn run(
+        &mut self,
+        command: Command<'_>,
+        line: &str,
+        reply: &mut Reply,
+    ) -> Result<Answered, AllocError>
+        requires here { self.old.is_failed ≡ false }
         requires line { command_of line.now ≡ Some (spoken command) }
+        requires alone { is_work (spoken command) ≡ false }
         requires empty { string_bytes reply.old.text ≡ [] }
-        ensures ok { OnOk result (AnswersCommand (told self.old) (spoken command.entry) (string_bytes reply.new.text) (told self.new)) }
+        ensures ok { IfOk result (λ answered. AnswersTextBy answered (told self.old) (Some (spoken command.entry)) (string_bytes reply.new.text) (told self.new)) }
         ensures err { OnErr result (told self.new ≡ told self.old) }
+        ensures failed { self.new.is_failed ≡ is_lost result }
     {
-        match command {
-            Command::Table {
-                name,
-                schema,
-                items,
-            } => self.table(name, schema, items, line, reply),
-            Command::Define { name, definition } => self.define(&name, definition, line, reply),
-            Command::Start {
-                exec,
-                machine,
-                input,
-            } => self.start(&exec, &machine, input, line, reply),
-            Command::Step(thread) => self.step(&thread, line, reply),
-            Command::Undo(step) => self.undo(&step, line, reply),
-            Command::Plan(step) => self.plan(&step, reply),
-            Command::Rollback(step) => self.rollback(&step, line, reply),
-            Command::Drive(count) => self.drive(count, reply),
-            Command::Show(thread) => self.show(&thread, reply),
-            Command::Items => self.items(reply),
-            Command::History => self.history(reply),
-        }
+        let Hand::Open(open) = &mut self.hand else {
+            unreachable!()
+        };
+        open.run(command, line, reply)?;
+        Ok(Answered::Told)
     }
 
-    fn table(
+    fn work<R: Threads + Wait + Sync>(
         &mut self,
-        table: Text,
-        schema: KeySchema,
-        items: &str,
-        line: &str,
+        rt: &R,
+        workers: u32,
+        moves: u32,
         reply: &mut Reply,
-    ) -> Result<(), AllocError>
-        requires line { command_of line.now ≡ Some (grammar.table table schema items.now) }
-        requires empty { string_bytes reply.old.text ≡ [] }
-        ensures ok { OnOk result (AnswersCommand (told self.old) (grammar.table table schema items.now) (string_bytes reply.new.text) (told self.new)) }
+    ) -> Result<Answered, AllocError>
+        requires here { self.old.is_failed ≡ false }
+        requires few { (1 ≤ workers) × (workers ≤ 8) }
+        ensures ok { IfOk result (λ answered. AnswersTextBy answered (told self.old) (Some (grammar.work workers moves)) (string_bytes reply.new.text) (told self.new)) }
         ensures err { OnErr result (told self.new ≡ told self.old) }
+        ensures failed { self.new.is_failed ≡ is_lost result }
     {
-        if self.book.is_open() {
-            return reply.refuse(TABLE_TAKEN);
-        }
-        match read(self.alloc, items.as_bytes()) {
-            Ok(Json::List(items)) => {
-                let begin = Begin {
-                    table,
-                    schema,
-                    items,
-                };
-                self.begin(begin, line, reply)
+        let worked = replace_with(
+            &mut self.hand,
+            (),
+            |hand: Hand<S>, _: ()| -> (Hand<S>, Worked)
+                requires here { (sitting_of hand).is_failed ≡ false }
+                requires few { (1 ≤ workers) × (workers ≤ 8) }
+                ensures worked { WorksBy result.1 (told (sitting_of hand)) workers moves (told (sitting_of result.0)) }
+                ensures failed { (sitting_of result.0).is_failed ≡ is_gone result.1 }
+            { work_on(rt, hand, workers, moves) },
+        );
+        match worked {
+            Worked::Told(text) => {
+                put(reply, text);
+                Ok(Answered::Told)
             }
-            Ok(other) => {
-                drop(other);
-                reply.refuse_by(BAD_BEGIN, 1)
-            }
-            Err(fault) => refuse_json(fault, reply),
-        }
-    }
-
-    fn begin(&mut self, begin: Begin, line: &str, reply: &mut Reply) -> Result<(), AllocError>
-        requires closed { self.old.book ≡ None }
-        requires line { IsBeginLine line.now begin }
-        requires empty { string_bytes reply.old.text ≡ [] }
-        ensures ok { OnOk result (AnswersBeginning begin (string_bytes reply.new.text) (told self.new)) }
-        ensures err { OnErr result (told self.new ≡ None) }
-    {
-        reply.reserve_step()?;
-        match self.book.begin(self.alloc, begin, line) {
-            Ok(()) => reply.accept(),
-            Err(BeginRefusal::Item(fault)) => refuse_item(fault, reply),
-            Err(BeginRefusal::Journal(_)) => reply.refuse(NO_JOURNAL),
-        }
-    }
-
-    fn define(
-        &mut self,
-        name: &Text,
-        definition: &str,
-        line: &str,
-        reply: &mut Reply,
-    ) -> Result<(), AllocError>
-        requires line { command_of line.now ≡ Some (grammar.define name.now definition.now) }
-        requires empty { string_bytes reply.old.text ≡ [] }
-        ensures ok { OnOk result (AnswersCommand (told self.old) (grammar.define name.now definition.now) (string_bytes reply.new.text) (told self.new)) }
-        ensures err { OnErr result (told self.new ≡ told self.old) }
-    {
-        if !self.book.is_open() {
-            return reply.refuse(NO_TABLE);
-        }
-        let definition = match Value::from_str(self.alloc, definition) {
-            Ok(definition) => definition,
-            Err(fault) => {
-                if fault.is_memory() {
-                    return Err(AllocError);
-                }
-                return reply.refuse_by(BAD_JSON, 1);
-            }
-        };
-        reply.reserve_step()?;
-        match self.book.define(self.alloc, name, &definition, line) {
-            Ok(()) => reply.accept(),
-            Err(fault) => refuse_change(self.alloc, fault, reply),
-        }
-    }
-
-    fn start(
-        &mut self,
-        exec: &Execution,
-        machine: &Text,
-        input: &str,
-        line: &str,
-        reply: &mut Reply,
-    ) -> Result<(), AllocError>
-        requires line { command_of line.now ≡ Some (grammar.start exec.now.thread machine.now input.now) }
-        requires empty { string_bytes reply.old.text ≡ [] }
-        ensures ok { OnOk result (AnswersCommand (told self.old) (grammar.start exec.now.thread machine.now input.now) (string_bytes reply.new.text) (told self.new)) }
-        ensures err { OnErr result (told self.new ≡ told self.old) }
-    {
-        if !self.book.is_open() {
-            return reply.refuse(NO_TABLE);
-        }
-        let input = match read(self.alloc, input.as_bytes()) {
-            Ok(input) => input,
-            Err(fault) => return refuse_json(fault, reply),
-        };
-        reply.reserve_step()?;
-        match self
-            .book
-            .start(self.alloc, &exec.thread, machine, input, line)
-        {
-            Ok(name) => reply.accept_step(&name),
-            Err(fault) => refuse_change(self.alloc, fault, reply),
-        }
-    }
-
-    fn step(&mut self, thread: &ThreadName, line: &str, reply: &mut Reply) -> Result<(), AllocError>
-        requires line { command_of line.now ≡ Some (grammar.step thread.now) }
-        requires empty { string_bytes reply.old.text ≡ [] }
-        ensures ok { OnOk result (AnswersCommand (told self.old) (grammar.step thread.now) (string_bytes reply.new.text) (told self.new)) }
-        ensures err { OnErr result (told self.new ≡ told self.old) }
-    {
-        if !self.book.is_open() {
-            return reply.refuse(NO_TABLE);
-        }
-        reply.reserve_step()?;
-        match self.book.step(self.alloc, thread, line) {
-            Ok(moved) => reply.accept_moved(&moved),
-            Err(fault) => refuse_change(self.alloc, fault, reply),
-        }
-    }
-
-    fn undo(&mut self, step: &StepName, line: &str, reply: &mut Reply) -> Result<(), AllocError>
-        requires line { command_of line.now ≡ Some (grammar.undo step.now) }
-        requires empty { string_bytes reply.old.text ≡ [] }
-        ensures ok { OnOk result (AnswersCommand (told self.old) (grammar.undo step.now) (string_bytes reply.new.text) (told self.new)) }
-        ensures err { OnErr result (told self.new ≡ told self.old) }
-    {
-        if !self.book.is_open() {
-            return reply.refuse(NO_TABLE);
-        }
-        reply.reserve_step()?;
-        let room = Room::new(self.alloc, step)?;
-        match self.book.undo(room, line) {
-            Ok(_step) => reply.accept(),
-            Err(fault) => refuse_change(self.alloc, fault, reply),
-        }
-    }
-
-    fn plan(&self, step: &StepName, reply: &mut Reply) -> Result<(), AllocError>
-        requires { string_bytes reply.old.text ≡ [] }
-        ensures ok { OnOk result (AnswersCommand (told self.now) (grammar.plan step.now) (string_bytes reply.new.text) (told self.now)) }
-    {
-        let Some(book) = self.book.book() else {
-            return reply.refuse(NO_TABLE);
-        };
-        match book.plan_room(self.alloc, step) {
-            Ok(room) => reply.accept_names(room.names()),
-            Err(refusal) => reply.refuse_command(self.alloc, refusal),
-        }
-    }
-
-    /// The reply is written first, since the book can't be changed back where memory for it is refused.
-    fn rollback(&mut self, step: &StepName, line: &str, reply: &mut Reply) -> Result<(), AllocError>
-        requires line { command_of line.now ≡ Some (grammar.rollback step.now) }
-        requires empty { string_bytes reply.old.text ≡ [] }
-        ensures ok { OnOk result (AnswersCommand (told self.old) (grammar.rollback step.now) (string_bytes reply.new.text) (told self.new)) }
-        ensures err { OnErr result (told self.new ≡ told self.old) }
-    {
-        if !self.book.is_open() {
-            return reply.refuse(NO_TABLE);
-        }
-        let room = match self.book.plan_room(self.alloc, step) {
-            Ok(room) => room,
-            Err(refusal) => return reply.refuse_command(self.alloc, refusal),
-        };
-        reply.accept_names(room.names())?;
-        match self.book.rollback(room, line) {
-            Ok(_names) => Ok(()),
-            Err(ChangeFault::Book(_)) => unreachable!(),
-            Err(ChangeFault::Journal(_)) => {
-                reply.clear();
-                reply.refuse(NO_JOURNAL)
-            }
-        }
-    }
-
-    fn drive(&mut self, count: u32, reply: &mut Reply) -> Result<(), AllocError>
-        requires { string_bytes reply.old.text ≡ [] }
-        ensures ok { OnOk result (AnswersCommand (told self.old) (grammar.drive count) (string_bytes reply.new.text) (told self.new)) }
-        ensures err { OnErr result (told self.new ≡ told self.old) }
-    {
-        if !self.book.is_open() {
-            return reply.refuse(NO_TABLE);
-        }
-        drive(self.alloc, &mut self.book, count, reply)
-    }
-
-    fn show(&self, thread: &ThreadName, reply: &mut Reply) -> Result<(), AllocError>
-        requires { string_bytes reply.old.text ≡ [] }
-        ensures ok { OnOk result (AnswersCommand (told self.now) (grammar.show thread.now) (string_bytes reply.new.text) (told self.now)) }
-    {
-        let Some(book) = self.book.book() else {
-            return reply.refuse(NO_TABLE);
-        };
-        match book.show(thread) {
-            Ok(frame) => reply.accept_frame(self.alloc, frame),
-            Err(refusal) => reply.refuse_command(self.alloc, refusal),
-        }
-    }
-
-    fn items(&self, reply: &mut Reply) -> Result<(), AllocError>
-        requires { string_bytes reply.old.text ≡ [] }
-        ensures ok { OnOk result (AnswersCommand (told self.now) grammar.items (string_bytes reply.new.text) (told self.now)) }
-    {
-        match self.book.book() {
-            Some(book) => reply.accept_items(self.alloc, book.items()),
-            None => reply.refuse(NO_TABLE),
-        }
-    }
-
-    fn history(&self, reply: &mut Reply) -> Result<(), AllocError>
-        requires { string_bytes reply.old.text ≡ [] }
-        ensures ok { OnOk result (AnswersCommand (told self.now) grammar.history (string_bytes reply.new.text) (told self.now)) }
-    {
-        match self.book.book() {
-            Some(book) => reply.accept_steps(book.history()),
-            None => reply.refuse(NO_TABLE),
+            Worked::NoMemory => Err(AllocError),
+            Worked::Lost => Ok(Answered::Lost),
         }
     }
 }
 
-/// Tells why a command isn't accepted.
-pub(crate) fn refuse_change(
-    alloc: Global,
-    fault: ChangeFault,
-    reply: &mut Reply,
-) -> Result<(), AllocError>
-    ensures ok { Writes result reply.old reply.new (change_reply fault) }
-    ensures memory { fault ≡ ChangeFault.Book Refusal.Memory → OnOk result ⊥ }
+/// A line that is no command.
+fn refuse_line(reply: &mut Reply) -> Result<Answered, AllocError>
+    requires { string_bytes reply.old.text ≡ [] }
+    ensures { IfOk result (λ answered. (answered ≡ Answered.Told) × (string_bytes reply.new.text ≡ refused bad_line)) }
 {
-    match fault {
-        ChangeFault::Book(refusal) => reply.refuse_command(alloc, refusal),
-        ChangeFault::Journal(_) => reply.refuse(NO_JOURNAL),
-    }
+    reply.refuse(BAD_LINE)?;
+    Ok(Answered::Told)
 }
 
-/// Tells what is wrong with a text of JSON.
-fn refuse_json(fault: JsonFault, reply: &mut Reply) -> Result<(), AllocError>
-    ensures ok { Writes result reply.old reply.new (json_reply fault) }
-    ensures memory { fault ≡ JsonFault.Memory → OnOk result ⊥ }
+/// In a function of its own, since an assignment drops the old value.
+fn put(reply: &mut Reply, text: Reply)
+    ensures { reply.new ≡ text }
 {
-    match fault {
-        JsonFault::NotJson => reply.refuse_by(BAD_JSON, 1),
-        JsonFault::NotWhole => reply.refuse_by(BAD_JSON, 2),
-        JsonFault::Memory => Err(AllocError),
-    }
-}
-
-/// Tells what is wrong with an item of the table's beginning.
-fn refuse_item(fault: ItemFault, reply: &mut Reply) -> Result<(), AllocError>
-    ensures ok { Writes result reply.old reply.new (item_fault_reply fault) }
-    ensures memory { fault ≡ ItemFault.Memory → OnOk result ⊥ }
-{
-    match fault {
-        ItemFault::BadValue => reply.refuse_by(BAD_BEGIN, 1),
-        ItemFault::BadNumber => reply.refuse_by(BAD_BEGIN, 2),
-        ItemFault::NoKey => reply.refuse_by(BAD_BEGIN, 3),
-        ItemFault::KeyType => reply.refuse_by(BAD_BEGIN, 4),
-        ItemFault::EmptyKey => reply.refuse_by(BAD_BEGIN, 5),
-        ItemFault::Memory => Err(AllocError),
-    }
+    *reply = text;
 }

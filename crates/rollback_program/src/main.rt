@@ -7,6 +7,8 @@ use sqlite::{Connection, Error, ErrorCode, File, FileStore, MemStore};
 use std::alloc::{AllocError, Global};
 use std::io::{BufWriter, Write};
 use std::process::ExitCode;
+use std::sync::Wait;
+use std::thread::Threads;
 use std::{env, fs};
 
 fn asked(rt: &HostRuntime) -> Result<Mode, ModeRefusal> {
@@ -36,21 +38,41 @@ fn to_existing(rt: &HostRuntime, file: &str) -> Result<Connection<FileStore<File
     }
 }
 
-fn run_in_memory<W: Write>(rt: &HostRuntime, mode: &Mode, writer: &mut W) -> u8 {
+fn run_in_memory<T: Threads + Wait + Sync, W: Write>(
+    rt: &HostRuntime,
+    threads: &T,
+    mode: &Mode,
+    writer: &mut W,
+) -> u8 {
     let connection = in_memory(rt.alloc());
-    let (outcome, left) = run(rt.alloc(), mode, connection, &mut rt.stdin(), writer);
+    let (outcome, left) = run(
+        threads,
+        rt.alloc(),
+        mode,
+        connection,
+        &mut rt.stdin(),
+        writer,
+    );
     drop(left);
     finish(outcome, Ok(()), &mut rt.stderr())
 }
 
 /// Where the run ended well on a journal, its file is closed: it has all lines then.
-fn run_on_file<W: Write>(
+fn run_on_file<T: Threads + Wait + Sync, W: Write>(
     rt: &HostRuntime,
+    threads: &T,
     mode: &Mode,
     connection: Result<Connection<FileStore<File>>, Error>,
     writer: &mut W,
 ) -> u8 {
-    let (outcome, left) = run(rt.alloc(), mode, connection, &mut rt.stdin(), writer);
+    let (outcome, left) = run(
+        threads,
+        rt.alloc(),
+        mode,
+        connection,
+        &mut rt.stdin(),
+        writer,
+    );
     let closed = match left {
         Some(connection) => connection.close(),
         None => Ok(()),
@@ -59,30 +81,40 @@ fn run_on_file<W: Write>(
 }
 
 /// Makes the connection that the mode asks for, and runs over it.
-fn run_in<W: Write>(rt: &HostRuntime, mode: &Mode, writer: &mut W) -> u8 {
+fn run_in<T: Threads + Wait + Sync, W: Write>(
+    rt: &HostRuntime,
+    threads: &T,
+    mode: &Mode,
+    writer: &mut W,
+) -> u8 {
     match mode {
-        Mode::InMemory => run_in_memory(rt, mode, writer),
+        Mode::InMemory => run_in_memory(rt, threads, mode, writer),
         Mode::Journal(file) => {
             let connection = Connection::open(rt, file.as_str());
-            run_on_file(rt, mode, connection, writer)
+            run_on_file(rt, threads, mode, connection, writer)
         }
         Mode::Check(file) => {
             let connection = to_existing(rt, file.as_str());
-            run_on_file(rt, mode, connection, writer)
+            run_on_file(rt, threads, mode, connection, writer)
         }
     }
 }
 
-fn run_asked<W: Write>(rt: &HostRuntime, asked: Result<Mode, ModeRefusal>, writer: &mut W) -> u8 {
+fn run_asked<T: Threads + Wait + Sync, W: Write>(
+    rt: &HostRuntime,
+    threads: &T,
+    asked: Result<Mode, ModeRefusal>,
+    writer: &mut W,
+) -> u8 {
     match asked {
-        Ok(mode) => run_in(rt, &mode, writer),
+        Ok(mode) => run_in(rt, threads, &mode, writer),
         Err(refusal) => refuse(refusal, writer, &mut rt.stderr()),
     }
 }
 
 fn main(rt: HostRuntime) -> ExitCode {
     let status = match BufWriter::new(rt.alloc(), rt.stdout()) {
-        Ok(mut writer) => run_asked(&rt, asked(&rt), &mut writer),
+        Ok(mut writer) => run_asked(&rt, &rt, asked(&rt), &mut writer),
         Err(_) => refuse(ModeRefusal::Memory, &mut rt.stdout(), &mut rt.stderr()),
     };
     ExitCode::from(status)

@@ -12,7 +12,7 @@ use Rattle.clap.specs.declared.error.kind.ErrorKind.{ErrorKind}
 use Rattle.clap.specs.declared.error.kind.ErrorKind.TheVariants as kind
 use Rattle.rollback_run.specs.declared.mode.Mode.{Mode}
 use Rattle.rollback_run.specs.declared.mode.ModeRefusal.{ModeRefusal}
-use Rattle.rollback_run.specs.declared.mode.ModeRefusal.TheVariants.{Help, Usage, Memory}
+use Rattle.rollback_run.specs.declared.mode.ModeRefusal.TheVariants.{Shown, Usage, Memory}
 use Rattle.rollback_run.specs.Words.{program, value_in, IsRefusedBy, Names, NamesFile, Refuses, RefusesNamed}
 
 first_text : (vs : List (Bor Text)) → option_map (λ s. s.now) (slice_get vs 0) ≡ slice_get (map (λ s. s.now) vs) 0
@@ -41,15 +41,16 @@ value_is a m words name app has =
 pub refuses : (words : List Text) (k : ErrorKind) (r : ModeRefusal) → (k ≡ kind.OutOfMemory) ⊎ IsAmong k (fault_of program words)
     → IsRefusedBy k r → Refuses words r
 refuses words k Memory h told = tt
-refuses words k (Help text) (inl e) told = cc
-refuses words k Usage (inl e) told = absurd (told.1 e)
-refuses words k (Help text) (inr among) told = inr (record { kind = k; among = among; told = told })
+refuses words k (Shown text) (inl e) (inl help) = cc
+refuses words k (Shown text) (inl e) (inr version) = cc
+refuses words k Usage (inl e) told = absurd (told.2 e)
+refuses words k (Shown text) (inr among) told = inr (record { kind = k; among = among; told = told })
 refuses words k Usage (inr among) told = inr (record { kind = k; among = among; told = told })
 
 pub refuses_named : (words : List Text) (r : ModeRefusal) → RefusesNamed (value_in words (codes "journal")) (value_in words (codes "check")) r
     → Refuses words r
 refuses_named words Memory h = tt
-refuses_named words (Help text) h = inl h
+refuses_named words (Shown text) h = inl h
 refuses_named words Usage h = inl h
 
 -- the errors of a parse by the program's command

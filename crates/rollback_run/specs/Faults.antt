@@ -26,6 +26,7 @@ of_open open_fault.Memory = Memory
 abbrev pub of_serve : ServeFault → Fault
 of_serve serve_fault.Read = Input
 of_serve serve_fault.Write = Output
+of_serve serve_fault.Journal = Store
 of_serve serve_fault.Memory = Memory
 
 abbrev pub served : Result Unit ServeFault → Result Unit Fault

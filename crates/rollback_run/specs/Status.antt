@@ -18,7 +18,7 @@ use Rattle.rollback_run.specs.declared.fault.Fault.TheVariants.{Output}
 use Rattle.rollback_run.specs.declared.mode.Mode.{Mode}
 use Rattle.rollback_run.specs.declared.mode.Mode.TheVariants.{InMemory, Journal, Check}
 use Rattle.rollback_run.specs.declared.mode.ModeRefusal.{ModeRefusal}
-use Rattle.rollback_run.specs.declared.mode.ModeRefusal.TheVariants.{Help, Usage, Memory}
+use Rattle.rollback_run.specs.declared.mode.ModeRefusal.TheVariants.{Shown, Usage, Memory}
 
 -- ---- what a check prints
 
@@ -130,6 +130,6 @@ abbrev pub IsShown : ℕ → List ℕ → Option (List ℕ) → Option (List ℕ
 IsShown status text old new quiet said = ((status ≡ 0) × Appends old new text × Keeps quiet said) ⊎ ((status ≡ 4) × IsCutShort text old new quiet said)
 
 abbrev pub IsRefusal : ModeRefusal → ℕ → Option (List ℕ) → Option (List ℕ) → Option (List ℕ) → Option (List ℕ) → Type 0
-IsRefusal (Help text) status old new quiet said = IsShown status (string_bytes text) old new quiet said
+IsRefusal (Shown text) status old new quiet said = IsShown status (string_bytes text) old new quiet said
 IsRefusal Usage status old new quiet said = (status ≡ 2) × Keeps old new × IsBegun usage_text quiet said
 IsRefusal Memory status old new quiet said = (status ≡ 4) × Keeps old new × IsTold (Err fault.Memory) quiet said

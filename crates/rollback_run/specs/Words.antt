@@ -1,5 +1,5 @@
 -- The words of the command line: which mode they name, and why they name none.
-use Rattle.std.specs.Prelude.{◌≡◌, ◌≢◌, ◌⊎◌, List, [], Option, None, Some, IsSome, codes, string_bytes}
+use Rattle.std.specs.Prelude.{◌≡◌, ◌≢◌, ◌⊎◌, true, List, [], Option, None, Some, IsSome, codes, string_bytes}
 use Rattle.clap.specs.Words.{App, Rule, Text, new_app, new_rule, with_rule, first_of, matches_of, fault_of, IsAmong}
 use Rattle.clap.specs.declared.error.kind.ErrorKind.{ErrorKind}
 use Rattle.clap.specs.declared.error.kind.ErrorKind.TheVariants as kind
@@ -8,7 +8,7 @@ use Rattle.std.specs.declared.io.ErrorKind.TheVariants.{OutOfMemory}
 use Rattle.rollback_run.specs.declared.mode.Mode.{Mode}
 use Rattle.rollback_run.specs.declared.mode.Mode.TheVariants.{InMemory, Journal, Check}
 use Rattle.rollback_run.specs.declared.mode.ModeRefusal.{ModeRefusal}
-use Rattle.rollback_run.specs.declared.mode.ModeRefusal.TheVariants.{Help, Usage, Memory}
+use Rattle.rollback_run.specs.declared.mode.ModeRefusal.TheVariants.{Shown, Usage, Memory}
 
 -- how it is told that the words can't be had, for an error of this kind
 abbrev pub unread_refusal : IoKind → ModeRefusal
@@ -19,9 +19,13 @@ unread_refusal kind = Usage
 abbrev pub option_rule : Text → Rule
 option_rule name = record (new_rule name) { long = Some name; value_names = 1 }
 
+-- the program's name, with a version
+abbrev pub named_program : App
+named_program = record { top = record (new_app (codes "rollback")).top { has_version = true }; subs = [] }
+
 -- the program's command
 abbrev pub program : App
-program = with_rule (with_rule (new_app (codes "rollback")) (option_rule (codes "journal"))) (option_rule (codes "check"))
+program = with_rule (with_rule named_program (option_rule (codes "journal"))) (option_rule (codes "check"))
 
 -- the value of an option in the matches that these words have
 abbrev pub value_in : List Text → Text → Option Text
@@ -35,14 +39,14 @@ NamesFile journal check (Check file) = (journal ≡ None) × (check ≡ Some (st
 
 -- the values name no mode
 abbrev pub RefusesNamed : Option Text → Option Text → ModeRefusal → Type 0
-RefusesNamed journal check (Help text) = ⊥
+RefusesNamed journal check (Shown text) = ⊥
 RefusesNamed journal check Usage = IsSome journal × IsSome check
 RefusesNamed journal check Memory = Unit {0}
 
--- how an error of this kind is told
+-- how an error of this kind is told: a text that was asked for is shown
 abbrev pub IsRefusedBy : ErrorKind → ModeRefusal → Type 0
-IsRefusedBy k (Help text) = k ≡ kind.DisplayHelp
-IsRefusedBy k Usage = (k ≢ kind.DisplayHelp) × (k ≢ kind.OutOfMemory)
+IsRefusedBy k (Shown text) = (k ≡ kind.DisplayHelp) ⊎ (k ≡ kind.DisplayVersion)
+IsRefusedBy k Usage = (k ≢ kind.DisplayHelp) × (k ≢ kind.DisplayVersion) × (k ≢ kind.OutOfMemory)
 IsRefusedBy k Memory = Unit {0}
 
 -- clap takes the words, and the mode is the one that their matches name

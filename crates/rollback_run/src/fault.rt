@@ -77,6 +77,7 @@ impl Fault {
         match fault {
             ServeFault::Read => Fault::Input,
             ServeFault::Write => Fault::Output,
+            ServeFault::Journal => Fault::Store,
             ServeFault::Memory => Fault::Memory,
         }
     }

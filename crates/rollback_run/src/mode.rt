@@ -10,7 +10,10 @@ use std::alloc::{AllocError, Global};
 use std::io;
 
 const ABOUT: &str =
-    "Runs executions of state machines, and takes their steps back: a command a line.";
+    "Runs executions of state machines, and takes their steps back: a command a line. The command work takes steps by several workers at once, for hundreds of executions; which step is taken first is open.";
+
+/// As CHANGELOG.md counts them.
+const VERSION: &str = "0.1.0";
 
 const JOURNAL: &str = "journal";
 
@@ -34,8 +37,8 @@ pub enum Mode {
 /// Why there is nothing to be done.
 #[derive(Debug, Drop)]
 pub enum ModeRefusal {
-    /// This help was asked for.
-    Help(String),
+    /// This text was asked for: the help, or the version.
+    Shown(String),
     /// The words are none that are known.
     Usage,
     /// Memory was refused.
@@ -57,6 +60,7 @@ fn command<'a>(alloc: Global) -> Result<Command<'a>, AllocError>
     ensures { IfOk result (λ c. app_of c ≡ program) }
 {
     Command::new(alloc, "rollback")
+        .version(VERSION)
         .about(ABOUT)
         .arg(option(alloc, JOURNAL, JOURNAL_HELP))?
         .arg(option(alloc, CHECK, CHECK_HELP))
@@ -77,7 +81,7 @@ pub fn unread_words(error: &io::Error) -> ModeRefusal
 ///
 /// # Errors
 ///
-/// `Help` where it is asked for, `Usage` where both options are there or the words are refused for another cause, and
+/// `Shown` where help or the version is asked for, `Usage` where both options are there or the words are refused for another cause, and
 /// `Memory`.
 pub fn mode_of(alloc: Global, words: &[String]) -> Result<Mode, ModeRefusal>
     ensures ok { IfOk result (Names (map string_bytes words.now)) }
@@ -115,8 +119,8 @@ fn refusal(alloc: Global, error: &Error) -> ModeRefusal
     ensures { IsRefusedBy (kind_of error.now) result }
 {
     match error.kind() {
-        ErrorKind::DisplayHelp => match format!(in alloc; "{error}") {
-            Ok(text) => ModeRefusal::Help(text),
+        ErrorKind::DisplayHelp | ErrorKind::DisplayVersion => match format!(in alloc; "{error}") {
+            Ok(text) => ModeRefusal::Shown(text),
             Err(_) => ModeRefusal::Memory,
         },
         ErrorKind::OutOfMemory => ModeRefusal::Memory,

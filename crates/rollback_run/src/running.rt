@@ -1,5 +1,5 @@
 // Running in a mode, over any streams and any store.
-ghost use Rattle.std.specs.Prelude.{◌≡◌, true, is_some, option_map, IfOk, IfErr};
+ghost use Rattle.std.specs.Prelude.{◌≡◌, true, false, Err, is_some, option_map, IfOk, IfErr};
 ghost use Rattle.sqlite.specs.Held.{state};
 ghost use Rattle.sqlite.specs.State.{HasCleanDisk};
 ghost use Rattle.book_journal.specs.Faults.{fault_of};
@@ -18,6 +18,8 @@ use operator_line::{ServeFault, Session, flush, serve, write_all};
 use sqlite::{Alter, Connection, Error};
 use std::alloc::Global;
 use std::io::{Read, Write};
+use std::sync::Wait;
+use std::thread::Threads;
 
 const USAGE_TEXT: &[u8] = b"usage: rollback [--journal FILE | --check FILE]\n";
 
@@ -25,7 +27,8 @@ const USAGE_TEXT: &[u8] = b"usage: rollback [--journal FILE | --check FILE]\n";
 ///
 /// Where an input was served to its end on a file's journal, the connection is handed out, to be closed: then the file alone has all
 /// lines. [`finish`] is given what that answers.
-pub fn run<S: Alter + Drop, R: Read, W: Write>(
+pub fn run<T: Threads + Wait + Sync, S: Alter + Drop, R: Read, W: Write>(
+    rt: &T,
     alloc: Global,
     mode: &Mode,
     connection: Result<Connection<S>, Error>,
@@ -36,7 +39,7 @@ pub fn run<S: Alter + Drop, R: Read, W: Write>(
     ensures left { is_some result.1 ≡ is_left mode.now result.0 }
 {
     match open(alloc, connection) {
-        Ok(session) => run_owned(alloc, mode, session, reader, writer),
+        Ok(session) => run_owned(rt, alloc, mode, session, reader, writer),
         Err(fault) => (Err(fault), None),
     }
 }
@@ -63,7 +66,7 @@ pub fn refuse<W: Write, E: Write>(refusal: ModeRefusal, writer: &mut W, faults: 
     ensures { IsRefusal refusal result (W.contents writer.old) (W.contents writer.new) (E.contents faults.old) (E.contents faults.new) }
 {
     match refusal {
-        ModeRefusal::Help(text) => match show(writer, text.as_bytes()) {
+        ModeRefusal::Shown(text) => match show(writer, text.as_bytes()) {
             Ok(()) => ENDED,
             Err(_) => end(Err(Fault::Output), faults),
         },
@@ -89,6 +92,7 @@ fn open<S: Alter + Drop>(
     alloc: Global,
     connection: Result<Connection<S>, Error>,
 ) -> Result<Session<S>, Fault>
+    ensures here { IfOk result (λ s. s.is_failed ≡ false) }
     ensures ok { IfOk result (λ s. Opens (λ held. state S.Store held) connection (told s)) }
     ensures err { IfErr result (OpensNone (λ held. state S.Store held) connection) }
 {
@@ -102,6 +106,7 @@ fn open_connected<S: Alter + Drop>(
     alloc: Global,
     connection: Connection<S>,
 ) -> Result<Session<S>, Fault>
+    ensures here { IfOk result (λ s. s.is_failed ≡ false) }
     ensures ok { IfOk result (λ s. Gives (λ held. state S.Store held) connection (told s)) }
     ensures err { IfErr result (GivesNone (λ held. state S.Store held) connection) }
 {
@@ -117,18 +122,20 @@ fn open_connected<S: Alter + Drop>(
 // ---- what is done with the book
 
 /// Runs a session, and lets it go.
-fn run_owned<S: Alter + Drop, R: Read, W: Write>(
+fn run_owned<T: Threads + Wait + Sync, S: Alter + Drop, R: Read, W: Write>(
+    rt: &T,
     alloc: Global,
     mode: &Mode,
     session: Session<S>,
     reader: &mut R,
     writer: &mut W,
 ) -> (Result<(), Fault>, Option<Connection<S>>)
+    requires here { session.is_failed ≡ false }
     ensures run { IsRun mode.now result.0 (told session) (R.remaining reader.old) (R.remaining reader.new) (W.contents writer.old) (W.contents writer.new) }
     ensures left { is_some result.1 ≡ is_left mode.now result.0 }
 {
     let mut session = session;
-    let outcome = run_session(alloc, mode, &mut session, reader, writer);
+    let outcome = run_session(rt, alloc, mode, &mut session, reader, writer);
     let left = let_go(mode, outcome, session);
     (outcome, left)
 }
@@ -155,32 +162,39 @@ fn let_go<S: Alter + Drop>(
 ///
 /// # Errors
 ///
-/// As `serve`; `Output` where the sizes can't be written or flushed.
-pub fn run_session<S: Alter, R: Read, W: Write>(
+/// As `serve`; `Output` where the sizes can't be written or flushed; `Store` of a session that has failed, before anything is done.
+pub fn run_session<T: Threads + Wait + Sync, S: Alter, R: Read, W: Write>(
+    rt: &T,
     alloc: Global,
     mode: &Mode,
     session: &mut Session<S>,
     reader: &mut R,
     writer: &mut W,
 ) -> Result<(), Fault>
-    ensures done { IsDone mode.now result (told session.old) (told session.new) (R.remaining reader.old) (R.remaining reader.new) (W.contents writer.old) (W.contents writer.new) }
+    ensures done { session.old.is_failed ≡ false → IsDone mode.now result (told session.old) (told session.new) (R.remaining reader.old) (R.remaining reader.new) (W.contents writer.old) (W.contents writer.new) }
     ensures check { is_check mode.now ≡ true → session.new ≡ session.old }
+    ensures failed { session.old.is_failed ≡ true → (result ≡ Err Fault.Store) × (session.new ≡ session.old) × (R.remaining reader.new ≡ R.remaining reader.old) × (W.contents writer.new ≡ W.contents writer.old) }
 {
+    if session.is_failed() {
+        return Err(Fault::Store);
+    }
     match mode {
-        Mode::InMemory | Mode::Journal(_) => serve_book(alloc, session, reader, writer),
+        Mode::InMemory | Mode::Journal(_) => serve_book(rt, alloc, session, reader, writer),
         Mode::Check(_) => print_sizes(writer, sizes(session.book())),
     }
 }
 
-fn serve_book<S: Alter, R: Read, W: Write>(
+fn serve_book<T: Threads + Wait + Sync, S: Alter, R: Read, W: Write>(
+    rt: &T,
     alloc: Global,
     session: &mut Session<S>,
     reader: &mut R,
     writer: &mut W,
 ) -> Result<(), Fault>
+    requires here { session.old.is_failed ≡ false }
     ensures { IsServed result (told session.old) (told session.new) (R.remaining reader.old) (W.contents writer.old) (W.contents writer.new) }
 {
-    match serve(alloc, reader, writer, session) {
+    match serve(rt, alloc, reader, writer, session) {
         Ok(()) => Ok(()),
         Err(fault) => Err(Fault::of_serve(fault)),
     }

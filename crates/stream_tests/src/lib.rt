@@ -4,6 +4,8 @@
 #[cfg(test)]
 mod pieces;
 #[cfg(test)]
+mod rounds;
+#[cfg(test)]
 mod runs;
 #[cfg(test)]
 mod serving;

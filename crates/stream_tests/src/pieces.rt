@@ -4,7 +4,9 @@ use crate::streams::{Sink, Source, line_count};
 use operator_line::{ServeFault, Session};
 use std::alloc::{AllocError, Global};
 use std::process::Abort;
+use std::sync::Wait;
 use std::test::Fail;
+use std::thread::Threads;
 use stopping_files::{NEVER, Stopping};
 
 const FIRST_PATH: &[u8] =
@@ -13,12 +15,12 @@ const FIRST_PATH: &[u8] =
 const FIRST_REPLIES: &[u8] = b"ok\nok\nok a#0\nok a#1 plain\nok done 7\nok\nok ready \"P\" 0\n";
 
 /// Whether each whole line is answered, and nothing else, before a reader fails that gives a byte a call.
-fn answers_whole_lines(alloc: Global, rest: &[u8]) -> bool {
+fn answers_whole_lines<T: Threads + Wait + Sync>(rt: &T, alloc: Global, rest: &[u8]) -> bool {
     let mut source = Source::new(rest);
     source.at_once = 1;
     source.fails = true;
     let mut sink = Sink::new(alloc);
-    let ended = served_new(alloc, &mut source, &mut sink);
+    let ended = served_new(rt, alloc, &mut source, &mut sink);
     is_ended(ended, Err(ServeFault::Read))
         && FIRST_REPLIES.starts_with(sink.taken.as_slice())
         && sink.lines() == line_count(rest)
@@ -28,17 +30,17 @@ fn answers_whole_lines(alloc: Global, rest: &[u8]) -> bool {
 fn pieces_and_failing_readers(rt: HostRuntime) {
     for cut in 0..FIRST_PATH.len() + 1 {
         assert!(rt;
-            answers_whole_lines(rt.alloc(), &FIRST_PATH[..cut]),
+            answers_whole_lines(&rt, rt.alloc(), &FIRST_PATH[..cut]),
             "at {cut}"
         );
     }
 }
 
 /// Whether each line is answered, also a last one without its end.
-fn answers_lines(alloc: Global, rest: &[u8]) -> bool {
+fn answers_lines<T: Threads + Wait + Sync>(rt: &T, alloc: Global, rest: &[u8]) -> bool {
     let mut source = Source::new(rest);
     let mut sink = Sink::new(alloc);
-    let ended = served_new(alloc, &mut source, &mut sink);
+    let ended = served_new(rt, alloc, &mut source, &mut sink);
     let is_cut = !rest.is_empty() && rest.last() != Some(&b'\n');
     let lines = line_count(rest).saturating_add(is_cut as usize);
     is_ended(ended, OK) && sink.lines() == lines && sink.is_flushed()
@@ -47,18 +49,21 @@ fn answers_lines(alloc: Global, rest: &[u8]) -> bool {
 #[test]
 fn inputs_cut_anywhere(rt: HostRuntime) {
     for cut in 0..FIRST_PATH.len() + 1 {
-        assert!(rt; answers_lines(rt.alloc(), &FIRST_PATH[..cut]), "at {cut}");
+        assert!(rt;
+            answers_lines(&rt, rt.alloc(), &FIRST_PATH[..cut]),
+            "at {cut}"
+        );
     }
 }
 
 /// Whether a writer that takes a byte a call, and only so many, takes them all; and serving ends well only where they are the whole of the
 /// replies.
-fn fills(alloc: Global, room: usize) -> bool {
+fn fills<T: Threads + Wait + Sync>(rt: &T, alloc: Global, room: usize) -> bool {
     let mut source = Source::new(FIRST_PATH);
     let mut sink = Sink::new(alloc);
     sink.at_once = 1;
     sink.room = room;
-    let ended = served_new(alloc, &mut source, &mut sink);
+    let ended = served_new(rt, alloc, &mut source, &mut sink);
     let end = if room == FIRST_REPLIES.len() {
         OK
     } else {
@@ -72,23 +77,23 @@ fn fills(alloc: Global, room: usize) -> bool {
 #[test]
 fn failing_writers(rt: HostRuntime) {
     for room in 0..FIRST_REPLIES.len() + 1 {
-        assert!(rt; fills(rt.alloc(), room), "at {room}");
+        assert!(rt; fills(&rt, rt.alloc(), room), "at {room}");
     }
 }
 
 /// How serving ends with a writer that takes no bytes and answers so, and how often it is asked.
-fn ended_idle(alloc: Global) -> (Option<Ended>, usize) {
+fn ended_idle<T: Threads + Wait + Sync>(rt: &T, alloc: Global) -> (Option<Ended>, usize) {
     let mut source = Source::new(FIRST_PATH);
     let mut sink = Sink::new(alloc);
     sink.at_once = 0;
-    let ended = served_new(alloc, &mut source, &mut sink);
+    let ended = served_new(rt, alloc, &mut source, &mut sink);
     (ended, sink.calls)
 }
 
 /// The command whose reply can't be written stands, and the writer isn't asked again.
 #[test]
 fn a_writer_that_takes_nothing(rt: HostRuntime) {
-    let (ended, calls) = ended_idle(rt.alloc());
+    let (ended, calls) = ended_idle(&rt, rt.alloc());
     assert_eq!(rt; calls, 1);
     let stands = Ended {
         end: Err(ServeFault::Write),
@@ -113,7 +118,7 @@ fn interrupted_readers_are_asked_again(rt: HostRuntime) -> Result<(), Fail> {
     source.at_once = 1;
     source.interrupts = true;
     let mut sink = Sink::new(rt.alloc());
-    let ended = served_new(rt.alloc(), &mut source, &mut sink);
+    let ended = served_new(&rt, rt.alloc(), &mut source, &mut sink);
     assert!(rt; is_ended(ended, OK));
     assert_eq!(rt; (sink.lines(), sink.flushed), (400, 2400));
     // each piece in which a line ended is flushed
@@ -128,18 +133,18 @@ fn interrupted_writers_are_asked_again(rt: HostRuntime) -> Result<(), Fail> {
     let mut sink = Sink::new(rt.alloc());
     sink.at_once = 1;
     sink.interrupts = true;
-    let ended = served_new(rt.alloc(), &mut source, &mut sink);
+    let ended = served_new(&rt, rt.alloc(), &mut source, &mut sink);
     assert!(rt; is_ended(ended, OK));
     assert_eq!(rt; (sink.lines(), sink.flushed), (400, 2400));
     Ok(())
 }
 
 /// How serving ends at a flush that fails.
-fn ended_unflushed(alloc: Global) -> Option<Ended> {
+fn ended_unflushed<T: Threads + Wait + Sync>(rt: &T, alloc: Global) -> Option<Ended> {
     let mut source = Source::new(b"table items id:S []\nitems\n");
     let mut sink = Sink::new(alloc);
     sink.failing = 1;
-    served_new(alloc, &mut source, &mut sink)
+    served_new(rt, alloc, &mut source, &mut sink)
 }
 
 /// The commands before a flush that fails stand.
@@ -149,7 +154,7 @@ fn a_flush_that_fails(rt: HostRuntime) {
         end: Err(ServeFault::Write),
         entries: Some(0),
     };
-    assert!(rt; ended_unflushed(rt.alloc()) == Some(stands));
+    assert!(rt; ended_unflushed(&rt, rt.alloc()) == Some(stands));
 }
 
 /// The lines of the first path, and how many entries the log has after each of them.
@@ -166,7 +171,8 @@ const LINES: &[(&[u8], usize)] = &[
 ];
 
 /// Whether serving this line to a writer that takes nothing ends, with so many entries in the log.
-fn stands_unanswered(
+fn stands_unanswered<T: Threads + Wait + Sync>(
+    rt: &T,
     alloc: Global,
     session: &mut Session<Stopping>,
     line: &[u8],
@@ -178,13 +184,17 @@ fn stands_unanswered(
         end: Err(ServeFault::Write),
         entries: Some(entries),
     };
-    served(alloc, &mut source, &mut sink, session) == stands
+    served(rt, alloc, &mut source, &mut sink, session) == stands
 }
 
-fn stand_unanswered(rt: &impl Abort, alloc: Global, session: &mut Session<Stopping>) {
+fn stand_unanswered<T: Abort + Threads + Wait + Sync>(
+    rt: &T,
+    alloc: Global,
+    session: &mut Session<Stopping>,
+) {
     for &(line, entries) in LINES {
         assert!(rt;
-            stands_unanswered(alloc, session, line, entries),
+            stands_unanswered(rt, alloc, session, line, entries),
             "with {entries}"
         );
     }

@@ -5,7 +5,9 @@ use sqlite::{Connection, Error, ErrorCode};
 use std::alloc::Global;
 use std::io;
 use std::io::ErrorKind;
+use std::sync::Wait;
 use std::test::Fail;
+use std::thread::Threads;
 use stopping_files::{NEVER, Stopping, connected, files};
 
 /// The modes, of whose files a run makes nothing.
@@ -44,7 +46,8 @@ fn connection(alloc: Global, refused: Option<ErrorCode>) -> Result<Connection<St
 }
 
 /// Runs and closes with no promise.
-fn ran(
+fn ran<T: Threads + Wait + Sync>(
+    rt: &T,
     alloc: Global,
     way: Way,
     refused: Option<ErrorCode>,
@@ -54,7 +57,7 @@ fn ran(
 ) -> u8 {
     let connection = connection(alloc, refused);
     let mode = mode_by(alloc, way);
-    let (outcome, left) = run(alloc, &mode, connection, source, sink);
+    let (outcome, left) = run(rt, alloc, &mode, connection, source, sink);
     drop(mode);
     finish(outcome, closed(left), faults)
 }
@@ -67,7 +70,8 @@ fn closed(left: Option<Connection<Stopping>>) -> Result<(), Error> {
 }
 
 /// Whether a run has this status, and tells this.
-fn tells(
+fn tells<T: Threads + Wait + Sync>(
+    rt: &T,
     alloc: Global,
     way: Way,
     refused: Option<ErrorCode>,
@@ -76,12 +80,13 @@ fn tells(
     want: (u8, &[u8]),
 ) -> bool {
     let mut faults = Sink::new(alloc);
-    let status = ran(alloc, way, refused, source, sink, &mut faults);
+    let status = ran(rt, alloc, way, refused, source, sink, &mut faults);
     status == want.0 && faults.is(want.1)
 }
 
 /// The same, and whether nothing is written.
-fn only_tells(
+fn only_tells<T: Threads + Wait + Sync>(
+    rt: &T,
     alloc: Global,
     way: Way,
     refused: Option<ErrorCode>,
@@ -89,14 +94,14 @@ fn only_tells(
     want: (u8, &[u8]),
 ) -> bool {
     let mut sink = Sink::new(alloc);
-    tells(alloc, way, refused, source, &mut sink, want) && sink.is(b"")
+    tells(rt, alloc, way, refused, source, &mut sink, want) && sink.is(b"")
 }
 
 #[test]
 fn empty_input(rt: HostRuntime) {
     for &way in &WAYS[..2] {
         let mut source = Source::new(b"");
-        let ended = only_tells(rt.alloc(), way, None, &mut source, (0, b""));
+        let ended = only_tells(&rt, rt.alloc(), way, None, &mut source, (0, b""));
         assert!(rt; ended, "{way:?}");
     }
 }
@@ -111,7 +116,7 @@ fn a_refused_connection_is_told(rt: HostRuntime) {
     for &way in WAYS {
         for &(code, want) in REFUSED {
             let mut source = Source::new(b"items\n");
-            let told = only_tells(rt.alloc(), way, Some(code), &mut source, want);
+            let told = only_tells(&rt, rt.alloc(), way, Some(code), &mut source, want);
             assert!(rt; told, "{way:?}");
         }
     }
@@ -140,16 +145,21 @@ fn a_failing_input_is_told(rt: HostRuntime) {
     let mut source = Source::new(b"");
     source.fails = true;
     let want = (4, b"rollback: input\n".as_slice());
-    assert!(rt; only_tells(rt.alloc(), Way::InMemory, None, &mut source, want));
+    assert!(rt; only_tells(&rt, rt.alloc(), Way::InMemory, None, &mut source, want));
 }
 
 const OUTPUT: &[u8] = b"rollback: output\n";
 
 /// Whether a writer that is closed, or whose flushes fail, is told of.
-fn tells_of_output(alloc: Global, way: Way, is_closed: bool) -> bool {
+fn tells_of_output<T: Threads + Wait + Sync>(
+    rt: &T,
+    alloc: Global,
+    way: Way,
+    is_closed: bool,
+) -> bool {
     let mut source = Source::new(b"items\n");
     let mut sink = broken(alloc, is_closed);
-    tells(alloc, way, None, &mut source, &mut sink, (4, OUTPUT))
+    tells(rt, alloc, way, None, &mut source, &mut sink, (4, OUTPUT))
 }
 
 fn broken(alloc: Global, is_closed: bool) -> Sink {
@@ -166,7 +176,7 @@ fn a_failing_output_is_told(rt: HostRuntime) {
     for &way in WAYS {
         for is_closed in [true, false] {
             assert!(rt;
-                tells_of_output(rt.alloc(), way, is_closed),
+                tells_of_output(&rt, rt.alloc(), way, is_closed),
                 "{way:?}, closed: {is_closed}"
             );
         }
@@ -176,7 +186,7 @@ fn a_failing_output_is_told(rt: HostRuntime) {
 const CHECKED: &[u8] = b"ok 0 0\n";
 
 /// Whether a check writes its answer as far as there is room, flushes it where it is whole, and tells where it isn't.
-fn checks_within(alloc: Global, room: usize) -> bool {
+fn checks_within<T: Threads + Wait + Sync>(rt: &T, alloc: Global, room: usize) -> bool {
     let mut source = Source::new(b"items\n");
     let mut sink = Sink::new(alloc);
     sink.room = room;
@@ -186,7 +196,7 @@ fn checks_within(alloc: Global, room: usize) -> bool {
     } else {
         (0, b"")
     };
-    tells(alloc, Way::Check, None, &mut source, &mut sink, want)
+    tells(rt, alloc, Way::Check, None, &mut source, &mut sink, want)
         && sink.is(&CHECKED[..room.min(CHECKED.len())])
         && (want.0 == 4 || sink.is_flushed())
 }
@@ -194,16 +204,17 @@ fn checks_within(alloc: Global, room: usize) -> bool {
 #[test]
 fn a_check_writes_a_beginning_of_its_answer(rt: HostRuntime) {
     for room in 0..CHECKED.len() + 2 {
-        assert!(rt; checks_within(rt.alloc(), room), "at {room}");
+        assert!(rt; checks_within(&rt, rt.alloc(), room), "at {room}");
     }
 }
 
 /// The status of a run whose faults can't be told.
-fn untold(alloc: Global, refused: Option<ErrorCode>) -> u8 {
+fn untold<T: Threads + Wait + Sync>(rt: &T, alloc: Global, refused: Option<ErrorCode>) -> u8 {
     let mut source = Source::new(b"");
     let mut sink = Sink::new(alloc);
     let mut faults = Sink::closed(alloc);
     ran(
+        rt,
         alloc,
         Way::Check,
         refused,
@@ -215,9 +226,9 @@ fn untold(alloc: Global, refused: Option<ErrorCode>) -> u8 {
 
 #[test]
 fn untold_faults_have_their_status(rt: HostRuntime) {
-    assert_eq!(rt; untold(rt.alloc(), Some(ErrorCode::DatabaseBusy)), 3);
-    assert_eq!(rt; untold(rt.alloc(), Some(ErrorCode::OutOfMemory)), 4);
-    assert_eq!(rt; untold(rt.alloc(), None), 0);
+    assert_eq!(rt; untold(&rt, rt.alloc(), Some(ErrorCode::DatabaseBusy)), 3);
+    assert_eq!(rt; untold(&rt, rt.alloc(), Some(ErrorCode::OutOfMemory)), 4);
+    assert_eq!(rt; untold(&rt, rt.alloc(), None), 0);
 }
 
 // ---- words that name no mode

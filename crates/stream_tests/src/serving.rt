@@ -2,16 +2,19 @@
 use crate::streams::{Sink, Source};
 use operator_line::{ServeFault, Session, serve};
 use std::alloc::Global;
+use std::sync::Wait;
+use std::thread::Threads;
 use stopping_files::{NEVER, Stop, Stopping, new_journal};
 
 /// Serves with no promise, so that none need be read at each call.
-pub(crate) fn run(
+pub(crate) fn run<T: Threads + Wait + Sync>(
+    rt: &T,
     alloc: Global,
     source: &mut Source<'_>,
     sink: &mut Sink,
     session: &mut Session<Stopping>,
 ) -> Result<(), ServeFault> {
-    serve(alloc, source, sink, session)
+    serve(rt, alloc, source, sink, session)
 }
 
 pub(crate) fn new_session(alloc: Global, stop: Stop) -> Option<Session<Stopping>> {
@@ -35,13 +38,14 @@ pub(crate) fn entries_of(session: &Session<Stopping>) -> Option<usize> {
     }
 }
 
-pub(crate) fn served(
+pub(crate) fn served<T: Threads + Wait + Sync>(
+    rt: &T,
     alloc: Global,
     source: &mut Source<'_>,
     sink: &mut Sink,
     session: &mut Session<Stopping>,
 ) -> Ended {
-    let end = run(alloc, source, sink, session);
+    let end = run(rt, alloc, source, sink, session);
     Ended {
         end,
         entries: entries_of(session),
@@ -49,10 +53,15 @@ pub(crate) fn served(
 }
 
 /// How serving a new session ends.
-pub(crate) fn served_new(alloc: Global, source: &mut Source<'_>, sink: &mut Sink) -> Option<Ended> {
+pub(crate) fn served_new<T: Threads + Wait + Sync>(
+    rt: &T,
+    alloc: Global,
+    source: &mut Source<'_>,
+    sink: &mut Sink,
+) -> Option<Ended> {
     match new_session(alloc, NEVER) {
         Some(mut session) => {
-            let ended = served(alloc, source, sink, &mut session);
+            let ended = served(rt, alloc, source, sink, &mut session);
             drop(session);
             Some(ended)
         }

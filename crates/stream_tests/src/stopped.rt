@@ -5,7 +5,9 @@ use crate::streams::{Sink, Source};
 use book_journal::Journal;
 use operator_line::Session;
 use std::alloc::{AllocError, Global};
+use std::sync::Wait;
 use std::test::Fail;
+use std::thread::Threads;
 use stopping_files::{Stop, Stopping, StoppingFiles, crashed, files_under, holds, journal_on};
 
 /// A line, its reply, what `history` is answered afterwards, and the line that the journal has of it.
@@ -69,37 +71,49 @@ const NO_BOOK: &str = "no 21\n";
 const NO_JOURNAL: &str = "no 24\n";
 
 /// What a line is told.
-fn told(alloc: Global, session: &mut Session<Stopping>, line: &str) -> Option<Vec<u8>> {
+fn told<T: Threads + Wait + Sync>(
+    rt: &T,
+    alloc: Global,
+    session: &mut Session<Stopping>,
+    line: &str,
+) -> Option<Vec<u8>> {
     let mut source = Source::new(line.as_bytes());
     let mut sink = Sink::new(alloc);
-    let end = run(alloc, &mut source, &mut sink, session);
+    let end = run(rt, alloc, &mut source, &mut sink, session);
     match end {
         Ok(()) => Some(sink.taken),
         Err(_) => None,
     }
 }
 
-fn is_told(alloc: Global, session: &mut Session<Stopping>, line: &str, reply: &str) -> bool {
-    match told(alloc, session, line) {
+fn is_told<T: Threads + Wait + Sync>(
+    rt: &T,
+    alloc: Global,
+    session: &mut Session<Stopping>,
+    line: &str,
+    reply: &str,
+) -> bool {
+    match told(rt, alloc, session, line) {
         Some(told) => told.as_slice() == reply.as_bytes(),
         None => false,
     }
 }
 
 /// Whether a row is answered; none where another reply is given, or `history` is not as it was or is to be.
-fn is_answered(
+fn is_answered<T: Threads + Wait + Sync>(
+    rt: &T,
     alloc: Global,
     session: &mut Session<Stopping>,
     row: &Row,
     before: &str,
 ) -> Option<bool> {
-    let told = told(alloc, session, row.line)?;
+    let told = told(rt, alloc, session, row.line)?;
     let is_done = told.as_slice() == row.reply.as_bytes();
     if !is_done && told.as_slice() != NO_JOURNAL.as_bytes() {
         return None;
     }
     let history = if is_done { row.history } else { before };
-    if is_told(alloc, session, "history", history) {
+    if is_told(rt, alloc, session, "history", history) {
         Some(is_done)
     } else {
         None
@@ -107,11 +121,15 @@ fn is_answered(
 }
 
 /// How many rows have their replies before the one that the journal refuses.
-fn rows_to_stop(alloc: Global, session: &mut Session<Stopping>) -> Option<usize> {
+fn rows_to_stop<T: Threads + Wait + Sync>(
+    rt: &T,
+    alloc: Global,
+    session: &mut Session<Stopping>,
+) -> Option<usize> {
     let mut before = NO_BOOK;
     let mut count = 0usize;
     for row in ROWS {
-        if !is_answered(alloc, session, row, before)? {
+        if !is_answered(rt, alloc, session, row, before)? {
             return Some(count);
         }
         before = row.history;
@@ -151,10 +169,10 @@ fn is_found_on(alloc: Global, left: StoppingFiles, count: usize) -> bool {
 }
 
 /// The rows that are answered until the store stops; none where a promise is broken. Where it stops before there is a session, none are.
-fn rows_within(alloc: Global, stop: Stop) -> Option<usize> {
+fn rows_within<T: Threads + Wait + Sync>(rt: &T, alloc: Global, stop: Stop) -> Option<usize> {
     match new_session(alloc, stop) {
         Some(mut session) => {
-            let count = rows_to_stop(alloc, &mut session);
+            let count = rows_to_stop(rt, alloc, &mut session);
             let left = files_under(session.into_journal());
             match count {
                 Some(count) if is_found_on(alloc, left, count) => Some(count),
@@ -166,11 +184,11 @@ fn rows_within(alloc: Global, stop: Stop) -> Option<usize> {
 }
 
 /// At how many of the rows some journal stops, until all are answered.
-fn stops(alloc: Global, of_log: bool) -> Option<usize> {
+fn stops<T: Threads + Wait + Sync>(rt: &T, alloc: Global, of_log: bool) -> Option<usize> {
     let mut most = 0usize;
     let mut rows = 0usize;
     for calls in 0..1_000u64 {
-        let count = rows_within(alloc, Stop { of_log, calls })?;
+        let count = rows_within(rt, alloc, Stop { of_log, calls })?;
         if most < count {
             rows = rows.saturating_add(1);
             most = count;
@@ -185,8 +203,8 @@ fn stops(alloc: Global, of_log: bool) -> Option<usize> {
 #[test]
 fn a_refused_append_changes_nothing(rt: HostRuntime) -> Result<(), Fail> {
     // each row but the first is one at which some log stops
-    assert_eq!(rt; stops(rt.alloc(), true), Some(ROWS.len()));
+    assert_eq!(rt; stops(&rt, rt.alloc(), true), Some(ROWS.len()));
     // the database file is written when it is made and when it is closed
-    assert!(rt; stops(rt.alloc(), false).is_some());
+    assert!(rt; stops(&rt, rt.alloc(), false).is_some());
     Ok(())
 }

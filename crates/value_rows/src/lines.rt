@@ -75,8 +75,13 @@ fn put_command(alloc: Global, out: &mut String, command: &Command<'_>) -> Result
         Command::Undo(step) => put_step(alloc, out, "undo", step),
         Command::Plan(step) => put_step(alloc, out, "plan", step),
         Command::Rollback(step) => put_step(alloc, out, "rollback", step),
+        Command::Settle => put_word(out, "settle"),
         Command::Drive(count) => {
             write!(out, "drive|{count}")?;
+            Ok(())
+        }
+        Command::Work { workers, moves } => {
+            write!(out, "work|{workers}|{moves}")?;
             Ok(())
         }
         Command::Show(thread) => put_thread(alloc, out, "show", thread),

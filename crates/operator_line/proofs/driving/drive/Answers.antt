@@ -3,7 +3,7 @@ use Rattle.std.proofs.lemmas.Result.{on_ok_weaker}
 use Rattle.step_names.specs.Written.{step_text}
 use Rattle.book_log.specs.Story.{Story}
 use Rattle.operator_line.specs.Answers.{AnswersDrive, drive_reply}
-use Rattle.operator_line.specs.Sessions.{told}
+use Rattle.operator_line.specs.Sessions.{story_in}
 use Rattle.reply_lines.specs.Replies.{names_reply}
 use Rattle.operator_line.proofs.Sessions.{some_story, if_story, on_err-from}
 use Rattle.operator_line.proofs.Taken.{none_taken, drive_done, drive_taken}
@@ -20,9 +20,9 @@ returns-in-Some-clause-err g c =
 pub returns-clause-ok : goal.returns-clause-ok
 returns-clause-ok g c =
     let text = string_bytes c.accept_lines.new.self.text in
-    let after = told c.take_steps.new.book in
+    let after = story_in c.take_steps.new.book in
     let empty : string_bytes c.take_steps.new.reply.text ≡ [] = c.take_steps.ensures.text ∙ c.reserve_lines.ensures.same ∙ c.requires.empty in
-    if_story (λ story. OnOk c.accept_lines.result (AnswersDrive story c.args.count text after)) (told c.args.book.now)
+    if_story (λ story. OnOk c.accept_lines.result (AnswersDrive story c.args.count text after)) (story_in c.args.book.now)
     (λ before held.
     let it = c.take_steps.ensures.taken before held in
     let names = it.2.names in

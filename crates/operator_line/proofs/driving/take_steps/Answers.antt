@@ -1,6 +1,6 @@
 use Rattle.std.proofs.Common.{arith, Bool, Ok, ◌∙◌, subst}
 use Rattle.operator_line.specs.Driving.{TakesOneOf}
-use Rattle.operator_line.specs.Sessions.{told}
+use Rattle.operator_line.specs.Sessions.{story_in}
 use Rattle.operator_line.proofs.Sessions.{some_story}
 use Rattle.operator_line.proofs.Taken.{one_more, all_taken, none_left, stopped, few_lines}
 use Rattle.operator_line.proofs.driving.take_steps.Goals as goal
@@ -13,7 +13,7 @@ take_step-requires-clause-few g c =
 
 pub loop-left-preserved : goal.loop-left-preserved
 loop-left-preserved g c =
-    let one = subst (λ (b : Bool). TakesOneOf (told c.loop-left.book) (told c.take_step.new.book) c.loop-left.lines c.take_step.new.lines (Ok b)) c.in-Ok-true.field-0-test c.in-Ok-true.ensures.step in (
+    let one = subst (λ (b : Bool). TakesOneOf (story_in c.loop-left.book) (story_in c.take_step.new.book) c.loop-left.lines c.take_step.new.lines (Ok b)) c.in-Ok-true.field-0-test c.in-Ok-true.ensures.step in (
       λ before held.
           let it = c.loop-left.invariant.0 before held in
           let next = one it.0 it.1 in
@@ -25,7 +25,7 @@ loop-left-preserved g c =
 
 pub returns-in-Ok-false-clause-taken : goal.returns-in-Ok-false-clause-taken
 returns-in-Ok-false-clause-taken g c =
-    let one = subst (λ (b : Bool). TakesOneOf (told c.loop-left.book) (told c.take_step.new.book) c.loop-left.lines c.take_step.new.lines (Ok b)) c.in-Ok-false.field-0-test c.in-Ok-false.ensures.step in
+    let one = subst (λ (b : Bool). TakesOneOf (story_in c.loop-left.book) (story_in c.take_step.new.book) c.loop-left.lines c.take_step.new.lines (Ok b)) c.in-Ok-false.field-0-test c.in-Ok-false.ensures.step in
     λ before held.
     let it = c.loop-left.invariant.0 before held in
     let next = one it.0 it.1 in

@@ -5,8 +5,8 @@ use Rattle.operator_line.specs.Sessions.{told}
 use Rattle.operator_line.proofs.Served.{line-flushed}
 use Rattle.operator_line.proofs.serving.serve_last.Goals as goal
 
-pub returns : goal.returns
-returns g c =
+pub returns-clause-last : goal.returns-clause-last
+returns-clause-last g c =
     let (reply, answered, appended) = c.in_ok-write_answer.ensures.answers in
     let o = g.W.Write.contents c.args.writer.now in
     let n = g.W.Write.contents c.flush.new.writer in

@@ -1,0 +1,4 @@
+pub mod Logs
+pub mod Receipts
+pub mod Seatings
+pub mod Sums

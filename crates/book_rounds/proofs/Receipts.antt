@@ -1,0 +1,101 @@
+-- The entries of a round are those of its receipts.
+use Rattle.std.proofs.Common.{◌≡◌, ◌+◌, ◌-◌, ◌<◌, ◌≤◌, ◌==◌, ℕ, Bool, true, false, List, [], ◌∷◌, ◌++◌, length, length-append, Option, None, Some, refl, sym, ap, subst, ◌∙◌, arith, eqb-true}
+use Rattle.std.specs.Prelude.{slice_get, if◌then◌else◌}
+use Rattle.std.proofs.lemmas.Bool.Decides.{nat_tests}
+use Rattle.book_log.specs.Legal.{IsLegal}
+use Rattle.book_log.specs.Story.{Story}
+use Rattle.book_log.specs.declared.entry.Entry.{Entry}
+use Rattle.shared_book.specs.Closed.{all_receipts, times, once_within, AllStand, IsClosed}
+use Rattle.shared_book.specs.Numbers.{entry_at}
+use Rattle.shared_book.specs.Views.{PassView}
+use Rattle.shared_book.specs.declared.receipt.Receipt.{Receipt}
+use Rattle.step_workers.specs.Work.{AllGoOn, AllSteps, IsStep}
+use Rattle.book_rounds.specs.Rounds.{AreFresh, IsRound, with_entries}
+use Rattle.book_rounds.proofs.Logs.{goes_from, steps_behind, with_none}
+
+-- ---- the receipts of all passes
+
+steps_joined : (rs more : List Receipt) → AllSteps rs → AllSteps more → AllSteps (rs ++ more)
+steps_joined [] more a b = b
+steps_joined (r ∷ rs) more a b = (a.0, steps_joined rs more a.1 b)
+
+all_few : (moves : ℕ) (ps qs : List PassView) → AreFresh ps → AllGoOn moves ps qs → AllSteps (all_receipts qs) × (length (all_receipts qs) ≤ moves)
+all_few moves [] [] fresh go = absurd go
+all_few moves [] (q ∷ []) fresh go = subst (λ (rs : List Receipt). AllSteps (rs ++ []) × (length (rs ++ []) ≤ moves)) (sym go) (tt, omega arith)
+all_few moves [] (q ∷ (r ∷ qs)) fresh go = absurd go
+all_few moves (p ∷ ps) [] fresh go = absurd go
+all_few moves (p ∷ ps) (q ∷ qs) fresh go =
+    let its = go.2 in
+    let rest = all_few (moves - go.0) ps qs fresh.1 go.3 in
+    let is : q.receipts ≡ its.more = its.receipts ∙ ap (λ (rs : List Receipt). rs ++ its.more) fresh.0 in
+    subst (λ (rs : List Receipt). AllSteps (rs ++ all_receipts qs) × (length (rs ++ all_receipts qs) ≤ moves)) (sym is)
+    (steps_joined its.more (all_receipts qs) its.steps rest.0, omega (arith, length-append its.more (all_receipts qs), its.few, go.1, rest.1))
+
+none_fresh : (ps : List PassView) → AreFresh ps → all_receipts ps ≡ []
+none_fresh [] fresh = refl
+none_fresh (p ∷ ps) fresh = ap (λ (rs : List Receipt). rs ++ all_receipts ps) fresh.0 ∙ none_fresh ps fresh.1
+
+-- ---- a receipt of a number
+
+by_number : (log : List Entry) (k : ℕ) (r : Receipt) (rs : List Receipt) (b : Bool) → (r.number == k) ≡ b → 0 < times k (r ∷ rs) → AllStand log (r ∷ rs) → AllSteps (r ∷ rs)
+    → (0 < times k rs → (e : Entry) × (entry_at log k ≡ Some e) × IsStep e) → (e : Entry) × (entry_at log k ≡ Some e) × IsStep e
+by_number log k r rs true is some stand steps rest = (r.entry, subst (λ (n : ℕ). entry_at log n ≡ Some r.entry) (eqb-true r.number k is) stand.0, steps.0)
+by_number log k r rs false is some stand steps rest =
+    let less : times k (r ∷ rs) ≡ 0 + times k rs = rw is refl in
+    rest (omega (arith, less, some))
+
+found : (log : List Entry) (k : ℕ) (rs : List Receipt) → 0 < times k rs → AllStand log rs → AllSteps rs → (e : Entry) × (entry_at log k ≡ Some e) × IsStep e
+found log k [] some stand steps = absurd (omega (arith, some))
+found log k (r ∷ rs) some stand steps = by_number log k r rs (r.number == k) refl some stand steps (λ more. found log k rs more stand.1 steps.1)
+
+-- the entry of a number that isn't 0
+placed : (log : List Entry) (k : ℕ) → entry_at log (k + 1) ≡ slice_get log k
+placed log k =
+    let apart : (k + 1 == 0) ≡ false = grind (arith, nat_tests) in
+    let back : k + 1 - 1 ≡ k = omega arith in
+    rw (apart, back) refl
+
+-- ---- a round
+
+module _ (begun now : Story) (rs : List Receipt) (closed : IsClosed begun now rs) where
+  now_is : now ≡ with_entries begun closed.goes.more
+  now_is = rw (← closed.goes.begin, ← closed.goes.log) refl
+
+  as_many : length closed.goes.more ≡ length rs
+  as_many = omega (arith, length-append begun.log closed.goes.more, ap (λ (log : List Entry). length log) closed.goes.log, closed.as_many)
+
+  one_there : (i : ℕ) → i < length closed.goes.more → AllSteps rs → (e : Entry) × (slice_get (begun.log ++ closed.goes.more) (length begun.log + i) ≡ Some e) × IsStep e
+  one_there i low steps =
+      let k = length begun.log + i in
+      let long = as_many in
+      let is : once_within (length begun.log + 1) (length now.log + 1) (k + 1) ≡ 1 =
+      let many = closed.as_many in grind (arith, nat_tests, many, long, low) in
+      let some : 0 < times (k + 1) rs = omega (arith, closed.once (k + 1), is) in
+      let one = found now.log (k + 1) rs some closed.stand steps in
+      (one.0, subst (λ (log : List Entry). slice_get log k ≡ Some one.0) closed.goes.log (sym (placed now.log k) ∙ one.1), one.2)
+
+  pub round_of : (moves : ℕ) → AllSteps rs → length rs ≤ moves → IsLegal now → IsRound moves begun now
+  round_of moves steps few legal = record {
+    more = closed.goes.more;
+    after_is = now_is;
+    steps = steps_behind begun.log closed.goes.more (λ i low. one_there i low steps);
+    few = omega (arith, as_many, few);
+    legal = goes_from begun now closed.goes.more now_is legal;
+  }
+
+-- the passes went on, and the book was closed with them
+pub round_closed : (moves : ℕ) (begun now : Story) (ps qs : List PassView) → AreFresh ps → AllGoOn moves ps qs → IsLegal now → IsClosed begun now (all_receipts qs) → IsRound moves begun now
+round_closed moves begun now ps qs fresh go legal closed =
+    let all = all_few moves ps qs fresh go in
+    round_of begun now (all_receipts qs) closed moves all.0 all.1 legal
+
+-- without receipts, the story is the same
+same_more : (begun now : Story) (more : List Entry) → now ≡ with_entries begun more → length more ≡ 0 → now ≡ begun
+same_more begun now [] is none = is ∙ with_none begun
+same_more begun now (e ∷ more) is none = absurd (omega (arith, none))
+
+pub same_closed : (begun now : Story) (ps : List PassView) → AreFresh ps → IsClosed begun now (all_receipts ps) → now ≡ begun
+same_closed begun now ps fresh closed =
+    let none = none_fresh ps fresh in
+    let long = as_many begun now (all_receipts ps) closed in
+    same_more begun now closed.goes.more (now_is begun now (all_receipts ps) closed) (omega (arith, long, ap (λ (rs : List Receipt). length rs) none))

@@ -1,0 +1,22 @@
+-- Sums that are tested part by part.
+use Rattle.std.proofs.Common.{◌≡◌, ◌+◌, ◌-◌, ◌||◌, ℕ, Bool, List, length, map, sym, ap, ap₂, ◌∙◌, arith}
+use Rattle.std.specs.Prelude.{nat_le, nat_lt}
+use Rattle.std.proofs.lemmas.List.{length-map}
+use Rattle.std.proofs.lemmas.Bool.Decides.{nat_tests}
+use Rattle.book_log.specs.Answers.{is_full_for_step}
+use Rattle.book_log.specs.Story.{Story, remaining}
+use Rattle.rollback_book.specs.StepRecord.{StepRecord}
+use Rattle.rollback_book.specs.Steps.{name_of}
+use Rattle.step_names.specs.declared.step.StepName.{StepName}
+
+pub sum_test : (most entries steps : ℕ) → nat_lt most (entries + steps) ≡ (nat_lt most entries || nat_lt (most - entries) steps)
+sum_test most entries steps = grind (arith, nat_tests)
+
+-- as many records as steps remain
+as_many_steps : (story : Story) (records : List StepRecord) → map (λ (r : StepRecord). r.fact.name) records ≡ map name_of (remaining story) → length records ≡ length (remaining story)
+as_many_steps story records names = sym (length-map records (λ (r : StepRecord). r.fact.name)) ∙ ap (λ (ns : List StepName). length ns) names ∙ length-map (remaining story) name_of
+
+pub full_by : (story : Story) (entries : ℕ) (records : List StepRecord) (full : Bool) → map (λ (r : StepRecord). r.fact.name) records ≡ map name_of (remaining story) → entries ≡ length story.log
+    → full ≡ (nat_le 65536 (length records) || nat_lt 999998 (entries + length records)) → full ≡ is_full_for_step story
+unfolding is_full_for_step
+full_by story entries records full names e is = is ∙ ap₂ (λ (m n : ℕ). nat_le 65536 n || nat_lt 999998 (m + n)) e (as_many_steps story records names)

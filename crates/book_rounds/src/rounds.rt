@@ -1,0 +1,133 @@
+// A book, and a round of workers on it.
+ghost use Rattle.std.specs.Prelude.{◌≡◌, ◌≤◌, ℕ, List, IfOk, IfErr};
+ghost use Rattle.shared_book.specs.Closed.{all_receipts};
+ghost use Rattle.shared_book.specs.Views.{PassView};
+ghost use Rattle.step_workers.specs.Work.{AllGoOn};
+ghost use Rattle.book_log.specs.Story.{Story};
+ghost use Rattle.book_rounds.specs.Rounds.{AreFresh, IsLeft, IsRound};
+
+use crate::seats::seats_of;
+use rollback_book::Book;
+use shared_book::{PARTS, Pass, Shared, SharedRefusal, Sharing, close, share};
+use std::alloc::Global;
+use std::marker::Brand;
+use std::sync::Wait;
+use std::sync::ledger::Blank;
+use std::thread::Threads;
+use step_workers::{OpenGate, Outcome, Stopped, work};
+
+/// The book after a round.
+#[derive(Drop)]
+pub struct Round {
+    pub book: Book,
+    /// Whether a worker was refused a call, or couldn't be started.
+    pub is_refused: bool,
+}
+
+/// Why a round gives no book, or the one that was given.
+#[derive(Drop)]
+pub enum RoundFault {
+    /// Memory for the round was refused before any step. The story is as it was.
+    NotBegun(Book),
+    /// The book couldn't be taken out again, for want of memory. It is gone.
+    Lost,
+}
+
+/// A round of so many workers on a book, each in a thread of its own, which take at most so many steps together. The log of the book
+/// that comes back goes on from the one that was given by the steps that were taken, each a move where it stands. Which of the
+/// steps that could be taken are, and in which order, is open. Takes memory for the passes and the queue before the first step,
+/// and for a mark for each entry after the last.
+///
+/// # Errors
+///
+/// `NotBegun` and `Lost`, both for want of memory alone.
+pub fn run_round<R: Threads + Wait + Sync>(
+    rt: &R,
+    alloc: Global,
+    book: Book,
+    workers: u32,
+    moves: u32,
+) -> Result<Round, RoundFault>
+    requires { (1 ≤ workers) × (workers ≤ 8) }
+    ensures ok { IfOk result (λ r. IsRound moves book.story r.book.story) }
+    ensures err { IfErr result (IsLeft book.story) }
+{
+    share_and_work::<Brand, R>(rt, alloc, Blank::new(PARTS), book, workers as usize, moves)
+}
+
+/// All that can be refused before the first step comes first, so that the book can be given back as it was.
+#[tactic(auto, using(crate::proofs::Receipts::round_closed))]
+fn share_and_work<L: Sharing + Send + Sync, R: Threads + Wait + Sync>(
+    rt: &R,
+    alloc: Global,
+    blank: Blank,
+    book: Book,
+    workers: usize,
+    moves: u32,
+) -> Result<Round, RoundFault>
+    requires shared { (blank.name ≡ L.name) × (blank.parts ≡ L.parts) × (L.parts ≡ PARTS) × (book.story ≡ L.begun) }
+    requires few { (1 ≤ workers) × (workers ≤ 8) }
+    ensures ok { IfOk result (λ r. IsRound moves L.begun r.book.story) }
+    ensures err { IfErr result (IsLeft L.begun) }
+{
+    let Ok(passes) = Vec::with_capacity(alloc, workers) else {
+        return Err(RoundFault::NotBegun(book));
+    };
+    let (shared, first) = share::<Book, L>(alloc, blank, book);
+    let passes = seats_of(first, workers, passes);
+    match work(rt, alloc, &shared, passes, moves, &OpenGate) {
+        Ok(outcome) => finish(alloc, shared, outcome),
+        Err(passes) => Err(give_back(alloc, shared, passes)),
+    }
+}
+
+/// The book of a round that is over.
+#[tactic(auto, using(crate::proofs::Receipts::round_closed))]
+fn finish<L: Sharing>(
+    alloc: Global,
+    shared: Shared<Book, L>,
+    outcome: Outcome<L>,
+) -> Result<Round, RoundFault>
+    ensures ok { IfOk result (λ r. (moves : ℕ) → (passes : List PassView) → AreFresh passes → AllGoOn moves passes outcome.passes.items → IsRound moves L.begun r.book.story) }
+    ensures err { IfErr result (IsLeft L.begun) }
+{
+    let Outcome {
+        passes,
+        stopped,
+        taken: _,
+        refused,
+    } = outcome;
+    let is_refused = refused.is_some() || is_any_refused(stopped.as_slice());
+    match close(alloc, shared, passes) {
+        Ok(book) => Ok(Round { book, is_refused }),
+        Err(refusal) => {
+            drop(refusal);
+            Err(RoundFault::Lost)
+        }
+    }
+}
+
+/// The book of a round that didn't begin.
+#[tactic(auto, using(crate::proofs::Receipts::same_closed))]
+fn give_back<L: Sharing>(alloc: Global, shared: Shared<Book, L>, passes: Vec<Pass<L>>) -> RoundFault
+    requires { AreFresh passes.items }
+    ensures { IsLeft L.begun result }
+{
+    match close(alloc, shared, passes) {
+        Ok(book) => RoundFault::NotBegun(book),
+        Err(refusal) => {
+            drop(refusal);
+            RoundFault::Lost
+        }
+    }
+}
+
+/// Whether a worker made no more moves since something was refused to it.
+fn is_any_refused(stopped: &[Stopped]) -> bool {
+    for why in stopped {
+        if matches!(why, Stopped::Refused(_)) {
+            return true;
+        }
+    }
+    false
+}

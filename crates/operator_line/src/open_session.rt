@@ -1,0 +1,377 @@
+// The commands that are given to a book whose commands stand in a journal, but for a round of workers.
+ghost use Rattle.std.specs.Prelude.{◌≡◌, [], Some, None, false, string_bytes, IsSome, OnOk, OnErr};
+ghost use Rattle.journaled_book.specs.Lines.{IsBeginLine};
+ghost use Rattle.operator_line.specs.Answering.{is_work};
+ghost use Rattle.operator_line.specs.Answers.{AnswersBeginning, AnswersCommand, change_reply};
+ghost use Rattle.operator_line.specs.Sessions.{story_in};
+ghost use Rattle.command_lines.specs.Grammar as grammar;
+ghost use Rattle.command_lines.specs.Grammar.{command_of, spoken};
+ghost use Rattle.reply_lines.specs.Replies.{json_reply, item_fault_reply};
+ghost use Rattle.reply_lines.specs.Replying.{Writes};
+
+use crate::driving::drive;
+use attr_values::{ItemFault, KeySchema};
+use book_log::Refusal;
+use command_lines::{Command, Execution};
+use journaled_book::books::{Begin, Room};
+use journaled_book::{BeginRefusal, ChangeFault, JournaledBook};
+use json_tree::{Json, JsonFault, Text, read};
+use reply_lines::Reply;
+use serde_json::Value;
+use sqlite::Alter;
+use std::alloc::{AllocError, Global};
+use std::marker::Model;
+use step_names::{StepName, ThreadName};
+
+pub(crate) const BAD_LINE: u32 = 20;
+
+pub(crate) const NO_TABLE: u32 = 21;
+
+const TABLE_TAKEN: u32 = 22;
+
+const BAD_BEGIN: u32 = 23;
+
+const NO_JOURNAL: u32 = 24;
+
+const BAD_JSON: u32 = 25;
+
+/// The book of a session that hasn't failed, none before its table is given, and the journal of its accepted lines. Contracts see both.
+#[derive(Drop)]
+pub(crate) struct OpenSession<S: Alter> {
+    pub(crate) alloc: Global,
+    pub(crate) book: JournaledBook<S>,
+}
+
+impl<S: Alter> Model for OpenSession<S> {
+    ghost use Rattle.std.specs.Coded.{coded_option};
+    ghost use Rattle.journaled_book.specs.BookContract as book_row;
+    ghost use Rattle.journaled_book.specs.Journaled.{Journaled, journaled_code};
+
+    ghost Value = { Journaled S };
+
+    ghost coded = { journaled_code (coded_option book_row.the_row.coded) S.code };
+
+    ghost view = { λ s. s.book };
+}
+
+impl<S: Alter> OpenSession<S> {
+    /// What a command does that isn't a round of workers, and its reply.
+    pub(crate) fn run(
+        &mut self,
+        command: Command<'_>,
+        line: &str,
+        reply: &mut Reply,
+    ) -> Result<(), AllocError>
+        requires line { command_of line.now ≡ Some (spoken command) }
+        requires alone { is_work (spoken command) ≡ false }
+        requires empty { string_bytes reply.old.text ≡ [] }
+        ensures ok { OnOk result (AnswersCommand (story_in self.old) (spoken command.entry) (string_bytes reply.new.text) (story_in self.new)) }
+        ensures err { OnErr result (story_in self.new ≡ story_in self.old) }
+    {
+        match command {
+            Command::Table {
+                name,
+                schema,
+                items,
+            } => self.table(name, schema, items, line, reply),
+            Command::Define { name, definition } => self.define(&name, definition, line, reply),
+            Command::Start {
+                exec,
+                machine,
+                input,
+            } => self.start(&exec, &machine, input, line, reply),
+            Command::Step(thread) => self.step(&thread, line, reply),
+            Command::Undo(step) => self.undo(&step, line, reply),
+            Command::Plan(step) => self.plan(&step, reply),
+            Command::Rollback(step) => self.rollback(&step, line, reply),
+            Command::Settle => self.settle(line, reply),
+            Command::Drive(count) => self.drive(count, reply),
+            Command::Work { .. } => unreachable!(),
+            Command::Show(thread) => self.show(&thread, reply),
+            Command::Items => self.items(reply),
+            Command::History => self.history(reply),
+        }
+    }
+
+    fn table(
+        &mut self,
+        table: Text,
+        schema: KeySchema,
+        items: &str,
+        line: &str,
+        reply: &mut Reply,
+    ) -> Result<(), AllocError>
+        requires line { command_of line.now ≡ Some (grammar.table table schema items.now) }
+        requires empty { string_bytes reply.old.text ≡ [] }
+        ensures ok { OnOk result (AnswersCommand (story_in self.old) (grammar.table table schema items.now) (string_bytes reply.new.text) (story_in self.new)) }
+        ensures err { OnErr result (story_in self.new ≡ story_in self.old) }
+    {
+        if self.book.is_open() {
+            return reply.refuse(TABLE_TAKEN);
+        }
+        match read(self.alloc, items.as_bytes()) {
+            Ok(Json::List(items)) => {
+                let begin = Begin {
+                    table,
+                    schema,
+                    items,
+                };
+                self.begin(begin, line, reply)
+            }
+            Ok(other) => {
+                drop(other);
+                reply.refuse_by(BAD_BEGIN, 1)
+            }
+            Err(fault) => refuse_json(fault, reply),
+        }
+    }
+
+    fn begin(&mut self, begin: Begin, line: &str, reply: &mut Reply) -> Result<(), AllocError>
+        requires closed { self.old.book ≡ None }
+        requires line { IsBeginLine line.now begin }
+        requires empty { string_bytes reply.old.text ≡ [] }
+        ensures ok { OnOk result (AnswersBeginning begin (string_bytes reply.new.text) (story_in self.new)) }
+        ensures err { OnErr result (story_in self.new ≡ None) }
+    {
+        reply.reserve_step()?;
+        match self.book.begin(self.alloc, begin, line) {
+            Ok(()) => reply.accept(),
+            Err(BeginRefusal::Item(fault)) => refuse_item(fault, reply),
+            Err(BeginRefusal::Journal(_)) => reply.refuse(NO_JOURNAL),
+        }
+    }
+
+    fn define(
+        &mut self,
+        name: &Text,
+        definition: &str,
+        line: &str,
+        reply: &mut Reply,
+    ) -> Result<(), AllocError>
+        requires line { command_of line.now ≡ Some (grammar.define name.now definition.now) }
+        requires empty { string_bytes reply.old.text ≡ [] }
+        ensures ok { OnOk result (AnswersCommand (story_in self.old) (grammar.define name.now definition.now) (string_bytes reply.new.text) (story_in self.new)) }
+        ensures err { OnErr result (story_in self.new ≡ story_in self.old) }
+    {
+        if !self.book.is_open() {
+            return reply.refuse(NO_TABLE);
+        }
+        let definition = match Value::from_str(self.alloc, definition) {
+            Ok(definition) => definition,
+            Err(fault) => {
+                if fault.is_memory() {
+                    return Err(AllocError);
+                }
+                return reply.refuse_by(BAD_JSON, 1);
+            }
+        };
+        reply.reserve_step()?;
+        match self.book.define(self.alloc, name, &definition, line) {
+            Ok(()) => reply.accept(),
+            Err(fault) => refuse_change(self.alloc, fault, reply),
+        }
+    }
+
+    fn start(
+        &mut self,
+        exec: &Execution,
+        machine: &Text,
+        input: &str,
+        line: &str,
+        reply: &mut Reply,
+    ) -> Result<(), AllocError>
+        requires line { command_of line.now ≡ Some (grammar.start exec.now.thread machine.now input.now) }
+        requires empty { string_bytes reply.old.text ≡ [] }
+        ensures ok { OnOk result (AnswersCommand (story_in self.old) (grammar.start exec.now.thread machine.now input.now) (string_bytes reply.new.text) (story_in self.new)) }
+        ensures err { OnErr result (story_in self.new ≡ story_in self.old) }
+    {
+        if !self.book.is_open() {
+            return reply.refuse(NO_TABLE);
+        }
+        let input = match read(self.alloc, input.as_bytes()) {
+            Ok(input) => input,
+            Err(fault) => return refuse_json(fault, reply),
+        };
+        reply.reserve_step()?;
+        match self
+            .book
+            .start(self.alloc, &exec.thread, machine, input, line)
+        {
+            Ok(name) => reply.accept_step(&name),
+            Err(fault) => refuse_change(self.alloc, fault, reply),
+        }
+    }
+
+    fn step(&mut self, thread: &ThreadName, line: &str, reply: &mut Reply) -> Result<(), AllocError>
+        requires line { command_of line.now ≡ Some (grammar.step thread.now) }
+        requires empty { string_bytes reply.old.text ≡ [] }
+        ensures ok { OnOk result (AnswersCommand (story_in self.old) (grammar.step thread.now) (string_bytes reply.new.text) (story_in self.new)) }
+        ensures err { OnErr result (story_in self.new ≡ story_in self.old) }
+    {
+        if !self.book.is_open() {
+            return reply.refuse(NO_TABLE);
+        }
+        reply.reserve_step()?;
+        match self.book.step(self.alloc, thread, line) {
+            Ok(moved) => reply.accept_moved(&moved),
+            Err(fault) => refuse_change(self.alloc, fault, reply),
+        }
+    }
+
+    fn undo(&mut self, step: &StepName, line: &str, reply: &mut Reply) -> Result<(), AllocError>
+        requires line { command_of line.now ≡ Some (grammar.undo step.now) }
+        requires empty { string_bytes reply.old.text ≡ [] }
+        ensures ok { OnOk result (AnswersCommand (story_in self.old) (grammar.undo step.now) (string_bytes reply.new.text) (story_in self.new)) }
+        ensures err { OnErr result (story_in self.new ≡ story_in self.old) }
+    {
+        if !self.book.is_open() {
+            return reply.refuse(NO_TABLE);
+        }
+        reply.reserve_step()?;
+        let room = Room::new(self.alloc, step)?;
+        match self.book.undo(room, line) {
+            Ok(_step) => reply.accept(),
+            Err(fault) => refuse_change(self.alloc, fault, reply),
+        }
+    }
+
+    fn plan(&self, step: &StepName, reply: &mut Reply) -> Result<(), AllocError>
+        requires { string_bytes reply.old.text ≡ [] }
+        ensures ok { OnOk result (AnswersCommand (story_in self.now) (grammar.plan step.now) (string_bytes reply.new.text) (story_in self.now)) }
+    {
+        let Some(book) = self.book.book() else {
+            return reply.refuse(NO_TABLE);
+        };
+        match book.plan_room(self.alloc, step) {
+            Ok(room) => reply.accept_names(room.names()),
+            Err(refusal) => reply.refuse_command(self.alloc, refusal),
+        }
+    }
+
+    /// The reply is written first, since the book can't be changed back where memory for it is refused.
+    fn rollback(&mut self, step: &StepName, line: &str, reply: &mut Reply) -> Result<(), AllocError>
+        requires line { command_of line.now ≡ Some (grammar.rollback step.now) }
+        requires empty { string_bytes reply.old.text ≡ [] }
+        ensures ok { OnOk result (AnswersCommand (story_in self.old) (grammar.rollback step.now) (string_bytes reply.new.text) (story_in self.new)) }
+        ensures err { OnErr result (story_in self.new ≡ story_in self.old) }
+    {
+        if !self.book.is_open() {
+            return reply.refuse(NO_TABLE);
+        }
+        let room = match self.book.plan_room(self.alloc, step) {
+            Ok(room) => room,
+            Err(refusal) => return reply.refuse_command(self.alloc, refusal),
+        };
+        reply.accept_names(room.names())?;
+        match self.book.rollback(room, line) {
+            Ok(_names) => Ok(()),
+            Err(ChangeFault::Book(_)) => unreachable!(),
+            Err(ChangeFault::Journal(_)) => {
+                reply.clear();
+                reply.refuse(NO_JOURNAL)
+            }
+        }
+    }
+
+    fn settle(&mut self, line: &str, reply: &mut Reply) -> Result<(), AllocError>
+        requires line { command_of line.now ≡ Some grammar.settle }
+        requires empty { string_bytes reply.old.text ≡ [] }
+        ensures ok { OnOk result (AnswersCommand (story_in self.old) grammar.settle (string_bytes reply.new.text) (story_in self.new)) }
+        ensures err { OnErr result (story_in self.new ≡ story_in self.old) }
+    {
+        if !self.book.is_open() {
+            return reply.refuse(NO_TABLE);
+        }
+        reply.reserve_step()?;
+        match self.book.settle(self.alloc, line) {
+            Ok(()) => reply.accept(),
+            Err(fault) => refuse_change(self.alloc, fault, reply),
+        }
+    }
+
+    fn drive(&mut self, count: u32, reply: &mut Reply) -> Result<(), AllocError>
+        requires { string_bytes reply.old.text ≡ [] }
+        ensures ok { OnOk result (AnswersCommand (story_in self.old) (grammar.drive count) (string_bytes reply.new.text) (story_in self.new)) }
+        ensures err { OnErr result (story_in self.new ≡ story_in self.old) }
+    {
+        if !self.book.is_open() {
+            return reply.refuse(NO_TABLE);
+        }
+        drive(self.alloc, &mut self.book, count, reply)
+    }
+
+    fn show(&self, thread: &ThreadName, reply: &mut Reply) -> Result<(), AllocError>
+        requires { string_bytes reply.old.text ≡ [] }
+        ensures ok { OnOk result (AnswersCommand (story_in self.now) (grammar.show thread.now) (string_bytes reply.new.text) (story_in self.now)) }
+    {
+        let Some(book) = self.book.book() else {
+            return reply.refuse(NO_TABLE);
+        };
+        match book.show(thread) {
+            Ok(frame) => reply.accept_frame(self.alloc, frame),
+            Err(refusal) => reply.refuse_command(self.alloc, refusal),
+        }
+    }
+
+    fn items(&self, reply: &mut Reply) -> Result<(), AllocError>
+        requires { string_bytes reply.old.text ≡ [] }
+        ensures ok { OnOk result (AnswersCommand (story_in self.now) grammar.items (string_bytes reply.new.text) (story_in self.now)) }
+    {
+        match self.book.book() {
+            Some(book) => reply.accept_items(self.alloc, book.items()),
+            None => reply.refuse(NO_TABLE),
+        }
+    }
+
+    fn history(&self, reply: &mut Reply) -> Result<(), AllocError>
+        requires { string_bytes reply.old.text ≡ [] }
+        ensures ok { OnOk result (AnswersCommand (story_in self.now) grammar.history (string_bytes reply.new.text) (story_in self.now)) }
+    {
+        match self.book.book() {
+            Some(book) => reply.accept_steps(book.history()),
+            None => reply.refuse(NO_TABLE),
+        }
+    }
+}
+
+/// Tells why a command isn't accepted.
+pub(crate) fn refuse_change(
+    alloc: Global,
+    fault: ChangeFault,
+    reply: &mut Reply,
+) -> Result<(), AllocError>
+    ensures ok { Writes result reply.old reply.new (change_reply fault) }
+    ensures memory { fault ≡ ChangeFault.Book Refusal.Memory → OnOk result ⊥ }
+{
+    match fault {
+        ChangeFault::Book(refusal) => reply.refuse_command(alloc, refusal),
+        ChangeFault::Journal(_) => reply.refuse(NO_JOURNAL),
+    }
+}
+
+/// Tells what is wrong with a text of JSON.
+fn refuse_json(fault: JsonFault, reply: &mut Reply) -> Result<(), AllocError>
+    ensures ok { Writes result reply.old reply.new (json_reply fault) }
+    ensures memory { fault ≡ JsonFault.Memory → OnOk result ⊥ }
+{
+    match fault {
+        JsonFault::NotJson => reply.refuse_by(BAD_JSON, 1),
+        JsonFault::NotWhole => reply.refuse_by(BAD_JSON, 2),
+        JsonFault::Memory => Err(AllocError),
+    }
+}
+
+/// Tells what is wrong with an item of the table's beginning.
+fn refuse_item(fault: ItemFault, reply: &mut Reply) -> Result<(), AllocError>
+    ensures ok { Writes result reply.old reply.new (item_fault_reply fault) }
+    ensures memory { fault ≡ ItemFault.Memory → OnOk result ⊥ }
+{
+    match fault {
+        ItemFault::BadValue => reply.refuse_by(BAD_BEGIN, 1),
+        ItemFault::BadNumber => reply.refuse_by(BAD_BEGIN, 2),
+        ItemFault::NoKey => reply.refuse_by(BAD_BEGIN, 3),
+        ItemFault::KeyType => reply.refuse_by(BAD_BEGIN, 4),
+        ItemFault::EmptyKey => reply.refuse_by(BAD_BEGIN, 5),
+        ItemFault::Memory => Err(AllocError),
+    }
+}
