@@ -8,10 +8,10 @@ Prints rows `name<TAB>value<TAB>unit`, of each NAME or of all. Without --instruc
 --instructions counts by valgrind's callgrind (Debian's package valgrind), and comes to the same each time: the instructions a line of
 each workload of tools/workloads.py, what four times the work makes of them (about 1 where a line doesn't cost more for what came
 before), and single calls, as the difference of two runs with and without them. What an empty input takes is left out. --scale says how
-large the workloads are (0.1 where nothing is said), --jobs how many are counted at a time.
+large the workloads are (0.1 where nothing is said), --jobs how many are counted at a time. What workers spend waiting differs a little.
 
---clock takes the best of --runs runs (3): lines a second of the same workloads, in memory, and of kinds of lines alone; and a journal on
-a file in the folder --folder (the system's for temporary files), beside as many inserts by Python's sqlite3 in the same folder.
+--clock takes the best of --runs runs (3): lines a second of the same workloads, in memory, and of kinds of lines alone; rounds of workers
+(`workers`); and a journal on a file in the folder --folder (the system's for temporary files), beside as many inserts by Python's sqlite3 in the same folder.
 Nothing else should run meanwhile.
 """
 import argparse
@@ -103,6 +103,15 @@ def one_map(branches, bound):
     yield f'start run over {{"all":[{",".join(["{}"] * branches)}]}}'
 
 
+def filled(count, size):
+    """So many executions that stand before a Pass whose template fills so many bytes by paths."""
+    fields = {f"field-{at}.$": "$.text" for at in range(size // 32)}
+    yield TABLE
+    yield define("fill", workloads.states("Fill", Fill={"Type": "Pass", "Parameters": fields, "End": True}))
+    for at in range(count):
+        yield f'start run-{at} fill {{"text":"{"t" * 16}"}}'
+
+
 def single_calls():
     """Each call as its name, its unit, the lines before it, the lines that are it, and how many they are."""
     for remain in (600, 6_000):
@@ -128,6 +137,7 @@ def single_calls():
             for at in range(count):
                 yield f"start run-{at} three {{}}"
         yield f"step by drive, {count:,} executions", "instructions", waiting, ["drive 60"], 60
+        yield f"step by one worker, {count:,} executions", "instructions", waiting, ["work 1 60"], 60
     for branches in (64, 4_096):
         for bound, said in ((0, "without a bound"), (10, "with a bound of 10")):
             def fresh(branches=branches, bound=bound):
@@ -251,6 +261,15 @@ def clock(program, names, scale, runs, folder):
         for name, before, lines in kinds_of_lines(count):
             if not names or name in names:
                 row(name, count / max(best(before + lines) - best(before), 1e-6), "lines a second")
+        if not names or "workers" in names:
+            count = max(100, int(3_000 * scale))
+            before = list(filled(count, 16_384))
+            begun = best(before)
+            spent = {line: max(best([*before, f"{line} {count}"]) - begun, 1e-6) for line in ("drive", "work 1", "work 2", "work 4")}
+            for line, seconds in spent.items():
+                row(f"templates of 16 kB, {line}", count / seconds, "steps a second")
+            for line in ("work 2", "work 4"):
+                row(f"{line} beside work 1, on {os.cpu_count()} processors", spent["work 1"] / spent[line], "times as fast")
         if names and "journal" not in names:
             return
         count = max(100, int(20_000 * scale))

@@ -7,7 +7,9 @@ Without files all of rows/*.txt are served. A session's lines are given to the p
 answered. Where the refusal falls may be told once in a run, in one of these ways:
 
 - the reply is `no 11`, or `no 24` where it was the store's. The line is given again, and is answered as the row says;
-- a `drive` takes fewer steps. It is given again with the number of those that are left, and the steps together are those of the row;
+- a `drive` or a `work` takes fewer steps. It is given again with the number of those that are left, and the steps together are those of
+  the row;
+- a `work` is told `no 24`, and the program ends with status 3 and `rollback: store`: the steps of its round are lost;
 - the program ends with status 4 and `rollback: memory`; or, before it answers, with status 3 and `rollback: store`.
 
 Each other reply has to be the one that stands in the row, so a line that was refused has changed nothing. With --files the first half
@@ -43,7 +45,8 @@ COUNT = 3
 CHUNK = 50
 SECONDS = 300
 ENDS = ((4, b"rollback: memory\n"),)
-ENDS_AT_OPENING = (*ENDS, (3, b"rollback: store\n"))
+ENDS_WHERE_LOST = ((3, b"rollback: store\n"),)
+ENDS_AT_OPENING = (*ENDS, *ENDS_WHERE_LOST)
 
 
 class Wrong(Exception):
@@ -107,10 +110,11 @@ class Served:
             except BrokenPipeError:
                 pass
 
-    def end_for_memory(self, command):
-        """Its end at this line, which has to be one for want of memory."""
+    def end_for_memory(self, command, is_lost):
+        """Its end at this line, which has to be one for want of memory, or of a session whose round is lost."""
         rest, status, errors = self.end()
-        if rest or (status, errors) not in (ENDS if self.answered else ENDS_AT_OPENING):
+        ends = ENDS_WHERE_LOST if is_lost else ENDS if self.answered else ENDS_AT_OPENING
+        if rest or (status, errors) not in ends:
             raise Wrong(ended_at(command, rest, status, errors))
 
 
@@ -122,7 +126,7 @@ def ended_at(command, rest, status, errors):
 
 
 def joined(front, rest):
-    """The reply to a drive that was given in two parts."""
+    """The reply to a drive or a round that was given in two parts."""
     if rest is None or not re.fullmatch(rb"ok \d+", rest[0]):
         return rest
     return [b"ok %d" % (len(front) + len(rest) - 2), *front[1:], *rest[1:]]
@@ -133,10 +137,20 @@ def asked_again(served, command, found):
     if found in ([b"no 11"], [b"no 24"]):
         # behind a last line without its end nothing can be given
         return "told", served.ask(command.text) if command.ended else command.wanted
-    drive = re.fullmatch(rb"drive (\d+)", command.text)
-    if drive and re.fullmatch(rb"ok \d+", found[0]) and found[1:] == command.wanted[1 : len(found)] and len(found) < len(command.wanted):
-        return "early", joined(found, served.ask(b"drive %d" % (int(drive.group(1)) - len(found) + 1)))
+    several = re.fullmatch(rb"(drive|work \d+) (\d+)", command.text)
+    if several and re.fullmatch(rb"ok \d+", found[0]) and is_beginning(command, found[1:]):
+        return "early", joined(found, served.ask(b"%s %d" % (several.group(1), int(several.group(2)) - len(found) + 1)))
     return "", found
+
+
+def is_beginning(command, steps):
+    """Whether these are some of the steps that are wanted; of a drive, the first of them."""
+    wanted = command.wanted[1:]
+    return len(steps) < len(wanted) and (steps == wanted[: len(steps)] or is_round(command) and set(steps) <= set(wanted))
+
+
+def is_round(command):
+    return command.text.split(b" ")[0] == b"work"
 
 
 def run(program, library, commands, words, number):
@@ -147,19 +161,20 @@ def run(program, library, commands, words, number):
     try:
         for command in commands:
             found = served.ask(command.text, command.ended)
-            if number and not told and found != command.wanted:
-                if found is not None:
+            if number and not told and (found is None or not rows.is_wanted(command, found)):
+                is_lost = is_round(command) and found == [b"no 24"]
+                if found is not None and not is_lost:
                     told, found = asked_again(served, command, found)
                 else:
                     told = "ended"
-                    served.end_for_memory(command)
+                    served.end_for_memory(command, is_lost)
                     if not words:
                         return counted(), told
                     served = Served(program, words, library, 0)
                     found = served.ask(command.text, command.ended)
             if found is None:
                 raise Wrong(ended_at(command, *served.end()))
-            if found != command.wanted:
+            if not rows.is_wanted(command, found):
                 raise Wrong(
                     f"{command.place()}: {rows.short(command.text, 120)}\n    wanted:\n{rows.lines_of(command.wanted)}\n"
                     f"    found:\n{rows.lines_of(found)}"
@@ -270,7 +285,7 @@ def serve_all(asked):
                 wrongs += wrong
             print(
                 f"{session.title}: {sum(ways.values())} of {count} requests refused: {ways['told']} times told, {ways['early']} times a "
-                f"drive stopped, {ways['ended']} times the program ended, {ways['']} times all was answered"
+                f"drive or a round stopped, {ways['ended']} times the program ended, {ways['']} times all was answered"
             )
             for wrong in wrongs[:3]:
                 print(wrong)

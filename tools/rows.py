@@ -27,7 +27,7 @@ import tty
 
 TOP = pathlib.Path(__file__).resolve().parent.parent
 PROGRAM = TOP / "crates/rollback_program/out/rollback_program"
-LISTS = (b"items", b"history", b"plan", b"rollback", b"drive")
+LISTS = (b"items", b"history", b"plan", b"rollback", b"drive", b"work")
 PLACES = 60
 CUT = ("first-path", "terminate")
 
@@ -236,12 +236,34 @@ def lines_of(lines, room=12):
     return "\n".join(shown) if shown else "        nothing"
 
 
+def is_in_order(steps):
+    """Whether each step comes behind the one before it in its thread, and a branch's between its fork and its join."""
+    places = {step: place for place, step in enumerate(steps)}
+    for step, place in places.items():
+        thread, _, count = step.partition(b"#")
+        before = b"%s#%d" % (thread, int(count) - 1)
+        if places.get(before, -1) > place:
+            return False
+        above, slash, branch = thread.rpartition(b"/")
+        fork = int(branch.partition(b".")[0]) if slash else 0
+        if slash and not places.get(b"%s#%d" % (above, fork), -1) < place < places.get(b"%s#%d" % (above, fork + 1), len(steps)):
+            return False
+    return True
+
+
+def is_wanted(command, found):
+    """Whether a reply is the wanted one. The steps of a round of workers may have another order."""
+    if command.text.split(b" ")[0] == b"work":
+        return found[:1] == command.wanted[:1] and sorted(found[1:]) == sorted(command.wanted[1:]) and is_in_order(found[1:])
+    return found == command.wanted
+
+
 def differences(commands, output, way):
     """What is told of replies that aren't those that are wanted."""
     told = []
     replies, left = replies_of(commands, output)
     for command, found in zip(commands, replies):
-        if found != command.wanted:
+        if not is_wanted(command, found):
             told.append(
                 f"{command.place()}: {way}: {short(command.text, 120)}\n    wanted:\n{lines_of(command.wanted)}\n"
                 f"    found:\n{lines_of(found)}"
