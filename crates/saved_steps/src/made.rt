@@ -1,12 +1,13 @@
 // A step for which everything is made.
-ghost use Rattle.std.specs.Prelude.{◌≡◌};
+ghost use Rattle.std.specs.Prelude.{◌≡◌, IfOk};
 ghost use Rattle.saved_steps.specs.Made.{fact_made};
 
-use crate::fact::{Access, Kind};
+use crate::fact::{Access, Fact, Kind};
 use asl_forward::Frame;
 use attr_values::Item;
 use branch_tree::Branch;
 use item_store::SlotNo;
+use std::alloc::AllocError;
 use step_names::StepName;
 
 /// What is put where, once a step is applied.
@@ -50,6 +51,40 @@ impl Made {
             Change::Fork(..) => Kind::Fork,
             Change::Join(_) => Kind::Join,
             Change::Terminate(_) => Kind::Terminate,
+        }
+    }
+
+    /// What is known of the step. Takes memory for a copy of its name, and of the key that it touches.
+    pub fn fact(&self) -> Result<Fact, AllocError>
+        ensures { IfOk result (λ f. f ≡ fact_made self.now) }
+    {
+        let access = self.access()?;
+        let Ok(name) = self.name.copy() else {
+            drop(access);
+            return Err(AllocError);
+        };
+        Ok(Fact {
+            name,
+            kind: self.kind(),
+            access,
+            bound: self.bound,
+        })
+    }
+
+    /// The item that a call touches, and how.
+    fn access(&self) -> Result<Option<Access>, AllocError>
+        ensures { IfOk result (λ a. a ≡ (fact_made self.now).access) }
+    {
+        match &self.change {
+            Change::Call { access, .. } => Ok(Some(Access {
+                key: access.key.copy()?,
+                mode: access.mode,
+            })),
+            Change::Begin(_)
+            | Change::Plain(_)
+            | Change::Fork(..)
+            | Change::Join(_)
+            | Change::Terminate(_) => Ok(None),
         }
     }
 }

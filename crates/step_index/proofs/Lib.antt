@@ -5,3 +5,5 @@ pub mod Meeting
 pub mod Listed
 pub mod Dependents
 pub mod Marked
+pub mod Left
+pub mod Needed

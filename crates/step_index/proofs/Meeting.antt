@@ -37,10 +37,10 @@ name_alike a b h =
 
 -- ---- the reasons one by one
 
-thread_alike : (a b : Fact) → is_same_thread a.name.thread b.name.thread ≡ true → a.name.thread ≡ b.name.thread
+pub thread_alike : (a b : Fact) → is_same_thread a.name.thread b.name.thread ≡ true → a.name.thread ≡ b.name.thread
 thread_alike a b h = thread_same a.name.thread b.name.thread h
 
-begins_alike : (a b : Fact) → begins a b.name.thread ≡ true → a.name.thread.exec ≡ b.name.thread.exec
+pub begins_alike : (a b : Fact) → begins a b.name.thread ≡ true → a.name.thread.exec ≡ b.name.thread.exec
 begins_alike a b h = text_same a.name.thread.exec b.name.thread.exec (and_parts (is_start a.kind) (is_text a.name.thread.exec b.name.thread.exec) h).1
 
 makes_alike : (a b : Fact) → makes a b.name.thread ≡ true → a.name.thread.exec ≡ b.name.thread.exec
@@ -48,12 +48,12 @@ makes_alike a b h =
     let u = and_parts (is_fork a.kind) (is_under b.name.thread a.name.thread a.name.no) h in
     sym ((under_Decides b.name.thread a.name.thread a.name.no).0 u.1).0
 
-closes_alike : (a b : Fact) → closes b a.name.thread ≡ true → (is_close b.kind ≡ true) × (a.name.thread.exec ≡ b.name.thread.exec)
+pub closes_alike : (a b : Fact) → closes b a.name.thread ≡ true → (is_close b.kind ≡ true) × (a.name.thread.exec ≡ b.name.thread.exec)
 closes_alike a b h =
     let u = and_parts (is_close b.kind) (is_under a.name.thread b.name.thread _) h in
     (u.0, ((under_Decides a.name.thread b.name.thread _).0 u.1).0)
 
-awaits_alike : (a b : Fact) → awaits b a.name.thread ≡ true → ((b.bound == 0) ≡ false) × (a.name.thread.exec ≡ b.name.thread.exec)
+pub awaits_alike : (a b : Fact) → awaits b a.name.thread ≡ true → ((b.bound == 0) ≡ false) × (a.name.thread.exec ≡ b.name.thread.exec)
 awaits_alike a b h = bounded (b.bound == 0) refl
   where
     along : (e : Bool) → bytes_eq b.name.thread.exec a.name.thread.exec ≡ e → (b.bound == 0) ≡ false → b.name.thread.exec ≡ a.name.thread.exec

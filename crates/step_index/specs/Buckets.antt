@@ -1,12 +1,13 @@
 -- In which class a step is, by the hash of a part of its fact. Of the hash only this is used, that it is a function.
-use Rattle.std.specs.Prelude.{ℕ, ◌%◌, ◌++◌, ◌==◌, Bool, ◌||◌, not, List, Option, Some, None, option_map, if◌then◌else◌}
+use Rattle.std.specs.Prelude.{ℕ, ◌%◌, ◌++◌, ◌==◌, Bool, ◌||◌, not, List, Option, Some, None, option_map, take, if◌then◌else◌}
 use Rattle.std.specs.Hash as fed
 use Rattle.std.specs.Hash.DefaultHasher as sip
 use Rattle.std.specs.List.{fold}
 use Rattle.attr_values.specs.Key.{key_input}
 use Rattle.attr_values.specs.declared.key.Key.{Key}
-use Rattle.step_names.specs.Thread.{Thread}
+use Rattle.step_names.specs.Thread.{Thread, execution}
 use Rattle.step_names.specs.declared.step.StepName.{StepName}
+use Rattle.depends.specs.Dependence.{is_start}
 use Rattle.saved_steps.specs.Steps.{is_close, is_write}
 use Rattle.saved_steps.specs.declared.fact.Access.{Access}
 use Rattle.saved_steps.specs.declared.fact.Fact.{Fact}
@@ -31,6 +32,17 @@ by_name f = Some (name_bucket f.name)
 
 abbrev pub by_thread : Fact → Option ℕ
 by_thread f = Some (thread_bucket f.name.thread)
+
+-- where a step is at home: in its thread, and a start in the thread of its execution
+abbrev pub home : Fact → Thread
+home f = if is_start f.kind then execution f.name.thread.exec else f.name.thread
+
+abbrev pub by_home : Fact → Option ℕ
+by_home f = Some (thread_bucket (home f))
+
+-- the thread whose name begins as that of one, with so many branches
+abbrev pub above : Thread → ℕ → Thread
+above t depth = record { exec = t.exec; path = take depth t.path }
 
 abbrev pub by_exec : Fact → Option ℕ
 by_exec f = Some (exec_bucket f.name.thread.exec)

@@ -16,7 +16,11 @@ IsFirstFrom Q p rs low (Some i) =
 abbrev pub needs : StepRecord → StepRecord → Bool
 needs f g = depends_directly f.fact g.fact
 
--- and so for another reason than an item that both access
+-- a step is one on which a later one depends directly
+abbrev pub needed_by : Fact → StepRecord → Bool
+needed_by later r = depends_directly r.fact later
+
+-- a later step depends on one for another reason than an item that both access
 abbrev pub names_need : Fact → Fact → Bool
 names_need a b = is_same_thread a.name.thread b.name.thread || (begins a b.name.thread || (makes a b.name.thread || (closes b a.name.thread || awaits b a.name.thread)))
 

@@ -1,8 +1,8 @@
 //! In which class a step is, by the hash of a part of its fact.
 
-ghost use Rattle.std.specs.Prelude.{◌≡◌, ◌<◌, ◌%◌, IfSome};
+ghost use Rattle.std.specs.Prelude.{◌≡◌, ◌<◌, ◌≤◌, ◌%◌, IfSome, Some, length};
 ghost use Rattle.std.specs.Hash.DefaultHasher.{finish};
-ghost use Rattle.step_index.specs.Buckets.{by_name, by_thread, by_exec, by_gate, by_key, by_write, name_bucket, thread_bucket, exec_bucket, key_bucket, is_gate};
+ghost use Rattle.step_index.specs.Buckets.{above, by_home, by_name, by_thread, by_exec, by_gate, by_key, by_write, name_bucket, thread_bucket, exec_bucket, key_bucket, is_gate};
 
 use attr_values::Key;
 use item_store::AccessMode;
@@ -38,6 +38,30 @@ pub(crate) fn thread_bucket(thread: &ThreadName) -> u32
     bucket_of(&hasher)
 }
 
+/// The class of the thread above one, or of it itself, that has so many of its branches.
+#[tactic(auto, unfolding(crate::specs::Buckets::thread_bucket))]
+pub(crate) fn bucket_above(thread: &ThreadName, depth: usize) -> u32
+    requires { depth ≤ length thread.now.path }
+    ensures bucket { result ≡ thread_bucket (above thread.now depth) }
+    ensures below { result < 2039 }
+{
+    let mut hasher = DefaultHasher::new();
+    thread.exec().hash(&mut hasher);
+    thread.path()[..depth].hash(&mut hasher);
+    bucket_of(&hasher)
+}
+
+/// The class of the thread where a step is at home.
+pub(crate) fn home_bucket(fact: &Fact) -> u32
+    ensures bucket { Some result ≡ by_home fact.now }
+    ensures below { result < 2039 }
+{
+    match fact.kind {
+        Kind::Start => bucket_above(&fact.name.thread, 0),
+        _ => thread_bucket(&fact.name.thread),
+    }
+}
+
 /// The class of an execution.
 #[tactic(auto, unfolding(crate::specs::Buckets::exec_bucket))]
 pub(crate) fn exec_bucket(exec: &str) -> u32
@@ -60,7 +84,8 @@ pub(crate) fn gate_bucket(fact: &Fact) -> Option<u32>
     Some(exec_bucket(fact.name.thread.exec()))
 }
 
-fn is_gate(fact: &Fact) -> bool
+/// Whether a step closes a fork, or waited for branches under a bound.
+pub(crate) fn is_gate(fact: &Fact) -> bool
     ensures { result ≡ is_gate fact.now }
 {
     match fact.kind {

@@ -3,8 +3,10 @@
 //! Records of steps in their order. A step is found by its name, and the first that depends directly on it by the classes in
 //! which the steps are: not by a look at each of them.
 mod buckets;
+mod held;
 mod plans;
 mod records;
 mod walks;
 
+pub use held::HeldSteps;
 pub use records::StepRecords;

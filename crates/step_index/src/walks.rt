@@ -4,11 +4,11 @@ ghost use Rattle.std.specs.Prelude.{◌≡◌, ◌<◌, ◌+◌, ℕ, Some, None
 ghost use Rattle.linked_classes.specs.Places.{place_class};
 ghost use Rattle.saved_steps.specs.World.{is_same_step};
 ghost use Rattle.saved_steps.specs.declared.record.StepRecord.{StepRecord as Kept};
-ghost use Rattle.step_index.specs.Walks.{IsFirstFrom, needs, earlier};
+ghost use Rattle.step_index.specs.Walks.{IsFirstFrom, needed_by, needs, earlier};
 
 use depends::depends;
 use linked_classes::ClassedPlaces;
-use saved_steps::StepRecord;
+use saved_steps::{Fact, StepRecord};
 use step_names::StepName;
 
 /// The first step of a name in a class: a look at each step there before it.
@@ -92,6 +92,27 @@ fn nearer(records: &[StepRecord], at: usize, place: usize, found: Option<usize>)
         return Some(place);
     }
     found
+}
+
+/// The first step in a class on which a later one would depend directly: a look at each step there before it.
+pub(crate) fn first_needed_in(
+    records: &[StepRecord],
+    steps: &ClassedPlaces,
+    class: u32,
+    later: &Fact,
+) -> Option<usize>
+    requires { length steps.now.classes ≡ length records.now }
+    ensures first { IsFirstFrom (λ k. place_class steps.now k ≡ Some class) (needed_by later.now) records.now 0 result }
+    ensures member { IfSome result (λ k. place_class steps.now k ≡ Some class) }
+{
+    let mut next = steps.first(class);
+    while let Some(place) = next {
+        if depends(&records[place].fact, later) {
+            return Some(place);
+        }
+        next = steps.next(place);
+    }
+    None
 }
 
 /// The lesser of two places, as far as there are any.
