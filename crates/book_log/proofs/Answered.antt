@@ -50,7 +50,7 @@ pub found_at : (name : StepName) (front back : List Past) (t : Past) → ((y : P
 found_at name [] back t h k = rw k refl
 found_at name (z ∷ front) back t h k = let e = h z (inl refl) in rw e (found_at name front back t (λ y i. h y (inr i)) k)
 
-none_found : (p : Fact → Bool) (ts : List Past) → find p (facts_of ts) ≡ None → list_any (λ t. p t.fact) ts ≡ false
+pub none_found : (p : Fact → Bool) (ts : List Past) → find p (facts_of ts) ≡ None → list_any (λ t. p t.fact) ts ≡ false
 none_found p [] h = refl
 none_found p (t ∷ ts) h = by_bool (p t.fact) _ (λ k. let e = rw k at h in cc) (λ k. rw k (none_found p ts (rw k at h)))
 

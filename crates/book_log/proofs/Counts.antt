@@ -23,11 +23,12 @@ use Rattle.book_log.specs.Legal.{IsAccepted, IsLegal}
 use Rattle.book_log.specs.Story.{Story, accepted, base_of, settled, remainder, remaining, setting_of, world_of, past_of}
 use Rattle.book_log.specs.declared.begin.Begin.{Begin}
 use Rattle.book_log.specs.declared.entry.Entry.{Entry}
-use Rattle.book_log.specs.declared.entry.Entry.TheVariants.{Define, Start, Step as Stepped, Undo, Rollback, Settle}
+use Rattle.book_log.specs.declared.entry.Entry.TheVariants.{Define, Start, Step as Stepped, Undo, Rollback, Settle, Hold}
 use Rattle.book_log.proofs.Standing.{StandsAt, from_start, names_there, settled_next, steps_next, stands_undone, stands_rolled}
 use Rattle.book_log.proofs.Answered.{once, undo_said}
 use Rattle.book_log.proofs.Outlines.{outline_settled, outline_more, outline_same}
 use Rattle.book_log.proofs.Settling.{settle_room}
+use Rattle.book_log.proofs.HoldSaid.{hold_said}
 use Rattle.book_log.proofs.Taking.{start_room, step_room}
 use Rattle.book_log.proofs.LegalRuns.{plan_said, of_log, of_legal, legal_stands}
 
@@ -219,6 +220,18 @@ counted_next story Settle legal p a =
     let b = ap length (settled_next story Settle) in
     let m = length-append (settled story) (remaining story) in
     record { some = omega (arith, l); all = omega (arith, l, n, room); stepped = omega (arith, l, n, b, m, own); outlined = omega (arith, l, n, o); shallow = λ x i. absurd (subst (In x) e i) }
+counted_next story (Hold name count) legal p a =
+    let e = Hold name count in
+    let room = room_for_define story (hold_said story name count a).2 in
+    let same = steps_next story e in
+    let l = ap length same in
+    let n = one_more story e in
+    let d = same_outline story e refl refl in
+    let some = p.some in
+    let was = p.outlined in
+    let own = p.stepped in
+    let b = ap length (settled_next story e) in
+    record { some = omega (arith, l, some); all = omega (arith, l, n, room); stepped = omega (arith, l, n, b, own); outlined = omega (arith, n, d, l, was); shallow = λ x i. p.shallow x (subst (In x) same i) }
 
 first_counted : (begin : Begin) → IsLegal (of_log begin []) → IsCounted (of_log begin [])
 unfolding remainder

@@ -18,9 +18,9 @@ use Rattle.book_log.specs.Legal.{IsAccepted, GoesOnLegally, IsLegal}
 use Rattle.book_log.specs.Story.{Story, accepted, first_world, world_after, base_in, run_in, remainder, setting_of, world_of, past_of, consequences_of}
 use Rattle.book_log.specs.declared.begin.Begin.{Begin}
 use Rattle.book_log.specs.declared.entry.Entry.{Entry}
-use Rattle.book_log.specs.declared.entry.Entry.TheVariants.{Define, Start, Step as Stepped, Undo, Rollback, Settle}
+use Rattle.book_log.specs.declared.entry.Entry.TheVariants.{Define, Start, Step as Stepped, Undo, Rollback, Settle, Hold}
 use Rattle.book_log.specs.declared.refusal.Refusal.{Refusal}
-use Rattle.book_log.proofs.Standing.{StandsAt, after_same, past_there, fact_named, consequences_there, stands, stands_defined, stands_started, stands_moved, stands_undone, stands_rolled, stands_settled}
+use Rattle.book_log.proofs.Standing.{StandsAt, after_same, past_there, fact_named, consequences_there, stands, stands_defined, stands_started, stands_moved, stands_undone, stands_rolled, stands_settled, stands_held}
 use Rattle.book_log.proofs.Answered.{Found, found_by, undo_said}
 use Rattle.book_log.proofs.Taking.{start_said, step_said}
 
@@ -90,6 +90,7 @@ accepted_stands story (Rollback name undone) s w ts h a =
     let k = plan_said story s w ts h name undone a in
     some_stands _ _ _ _ (stands_rolled story s w ts name undone k.step h k.stood k.named)
 accepted_stands story Settle s w ts h a = some_stands _ _ _ _ (stands_settled story s w ts h)
+accepted_stands story (Hold name count) s w ts h a = some_stands _ _ _ _ (stands_held story s w ts name count h)
 
 -- ---- legal logs
 

@@ -1,5 +1,7 @@
 pub mod Answered
 pub mod Counts
+pub mod HoldSaid
+pub mod Holding
 pub mod LegalRuns
 pub mod Orders
 pub mod Outlines
@@ -7,6 +9,7 @@ pub mod Refused
 pub mod Reruns
 pub mod Settling
 pub mod Standing
+pub mod StartsNeedNone
 pub mod TakenBack
 pub mod Taking
 pub mod Opened

@@ -5,7 +5,7 @@ use Rattle.std.proofs.lemmas.List.{append-nil}
 use Rattle.trace_theory.proofs.Lists.{by_bool, any_one, here}
 use Rattle.book_log.specs.Answers.{defines, is_settlement, outline}
 use Rattle.book_log.specs.declared.entry.Entry.{Entry}
-use Rattle.book_log.specs.declared.entry.Entry.TheVariants.{Define, Start, Step as Stepped, Undo, Rollback, Settle}
+use Rattle.book_log.specs.declared.entry.Entry.TheVariants.{Define, Start, Step as Stepped, Undo, Rollback, Settle, Hold}
 
 pub defines-append : (xs ys : List Entry) → defines (xs ++ ys) ≡ defines xs ++ defines ys
 defines-append [] ys = refl
@@ -15,6 +15,7 @@ defines-append (Stepped name kind ∷ xs) ys = defines-append xs ys
 defines-append (Undo name ∷ xs) ys = defines-append xs ys
 defines-append (Rollback name undone ∷ xs) ys = defines-append xs ys
 defines-append (Settle ∷ xs) ys = defines-append xs ys
+defines-append (Hold name count ∷ xs) ys = defines-append xs ys
 
 -- an entry that passes no test changes nothing of whether some entry does
 any_more : (p : Entry → Bool) (log : List Entry) (e : Entry) → p e ≡ false → list_any p (log ++ e ∷ []) ≡ list_any p log

@@ -19,10 +19,10 @@ use Rattle.depends.proofs.Named.{steps_have_names}
 use Rattle.book_log.specs.Answers.{step_named, steps_named, defines, is_settlement, outline, entry_for, entry_of, retold, or_no_step, rerun_answer}
 use Rattle.book_log.specs.Laws as laws
 use Rattle.book_log.specs.Legal.{IsAccepted, IsLegal}
-use Rattle.book_log.specs.Story.{Story, accepted, after_entry, base_in, base_of, settled, world_after, remaining, machine_of, setting_of, setting_in, remainder, world_of, past_of}
+use Rattle.book_log.specs.Story.{Story, accepted, after_entry, base_in, base_of, settled, held, world_after, remaining, machine_of, setting_of, setting_in, remainder, world_of, past_of}
 use Rattle.book_log.specs.declared.begin.Begin.{Begin}
 use Rattle.book_log.specs.declared.entry.Entry.{Entry}
-use Rattle.book_log.specs.declared.entry.Entry.TheVariants.{Define, Start, Step as Stepped, Undo, Rollback, Settle}
+use Rattle.book_log.specs.declared.entry.Entry.TheVariants.{Define, Start, Step as Stepped, Undo, Rollback, Settle, Hold}
 use Rattle.book_log.specs.declared.refusal.Refusal.{Refusal}
 use Rattle.book_log.specs.declared.refusal.Refusal.TheVariants.{NoStep}
 use Rattle.book_log.proofs.Standing.{StandsAt, step_same, step_itself, from_start, world_there, past_there, names_there, is_run, remainder_next, settled_next, base_kept, knowing, stands_defined, base_defined, stands_settled, base_settled}
@@ -30,6 +30,7 @@ use Rattle.book_log.proofs.Answered.{once}
 use Rattle.book_log.proofs.LegalRuns.{of_log, of_legal, accepted_is_legal, legal_stands, first_stands_there}
 use Rattle.book_log.proofs.Counts.{IsShallow, room_for_define, has_room_for_define, has_room_for_step, steps_there, legal_counts}
 use Rattle.book_log.proofs.Outlines.{outline_settled, outline_more, outline_same}
+use Rattle.book_log.proofs.HoldSaid.{held_next, needs_none}
 use Rattle.book_log.proofs.TakenBack.{entry_accepted, stands_again}
 
 -- ---- the outline alone
@@ -39,13 +40,15 @@ pub record IsDefined (story : Story) : Type 0 where
   pub legal : IsLegal (of_log story.begin (outline story.log))
   pub there : StandsAt (of_log story.begin (outline story.log)) (setting_of story) (base_of story) []
   pub settles : settled (of_log story.begin (outline story.log)) ≡ settled story
+  pub free : held (of_log story.begin (outline story.log)) ≡ None
 
 -- a story of the same beginning whose log is the outline of another's
-outlined : (story : Story) (log : List Entry) → outline story.log ≡ log → IsLegal (of_log story.begin log) → StandsAt (of_log story.begin log) (setting_of story) (base_of story) [] → settled (of_log story.begin log) ≡ settled story → IsDefined story
-outlined story log is legal there settles = record {
+outlined : (story : Story) (log : List Entry) → outline story.log ≡ log → IsLegal (of_log story.begin log) → StandsAt (of_log story.begin log) (setting_of story) (base_of story) [] → settled (of_log story.begin log) ≡ settled story → held (of_log story.begin log) ≡ None → IsDefined story
+outlined story log is legal there settles free = record {
   legal = subst (λ l. IsLegal (of_log story.begin l)) (sym is) legal;
   there = subst (λ l. StandsAt (of_log story.begin l) (setting_of story) (base_of story) []) (sym is) there;
   settles = subst (λ l. settled (of_log story.begin l) ≡ settled story) (sym is) settles;
+  free = subst (λ l. held (of_log story.begin l) ≡ None) (sym is) free;
 }
 
 -- an entry that is no definition and settles nothing
@@ -54,7 +57,7 @@ defined_still story e other none setting base before p =
     outlined (accepted story e) (outline story.log) (outline_same story.log e other none) p.legal
     (subst (λ s. StandsAt (of_log story.begin (outline story.log)) s (base_of (accepted story e)) []) (sym setting)
     (subst (λ w. StandsAt (of_log story.begin (outline story.log)) (setting_of story) w []) (sym base) p.there))
-    (p.settles ∙ sym before)
+    (p.settles ∙ sym before) p.free
 
 setting_next : (story : Story) (e : Entry) → setting_of (accepted story e) ≡ setting_in story.begin (after_entry story.begin (remainder story) e)
 setting_next story e = ap (setting_in story.begin) (remainder_next story e)
@@ -74,7 +77,7 @@ defined_next story (Define name machine) legal p a =
     let base = base_defined story s (world_of story) (past_of story) name machine h a.0 in
     outlined (accepted story e) (outline story.log ++ e ∷ []) (outline_more story.log e refl) (accepted_is_legal alone e p.legal new)
     (subst (λ w. StandsAt (accepted alone e) (setting_of (accepted story e)) w []) (sym base) (subst (λ x. StandsAt (accepted alone e) x (base_of story) []) (sym same) there))
-    (settled_next alone e ∙ p.settles ∙ sym (settled_next story e))
+    (settled_next alone e ∙ p.settles ∙ sym (settled_next story e)) (held_next alone e ∙ p.free)
 defined_next story (Start exec machine input) legal p a = let e = Start exec machine input in defined_still story e refl refl (setting_next story e) (base_kept story e refl refl) (settled_next story e) p
 defined_next story (Stepped name kind) legal p a = let e = Stepped name kind in defined_still story e refl refl (setting_next story e) (base_kept story e refl refl) (settled_next story e) p
 defined_next story (Undo name) legal p a = let e = Undo name in defined_still story e refl refl (setting_next story e) (base_kept story e refl refl) (settled_next story e) p
@@ -87,11 +90,12 @@ defined_next story Settle legal p a =
     let there = stands_settled story s w (past_of story) h in
     outlined next next.log (outline_settled story.log) (accepted_is_legal story Settle legal a)
     (subst (λ x. StandsAt next (setting_of next) x []) (sym (base_settled story s w (past_of story) h)) (subst (λ x. StandsAt next x w []) (sym there.setting) there))
-    refl
+    refl (held_next story Settle)
+defined_next story (Hold name count) legal p a = let e = Hold name count in defined_still story e refl refl (setting_next story e) (base_kept story e refl refl) (settled_next story e) p
 
 first_defined : (begin : Begin) → IsLegal (of_log begin []) → IsDefined (of_log begin [])
 unfolding remainder base_in world_after
-first_defined begin legal = record { legal = legal; there = first_stands_there begin; settles = refl }
+first_defined begin legal = record { legal = legal; there = first_stands_there begin; settles = refl; free = refl }
 
 pub legal_defines : (story : Story) → IsLegal story → IsDefined story
 legal_defines story legal = of_legal IsDefined first_defined defined_next story legal
@@ -108,21 +112,25 @@ settled_again : (story : Story) (t : Past) (step : Step) → settled (accepted s
 settled_again story t (started exec machine input) = settled_next story (entry_for t (started exec machine input))
 settled_again story t (moved name) = settled_next story (entry_for t (moved name))
 
-pub retell : (ts : List Past) (story : Story) (s : Setting) (w v : World) (us : List Past) → IsLegal story → StandsAt story s w us → Runs (steps s) w ts v → ((t : Past) → In t ts → IsShallow t.step)
+held_again : (story : Story) (t : Past) (step : Step) → held (accepted story (entry_for t step)) ≡ held story
+held_again story t (started exec machine input) = held_next story (entry_for t (started exec machine input))
+held_again story t (moved name) = held_next story (entry_for t (moved name))
+
+pub retell : (ts : List Past) (story : Story) (s : Setting) (w v : World) (us : List Past) → IsLegal story → held story ≡ None → StandsAt story s w us → Runs (steps s) w ts v → ((t : Past) → In t ts → IsShallow t.step)
     → length us + length ts ≤ 65536 → length story.log + length us + (length ts + length ts) ≤ 1000000 → IsRetold story.begin (story.log ++ map entry_of ts) s (settled story) v (us ++ ts)
-retell [] story s w v us legal h runs low few many = record {
+retell [] story s w v us legal free h runs low few many = record {
   legal = subst (λ l. IsLegal (of_log story.begin l)) (sym (append-nil story.log)) legal;
   there = subst (λ l. StandsAt (of_log story.begin l) s v (us ++ [])) (sym (append-nil story.log)) (subst (StandsAt story s v) (sym (append-nil us)) (subst (λ x. StandsAt story s x us) runs h));
   settles = subst (λ l. settled (of_log story.begin l) ≡ settled story) (sym (append-nil story.log)) refl;
 }
-retell (t ∷ ts) story s w v us legal h runs low few many =
+retell (t ∷ ts) story s w v us legal free h runs low few many =
     let there = steps_there story s w us h in
     let room = has_room_for_step story (omega (arith, few, there)) (omega (arith, many, there)) in
-    let new = entry_accepted story s w runs.0 us h t t.step runs.1.0 (low t (inl refl)) room in
+    let new = entry_accepted story s w runs.0 us h t t.step runs.1.0 (low t (inl refl)) room (needs_none story free t.fact) in
     let next = accepted story (entry_of t) in
     let l = length-append story.log (entry_of t ∷ []) in
     let m = length-append us (t ∷ []) in
-    let k = retell ts next s runs.0 v (us ++ t ∷ []) (accepted_is_legal story (entry_of t) legal new) (stands_again story s w runs.0 us t h runs.1) runs.2 (λ x i. low x (inr i)) (omega (arith, few, m)) (omega (arith, many, l, m)) in
+    let k = retell ts next s runs.0 v (us ++ t ∷ []) (accepted_is_legal story (entry_of t) legal new) (held_again story t t.step ∙ free) (stands_again story s w runs.0 us t h runs.1) runs.2 (λ x i. low x (inr i)) (omega (arith, few, m)) (omega (arith, many, l, m)) in
     let log = append_assoc story.log (entry_of t ∷ []) (map entry_of ts) in
     let past = append_assoc us (t ∷ []) ts in
     let before = settled_again story t t.step in
@@ -202,7 +210,7 @@ retold_run story ss v us legal inside runs =
     let defined = counts.outlined in
     let d = legal_defines story legal in
     subst (λ l. IsRetold story.begin (retold story us).log s l v us) d.settles
-    (retell us (of_log story.begin (outline story.log)) s base v [] d.legal d.there (from_run (steps s) us base v is) (λ t i. counts.shallow t.step (own t i)) (omega (arith, few, some)) (omega (arith, few, all, defined)))
+    (retell us (of_log story.begin (outline story.log)) s base v [] d.legal d.free d.there (from_run (steps s) us base v is) (λ t i. counts.shallow t.step (own t i)) (omega (arith, few, some)) (omega (arith, few, all, defined)))
 
 pub rerun_split : (o : Option Story) (again : Story) → or_no_step o ≡ Ok again → o ≡ Some again
 rerun_split None again h = cc

@@ -1,5 +1,5 @@
 -- What was settled: its run stands before that of the remaining steps, so no name of it remains.
-use Rattle.std.proofs.Common.{◌≡◌, Bool, true, false, List, [], ◌∷◌, ◌++◌, append_assoc, refl, ap, ap₂, sym, subst, ◌∙◌, inl, inr, Result, Ok, Err}
+use Rattle.std.proofs.Common.{◌≡◌, Bool, true, false, List, [], ◌∷◌, ◌++◌, append_assoc, refl, ap, ap₂, sym, subst, ◌∙◌, inl, inr, Option, None, Some, Result, Ok, Err}
 use Rattle.std.specs.Prelude.{◌⊎◌, if◌then◌else◌}
 use Rattle.std.proofs.lemmas.List.{append-nil}
 use Rattle.step_names.specs.declared.step.StepName.{StepName}
@@ -11,11 +11,11 @@ use Rattle.depends.specs.World.{Setting, World, is_same_step}
 use Rattle.depends.specs.Instance.{Past, steps}
 use Rattle.depends.specs.Laws.{IsFrom}
 use Rattle.depends.proofs.Named.{steps_have_names}
-use Rattle.book_log.specs.Answers.{is_full_for_define, is_settled, absent, settle_answer}
+use Rattle.book_log.specs.Answers.{is_full_for_define, is_settled, absent, unless_held, settle_answer}
 use Rattle.book_log.specs.Laws.{SettlingKeepsTheWorld, SettledStaysSettled}
-use Rattle.book_log.specs.Story.{Story, accepted, first_world, settled, remaining, setting_of, world_of, past_of}
+use Rattle.book_log.specs.Story.{Story, accepted, first_world, settled, remaining, held, setting_of, world_of, past_of}
 use Rattle.book_log.specs.declared.entry.Entry.{Entry}
-use Rattle.book_log.specs.declared.entry.Entry.TheVariants.{Define, Start, Step as Stepped, Undo, Rollback, Settle}
+use Rattle.book_log.specs.declared.entry.Entry.TheVariants.{Define, Start, Step as Stepped, Undo, Rollback, Settle, Hold}
 use Rattle.book_log.specs.declared.refusal.Refusal.{Refusal}
 use Rattle.book_log.specs.declared.refusal.Refusal.TheVariants.{NoStep, HasDependents, Settled, Full}
 use Rattle.book_log.proofs.Standing.{StandsAt, no_frames, step_same, step_itself, all_run, settled_names, settled_next, steps_next, stands_settled, base_settled, world_there}
@@ -77,17 +77,23 @@ never_settled story s w ts h step t i j e =
 
 -- ---- a settlement
 
-settle_split : (b : Bool) → ◌≡◌ {A = Result (Unit {0}) Refusal} (if b then Err Full else Ok tt) (Ok tt) → b ≡ false
-settle_split true h = cc
-settle_split false h = refl
+settle_split : (b : Bool) (o : Option StepName) → ◌≡◌ {A = Result (Unit {0}) Refusal} (unless_held o (if b then Err Full else Ok tt)) (Ok tt) → (b ≡ false) × (o ≡ None)
+settle_split true None h = cc
+settle_split false None h = (refl, refl)
+settle_split b (Some name) h = cc
 
 pub settle_room : (story : Story) → settle_answer story ≡ Ok tt → is_full_for_define story ≡ false
 unfolding settle_answer
-settle_room story h = settle_split (is_full_for_define story) h
+settle_room story h = (settle_split (is_full_for_define story) (held story) h).0
 
-pub room_settles : (story : Story) → is_full_for_define story ≡ false → settle_answer story ≡ Ok tt
+-- nothing is held where what remains is settled
+pub settle_free : (story : Story) → settle_answer story ≡ Ok tt → held story ≡ None
 unfolding settle_answer
-room_settles story h = rw h refl
+settle_free story h = (settle_split (is_full_for_define story) (held story) h).1
+
+pub room_settles : (story : Story) → held story ≡ None → is_full_for_define story ≡ false → settle_answer story ≡ Ok tt
+unfolding settle_answer
+room_settles story free h = rw (free, h) refl
 
 pub settling_keeps_the_world : SettlingKeepsTheWorld
 settling_keeps_the_world story legal a =
@@ -112,6 +118,7 @@ settled_grows story (Stepped name kind) = ([], settled_next story (Stepped name 
 settled_grows story (Undo name) = ([], settled_next story (Undo name) ∙ sym (append-nil (settled story)))
 settled_grows story (Rollback name undone) = ([], settled_next story (Rollback name undone) ∙ sym (append-nil (settled story)))
 settled_grows story Settle = (remaining story, settled_next story Settle)
+settled_grows story (Hold name count) = ([], settled_next story (Hold name count) ∙ sym (append-nil (settled story)))
 
 settled_along : (log : List Entry) (story : Story) (step : Step) → In step (settled story) → In step (settled (record { begin = story.begin; log = story.log ++ log }))
 settled_along [] story step i = subst (λ l. In step (settled (record { begin = story.begin; log = l }))) (sym (append-nil story.log)) i

@@ -31,7 +31,7 @@ use Rattle.depends.proofs.Extended.{runs_more}
 use Rattle.book_log.specs.Story.{Story, Remainder, accepted, setting_in, first_world, world_after, base_in, base_of, settled, settled_after, steps_after, run_in, world_in, past_in, consequences_in, but, rolled_back, with_machine, after_entry, nothing, remainder, remaining, setting_of, run_of, world_of, past_of, consequences_of}
 use Rattle.book_log.specs.declared.begin.Begin.{Begin}
 use Rattle.book_log.specs.declared.entry.Entry.{Entry}
-use Rattle.book_log.specs.declared.entry.Entry.TheVariants.{Define, Start, Step as Stepped, Undo, Rollback, Settle}
+use Rattle.book_log.specs.declared.entry.Entry.TheVariants.{Define, Start, Step as Stepped, Undo, Rollback, Settle, Hold}
 
 -- ---- names
 
@@ -255,7 +255,7 @@ stands_undone story s w ts name t h free e =
     (but_one s t ts ∙ ap₂ (λ (n : StepName) (l : List Step). but n l) e (names_there story s w ts h))
     (undo_free (steps s) (base_of story) (steps_have_names s (base_of story) (from_start story s w ts h)) (steps_are_lawful s (base_of story) (from_start story s w ts h)) w ts t (is_run story s w ts h) free))
 
-rolled_there : (story : Story) (s : Setting) (w : World) (ts : List Past) (name : StepName) → StandsAt story s w ts
+pub rolled_there : (story : Story) (s : Setting) (w : World) (ts : List Past) (name : StepName) → StandsAt story s w ts
     → rolled_back story.begin (remainder story) name ≡ names_of (steps s) (without (steps s) (after (steps s) ts (moved name)) ts)
 unfolding rolled_back consequences_in
 rolled_there story s w ts name h = ap₂ (λ (x : Setting) (l : List Past). names_of (steps x) (without (steps x) (after (steps x) l (moved name)) l)) h.setting (past_there story s w ts h)
@@ -272,6 +272,10 @@ stands_rolled story s w ts name undone_names t h i e =
 -- what remained is settled: the story stands where it stood, at its new base
 pub stands_settled : (story : Story) (s : Setting) (w : World) (ts : List Past) → StandsAt story s w ts → StandsAt (accepted story Settle) s w []
 stands_settled story s w ts h = stands_next story Settle s w w (h.before ++ ts) [] h.setting (settled_run story s w ts h) refl
+
+-- a hold moves nothing
+pub stands_held : (story : Story) (s : Setting) (w : World) (ts : List Past) (name : StepName) (count : ℕ) → StandsAt story s w ts → StandsAt (accepted story (Hold name count)) s w ts
+stands_held story s w ts name count h = stands_next story (Hold name count) s (base_of story) w h.before ts h.setting h.leads (steps_run story s w ts h)
 
 pub base_settled : (story : Story) (s : Setting) (w : World) (ts : List Past) → StandsAt story s w ts → base_of (accepted story Settle) ≡ w
 base_settled story s w ts h = let k = stands_settled story s w ts h in from_run (steps s) [] (base_of (accepted story Settle)) w (is_run (accepted story Settle) s w [] k)

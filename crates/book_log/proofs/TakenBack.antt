@@ -1,5 +1,5 @@
 -- A step that is taken can be undone at once, and one that is undone can be taken again.
-use Rattle.std.proofs.Common.{◌≡◌, false, List, [], ◌∷◌, ◌++◌, refl, ap, sym, subst, ◌∙◌, Some, Ok}
+use Rattle.std.proofs.Common.{◌≡◌, None, false, List, [], ◌∷◌, ◌++◌, refl, ap, sym, subst, ◌∙◌, Some, Ok}
 use Rattle.std.proofs.lemmas.List.{append-nil}
 use Rattle.step_names.specs.Thread.{execution}
 use Rattle.trace_theory.specs.Traces.{In, Takes, names_of, without, undone, IsRun, IsFree}
@@ -18,7 +18,7 @@ use Rattle.depends.specs.Instance.{Past, steps, taken_in}
 use Rattle.depends.specs.Laws.{IsFrom}
 use Rattle.depends.proofs.Lawful.{steps_are_lawful}
 use Rattle.depends.proofs.Named.{steps_have_names}
-use Rattle.book_log.specs.Answers.{undo_answer, is_full_for_step, entry_for, entry_of}
+use Rattle.book_log.specs.Answers.{undo_answer, is_full_for_step, needed_left, entry_for, entry_of}
 use Rattle.book_log.specs.Laws.{LeavesTheSame, UndoTakesBack, UndoTakesBackStart, AgainGivesBack}
 use Rattle.book_log.specs.Legal.{IsAccepted}
 use Rattle.book_log.specs.Story.{Story, accepted, base_of, setting_of, world_of, past_of}
@@ -76,9 +76,9 @@ undo_takes_back_start story exec machine input legal a =
 -- ---- taken again
 
 -- a step that can be taken is accepted where there is room
-pub entry_accepted : (story : Story) (s : Setting) (w v : World) (ts : List Past) → StandsAt story s w ts → (t : Past) (step : Step) → take_step s w step ≡ Some (v, t.fact) → IsShallow step → is_full_for_step story ≡ false → IsAccepted story (entry_for t step)
-entry_accepted story s w v ts h t (started exec machine input) takes low room = (start_accepted story s w ts h exec machine input (record { after = v; fact = t.fact; takes = takes }) room, refl, low)
-entry_accepted story s w v ts h t (moved name) takes low room = step_accepted story s w ts h name (record { after = v; fact = t.fact; takes = takes }) room
+pub entry_accepted : (story : Story) (s : Setting) (w v : World) (ts : List Past) → StandsAt story s w ts → (t : Past) (step : Step) → take_step s w step ≡ Some (v, t.fact) → IsShallow step → is_full_for_step story ≡ false → needed_left story t.fact ≡ None → IsAccepted story (entry_for t step)
+entry_accepted story s w v ts h t (started exec machine input) takes low room free = (start_accepted story s w ts h exec machine input (record { after = v; fact = t.fact; takes = takes }) room, refl, low)
+entry_accepted story s w v ts h t (moved name) takes low room free = step_accepted story s w ts h name (record { after = v; fact = t.fact; takes = takes }) room free
 
 entry_stands : (story : Story) (s : Setting) (w v : World) (ts : List Past) → StandsAt story s w ts → (t : Past) (step : Step) → take_step s w step ≡ Some (v, t.fact) → StandsAt (accepted story (entry_for t step)) s v (ts ++ taken_in w step t.fact ∷ [])
 entry_stands story s w v ts h t (started exec machine input) takes = stands_started story s w v ts (execution exec) machine input t.fact h takes
@@ -111,7 +111,7 @@ again_gives_back story name legal a =
     record {
       taken = t;
       named = k.fact;
-      again = λ room. entry_accepted (accepted story (Undo name)) s (undone (steps s) w t) w (without (steps s) (t ∷ []) ts) less t t.step takes.0 low room;
+      again = λ room free. entry_accepted (accepted story (Undo name)) s (undone (steps s) w t) w (without (steps s) (t ∷ []) ts) less t t.step takes.0 low room free;
       world = world_there (accepted (accepted story (Undo name)) (entry_of t)) s w (without (steps s) (t ∷ []) ts ++ t ∷ []) back;
       past = past_there (accepted (accepted story (Undo name)) (entry_of t)) s w (without (steps s) (t ∷ []) ts ++ t ∷ []) back;
     }

@@ -21,7 +21,7 @@ use Rattle.depends.specs.Kind.TheVariants as kind
 use Rattle.depends.proofs.Planned.{planned, numbered}
 use Rattle.depends.proofs.Worlds.{deed_taken}
 use Rattle.depends.specs.Instance.{Past}
-use Rattle.book_log.specs.Answers.{start_answer, moved_answer, thread_answer, step_answer, is_full_for_step}
+use Rattle.book_log.specs.Answers.{start_answer, needed_left, unless_needed, moved_answer, thread_answer, step_answer, is_full_for_step}
 use Rattle.book_log.specs.Story.{Story, machine_of, setting_of, world_of}
 use Rattle.book_log.specs.declared.moved.Moved.{Moved}
 use Rattle.book_log.specs.declared.refusal.Refusal.TheVariants.{NoMachine, ExecTaken, Full}
@@ -87,16 +87,17 @@ module _ (story : Story) (s : Setting) (w : World) (ts : List Past) (h : StandsA
 
   -- ---- moves
 
-  moved_split : (r : Readiness) (o : Option Deed) (x : Moved) → moved_answer story r o ≡ Ok x → (d : Deed) × (o ≡ Some d) × (d.fact.name ≡ x.name) × (d.fact.kind ≡ x.kind) × (is_full_for_step story ≡ false)
+  moved_split : (r : Readiness) (o : Option Deed) (x : Moved) → moved_answer story r o ≡ Ok x → (d : Deed) × (o ≡ Some d) × (d.fact.name ≡ x.name) × (d.fact.kind ≡ x.kind) × (is_full_for_step story ≡ false) × (needed_left story d.fact ≡ None)
   moved_split r None x k = cc
-  moved_split r (Some d) x k = with_room (is_full_for_step story) k
+  moved_split r (Some d) x k = let q = with_room (is_full_for_step story) (needed_left story d.fact) k in (d, refl, q.0, q.1, q.2, q.3)
     where
-      with_room : (b : Bool) → cond b (Err Full) (Ok (record { name = d.fact.name; kind = d.fact.kind })) ≡ Ok x → (e : Deed) × (Some d ≡ Some e) × (e.fact.name ≡ x.name) × (e.fact.kind ≡ x.kind) × (b ≡ false)
-      with_room true e = cc
-      with_room false e = let f : record { name = d.fact.name; kind = d.fact.kind } ≡ x = cc in (d, refl, ap (λ (y : Moved). y.name) f, ap (λ (y : Moved). y.kind) f, refl)
+      with_room : (b : Bool) (o : Option Fact) → unless_needed o (cond b (Err Full) (Ok (record { name = d.fact.name; kind = d.fact.kind }))) ≡ Ok x → (d.fact.name ≡ x.name) × (d.fact.kind ≡ x.kind) × (b ≡ false) × (o ≡ None)
+      with_room true None e = cc
+      with_room false None e = let f : record { name = d.fact.name; kind = d.fact.kind } ≡ x = cc in (ap (λ (y : Moved). y.name) f, ap (λ (y : Moved). y.kind) f, refl, refl)
+      with_room b (Some y) e = cc
 
   thread_split : (t : Thread) (o : Option Frame) (x : Moved) → thread_answer story t o ≡ Ok x
-      → (d : Deed) × (move_deed (setting_of story) (world_of story) t ≡ Some d) × (d.fact.name ≡ x.name) × (d.fact.kind ≡ x.kind) × (is_full_for_step story ≡ false)
+      → (d : Deed) × (move_deed (setting_of story) (world_of story) t ≡ Some d) × (d.fact.name ≡ x.name) × (d.fact.kind ≡ x.kind) × (is_full_for_step story ≡ false) × (needed_left story d.fact ≡ None)
   thread_split t None x k = cc
   thread_split t (Some f) x k = moved_split (readiness_at (paths_of (world_of story).frames t.exec) t.path) (move_deed (setting_of story) (world_of story) t) x k
 
@@ -107,7 +108,7 @@ module _ (story : Story) (s : Setting) (w : World) (ts : List Past) (h : StandsA
   unfolding step_answer
   step_room t x a = (thread_split t ((world_of story).frames t) x a).4
 
-  pub step_said : (t : Thread) (x : Moved) → step_answer story t ≡ Ok x → x.name.thread ≡ t → (can : CanTake s w (moved x.name)) × (can.fact.kind ≡ x.kind)
+  pub step_said : (t : Thread) (x : Moved) → step_answer story t ≡ Ok x → x.name.thread ≡ t → (can : CanTake s w (moved x.name)) × (can.fact.kind ≡ x.kind) × (needed_left story can.fact ≡ None)
   unfolding step_answer
   step_said t x a e =
       let k = thread_split t ((world_of story).frames t) x a in
@@ -115,11 +116,11 @@ module _ (story : Story) (s : Setting) (w : World) (ts : List Past) (h : StandsA
       let n : (k.0.fact.name.no == x.name.no) ≡ true = eq-eqb k.0.fact.name.no x.name.no (ap (λ (y : StepName). y.no) k.2) in
       let own : if_numbered x.name.no k.0 ≡ Some k.0 = rw n refl in
       let does : deed s w (moved x.name) ≡ Some k.0 = ap (option_and_then (if_numbered x.name.no)) moves ∙ own in
-      (record { after = carried_out w k.0; fact = k.0.fact; takes = taken_by s w (moved x.name) k.0 does }, k.3)
+      (record { after = carried_out w k.0; fact = k.0.fact; takes = taken_by s w (moved x.name) k.0 does }, k.3, k.5)
 
-  pub step_accepted : (name : StepName) (can : CanTake s w (moved name)) → is_full_for_step story ≡ false → step_answer story name.thread ≡ Ok (record { name = name; kind = can.fact.kind })
+  pub step_accepted : (name : StepName) (can : CanTake s w (moved name)) → is_full_for_step story ≡ false → needed_left story can.fact ≡ None → step_answer story name.thread ≡ Ok (record { name = name; kind = can.fact.kind })
   unfolding step_answer
-  step_accepted name can room =
+  step_accepted name can room free =
       let d = deed_taken s w can.after (moved name) can.fact can.takes in
       let k = and_then_some (if_numbered name.no) (move_deed s w name.thread) d.0 d.1 in
       let moves : move_deed (setting_of story) (world_of story) name.thread ≡ Some d.0 = move_there name.thread ∙ k.1 ∙ ap Some (numbered k.0 d.0 name.no k.2).1 in
@@ -127,4 +128,5 @@ module _ (story : Story) (s : Setting) (w : World) (ts : List Past) (h : StandsA
       let there : (world_of story).frames name.thread ≡ Some f.0 = ap (λ (x : World). x.frames name.thread) (world_there story s w ts h) ∙ f.1 in
       let fact : record { name = d.0.fact.name; kind = d.0.fact.kind } ≡ record { name = name; kind = can.fact.kind } =
       ap₂ (λ (x : StepName) (y : Kind). let m : Moved = record { name = x; kind = y } in m) (planned s w (moved name) d.0 d.1).0 (ap (λ (g : Fact). g.kind) d.3) in
-      rw (there, moves, room) (ap Ok fact)
+      let none : needed_left story d.0.fact ≡ None = ap (needed_left story) d.3 ∙ free in
+      rw (there, moves, none, room) (ap Ok fact)

@@ -19,17 +19,21 @@ use Rattle.depends.specs.World.{is_same_step}
 use Rattle.depends.specs.Fact.{Fact}
 use Rattle.depends.specs.Dependence.{depends_directly}
 use Rattle.depends.specs.Instance.{Past, steps}
-use Rattle.book_log.specs.Story.{Story, accepted, base_of, settled, remaining, machine_of, setting_of, world_of, facts_of, consequences_of}
+use Rattle.book_log.specs.Story.{Story, accepted, base_of, settled, remaining, held, left_of, machine_of, setting_of, world_of, facts_of, consequences_of}
 use Rattle.book_log.specs.declared.entry.Entry.{Entry}
-use Rattle.book_log.specs.declared.entry.Entry.TheVariants.{Define, Start, Step as Stepped, Undo, Rollback, Settle}
+use Rattle.book_log.specs.declared.entry.Entry.TheVariants.{Define, Start, Step as Stepped, Undo, Rollback, Settle, Hold}
 use Rattle.book_log.specs.declared.moved.Moved.{Moved}
 use Rattle.book_log.specs.declared.refusal.Refusal.{Refusal}
-use Rattle.book_log.specs.declared.refusal.Refusal.TheVariants.{NoMachine, MachineTaken, BadMachine, ExecTaken, NoThread, NotReady, NoStep, HasDependents, Full, Memory, Settled}
+use Rattle.book_log.specs.declared.refusal.Refusal.TheVariants.{NoMachine, MachineTaken, BadMachine, ExecTaken, NoThread, NotReady, NoStep, HasDependents, Full, Memory, Settled, Held}
 
 -- an answer that is given, but for want of memory where it isn't refused
 abbrev pub Gives : {T : Type 0} → Result T Refusal → Result T Refusal → Type 0
 Gives result (Ok x) = (result ≡ Ok x) ⊎ (result ≡ Err Memory)
 Gives result (Err e) = result ≡ Err e
+
+-- the same; and in some cases want of memory for any answer
+abbrev pub GivesOr : {T : Type 0} → Type 0 → Result T Refusal → Result T Refusal → Type 0
+GivesOr lacks result answer = Gives result answer ⊎ ((result ≡ Err Memory) × lacks)
 
 -- an answer of which only the refusal is given, but for want of memory
 abbrev pub Refuses : {T A : Type 0} → Result T Refusal → Result A Refusal → Type 0
@@ -84,11 +88,29 @@ start_answer story exec machine =
     then (if is_some ((world_of story).frames exec) then Err ExecTaken else (if is_full_for_step story then Err Full else Ok (start_name exec.exec)))
     else Err NoMachine
 
+-- ---- hold
+
+-- the earliest step, of what is left of a hold, on which a step of this fact would depend directly
+abbrev pub needed_left : Story → Fact → Option Fact
+needed_left story f = find (λ x. depends_directly x f) (map (λ t. t.fact) (left_of story))
+
+-- what is answered where a step is held, and where none is
+abbrev pub unless_needed : {T : Type 0} → Option Fact → Result T Refusal → Result T Refusal
+unless_needed None answer = answer
+unless_needed (Some x) answer = Err (Held x.name)
+
+abbrev pub unless_held : {T : Type 0} → Option StepName → Result T Refusal → Result T Refusal
+unless_held None answer = answer
+unless_held (Some name) answer = Err (Held name)
+
 -- ---- step
+
+abbrev pub deed_answer : Story → Deed → Result Moved Refusal
+deed_answer story d = unless_needed (needed_left story d.fact) (if is_full_for_step story then Err Full else Ok (record { name = d.fact.name; kind = d.fact.kind }))
 
 abbrev pub moved_answer : Story → Readiness → Option Deed → Result Moved Refusal
 moved_answer story readiness None = Err (NotReady readiness)
-moved_answer story readiness (Some d) = if is_full_for_step story then Err Full else Ok (record { name = d.fact.name; kind = d.fact.kind })
+moved_answer story readiness (Some d) = deed_answer story d
 
 abbrev pub thread_answer : Story → Thread → Option Frame → Result Moved Refusal
 thread_answer story t None = Err NoThread
@@ -150,9 +172,16 @@ plan_answer story name = if remains story name then Ok (names_of_facts (reverse 
 
 -- ---- settle
 
--- what remains is settled where there is room for the entry
+-- what remains is settled where nothing is held and there is room for the entry
 unfoldable pub settle_answer : Story → Result (Unit {0}) Refusal
-settle_answer story = if is_full_for_define story then Err Full else Ok tt
+settle_answer story = unless_held (held story) (if is_full_for_define story then Err Full else Ok tt)
+
+-- a remaining step and its consequences are held where no others are and there is room for the entry: so many steps
+unfoldable pub hold_answer : Story → StepName → Result ℕ Refusal
+hold_answer story name =
+    if remains story name
+    then unless_held (held story) (if is_full_for_define story then Err Full else Ok (length (consequences_of story name)))
+    else Err (absent story name)
 
 -- ---- rerun
 
@@ -173,6 +202,7 @@ defines (Stepped name kind ∷ log) = defines log
 defines (Undo name ∷ log) = defines log
 defines (Rollback name undone ∷ log) = defines log
 defines (Settle ∷ log) = defines log
+defines (Hold name count ∷ log) = defines log
 
 abbrev pub is_settlement : Entry → Bool
 is_settlement Settle = true
@@ -209,3 +239,15 @@ rerun_answer story names =
 -- the thread has a move
 abbrev pub has_move : Story → Thread → Bool
 has_move story t = is_some (move_deed (setting_of story) (world_of story) t)
+
+-- ---- want of memory while something is held
+
+-- Only what a move would do tells whether it depends on what is left: this, and the name that a refusal tells, take memory.
+abbrev pub StepLacks : Story → Thread → Type 0
+StepLacks story t = IsSome (held story) × (has_move story t ≡ true)
+
+abbrev pub SettleLacks : Story → Type 0
+SettleLacks story = IsSome (held story)
+
+abbrev pub HoldLacks : Story → StepName → Type 0
+HoldLacks story name = IsSome (held story) × (remains story name ≡ true)

@@ -15,7 +15,7 @@ use Rattle.step_names.proofs.OrderLaws.{step_same, step_itself, thread_Decides}
 use Rattle.depends.specs.Kind.{Kind}
 use Rattle.depends.specs.Kind.TheVariants.{Start as StartKind, Plain, Call, Fork, Join, Terminate}
 use Rattle.book_log.specs.declared.entry.Entry.{Entry}
-use Rattle.book_log.specs.declared.entry.Entry.TheVariants.{Define, Start, Step, Undo, Rollback, Settle}
+use Rattle.book_log.specs.declared.entry.Entry.TheVariants.{Define, Start, Step, Undo, Rollback, Settle, Hold}
 
 abbrev pub same_thread : Thread → Thread → Bool
 same_thread = eq_by_cmp thread_cmp
@@ -44,6 +44,7 @@ same_entry (Step name kind) (Step other to) = same_step name other && same_kind 
 same_entry (Undo step) (Undo other) = same_step step other
 same_entry (Rollback step undone) (Rollback other names) = same_step step other && same_steps undone names
 same_entry Settle Settle = true
+same_entry (Hold step count) (Hold other to) = same_step step other && count == to
 same_entry _ _ = false
 
 -- ---- they hold of equal values alone
@@ -87,6 +88,10 @@ entry_one (Rollback step undone) (Rollback other names) h =
     let undoings : undone ≡ names = (steps_exact undone names).0 (second_true (same_step step other) _ h) in
     cc
 entry_one Settle Settle h = refl
+entry_one (Hold step count) (Hold other to) h =
+    let steps : step ≡ other = (step_exact step other).0 (first_true _ _ h) in
+    let counts : count ≡ to = (unsigned_Decides count to).0 (second_true (same_step step other) _ h) in
+    cc
 entry_one _ _ h = cc
 
 entry_itself : (a : Entry) → same_entry a a ≡ true
@@ -96,6 +101,7 @@ entry_itself (Step name kind) = both_true ((step_exact name name).1 refl) ((kind
 entry_itself (Undo step) = (step_exact step step).1 refl
 entry_itself (Rollback step undone) = both_true ((step_exact step step).1 refl) ((steps_exact undone undone).1 refl)
 entry_itself Settle = refl
+entry_itself (Hold step count) = both_true ((step_exact step step).1 refl) ((unsigned_Decides count count).1 refl)
 
 pub entry_exact : IsExact same_entry
 entry_exact = exact same_entry entry_one entry_itself

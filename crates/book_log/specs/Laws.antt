@@ -1,18 +1,18 @@
 -- Laws of logs, each the contract of a function of the crate.
-use Rattle.std.specs.Prelude.{◌≡◌, ◌↔◌, ◌≤◌, ℕ, ◌+◌, List, [], ◌∷◌, ◌++◌, length, map, true, false, Some, Ok, Err}
+use Rattle.std.specs.Prelude.{◌≡◌, ◌↔◌, ◌≤◌, ℕ, ◌+◌, List, [], ◌∷◌, ◌++◌, length, filter, map, not, true, false, IsSome, None, Some, Ok, Err}
 use Rattle.json_tree.specs.declared.tree.Json.{Json}
 use Rattle.step_names.specs.Thread.{Thread}
 use Rattle.step_names.specs.declared.step.StepName.{StepName}
-use Rattle.trace_theory.specs.Traces.{In, Before, needs, run, IsFree, IsLeast, IsAllowed, IsArrangement, without}
+use Rattle.trace_theory.specs.Traces.{In, Before, needs, run, is_among, IsFree, IsLeast, IsAllowed, IsArrangement, without}
 use Rattle.depends.specs.Steps.{Step, name_of, start_name}
-use Rattle.depends.specs.World.{Setting, World}
+use Rattle.depends.specs.World.{Setting, World, is_same_step}
 use Rattle.depends.specs.Kind.{Kind}
 use Rattle.depends.specs.Instance.{Past, steps}
-use Rattle.book_log.specs.Answers.{undo_answer, order_answer, plan_answer, rerun_answer, is_full_for_step, names_of_facts, entry_of, most_steps, most_places}
-use Rattle.book_log.specs.Legal.{IsAccepted, IsLegal}
-use Rattle.book_log.specs.Story.{Story, accepted, base_of, settled, remaining, machine_of, setting_of, run_of, world_of, past_of, consequences_of}
+use Rattle.book_log.specs.Answers.{undo_answer, order_answer, plan_answer, rerun_answer, is_full_for_step, needed_left, names_of_facts, entry_of, most_steps, most_places}
+use Rattle.book_log.specs.Legal.{IsAccepted, GoesOnLegally, IsLegal}
+use Rattle.book_log.specs.Story.{Story, accepted, base_of, settled, remaining, held, left_of, machine_of, setting_of, run_of, world_of, past_of, consequences_of}
 use Rattle.book_log.specs.declared.entry.Entry.{Entry}
-use Rattle.book_log.specs.declared.entry.Entry.TheVariants.{Start, Step as Stepped, Undo, Rollback, Settle}
+use Rattle.book_log.specs.declared.entry.Entry.TheVariants.{Define, Start, Step as Stepped, Undo, Rollback, Settle, Hold}
 use Rattle.book_log.specs.declared.refusal.Refusal.{Refusal}
 use Rattle.book_log.specs.declared.refusal.Refusal.TheVariants.{NoStep, HasDependents, Settled}
 use Rattle.asl_machine.specs.PathSame.{IsExact}
@@ -51,11 +51,12 @@ UndoTakesBackStart = (story : Story) (exec : Thread) (machine : List ℕ) (input
     → (undo_answer (accepted story (Start exec machine input)) (start_name exec.exec) ≡ Ok (start_name exec.exec))
     × LeavesTheSame (accepted (accepted story (Start exec machine input)) (Undo (start_name exec.exec))) story
 
--- A step that is undone can be taken again where there is room: it stands last then, and all is as before the undoing.
+-- A step that is undone can be taken again where there is room and it needs nothing of what is held: it stands last then, and all
+-- is as before the undoing.
 pub record IsGivenBack (story : Story) (name : StepName) : Type 0 where
   pub taken : Past
   pub named : taken.fact.name ≡ name
-  pub again : is_full_for_step (accepted story (Undo name)) ≡ false → IsAccepted (accepted story (Undo name)) (entry_of taken)
+  pub again : is_full_for_step (accepted story (Undo name)) ≡ false → needed_left (accepted story (Undo name)) taken.fact ≡ None → IsAccepted (accepted story (Undo name)) (entry_of taken)
   pub world : world_of (accepted (accepted story (Undo name)) (entry_of taken)) ≡ world_of story
   pub past : past_of (accepted (accepted story (Undo name)) (entry_of taken)) ≡ without (steps (setting_of story)) (taken ∷ []) (past_of story) ++ taken ∷ []
 
@@ -95,6 +96,67 @@ SettlingKeepsTheWorld = (story : Story) → IsLegal story → IsAccepted story S
 -- whatever commands come, a step that was settled stays so
 abbrev pub SettledStaysSettled : Type 0
 SettledStaysSettled = (story : Story) (log : List Entry) (step : Step) → In step (settled story) → In step (settled (record { begin = story.begin; log = story.log ++ log }))
+
+-- ---- holds
+
+-- What is left of a hold after one more entry: a definition, a start and a step leave it as it was, an undoing takes its step
+-- out, and a rollback the steps that it takes back.
+abbrev pub left_after : Story → Entry → List Past
+left_after story (Define name machine) = left_of story
+left_after story (Start exec machine input) = left_of story
+left_after story (Stepped name kind) = left_of story
+left_after story (Undo name) = filter (λ t. not (is_same_step name (name_of t.step))) (left_of story)
+left_after story (Rollback name undone) = without (steps (setting_of story)) (consequences_of story name) (left_of story)
+left_after story Settle = []
+left_after story (Hold name count) = consequences_of story name
+
+abbrev pub LeftIsAfter : Type 0
+LeftIsAfter = (story : Story) (entry : Entry) → IsLegal story → IsAccepted story entry → left_of (accepted story entry) ≡ left_after story entry
+
+-- A hold that stands: its step is the first that is left, all that is left remains, and the last of it can be undone.
+pub record IsHeld (story : Story) (name : StepName) : Type 0 where
+  pub step : Past
+  pub named : step.fact.name ≡ name
+  pub later : List Past
+  pub left : left_of story ≡ step ∷ later
+  pub inside : (x : Past) → In x (left_of story) → In x (past_of story)
+  pub latest : (front : List Past) (x : Past) → left_of story ≡ front ++ x ∷ [] → undo_answer story x.fact.name ≡ Ok x.fact.name
+
+abbrev pub HoldsStand : Type 0
+HoldsStand = (story : Story) (name : StepName) → IsLegal story → held story ≡ Some name → IsHeld story name
+
+abbrev pub NothingIsLeft : Type 0
+NothingIsLeft = (story : Story) → held story ≡ None → left_of story ≡ []
+
+-- how many of the steps that are left an entry takes back
+abbrev pub lowered_by : Story → Entry → ℕ
+lowered_by story (Define name machine) = 0
+lowered_by story (Start exec machine input) = 0
+lowered_by story (Stepped name kind) = 0
+lowered_by story (Undo name) = length (filter (λ t. is_same_step name (name_of t.step)) (left_of story))
+lowered_by story (Rollback name undone) = length (filter (is_among (steps (setting_of story)) (consequences_of story name)) (left_of story))
+lowered_by story Settle = 0
+lowered_by story (Hold name count) = 0
+
+-- the same of entries one after another
+abbrev pub lowered : Story → List Entry → ℕ
+lowered story [] = 0
+lowered story (e ∷ log) = lowered_by story e + lowered (accepted story e) log
+
+-- a hold stands before each of these entries
+abbrev pub IsHeldThroughout : Story → List Entry → Type 0
+IsHeldThroughout story [] = Unit {0}
+IsHeldThroughout story (e ∷ log) = IsSome (held story) × IsHeldThroughout (accepted story e) log
+
+-- A hold is over after exactly as many undoings of steps that are left as it began with: whatever other commands come, what is left
+-- shrinks by these alone, and stays among what was held.
+pub record IsShared (start : Story) (log : List Entry) (count : ℕ) : Type 0 where
+  pub counted : length (left_of (record { begin = start.begin; log = start.log ++ log })) + lowered start log ≡ count
+  pub inside : (x : Past) → In x (left_of (record { begin = start.begin; log = start.log ++ log })) → In x (left_of start)
+
+abbrev pub HoldsAreShared : Type 0
+HoldsAreShared = (story : Story) (name : StepName) (count : ℕ) (log : List Entry) → IsLegal story → IsAccepted story (Hold name count)
+    → GoesOnLegally (accepted story (Hold name count)) log → IsHeldThroughout (accepted story (Hold name count)) log → IsShared (accepted story (Hold name count)) log count
 
 -- ---- orders
 

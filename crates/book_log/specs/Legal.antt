@@ -5,11 +5,11 @@ use Rattle.json_tree.specs.View.{data_of}
 use Rattle.item_store.specs.Table.{Table}
 use Rattle.asl_machine.specs.TreeLevels.{IsWhole}
 use Rattle.depends.specs.Steps.{start_name}
-use Rattle.book_log.specs.Answers.{start_answer, step_answer, undo_answer, plan_answer, settle_answer, is_full_for_define}
+use Rattle.book_log.specs.Answers.{start_answer, step_answer, undo_answer, plan_answer, settle_answer, hold_answer, is_full_for_define}
 use Rattle.book_log.specs.Beginning.{table_of}
 use Rattle.book_log.specs.Story.{Story, accepted, machine_of}
 use Rattle.book_log.specs.declared.entry.Entry.{Entry}
-use Rattle.book_log.specs.declared.entry.Entry.TheVariants.{Define, Start, Step as Stepped, Undo, Rollback, Settle}
+use Rattle.book_log.specs.declared.entry.Entry.TheVariants.{Define, Start, Step as Stepped, Undo, Rollback, Settle, Hold}
 
 -- the command is accepted after this log, with this reply; an execution has no branches when it starts, and its input nests at most
 -- 127 deep
@@ -20,6 +20,7 @@ IsAccepted story (Stepped name kind) = step_answer story name.thread ≡ Ok (rec
 IsAccepted story (Undo name) = undo_answer story name ≡ Ok name
 IsAccepted story (Rollback name undone) = plan_answer story name ≡ Ok undone
 IsAccepted story Settle = settle_answer story ≡ Ok tt
+IsAccepted story (Hold name count) = hold_answer story name ≡ Ok count
 
 -- each entry after these is accepted at its place
 abbrev pub GoesOnLegally : Story → List Entry → Type 0

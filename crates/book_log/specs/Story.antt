@@ -1,6 +1,7 @@
 -- A book as contracts see it: what it began with, and the commands that it accepted. What remains of them, and the world that
 -- this gives, are functions of these two: a list is filtered and run from its base, and nothing is undone.
 use Rattle.std.specs.Prelude.{ℕ, List, [], ◌∷◌, ◌++◌, not, fold, filter, map, Option, None, Some, unwrap_or, if◌then◌else◌}
+use Rattle.std.specs.List.{list_any}
 use Rattle.asl_machine.specs.Fields.{is_text}
 use Rattle.asl_machine.specs.Definition.{Definition}
 use Rattle.step_names.specs.declared.step.StepName.{StepName}
@@ -12,7 +13,7 @@ use Rattle.depends.specs.Instance.{Past, steps}
 use Rattle.book_log.specs.Beginning.{first_items}
 use Rattle.book_log.specs.declared.begin.Begin.{Begin}
 use Rattle.book_log.specs.declared.entry.Entry.{Entry}
-use Rattle.book_log.specs.declared.entry.Entry.TheVariants.{Define, Start, Step as Stepped, Undo, Rollback, Settle}
+use Rattle.book_log.specs.declared.entry.Entry.TheVariants.{Define, Start, Step as Stepped, Undo, Rollback, Settle, Hold}
 
 pub record Story : Type 0 where
   pub begin : Begin
@@ -24,12 +25,13 @@ accepted story entry = record { begin = story.begin; log = story.log ++ entry �
 
 -- ---- what a log leaves
 
--- the machines that it defines, by their names; the steps that can't be taken back any more; and those after them that were not
--- taken back since: these and those in the order in which they were taken
+-- the machines that it defines, by their names; the steps that can't be taken back any more; those after them that were not
+-- taken back since, these and those in the order in which they were taken; and of a hold that stands its step
 pub record Remainder : Type 0 where
   pub machines : List ℕ → Option Definition
   pub settled : List Step
   pub steps : List Step
+  pub held : Option StepName
 
 abbrev pub setting_in : Begin → Remainder → Setting
 setting_in begin r = record { machines = r.machines; table = begin.table; schema = begin.schema }
@@ -68,6 +70,15 @@ but name = filter (λ s. not (is_same_step name (name_of s)))
 unfoldable pub rolled_back : Begin → Remainder → StepName → List Step
 rolled_back begin r name = names_of (steps (setting_in begin r)) (without (steps (setting_in begin r)) (consequences_in begin r name) (past_in begin r))
 
+-- the step of a name, if there is one, and its consequences
+abbrev pub left_by : Setting → List Past → Option StepName → List Past
+left_by s ts None = []
+left_by s ts (Some name) = after (steps s) ts (moved name)
+
+-- what is left of a hold: its step, and the consequences that this has now
+unfoldable pub left_in : Begin → Remainder → List Past
+left_in begin r = left_by (setting_in begin r) (past_in begin r) r.held
+
 -- the machines, with this one under a name
 abbrev pub with_machine : (List ℕ → Option Definition) → List ℕ → Definition → List ℕ → Option Definition
 with_machine machines name machine n = if is_text name n then Some machine else machines n
@@ -81,6 +92,7 @@ machines_after r (Stepped name kind) = r.machines
 machines_after r (Undo name) = r.machines
 machines_after r (Rollback name undone) = r.machines
 machines_after r Settle = r.machines
+machines_after r (Hold name count) = r.machines
 
 abbrev pub settled_after : Remainder → Entry → List Step
 settled_after r (Define name machine) = r.settled
@@ -89,6 +101,7 @@ settled_after r (Stepped name kind) = r.settled
 settled_after r (Undo name) = r.settled
 settled_after r (Rollback name undone) = r.settled
 settled_after r Settle = r.settled ++ r.steps
+settled_after r (Hold name count) = r.settled
 
 abbrev pub steps_after : Begin → Remainder → Entry → List Step
 steps_after begin r (Define name machine) = r.steps
@@ -97,12 +110,27 @@ steps_after begin r (Stepped name kind) = r.steps ++ moved name ∷ []
 steps_after begin r (Undo name) = but name r.steps
 steps_after begin r (Rollback name undone) = rolled_back begin r name
 steps_after begin r Settle = []
+steps_after begin r (Hold name count) = r.steps
+
+-- a hold lasts as long as its step remains
+abbrev pub while_in : List Step → Option StepName → Option StepName
+while_in ss None = None
+while_in ss (Some name) = if list_any (λ s. is_same_step name (name_of s)) ss then Some name else None
+
+abbrev pub held_after : Begin → Remainder → Entry → Option StepName
+held_after begin r (Define name machine) = r.held
+held_after begin r (Start exec machine input) = r.held
+held_after begin r (Stepped name kind) = r.held
+held_after begin r (Undo name) = while_in (but name r.steps) r.held
+held_after begin r (Rollback name undone) = while_in (rolled_back begin r name) r.held
+held_after begin r Settle = None
+held_after begin r (Hold name count) = Some name
 
 abbrev pub after_entry : Begin → Remainder → Entry → Remainder
-after_entry begin r e = record { machines = machines_after r e; settled = settled_after r e; steps = steps_after begin r e }
+after_entry begin r e = record { machines = machines_after r e; settled = settled_after r e; steps = steps_after begin r e; held = held_after begin r e }
 
 abbrev pub nothing : Remainder
-nothing = record { machines = λ name. None; settled = []; steps = [] }
+nothing = record { machines = λ name. None; settled = []; steps = []; held = None }
 
 unfoldable pub remainder : Story → Remainder
 remainder story = fold (after_entry story.begin) nothing story.log
@@ -116,6 +144,14 @@ remaining story = (remainder story).steps
 -- the steps of a log that can't be taken back any more, in the order in which they were taken
 abbrev pub settled : Story → List Step
 settled story = (remainder story).settled
+
+-- the step of the hold that stands, if one does
+abbrev pub held : Story → Option StepName
+held story = (remainder story).held
+
+-- what is left of it
+abbrev pub left_of : Story → List Past
+left_of story = left_in story.begin (remainder story)
 
 -- the machine that a log defines under a name
 abbrev pub machine_of : Story → List ℕ → Option Definition

@@ -6,8 +6,8 @@ use json_tree::{Json, Text};
 use step_names::{StepName, ThreadName};
 
 /// A command that was accepted, with its reply: a start's is the name `E#0`, a step's its name and kind, a rollback's the
-/// names of the steps that it took back, the latest first. The others have none. After a settlement none of the steps before it can
-/// be taken back.
+/// names of the steps that it took back, the latest first, a hold's how many steps it holds. The others have none. After a
+/// settlement none of the steps before it can be taken back.
 #[derive(Debug, Drop)]
 pub enum Entry {
     Define {
@@ -31,4 +31,8 @@ pub enum Entry {
         undone: StepNames,
     },
     Settle,
+    Hold {
+        step: StepName,
+        count: usize,
+    },
 }

@@ -38,6 +38,7 @@ impl Entry {
             Entry::Undo { step } => Ok(Entry::Undo { step: step.copy()? }),
             Entry::Rollback { step, undone } => copy_rollback(step, undone),
             Entry::Settle => Ok(Entry::Settle),
+            Entry::Hold { step, count } => copy_hold(step, *count),
         }
     }
 }
@@ -68,6 +69,13 @@ fn copy_step(name: &StepName, kind: Kind) -> Result<Entry, AllocError>
 {
     let name = name.copy()?;
     Ok(Entry::Step { name, kind })
+}
+
+fn copy_hold(step: &StepName, count: usize) -> Result<Entry, AllocError>
+    ensures { IfOk result (λ e. e ≡ Entry.Hold step.now count) }
+{
+    let step = step.copy()?;
+    Ok(Entry::Hold { step, count })
 }
 
 fn copy_rollback(step: &StepName, undone: &StepNames) -> Result<Entry, AllocError>

@@ -92,6 +92,13 @@ impl PartialEq for Entry {
                 },
             ) => step == other && undone == names,
             (Entry::Settle, Entry::Settle) => true,
+            (
+                Entry::Hold { step, count },
+                Entry::Hold {
+                    step: other,
+                    count: to,
+                },
+            ) => step == other && count == to,
             _ => false,
         }
     }

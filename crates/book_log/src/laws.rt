@@ -1,6 +1,6 @@
 //! Laws of logs: each function's contract is the law, and it does nothing.
 
-ghost use Rattle.book_log.specs.Laws.{EqualityIsOfEntries, LegalLogsRun, AcceptedIsLegal, LegalLogsHaveRoom, UndoTakesBack, UndoTakesBackStart, AgainGivesBack, UndoAnswersAreExact, AllowedOrdersAreAccepted, AcceptedOrdersAreWhole, OrdersAgree, SettlingKeepsTheWorld, SettledStaysSettled, RollbackIsExact, RerunsAreLegal, RerunsAreExact, ArrangementsAgree};
+ghost use Rattle.book_log.specs.Laws.{EqualityIsOfEntries, LegalLogsRun, AcceptedIsLegal, LegalLogsHaveRoom, UndoTakesBack, UndoTakesBackStart, AgainGivesBack, UndoAnswersAreExact, AllowedOrdersAreAccepted, AcceptedOrdersAreWhole, OrdersAgree, SettlingKeepsTheWorld, SettledStaysSettled, LeftIsAfter, HoldsStand, NothingIsLeft, HoldsAreShared, RollbackIsExact, RerunsAreLegal, RerunsAreExact, ArrangementsAgree};
 
 /// What remains of a legal log can be run from the start, a legal log with an entry that is accepted is one, and its limits leave
 /// room to undo each remaining step.
@@ -28,6 +28,15 @@ pub fn undo_answers_are_exact()
 pub fn settling_is_for_good()
     ensures world { SettlingKeepsTheWorld }
     ensures stays { SettledStaysSettled }
+{}
+
+/// What is left of a hold shrinks by the undoing and the rollback of its steps alone: it is over after as many undoings of these as
+/// it began with. Its step is the first that is left, and the last that is left can be undone.
+pub fn holds_are_shared()
+    ensures after { LeftIsAfter }
+    ensures stands { HoldsStand }
+    ensures none { NothingIsLeft }
+    ensures shared { HoldsAreShared }
 {}
 
 /// Every order in which each step is free at its turn is accepted, one result for the same steps; and one that is accepted holds

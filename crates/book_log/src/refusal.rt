@@ -31,6 +31,9 @@ pub enum Refusal {
     Memory,
     /// 12: the step was settled, and can't be taken back any more.
     Settled,
+    /// 13: a hold stands. A hold and a settlement are told its step; a move is told the earliest step, of what is left to be
+    /// taken back, on which it would depend directly.
+    Held(StepName),
 }
 
 impl From<AllocError> for Refusal {

@@ -73,6 +73,9 @@ pub(crate) enum Act {
     /// A rollback of the first step that is planned before the second one is undone.
     LateRollback(&'static str, &'static str),
     Settle,
+    Hold(&'static str),
+    /// The held step, the latest that is left, and how many are left.
+    Left,
 }
 
 fn thread_of(alloc: Global, name: &str) -> Result<ThreadName, Refusal> {
@@ -204,6 +207,29 @@ fn undo_and_roll_back(
     Ok(())
 }
 
+fn hold(alloc: Global, book: &mut Book, name: &str) -> Result<(), Refusal> {
+    let step = step_of(alloc, name)?;
+    book.hold(alloc, &step)?;
+    Ok(())
+}
+
+fn put_name(alloc: Global, name: Option<&StepName>, text: &mut String) -> Result<(), AllocError> {
+    if let Some(name) = name {
+        text.push_str(name.write_text(alloc)?.as_str())?;
+        text.push(' ')?;
+    }
+    Ok(())
+}
+
+fn is_left(alloc: Global, book: &Book, want: &str) -> Result<bool, AllocError> {
+    let mut text = String::new(alloc);
+    put_name(alloc, book.held(), &mut text)?;
+    put_name(alloc, book.last_left(), &mut text)?;
+    let count = book.held_left();
+    text.push_str(format!(in alloc; "{count}")?.as_str())?;
+    Ok(text.as_str() == want)
+}
+
 /// Whether a rerun of these steps is refused so, or shows this.
 fn rerun(alloc: Global, book: &Book, names: &[&str], want: &str) -> Result<bool, AllocError> {
     match rerun_of(alloc, book, names) {
@@ -231,6 +257,10 @@ fn is_refused(alloc: Global, refusal: &Refusal, want: &str) -> Result<bool, Allo
         Refusal::Settled => Ok(want == "settled"),
         Refusal::ExecTaken => Ok(want == "taken"),
         Refusal::Stale(entries) => Ok(*entries == 7 && want == "stale at 7"),
+        Refusal::Held(name) => {
+            let name = name.write_text(alloc)?;
+            Ok(want.strip_prefix("held by ") == Some(name.as_str()))
+        }
         Refusal::HasDependents(name) => {
             let name = name.write_text(alloc)?;
             Ok(want.strip_prefix("needed by ") == Some(name.as_str()))
@@ -266,6 +296,8 @@ pub(crate) fn is_answered(
         Act::UndoOrder(names) => undo_order(alloc, book, names),
         Act::LateRollback(name, other) => roll_back_late(alloc, book, name, other),
         Act::Settle => book.settle(alloc),
+        Act::Hold(name) => hold(alloc, book, name),
+        Act::Left => return is_left(alloc, book, want),
         Act::Rerun(names) => return rerun(alloc, book, names, want),
     };
     is_told(alloc, told, want)
@@ -494,6 +526,10 @@ const GROWING: &[Row] = &[
     (Act::Step("e/1.0"), "ok"),
     (Act::Step("e/1.1"), "ok"),
     (Act::CanUndo("e/1.0#1"), "ok"),
+    (Act::Hold("e/1.1#1"), "ok"),
+    (Act::Step("e/1.1"), "held by e/1.1#1"),
+    (Act::Hold("a#0"), "held by e/1.1#1"),
+    (Act::Settle, "held by e/1.1#1"),
     (Act::Undo("e/1.1#1"), "ok"),
     (Act::Step("e/1.1"), "ok"),
     (

@@ -6,6 +6,8 @@ mod acts;
 #[cfg(test)]
 mod commits;
 #[cfg(test)]
+mod holding;
+#[cfg(test)]
 mod laws;
 #[cfg(test)]
 mod orders;

@@ -15,7 +15,7 @@ use Rattle.step_history.specs.declared.history.History.{History}
 use Rattle.step_history.proofs.Left.{as_many}
 use Rattle.book_log.specs.Beginning.{table_of, or_empty}
 use Rattle.book_log.specs.Legal.{IsLegal}
-use Rattle.book_log.specs.Story.{Story, base_in, base_of, first_world, settled, setting_in, nothing, remainder, run_in, world_after}
+use Rattle.book_log.specs.Story.{Story, base_in, base_of, first_world, settled, held, setting_in, nothing, remainder, run_in, world_after}
 use Rattle.book_log.specs.declared.begin.Begin.{Begin}
 use Rattle.book_log.specs.declared.entry.Entry.{Entry}
 use Rattle.book_log.proofs.Standing.{StandsAt}
@@ -41,6 +41,10 @@ none_settled : (begin : Begin) → map name_of (settled (beginning begin)) ≡ [
 unfolding remainder
 none_settled begin = refl
 
+none_held : (begin : Begin) → held (beginning begin) ≡ None
+unfolding remainder
+none_held begin = refl
+
 no_place : (places : Places) → places ≡ [] → (name : List ℕ) → placed (place_in places name) ≡ None
 no_place places e name = ap (λ (l : Places). placed (place_in l name)) e
 
@@ -50,11 +54,11 @@ base_is begin items e = ap (λ (t : Result Table ItemFault). let w : World = rec
 
 pub tied_empty : (begin : Begin) (machines : BTreeMap (List ℕ) (Option Definition)) (h : History) (log : Vec Entry) (names : Names) (items : Store) → machines.entries ≡ [] → log.items ≡ []
     → table_of begin ≡ Ok (items_of items) → items.table ≡ begin.table → items.schema ≡ begin.schema
-    → ((s : Setting) → s.table ≡ items.table → s.schema ≡ items.schema → IsHistory s (nothing_over items) [] h) → names.items ≡ [] → IsTied (volume begin machines h log names)
+    → ((s : Setting) → s.table ≡ items.table → s.schema ≡ items.schema → IsHistory s (nothing_over items) [] h) → names.items ≡ [] → IsTied (volume begin machines h log names None)
 tied_empty begin machines h log names items no_machines no_entries table name schema new none =
     let s = setting_in begin nothing in
     let is : IsHistory s (first_world begin) [] h = subst (λ (w : World). IsHistory s w [] h) (base_is begin items table) (new s (sym name) (sym schema)) in
     let n : length h.records.items ≡ 0 = as_many h.world.items h.records.items [] is.records in
-    subst (λ (l : List Entry). IsTied (record { story = record { begin = begin; log = l }; history = h; places = machines.entries; capacity = vec_capacity log; settled = names })) (sym no_entries)
-    (tied_by (record { story = beginning begin; history = h; places = machines.entries; capacity = vec_capacity log; settled = names }) s (first_world begin) (first_world begin) [] (legal_empty begin (items_of items) table)
-    (stands_empty begin) (base_empty begin) is (no_place machines.entries no_machines) (none ∙ sym (none_settled begin)) (omega (arith, n)) (omega (arith, n)) (omega (arith, n)))
+    subst (λ (l : List Entry). IsTied (record { story = record { begin = begin; log = l }; history = h; places = machines.entries; capacity = vec_capacity log; settled = names; held = None })) (sym no_entries)
+    (tied_by (record { story = beginning begin; history = h; places = machines.entries; capacity = vec_capacity log; settled = names; held = None }) s (first_world begin) (first_world begin) [] (legal_empty begin (items_of items) table)
+    (stands_empty begin) (base_empty begin) is (no_place machines.entries no_machines) (none ∙ sym (none_settled begin)) (none_held begin) (omega (arith, n)) (omega (arith, n)) (omega (arith, n)))

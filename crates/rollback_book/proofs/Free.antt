@@ -100,7 +100,7 @@ module _ (b : Volume) (tied : IsTied b) (name : StepName) where
     pub stood : Stood b name at
     stood = stood_by at fact_here (ap (λ (fs : List Fact). slice_get fs at) (sym (facts_are b tied)) ∙ here) (step_at name b.history.records.items at is_at).named
 
-    remains_there : remains b.story name ≡ true
+    pub remains_there : remains b.story name ≡ true
     remains_there = ap (λ (fs : List Fact). is_some (from_step name fs)) (sym (facts_are b tied)) ∙ ap is_some found
 
     -- what is planned is the step and its consequences

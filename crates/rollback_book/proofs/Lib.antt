@@ -12,7 +12,12 @@ pub mod Places
 pub mod Whole
 pub mod Moving
 pub mod Ticketed
+pub mod HoldAnswers
+pub mod HoldMade
+pub mod Kept
 pub mod Looking
+pub mod Marks
+pub mod Needed
 pub mod Ordered
 pub mod Rerun
 pub mod Outlined

@@ -1,6 +1,6 @@
 -- Which threads of a book have a move, and what their next step does.
-use Rattle.std.proofs.Common.{◌≡◌, ◌≤◌, ◌<◌, ◌+◌, arith, length, ◌==◌, eq-eqb, Bool, true, false, cond, List, refl, ap, ap₂, sym, subst, ◌∙◌, Option, None, Some, Result, Ok, Err}
-use Rattle.std.specs.Prelude.{◌&&◌, not, is_some, option_and_then, ◌^◌}
+use Rattle.std.proofs.Common.{◌≡◌, ◌≤◌, ◌<◌, ◌+◌, arith, length, ◌==◌, eq-eqb, Bool, true, false, cond, List, refl, ap, ap₂, sym, subst, ◌∙◌, Option, None, Some, Result, Ok, Err, inl, inr}
+use Rattle.std.specs.Prelude.{◌&&◌, ◌⊎◌, IsSome, not, is_some, option_and_then, ◌^◌}
 use Rattle.std.proofs.lemmas.Option.{same_Some}
 use Rattle.step_history.specs.Frame.{Frame}
 use Rattle.step_history.specs.Phase.TheVariants.{Ready}
@@ -30,16 +30,18 @@ use Rattle.book_log.proofs.Counts.{legal_counts, steps_there}
 use Rattle.depends.specs.Instance.{steps}
 use Rattle.trace_theory.proofs.Records.{run_is, run_names}
 use Rattle.std.proofs.lemmas.List.{length-map}
-use Rattle.book_log.specs.Answers.{step_answer, thread_answer, moved_answer, is_full_for_step}
-use Rattle.book_log.specs.Story.{Story, base_of, first_world, past_of, remaining, settled, setting_of, world_of}
+use Rattle.book_log.specs.Answers.{deed_answer, has_move as can_move, step_answer, thread_answer, moved_answer, needed_left, unless_needed, is_full_for_step}
+use Rattle.book_log.specs.Story.{Story, base_of, first_world, past_of, remaining, settled, held, setting_of, world_of}
 use Rattle.book_log.specs.declared.entry.Entry.{Entry}
 use Rattle.book_log.specs.declared.entry.Entry.TheVariants.{Step as Stepped}
 use Rattle.book_log.specs.declared.moved.Moved.{Moved}
 use Rattle.book_log.specs.declared.refusal.Refusal.{Refusal}
+use Rattle.book_log.specs.declared.refusal.Refusal.TheVariants as refusal
 use Rattle.book_log.specs.declared.refusal.Refusal.TheVariants.{NoThread, NotReady, Full}
+use Rattle.book_log.proofs.HoldSaid.{needs_none}
 use Rattle.rollback_book.specs.Book.{Volume, IsTied, place_in, placed}
-use Rattle.rollback_book.specs.Making.{CanEnter, HasLogRoom}
-use Rattle.rollback_book.specs.Ready.{IsFirstToMove, IsMadeIn, IsNextOf, IsReadyTo, moves_freely}
+use Rattle.rollback_book.specs.Making.{CanEnter, HasLogRoom, IsMoveRefusal, OrMemory}
+use Rattle.rollback_book.specs.Ready.{HasRoomUnlessHeld, IsFirstToMove, IsHeldBack, IsMadeIn, IsNextOf, IsReadyTo, MayEnter, moves_freely}
 use Rattle.rollback_book.specs.declared.making.Made.{Made}
 use Rattle.rollback_book.specs.declared.making.MadeChange.{MadeChange}
 use Rattle.rollback_book.specs.declared.making.MadeChange.TheVariants as made
@@ -101,8 +103,11 @@ module _ (b : Volume) (tied : IsTied b) (t : Thread) where
     abbrev or_full : Moved → Bool → Result Moved Refusal
     or_full m full = cond full (Err Full) (Ok m)
 
-    pub step_full : has_move readiness_there ≡ true → is_full_for_step b.story ≡ true → step_answer b.story t ≡ Err Full
-    step_full h full = let d = moving h in by_move (Some d.0) d.1 ∙ ap (or_full (record { name = d.0.fact.name; kind = d.0.fact.kind })) full
+    pub step_full : held b.story ≡ None → has_move readiness_there ≡ true → is_full_for_step b.story ≡ true → step_answer b.story t ≡ Err Full
+    step_full unheld h full =
+        let d = moving h in
+        let m : Moved = record { name = d.0.fact.name; kind = d.0.fact.kind } in
+        by_move (Some d.0) d.1 ∙ ap (λ (o : Option Fact). unless_needed o (or_full m (is_full_for_step b.story))) (needs_none b.story unheld d.0.fact) ∙ ap (or_full m) full
 
     pub few_steps : f.count + 1 < 2 ^ 32
     few_steps =
@@ -126,7 +131,7 @@ module _ (b : Volume) (tied : IsTied b) (t : Thread) where
         let by_frame : frame_deed s w t f ≡ Some d.0 = sym (ap (option_and_then (frame_deed s w t)) there) ∙ (sym moves_there ∙ d.1) in
         frame_begins s w t f d.0 by_frame e
 
-    pub ready_to : (machine : Definition) → has_move readiness_there ≡ true → is_full_for_step b.story ≡ false → placed (place_in b.places f.level.machine) ≡ Some machine → IsReadyTo b t machine f
+    pub ready_to : (machine : Definition) → has_move readiness_there ≡ true → HasRoomUnlessHeld b.story → placed (place_in b.places f.level.machine) ≡ Some machine → IsReadyTo b t machine f
     ready_to machine h free known =
         let d = moving h in
         record {
@@ -137,7 +142,8 @@ module _ (b : Volume) (tied : IsTied b) (t : Thread) where
           few = few_steps;
           below = names_below;
           begins = begins h;
-          answer = by_move (Some d.0) d.1 ∙ ap (or_full (record { name = d.0.fact.name; kind = d.0.fact.kind })) free;
+          answer = by_move (Some d.0) d.1;
+          room = free;
         }
 
     pub machine_known : placed (place_in b.places f.level.machine) ≡ None → ⊥
@@ -172,7 +178,10 @@ module _ (b : Volume) (tied : IsTied b) (t : Thread) where
           deed = ready.deed;
           does = ap (λ (v : World). deed s v (moved (next_step t f))) (world_is b tied) ∙ does;
           same = sym same ∙ does;
-          answer = ready.answer ∙ ap (λ (n : StepName). let x : Moved = record { name = n; kind = ready.deed.fact.kind } in Ok x) told;
+          named = told;
+          answer = ready.answer;
+          moves = ap is_some ready.moves;
+          room = ready.room;
         })
 
     -- a thread that may move has a move
@@ -189,32 +198,86 @@ module _ (b : Volume) (tied : IsTied b) (t : Thread) where
 abbrev pub Finds : Volume → Thread → Definition → Option Next → Type 0
 Finds b t machine o = (s : Setting) (base : World) (ts : List Past) → IsHistory s base ts b.history → IsMachineOf s (frames_of b.history.world t) machine → IsMoveOf s b.history.world t o
 
--- a step for which everything is made
-pub step_ready : (before after : Volume) (t : Thread) (name : StepName) (next : Next) (m : MadeStep) (r : Made) → after.story ≡ before.story → IsNextOf before t name next → IsMadeIn before after name next m
+-- ---- a step for which everything is made
+
+-- the fact of a step that was made is that of what the thread's next step does
+made_fact : (before after : Volume) (t : Thread) (name : StepName) (next : Next) (m : MadeStep) (is : IsNextOf before t name next) → IsMadeIn before after name next m → is.deed.fact ≡ fact_made m
+made_fact before after t name next m is step = ap (λ (d : Deed). d.fact) (same_Some is.deed step.deed (sym is.same ∙ step.is)) ∙ sym step.made.fact
+
+-- a step that may be entered is answered to be taken
+enters : (story : Story) (d : Deed) (name : StepName) (f : Fact) → d.fact ≡ f → d.fact.name ≡ name → MayEnter story f → deed_answer story d ≡ Ok (record { name = name; kind = f.kind })
+enters story d name f same named may =
+    let none : needed_left story d.fact ≡ None = ap (needed_left story) same ∙ may.0 in
+    let free = may.1 in
+    rw (none, free) (ap₂ (λ (n : StepName) (k : Kind). let x : Moved = record { name = n; kind = k } in Ok x) named (ap (λ (x : Fact). x.kind) same))
+
+pub step_ready : (before after : Volume) (t : Thread) (name : StepName) (next : Next) (m : MadeStep) (r : Made) → after.story ≡ before.story → IsNextOf before t name next → IsMadeIn before after name next m → MayEnter before.story (fact_made m)
     → HasLogRoom after → r.entry ≡ Stepped name (fact_made m).kind → r.change ≡ made.Step m → CanEnter after r
-step_ready before after t name next m r same is step room entry change =
+step_ready before after t name next m r same is step may room entry change =
     let d : is.deed ≡ step.deed = same_Some is.deed step.deed (sym is.same ∙ step.is) in
-    let kind : is.deed.fact.kind ≡ (fact_made m).kind = ap (λ (x : Deed). x.fact.kind) d ∙ sym (ap (λ (x : Fact). x.kind) step.made.fact) in
     let whole : CanEnter after (record { entry = Stepped name (fact_made m).kind; answer = r.answer; change = made.Step m }) = record {
-      accepted = ap₂ (λ (x : Story) (u : Thread). step_answer x u) same is.thread ∙ is.answer ∙ ap (λ (k : Kind). let x : Moved = record { name = name; kind = k } in Ok x) kind;
+      accepted = ap₂ (λ (x : Story) (u : Thread). step_answer x u) same is.thread ∙ is.answer ∙ enters before.story is.deed name (fact_made m) (made_fact before after t name next m is step) is.named may;
       fits = record {
         deed = step.deed;
         is = ap (λ (x : Story). deed (setting_of x) (world_of x) (moved name)) same ∙ is.does ∙ ap (λ (x : Deed). Some x) d;
         made = step.made;
         ready = step.ready;
         room = step.room;
+        held_room = step.held_room;
       };
       room = room;
     } in
     subst (λ (x : Made). CanEnter after x) (ap₂ (λ (e : Entry) (c : MadeChange). let x : Made = record { entry = e; answer = r.answer; change = c } in x) (sym entry) (sym change)) whole
 
 -- and it is answered so
-pub step_told : (story : Story) (before after : Volume) (t : Thread) (name : StepName) (next : Next) (m : MadeStep) → before.story ≡ story → IsNextOf before t name next → IsMadeIn before after name next m
+pub step_told : (story : Story) (before after : Volume) (t : Thread) (name : StepName) (next : Next) (m : MadeStep) → before.story ≡ story → IsNextOf before t name next → IsMadeIn before after name next m → MayEnter before.story (fact_made m)
     → step_answer story t ≡ Ok (record { name = name; kind = (fact_made m).kind })
-step_told story before after t name next m same is step =
-    let d : is.deed ≡ step.deed = same_Some is.deed step.deed (sym is.same ∙ step.is) in
-    let kind : is.deed.fact.kind ≡ (fact_made m).kind = ap (λ (x : Deed). x.fact.kind) d ∙ sym (ap (λ (x : Fact). x.kind) step.made.fact) in
-    ap (λ (x : Story). step_answer x t) (sym same) ∙ is.answer ∙ ap (λ (k : Kind). let x : Moved = record { name = name; kind = k } in Ok x) kind
+step_told story before after t name next m same is step may =
+    ap (λ (x : Story). step_answer x t) (sym same) ∙ is.answer ∙ enters before.story is.deed name (fact_made m) (made_fact before after t name next m is step) is.named may
+
+-- or it is held back
+held_back : (story : Story) (t : Thread) (d : Deed) (e : Refusal) → step_answer story t ≡ deed_answer story d → can_move story t ≡ true → IsHeldBack story d.fact e → IsMoveRefusal story t e
+held_back story t d (refusal.Held name) answer moves h =
+    let told : step_answer story t ≡ Err (refusal.Held name) = answer ∙ ap (λ (o : Option Fact). unless_needed o (cond (is_full_for_step story) (Err refusal.Full) (Ok (record { name = d.fact.name; kind = d.fact.kind })))) h.1 ∙ ap (λ (n : StepName). Err (refusal.Held n)) (sym h.2) in
+    inl (subst (λ (r : Result Moved Refusal). OrMemory r (refusal.Held name)) (sym told) refl)
+held_back story t d refusal.Full answer moves h =
+    let none = h.0 in
+    let full = h.1 in
+    let told : step_answer story t ≡ Err refusal.Full = answer ∙ rw (none, full) refl in
+    inl (subst (λ (r : Result Moved Refusal). OrMemory r refusal.Full) (sym told) refl)
+held_back story t d refusal.Memory answer moves h = inr (refl, (h, moves))
+held_back story t d refusal.NoMachine answer moves h = absurd h
+held_back story t d refusal.MachineTaken answer moves h = absurd h
+held_back story t d (refusal.BadMachine fault) answer moves h = absurd h
+held_back story t d refusal.ExecTaken answer moves h = absurd h
+held_back story t d refusal.NoThread answer moves h = absurd h
+held_back story t d (refusal.NotReady readiness) answer moves h = absurd h
+held_back story t d refusal.NoStep answer moves h = absurd h
+held_back story t d (refusal.HasDependents step) answer moves h = absurd h
+held_back story t d (refusal.Stale entries) answer moves h = absurd h
+held_back story t d refusal.Settled answer moves h = absurd h
+
+pub step_held_back : (before after : Volume) (t : Thread) (name : StepName) (next : Next) (m : MadeStep) (e : Refusal) → IsNextOf before t name next → IsMadeIn before after name next m → IsHeldBack before.story (fact_made m) e → IsMoveRefusal before.story t e
+step_held_back before after t name next m e is step h =
+    held_back before.story t is.deed e is.answer is.moves (subst (λ (f : Fact). IsHeldBack before.story f e) (sym (made_fact before after t name next m is step)) h)
+
+-- memory may be wanting for a move for which there is room, or while something is held
+lacks_memory : (story : Story) (t : Thread) (d : Deed) → step_answer story t ≡ deed_answer story d → can_move story t ≡ true → HasRoomUnlessHeld story → IsMoveRefusal story t refusal.Memory
+lacks_memory story t d answer moves room = by_held (held story) refl
+  where
+    by_held : (o : Option StepName) → held story ≡ o → IsMoveRefusal story t refusal.Memory
+    by_held None e =
+        let none = needs_none story e d.fact in
+        let free = room e in
+        let told : step_answer story t ≡ Ok (record { name = d.fact.name; kind = d.fact.kind }) = answer ∙ rw (none, free) refl in
+        inl (subst (λ (r : Result Moved Refusal). OrMemory r refusal.Memory) (sym told) refl)
+    by_held (Some name) e = inr (refl, (subst IsSome (sym e) refl, moves))
+
+pub next_lacks : (b : Volume) (t : Thread) (name : StepName) (next : Next) → IsNextOf b t name next → IsMoveRefusal b.story t refusal.Memory
+next_lacks b t name next is = lacks_memory b.story t is.deed is.answer is.moves is.room
+
+pub ready_lacks : (b : Volume) (t : Thread) (machine : Definition) (f : Frame) → IsReadyTo b t machine f → IsMoveRefusal b.story t refusal.Memory
+ready_lacks b t machine f ready = lacks_memory b.story t ready.deed ready.answer (ap is_some ready.moves) ready.room
 
 -- ---- the first thread that has a move
 

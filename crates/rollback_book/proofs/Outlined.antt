@@ -9,7 +9,7 @@ use Rattle.book_log.specs.Answers.{defines, is_settlement, outline}
 use Rattle.book_log.specs.Legal.{IsAccepted, IsLegal}
 use Rattle.book_log.specs.declared.begin.Begin.{Begin}
 use Rattle.book_log.specs.declared.entry.Entry.{Entry}
-use Rattle.book_log.specs.declared.entry.Entry.TheVariants.{Define, Start, Step as Stepped, Undo, Rollback, Settle}
+use Rattle.book_log.specs.declared.entry.Entry.TheVariants.{Define, Start, Step as Stepped, Undo, Rollback, Settle, Hold}
 use Rattle.book_log.proofs.LegalRuns.{of_log}
 use Rattle.book_log.proofs.Outlines.{outline_more, outline_settled}
 use Rattle.rollback_book.specs.Rerunning.{MayDefine}
@@ -22,6 +22,7 @@ settlement_is (Stepped name kind) h = cc
 settlement_is (Undo name) h = cc
 settlement_is (Rollback name undone) h = cc
 settlement_is Settle h = refl
+settlement_is (Hold name count) h = cc
 
 -- ---- entries that are entered again
 

@@ -21,12 +21,13 @@ use Rattle.saved_steps.specs.Deeds.{Deed, deed_of, move_deed}
 use Rattle.saved_steps.specs.Held.{frames_of, paths_of, seen}
 use Rattle.saved_steps.specs.Steps.{started, start_name}
 use Rattle.saved_steps.specs.World.{Setting, World}
+use Rattle.saved_steps.specs.declared.fact.Fact.{Fact}
 use Rattle.saved_steps.specs.declared.fact.Kind.TheVariants as kind
-use Rattle.book_log.specs.Answers.{IsReadRefusal, IsDefineRefusal, is_full_for_step, is_full_for_define, start_answer, step_answer, thread_answer, moved_answer}
+use Rattle.book_log.specs.Answers.{IsReadRefusal, IsDefineRefusal, is_full_for_step, is_full_for_define, start_answer, step_answer, thread_answer, moved_answer, needed_left, unless_needed}
 use Rattle.book_log.specs.Story.{Story, machine_of, setting_of, world_of}
 use Rattle.book_log.specs.declared.moved.Moved.{Moved}
 use Rattle.book_log.specs.declared.refusal.Refusal.{Refusal}
-use Rattle.book_log.specs.declared.refusal.Refusal.TheVariants.{NoMachine, MachineTaken, BadMachine, ExecTaken, NoThread, NotReady, NoStep, HasDependents, Stale, Full, Memory, Settled}
+use Rattle.book_log.specs.declared.refusal.Refusal.TheVariants.{NoMachine, MachineTaken, BadMachine, ExecTaken, NoThread, NotReady, NoStep, HasDependents, Stale, Full, Memory, Settled, Held}
 use Rattle.rollback_book.specs.Book.{Volume, IsTied}
 use Rattle.rollback_book.specs.Ready.{IsStartOf}
 use Rattle.rollback_book.proofs.Tied.{world_is}
@@ -61,6 +62,7 @@ read_is_define story name d NoStep free h = absurd h
 read_is_define story name d (HasDependents step) free h = absurd h
 read_is_define story name d (Stale entries) free h = absurd h
 read_is_define story name d Settled free h = absurd h
+read_is_define story name d (Held step) free h = absurd h
 
 -- a machine that was read is refused for want of room or memory alone
 pub room_is_define : (story : Story) (name : List ℕ) (d : Data) (machine : Definition) (e : Refusal) → machine_of story name ≡ None → Defines d machine
@@ -128,13 +130,14 @@ pub step_not_full : (story : Story) (t : Thread) (x : Moved) → step_answer sto
 unfolding step_answer
 step_not_full story t x h = by_frame ((world_of story).frames t) h
   where
-    by_room : (b : Bool) (m : Moved) → cond b (Err Full) (Ok m) ≡ Ok x → b ≡ false
-    by_room true m e = cc
-    by_room false m e = refl
+    by_room : (b : Bool) (o : Option Fact) (m : Moved) → unless_needed o (cond b (Err Full) (Ok m)) ≡ Ok x → b ≡ false
+    by_room true None m e = cc
+    by_room false None m e = refl
+    by_room b (Some y) m e = cc
 
     by_move : (r : Readiness) (o : Option Deed) → moved_answer story r o ≡ Ok x → is_full_for_step story ≡ false
     by_move r None e = cc
-    by_move r (Some d) e = by_room (is_full_for_step story) (record { name = d.fact.name; kind = d.fact.kind }) e
+    by_move r (Some d) e = by_room (is_full_for_step story) (needed_left story d.fact) (record { name = d.fact.name; kind = d.fact.kind }) e
 
     by_frame : (o : Option Frame) → thread_answer story t o ≡ Ok x → is_full_for_step story ≡ false
     by_frame None e = cc

@@ -21,7 +21,7 @@ use Rattle.book_log.specs.Legal.{GoesOnLegally, IsAccepted, IsLegal}
 use Rattle.book_log.specs.Story.{Story, accepted, base_of, remaining, setting_of, past_of, world_of}
 use Rattle.book_log.specs.declared.begin.Begin.{Begin}
 use Rattle.book_log.specs.declared.entry.Entry.{Entry}
-use Rattle.book_log.specs.declared.entry.Entry.TheVariants.{Define, Start, Step as Stepped, Undo, Rollback, Settle}
+use Rattle.book_log.specs.declared.entry.Entry.TheVariants.{Define, Start, Step as Stepped, Undo, Rollback, Settle, Hold}
 use Rattle.book_log.specs.declared.refusal.Refusal.{Refusal}
 use Rattle.book_log.specs.declared.refusal.Refusal.TheVariants.{NoStep, Memory}
 use Rattle.book_log.proofs.LegalRuns.{of_log, legal_logs_run, legal_stands}
@@ -284,3 +284,4 @@ may_define begin front back (Stepped name kind) legal = tt
 may_define begin front back (Undo name) legal = tt
 may_define begin front back (Rollback name undone) legal = tt
 may_define begin front back Settle legal = tt
+may_define begin front back (Hold name count) legal = tt

@@ -24,7 +24,7 @@ use Rattle.saved_steps.specs.World.{Setting, World, is_same_step}
 use Rattle.saved_steps.specs.declared.fact.Fact.{Fact}
 use Rattle.saved_steps.specs.declared.record.StepRecord.{StepRecord}
 use Rattle.step_history.specs.History.{Past}
-use Rattle.book_log.specs.Answers.{Gives, from_step, moved_answer, start_answer, step_answer, step_named, thread_answer, is_full_for_step}
+use Rattle.book_log.specs.Answers.{Gives, from_step, moved_answer, start_answer, step_answer, step_named, thread_answer, is_full_for_step, needed_left, unless_needed}
 use Rattle.book_log.specs.Legal.{IsLegal}
 use Rattle.book_log.specs.Story.{Story, machine_of, past_of, remaining, setting_of, world_of}
 use Rattle.book_log.specs.declared.moved.Moved.{Moved}
@@ -148,11 +148,12 @@ start_named story exec machine name h =
 
 moved_told : (story : Story) (r : Readiness) (o : Option Deed) (x : Moved) → moved_answer story r o ≡ Ok x → (d : Deed) × (o ≡ Some d) × (d.fact.name ≡ x.name)
 moved_told story r None x h = cc
-moved_told story r (Some d) x h = by_room (is_full_for_step story) h
+moved_told story r (Some d) x h = by_room (is_full_for_step story) (needed_left story d.fact) h
   where
-    by_room : (full : Bool) → cond full (Err Full) (Ok (record { name = d.fact.name; kind = d.fact.kind })) ≡ Ok x → (e : Deed) × (Some d ≡ Some e) × (e.fact.name ≡ x.name)
-    by_room true k = cc
-    by_room false k = let f : record { name = d.fact.name; kind = d.fact.kind } ≡ x = cc in (d, refl, ap (λ (y : Moved). y.name) f)
+    by_room : (full : Bool) (o : Option Fact) → unless_needed o (cond full (Err Full) (Ok (record { name = d.fact.name; kind = d.fact.kind }))) ≡ Ok x → (e : Deed) × (Some d ≡ Some e) × (e.fact.name ≡ x.name)
+    by_room full (Some y) k = cc
+    by_room true None k = cc
+    by_room false None k = let f : record { name = d.fact.name; kind = d.fact.kind } ≡ x = cc in (d, refl, ap (λ (y : Moved). y.name) f)
 
 thread_told : (story : Story) (t : Thread) (o : Option Frame) (x : Moved) → (world_of story).frames t ≡ o → thread_answer story t o ≡ Ok x → (f : Frame) × ((world_of story).frames t ≡ Some f) × (x.name ≡ next_step t f)
 thread_told story t None x e h = cc

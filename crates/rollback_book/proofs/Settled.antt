@@ -1,6 +1,6 @@
 -- What a book holds of the steps that were settled says of its story why a step is absent; and a book after a settlement.
-use Rattle.std.proofs.Common.{◌≡◌, ◌≤◌, arith, ℕ, Bool, true, false, cond, List, [], ◌∷◌, ◌++◌, length, length-append, map, refl, ap, ap₂, sym, ◌∙◌, Err, inl, inr, Result, Ok}
-use Rattle.std.specs.Prelude.{◌||◌}
+use Rattle.std.proofs.Common.{◌≡◌, ◌≤◌, arith, ℕ, Bool, true, false, cond, List, [], ◌∷◌, ◌++◌, length, length-append, map, refl, ap, ap₂, sym, subst, ◌∙◌, Err, inl, inr, None, Some, Result, Ok}
+use Rattle.std.specs.Prelude.{◌||◌, ◌⊎◌}
 use Rattle.std.specs.List.{list_any}
 use Rattle.std.specs.Ordering.{eq_by_cmp}
 use Rattle.std.proofs.lemmas.List.{map-append}
@@ -15,22 +15,25 @@ use Rattle.saved_steps.specs.World.{Setting, World, is_same_step}
 use Rattle.saved_steps.specs.declared.record.StepRecord.{StepRecord}
 use Rattle.step_history.specs.History.{Past, IsHistory}
 use Rattle.step_history.specs.declared.history.History.{History}
-use Rattle.book_log.specs.Answers.{Gives, absent, is_full_for_define, is_settled, settle_answer}
+use Rattle.book_log.specs.Answers.{Gives, GivesOr, absent, is_full_for_define, is_settled, settle_answer}
 use Rattle.book_log.specs.Legal.{IsAccepted}
-use Rattle.book_log.specs.Story.{Story, accepted, base_of, settled, remaining, setting_of, past_of}
+use Rattle.book_log.specs.Story.{Story, accepted, base_of, settled, remaining, held, setting_of, past_of}
 use Rattle.book_log.specs.declared.entry.Entry.{Entry}
-use Rattle.book_log.specs.declared.entry.Entry.TheVariants.{Define, Start, Step as Stepped, Undo, Rollback, Settle}
+use Rattle.book_log.specs.declared.entry.Entry.TheVariants.{Define, Start, Step as Stepped, Undo, Rollback, Settle, Hold as HoldEntry}
 use Rattle.book_log.specs.declared.refusal.Refusal.{Refusal}
-use Rattle.book_log.specs.declared.refusal.Refusal.TheVariants.{NoStep, Settled, Full, Memory}
+use Rattle.book_log.specs.declared.refusal.Refusal.TheVariants.{NoStep, Settled, Full, Held, Memory}
 use Rattle.book_log.proofs.Counts.{room_for_define}
 use Rattle.book_log.proofs.LegalRuns.{accepted_is_legal}
-use Rattle.book_log.proofs.Settling.{room_settles, settle_room}
+use Rattle.book_log.proofs.HoldSaid.{held_next}
+use Rattle.book_log.proofs.Settling.{room_settles, settle_free, settle_room}
 use Rattle.book_log.proofs.Standing.{base_settled, settled_next, stands_settled, step_same, step_itself}
 use Rattle.rollback_book.specs.Book.{Volume, IsTied}
 use Rattle.rollback_book.specs.Making.{CanEnter, Fits, HasLogRoom, OrMemory}
 use Rattle.rollback_book.specs.declared.making.Entered.TheVariants as told
 use Rattle.rollback_book.specs.declared.making.MadeChange.TheVariants as made
 use Rattle.rollback_book.specs.Settling.{absent_in}
+use Rattle.rollback_book.specs.Holding.{IsHoldOf}
+use Rattle.rollback_book.proofs.Kept.{none_kept}
 use Rattle.rollback_book.proofs.Tied.{many, names_are, stands, tied_by}
 
 -- ---- names
@@ -54,13 +57,14 @@ module _ (b : Volume) (tied : IsTied b) where
   absent_is name = ap (λ (x : Bool). cond x Settled NoStep) (ap (is_among name) tied.names ∙ among_is (settled b.story) name)
 
   -- the same names, with more room
-  pub tied_names : (names : Names) → names.items ≡ b.settled.items → IsTied (record { story = b.story; history = b.history; places = b.places; capacity = b.capacity; settled = names })
+  pub tied_names : (names : Names) → names.items ≡ b.settled.items → IsTied (record { story = b.story; history = b.history; places = b.places; capacity = b.capacity; settled = names; held = b.held })
   tied_names names same = record {
     legal = tied.legal;
     history = tied.history;
     run = tied.run;
     machines = tied.machines;
     names = same ∙ tied.names;
+    held = tied.held;
     room = tied.room;
     few = tied.few;
     bounded = tied.bounded;
@@ -71,7 +75,7 @@ module _ (b : Volume) (tied : IsTied b) where
   pub tied_settled : (h : History) (names : Names) (capacity : ℕ) → IsAccepted b.story Settle → HasLogRoom b → b.capacity ≤ capacity
       → h.records.items ≡ [] → ((s : Setting) (base : World) (ts : List Past) → IsHistory s base ts b.history → IsHistory s (seen b.history.world) [] h)
       → names.items ≡ b.settled.items ++ map (λ (r : StepRecord). r.fact.name) b.history.records.items
-      → IsTied (record { story = accepted b.story Settle; history = h; places = b.places; capacity = capacity; settled = names })
+      → IsTied (record { story = accepted b.story Settle; history = h; places = b.places; capacity = capacity; settled = names; held = b.held })
   tied_settled h names capacity a log_room grown none settles named =
       let s = setting_of b.story in
       let w = seen b.history.world in
@@ -83,19 +87,22 @@ module _ (b : Volume) (tied : IsTied b) where
       let empty = ap length none in
       let all : names.items ≡ map name_of (settled (accepted b.story Settle)) =
       named ∙ ap₂ (λ (x y : List StepName). x ++ y) tied.names (names_are b tied) ∙ sym (map-append name_of (settled b.story) (remaining b.story)) ∙ ap (map name_of) (sym (settled_next b.story Settle)) in
-      tied_by (record { story = accepted b.story Settle; history = h; places = b.places; capacity = capacity; settled = names }) s w w [] (accepted_is_legal b.story Settle tied.legal a)
-      (stands_settled b.story s w ts there) (base_settled b.story s w ts there) (settles s (base_of b.story) ts tied.history) tied.machines all
+      let unheld = none_kept b.story b.history.records.items b.held (settle_free b.story a) tied.held in
+      let holds : IsHoldOf (accepted b.story Settle) h.records.items b.held = subst (IsHoldOf (accepted b.story Settle) h.records.items) (sym unheld) (held_next b.story Settle) in
+      tied_by (record { story = accepted b.story Settle; history = h; places = b.places; capacity = capacity; settled = names; held = b.held }) s w w [] (accepted_is_legal b.story Settle tied.legal a)
+      (stands_settled b.story s w ts there) (base_settled b.story s w ts there) (settles s (base_of b.story) ts tied.history) tied.machines all holds
       (omega (arith, log_room, grown, logged, empty)) (omega (arith, empty)) (omega (arith, free, count, logged, empty))
 
   pub tied_after : (entry : Entry) (h : History) (names : Names) (capacity : ℕ) → IsAccepted b.story entry → Fits b entry made.Settle → HasLogRoom b → b.capacity ≤ capacity
       → h.records.items ≡ [] → ((s : Setting) (base : World) (ts : List Past) → IsHistory s base ts b.history → IsHistory s (seen b.history.world) [] h)
       → names.items ≡ b.settled.items ++ map (λ (r : StepRecord). r.fact.name) b.history.records.items
-      → IsTied (record { story = accepted b.story entry; history = h; places = b.places; capacity = capacity; settled = names })
+      → IsTied (record { story = accepted b.story entry; history = h; places = b.places; capacity = capacity; settled = names; held = b.held })
   tied_after (Define n machine) h names capacity a fits log_room grown none settles named = absurd fits
   tied_after (Start exec machine input) h names capacity a fits log_room grown none settles named = absurd fits
   tied_after (Stepped n kind) h names capacity a fits log_room grown none settles named = absurd fits
   tied_after (Undo n) h names capacity a fits log_room grown none settles named = absurd fits
   tied_after (Rollback n undone) h names capacity a fits log_room grown none settles named = absurd fits
+  tied_after (HoldEntry n count) h names capacity a fits log_room grown none settles named = absurd fits
   tied_after Settle h names capacity a fits log_room grown none settles named = tied_settled h names capacity a log_room grown none settles named
 
 -- there is room for the names of a settlement that fits
@@ -105,27 +112,34 @@ names_fit b (Start exec machine input) fits = absurd fits
 names_fit b (Stepped n kind) fits = absurd fits
 names_fit b (Undo n) fits = absurd fits
 names_fit b (Rollback n undone) fits = absurd fits
+names_fit b (HoldEntry n count) fits = absurd fits
 names_fit b Settle fits = fits
 
 -- ---- what is answered
 
-pub settle_full : (story : Story) → is_full_for_define story ≡ true → settle_answer story ≡ Err Full
+pub settle_full : (story : Story) → held story ≡ None → is_full_for_define story ≡ true → settle_answer story ≡ Err Full
 unfolding settle_answer
-settle_full story h = rw h refl
+settle_full story free h = rw (free, h) refl
+
+-- while something is held, nothing is settled
+pub settle_held : (story : Story) (name : StepName) → held story ≡ Some name → settle_answer story ≡ Err (Held name)
+unfolding settle_answer
+settle_held story name h = rw h refl
 
 -- a settlement for which everything is made
-pub settle_ready : (before after : Volume) → after.story ≡ before.story → is_full_for_define before.story ≡ false → HasRoomFor after.settled (length after.history.records.items) → HasLogRoom after
+pub settle_ready : (before after : Volume) → after.story ≡ before.story → held before.story ≡ None → is_full_for_define before.story ≡ false → HasRoomFor after.settled (length after.history.records.items) → HasLogRoom after
     → CanEnter after (record { entry = Settle; answer = told.Settled; change = made.Settle })
-settle_ready before after same free names room = record { accepted = ap settle_answer same ∙ room_settles before.story free; fits = names; room = room }
+settle_ready before after same unheld free names room = record { accepted = ap settle_answer same ∙ room_settles before.story unheld free; fits = names; room = room }
 
--- a settlement that is answered is given
-pub settle_given : (answer r : Result (Unit {0}) Refusal) → answer ≡ r → Gives r answer
-settle_given (Ok x) r h = inl (sym h)
-settle_given (Err e) r h = sym h
+-- an answer that is given
+pub settle_given : (answer r : Result (Unit {0}) Refusal) (lacks : Type 0) → answer ≡ r → GivesOr lacks r answer
+settle_given (Ok x) r lacks h = inl (inl (sym h))
+settle_given (Err e) r lacks h = inl (sym h)
 
-pub refused_given : {T : Type 0} (answer : Result T Refusal) (e : Refusal) → OrMemory answer e → Gives (Err e) answer
-refused_given (Ok x) e h = inr (ap Err h)
-refused_given (Err f) e h = ap Err h
+pub refused_given : {T : Type 0} (answer : Result T Refusal) (e : Refusal) (lacks : Type 0) → OrMemory answer e ⊎ ((e ≡ Memory) × lacks) → GivesOr lacks (Err e) answer
+refused_given (Ok x) e lacks (inl h) = inl (inr (ap Err h))
+refused_given (Err f) e lacks (inl h) = inl (ap Err h)
+refused_given answer e lacks (inr h) = inr (ap Err h.0, h.1)
 
 -- ---- what is accepted is refused for memory alone
 
@@ -138,3 +152,12 @@ pub accepted_given : {T : Type 0} (answer : Result T Refusal) (x y : T) → answ
 accepted_given (Ok z) x y h (inl k) = cc
 accepted_given (Ok z) x y h (inr k) = cc
 accepted_given (Err f) x y h k = cc
+
+-- also where want of memory may stand for any answer
+pub accepted_lacks : {T : Type 0} (lacks : Type 0) (answer : Result T Refusal) (x : T) (e : Refusal) → answer ≡ Ok x → GivesOr lacks (Err e) answer → e ≡ Memory
+accepted_lacks lacks answer x e h (inl k) = accepted_memory answer x e h k
+accepted_lacks lacks answer x e h (inr k) = cc
+
+pub ok_gives : {T : Type 0} (lacks : Type 0) (answer : Result T Refusal) (y : T) → GivesOr lacks (Ok y) answer → Gives (Ok y) answer
+ok_gives lacks answer y (inl k) = k
+ok_gives lacks answer y (inr k) = cc

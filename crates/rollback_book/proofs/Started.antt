@@ -27,7 +27,7 @@ use Rattle.book_log.specs.Legal.{IsAccepted, IsLegal}
 use Rattle.book_log.specs.Story.{Story, Remainder, accepted, after_entry, base_of, consequences_in, past_of, remainder, remaining, rolled_back, setting_of, world_of}
 use Rattle.book_log.specs.declared.begin.Begin.{Begin}
 use Rattle.book_log.specs.declared.entry.Entry.{Entry}
-use Rattle.book_log.specs.declared.entry.Entry.TheVariants.{Define, Start, Step as Stepped, Undo, Rollback, Settle}
+use Rattle.book_log.specs.declared.entry.Entry.TheVariants.{Define, Start, Step as Stepped, Undo, Rollback, Settle, Hold}
 use Rattle.book_log.proofs.Answered.{once}
 use Rattle.book_log.proofs.LegalRuns.{of_log, of_legal, legal_stands}
 use Rattle.book_log.proofs.Standing.{is_run, names_there, from_start, remainder_next, stands_started}
@@ -143,6 +143,7 @@ last_next story (Undo name) legal h a =
     kept_last story (Undo name) (λ t. refl) (λ exec given input i. (In-filter _ (remaining story) (started exec given input) (subst (In (started exec given input)) (steps_next story (Undo name)) i)).0) h
 last_next story (Rollback name undone) legal h a =
     kept_last story (Rollback name undone) (λ t. refl) (λ exec given input i. rolled_inside story name (started exec given input) legal (subst (In (started exec given input)) (steps_next story (Rollback name undone)) i)) h
+last_next story (Hold name count) legal h a = kept_last story (Hold name count) (λ t. refl) (λ exec given input i. subst (In (started exec given input)) (steps_next story (Hold name count)) i) h
 last_next story Settle legal h a = kept_last story Settle (λ t. refl) (λ exec given input i. absurd (subst (In (started exec given input)) (steps_next story Settle) i)) h
 
 last_first : (begin : Begin) → IsLegal (of_log begin []) → AreLast (of_log begin [])

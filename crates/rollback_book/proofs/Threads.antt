@@ -6,18 +6,20 @@ use Rattle.branch_tree.specs.Ready.{readiness_at}
 use Rattle.branch_tree.specs.declared.readiness.Readiness.{Readiness}
 use Rattle.saved_steps.specs.Deeds.{Deed, frame_deed, move_deed}
 use Rattle.saved_steps.specs.Held.{paths_of}
+use Rattle.saved_steps.specs.declared.fact.Fact.{Fact}
 use Rattle.depends.proofs.Turned.{frame_move}
 use Rattle.step_names.specs.Thread.{Thread}
 use Rattle.step_names.specs.declared.step.StepName.{StepName}
-use Rattle.book_log.specs.Answers.{is_full_for_step, moved_answer, thread_answer, step_answer}
+use Rattle.book_log.specs.Answers.{is_full_for_step, moved_answer, needed_left, thread_answer, step_answer, unless_needed}
 use Rattle.book_log.specs.Story.{Story, setting_of, world_of}
 use Rattle.book_log.specs.declared.moved.Moved.{Moved}
 use Rattle.book_log.specs.declared.refusal.Refusal.TheVariants.{Full}
 
 module _ (story : Story) (t : Thread) (x : Moved) where
-  by_room : (b : Bool) (d : Deed) → cond b (Err Full) (Ok (record { name = d.fact.name; kind = d.fact.kind })) ≡ Ok x → d.fact.name ≡ x.name
-  by_room true d e = cc
-  by_room false d e = let f : record { name = d.fact.name; kind = d.fact.kind } ≡ x = cc in ap (λ (y : Moved). y.name) f
+  by_room : (b : Bool) (o : Option Fact) (d : Deed) → unless_needed o (cond b (Err Full) (Ok (record { name = d.fact.name; kind = d.fact.kind }))) ≡ Ok x → d.fact.name ≡ x.name
+  by_room b (Some y) d e = cc
+  by_room true None d e = cc
+  by_room false None d e = let f : record { name = d.fact.name; kind = d.fact.kind } ≡ x = cc in ap (λ (y : Moved). y.name) f
 
   by_move : (d : Deed) → move_deed (setting_of story) (world_of story) t ≡ Some d → d.fact.name.thread ≡ t
   by_move d h =
@@ -26,7 +28,7 @@ module _ (story : Story) (t : Thread) (x : Moved) where
 
   by_deed : (r : Readiness) (o : Option Deed) → move_deed (setting_of story) (world_of story) t ≡ o → moved_answer story r o ≡ Ok x → x.name.thread ≡ t
   by_deed r None h e = cc
-  by_deed r (Some d) h e = ap (λ (n : StepName). n.thread) (sym (by_room (is_full_for_step story) d e)) ∙ by_move d h
+  by_deed r (Some d) h e = ap (λ (n : StepName). n.thread) (sym (by_room (is_full_for_step story) (needed_left story d.fact) d e)) ∙ by_move d h
 
   by_frame : (o : Option Frame) → thread_answer story t o ≡ Ok x → x.name.thread ≡ t
   by_frame None e = cc

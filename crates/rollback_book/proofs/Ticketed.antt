@@ -1,5 +1,5 @@
 -- Which threads have a ticket, and where a prepared turn is still its thread's.
-use Rattle.std.proofs.Common.{◌≡◌, Bool, true, false, refl, ap, sym, subst, ◌∙◌, Option, None, Some}
+use Rattle.std.proofs.Common.{Err, ◌≡◌, Bool, true, false, refl, ap, sym, subst, ◌∙◌, Option, None, Some}
 use Rattle.std.specs.Prelude.{IsSome, is_some, not, option_and_then}
 use Rattle.std.proofs.lemmas.Option.{same_Some}
 use Rattle.asl_machine.specs.MachineSame.{same_definition, definition_exact}
@@ -20,15 +20,15 @@ use Rattle.saved_steps.specs.Held.{frames_of, paths_of}
 use Rattle.saved_steps.specs.World.{World}
 use Rattle.saved_steps.specs.declared.next.Next.TheVariants.{Work}
 use Rattle.saved_steps.proofs.Moves.{work_is_deed}
-use Rattle.book_log.specs.Answers.{has_move, is_full_for_step}
-use Rattle.book_log.specs.Story.{Story, base_of, machine_of, past_of, setting_of, world_of}
+use Rattle.book_log.specs.Answers.{has_move, is_full_for_step, step_answer}
+use Rattle.book_log.specs.Story.{Story, base_of, held, machine_of, past_of, setting_of, world_of}
 use Rattle.book_log.specs.declared.refusal.Refusal.{Refusal}
-use Rattle.book_log.specs.declared.refusal.Refusal.TheVariants.{NoMachine, MachineTaken, BadMachine, ExecTaken, NoThread, NotReady, NoStep, HasDependents, Stale, Full, Memory, Settled}
+use Rattle.book_log.specs.declared.refusal.Refusal.TheVariants.{NoMachine, MachineTaken, BadMachine, ExecTaken, NoThread, NotReady, NoStep, HasDependents, Stale, Full, Memory, Settled, Held}
 use Rattle.rollback_book.specs.Book.{Volume, IsTied, place_in, placed}
 use Rattle.rollback_book.specs.Commits.{IsFresh, IsSource}
-use Rattle.rollback_book.specs.Ready.{IsNextOf}
+use Rattle.rollback_book.specs.Ready.{HasRoomUnlessHeld, IsNextOf}
 use Rattle.rollback_book.specs.Tickets.{IsTicketed, IsTicketRefusal, readiness_in}
-use Rattle.rollback_book.proofs.Moving.{few_steps, moves_where, next_is, ready_to, told_there}
+use Rattle.rollback_book.proofs.Moving.{few_steps, moves_where, next_is, ready_to, step_full, told_there}
 use Rattle.rollback_book.proofs.Tied.{world_is}
 use Rattle.rollback_book.proofs.Whole.{legal_whole}
 
@@ -61,7 +61,7 @@ fresh_by story t p f there source begins =
     record { begins = begins; frame = there ∙ ap Some source.0; machine = subst (λ (g : Frame). machine_of story g.level.machine ≡ Some p.machine) source.0 source.1 }
 
 -- a turn that is fresh is what its thread's next step is to do
-pub commit_next : (b : Volume) (tied : IsTied b) (t : Thread) (p : Prepared) (name : StepName) → IsFresh b.story t p → is_full_for_step b.story ≡ false → name ≡ next_step t p.frame
+pub commit_next : (b : Volume) (tied : IsTied b) (t : Thread) (p : Prepared) (name : StepName) → IsFresh b.story t p → HasRoomUnlessHeld b.story → name ≡ next_step t p.frame
     → IsNextOf b t name (Work p)
 commit_next b tied t p name fresh free named =
     let f = p.frame in
@@ -69,6 +69,12 @@ commit_next b tied t p name fresh free named =
     let ready = ready_to b tied t f there p.machine (sym (ap first.has_move (told_there b tied t)) ∙ fresh.begins) free (tied.machines f.level.machine ∙ fresh.machine) in
     next_is b tied t f there p.machine name (Work p) ready named
     (λ s base ts is own. work_move s b.history.world t f p.machine (is_over s base ts b.history is) there own p work_is_deed p.ready (ready.begins p.ready) refl refl)
+
+-- and it is refused where there is no room and nothing is held
+pub commit_full : (b : Volume) (tied : IsTied b) (t : Thread) (p : Prepared) → IsFresh b.story t p → held b.story ≡ None → is_full_for_step b.story ≡ true → step_answer b.story t ≡ Err Full
+commit_full b tied t p fresh unheld full =
+    let there : frames_of b.history.world t ≡ Some p.frame = sym (ap (λ (w : World). w.frames t) (world_is b tied)) ∙ fresh.frame in
+    step_full b tied t p.frame there unheld (sym (ap first.has_move (told_there b tied t)) ∙ fresh.begins) full
 
 -- ---- what is compared
 
@@ -121,3 +127,4 @@ memory_alone story t (HasDependents step) moves h = absurd h
 memory_alone story t (Stale entries) moves h = absurd h
 memory_alone story t Full moves h = absurd h
 memory_alone story t Settled moves h = absurd h
+memory_alone story t (Held step) moves h = absurd h

@@ -23,6 +23,7 @@ use Rattle.book_log.specs.declared.entry.Entry.{Entry}
 use Rattle.book_log.proofs.LegalRuns.{legal_stands}
 use Rattle.book_log.proofs.Standing.{StandsAt, stands_in, settled_next, world_there, past_there, steps_run, names_there, fact_named}
 use Rattle.rollback_book.specs.Book.{Volume, IsTied, place_in, placed}
+use Rattle.rollback_book.specs.Holding.{IsHoldOf}
 
 -- ---- a story that stands somewhere
 
@@ -37,9 +38,9 @@ stands_as story s w v ts h runs =
 
 -- what is held belongs to a story that stands in the same world
 pub tied_by : (b : Volume) (s : Setting) (base w : World) (ts : List Past) → IsLegal b.story → StandsAt b.story s w ts → base_of b.story ≡ base → IsHistory s base ts b.history
-    → ((name : List ℕ) → placed (place_in b.places name) ≡ s.machines name) → b.settled.items ≡ map name_of (settled b.story)
+    → ((name : List ℕ) → placed (place_in b.places name) ≡ s.machines name) → b.settled.items ≡ map name_of (settled b.story) → IsHoldOf b.story b.history.records.items b.held
     → length b.story.log + length b.history.records.items ≤ b.capacity → length b.history.records.items ≤ 65536 → length b.story.log + length b.history.records.items ≤ 1000000 → IsTied b
-tied_by b s base w ts legal h same was machines names room few bounded =
+tied_by b s base w ts legal h same was machines names holds room few bounded =
     let is = subst (λ (x : World). IsHistory s x ts b.history) (sym same) was in
     let own = stands_as b.story s w (seen b.history.world) ts h is.runs in
     let past = past_there b.story s (seen b.history.world) ts own in
@@ -50,6 +51,7 @@ tied_by b s base w ts legal h same was machines names room few bounded =
       run = own.runs ∙ ap (λ (l : List Past). Some (seen b.history.world, l)) (sym past);
       machines = λ name. machines name ∙ ap (λ (x : Setting). x.machines name) (sym h.setting);
       names = names;
+      held = holds;
       room = room;
       few = few;
       bounded = bounded;

@@ -9,7 +9,7 @@ use Rattle.book_log.specs.Legal.{IsAccepted, IsLegal}
 use Rattle.book_log.specs.Story.{Story, Remainder, after_entry, remainder, setting_of}
 use Rattle.book_log.specs.declared.begin.Begin.{Begin}
 use Rattle.book_log.specs.declared.entry.Entry.{Entry}
-use Rattle.book_log.specs.declared.entry.Entry.TheVariants.{Define, Start, Step as Stepped, Undo, Rollback, Settle}
+use Rattle.book_log.specs.declared.entry.Entry.TheVariants.{Define, Start, Step as Stepped, Undo, Rollback, Settle, Hold}
 use Rattle.book_log.proofs.LegalRuns.{of_log, of_legal}
 use Rattle.book_log.proofs.Standing.{remainder_next}
 
@@ -27,6 +27,7 @@ whole_after story (Stepped name kind) a h n = h n
 whole_after story (Undo name) a h n = h n
 whole_after story (Rollback name undone) a h n = h n
 whole_after story Settle a h n = h n
+whole_after story (Hold name count) a h n = h n
 
 whole_first : (begin : Begin) → IsLegal (of_log begin []) → AreWhole (remainder (of_log begin []))
 unfolding remainder

@@ -18,6 +18,8 @@ use Rattle.book_log.specs.Answers.{undo_answer, most_steps, most_places}
 use Rattle.book_log.specs.Legal.{IsLegal}
 use Rattle.book_log.specs.declared.begin.Begin.{Begin}
 use Rattle.book_log.specs.declared.entry.Entry.{Entry}
+use Rattle.rollback_book.specs.Holding.{IsHoldOf}
+use Rattle.rollback_book.specs.declared.hold.Hold.{Hold}
 use Rattle.book_log.specs.Story.{Story, base_of, settled, machine_of, past_of, run_of, setting_of}
 
 -- places of machines, each with its name: a place may be empty
@@ -32,18 +34,19 @@ abbrev pub placed : Option (Option Definition) → Option Definition
 placed None = None
 placed (Some place) = place
 
--- The story is what a book is; it holds the history of its remaining steps, places for machines, room for so many entries, and the
--- names of the steps that were settled.
+-- The story is what a book is; it holds the history of its remaining steps, places for machines, room for so many entries, the
+-- names of the steps that were settled, and what is left of a hold.
 pub record Volume : Type 0 where
   pub story : Story
   pub history : History
   pub places : Places
   pub capacity : ℕ
   pub settled : Names
+  pub held : Option Hold
 
 -- a book of these fields
-abbrev pub volume : Begin → BTreeMap (List ℕ) (Option Definition) → History → Vec Entry → Names → Volume
-volume begin machines history log settled = record { story = record { begin = begin; log = log.items }; history = history; places = machines.entries; capacity = vec_capacity log; settled = settled }
+abbrev pub volume : Begin → BTreeMap (List ℕ) (Option Definition) → History → Vec Entry → Names → Option Hold → Volume
+volume begin machines history log settled held = record { story = record { begin = begin; log = log.items }; history = history; places = machines.entries; capacity = vec_capacity log; settled = settled; held = held }
 
 -- what a book holds belongs to its story
 pub record IsTied (b : Volume) : Type 0 where
@@ -53,6 +56,7 @@ pub record IsTied (b : Volume) : Type 0 where
   pub run : run_of b.story ≡ Some (seen b.history.world, past_of b.story)
   pub machines : (name : List ℕ) → placed (place_in b.places name) ≡ machine_of b.story name
   pub names : b.settled.items ≡ map name_of (settled b.story)
+  pub held : IsHoldOf b.story b.history.records.items b.held
   -- there is room for the entry of each remaining step's undoing
   pub room : length b.story.log + length b.history.records.items ≤ b.capacity
   pub few : length b.history.records.items ≤ most_steps

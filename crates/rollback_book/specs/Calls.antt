@@ -1,18 +1,19 @@
 -- What the calls of a book promise, over what it began with and the commands that it accepted: `before` is that of before a call,
 -- `after` that of after it. A book and whatever stands for one in code over many callers promise the same.
-use Rattle.std.specs.Prelude.{◌≡◌, ◌<◌, ◌⊎◌, ℕ, List, length, Bool, Option, Some, None, Result, Err, Ok, IfOk, IfErr, IsOk, OnOk, OnErr, MatchResult}
+use Rattle.std.specs.Prelude.{◌≡◌, ◌<◌, ◌⊎◌, ℕ, List, [], ◌∷◌, ◌++◌, length, Bool, Option, Some, None, Result, Err, Ok, IfOk, IfErr, IsOk, OnOk, OnErr, MatchResult}
 use Rattle.std.specs.Borrow.{Bor}
 use Rattle.json_tree.specs.declared.tree.Json.{Json}
 use Rattle.step_history.specs.Frame.{Frame}
+use Rattle.step_history.specs.History.{Past}
 use Rattle.step_names.specs.Thread.{Thread}
 use Rattle.step_names.specs.declared.step.StepName.{StepName}
-use Rattle.book_log.specs.Answers.{Gives, plan_answer, settle_answer, start_answer, step_answer, undo_answer}
+use Rattle.book_log.specs.Answers.{Gives, GivesOr, HoldLacks, SettleLacks, StepLacks, hold_answer, plan_answer, settle_answer, start_answer, step_answer, undo_answer}
 use Rattle.book_log.specs.Laws.{IsRolledBack}
 use Rattle.book_log.specs.Legal.{IsLegal}
-use Rattle.book_log.specs.Story.{Story, accepted, consequences_of, world_of}
+use Rattle.book_log.specs.Story.{Story, accepted, consequences_of, left_of, world_of}
 use Rattle.book_log.specs.declared.begin.Begin.{Begin}
 use Rattle.book_log.specs.declared.entry.Entry.{Entry}
-use Rattle.book_log.specs.declared.entry.Entry.TheVariants.{Start, Step as Stepped, Undo, Rollback, Settle}
+use Rattle.book_log.specs.declared.entry.Entry.TheVariants.{Start, Step as Stepped, Undo, Rollback, Settle, Hold}
 use Rattle.book_log.specs.declared.moved.Moved.{Moved}
 use Rattle.book_log.specs.declared.refusal.Refusal.{Refusal}
 use Rattle.book_log.specs.declared.refusal.Refusal.TheVariants.{Memory, NoThread, Stale}
@@ -30,15 +31,26 @@ pub record Starts (before after : Story) (exec : Thread) (machine : List ℕ) (i
 
 -- so is a step, with its name and kind
 pub record Steps (before after : Story) (thread : Thread) (result : Result Moved Refusal) : Type 0 where
-  pub answer : Gives result (step_answer before thread)
+  pub answer : GivesOr (StepLacks before thread) result (step_answer before thread)
   pub ok : IfOk result (λ m. after ≡ accepted before (Stepped m.name m.kind))
   pub err : OnErr result (after ≡ before)
 
 -- so is a settlement
 pub record Settles (before after : Story) (result : Result (Unit {0}) Refusal) : Type 0 where
-  pub answer : Gives result (settle_answer before)
+  pub answer : GivesOr (SettleLacks before) result (settle_answer before)
   pub ok : OnOk result (after ≡ accepted before Settle)
   pub err : OnErr result (after ≡ before)
+
+-- so is a hold, with how many steps it holds
+pub record Holds (before after : Story) (step : StepName) (result : Result ℕ Refusal) : Type 0 where
+  pub answer : GivesOr (HoldLacks before step) result (hold_answer before step)
+  pub ok : IfOk result (λ count. after ≡ accepted before (Hold step count))
+  pub err : OnErr result (after ≡ before)
+
+-- the latest step that is left of a hold, if any is
+abbrev pub IsLatestLeft : Story → Option StepName → Type 0
+IsLatestLeft story None = left_of story ≡ []
+IsLatestLeft story (Some name) = (front : List Past) × (x : Past) × (left_of story ≡ front ++ x ∷ []) × (x.fact.name ≡ name)
 
 -- room for the undoing of this step, refused for memory alone
 pub record MakesRoom (step : StepName) (result : Result Room Refusal) : Type 0 where

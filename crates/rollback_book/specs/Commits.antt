@@ -6,19 +6,16 @@ use Rattle.step_history.specs.Phase.{Phase}
 use Rattle.step_history.specs.Phase.TheVariants.{Ready}
 use Rattle.step_history.specs.Prepared.{Prepared}
 use Rattle.step_names.specs.Thread.{Thread}
-use Rattle.book_log.specs.Answers.{is_full_for_step, step_answer}
+use Rattle.book_log.specs.Answers.{step_answer}
 use Rattle.book_log.specs.Story.{Story, accepted, machine_of, world_of}
 use Rattle.book_log.specs.declared.entry.Entry.TheVariants.{Step as Stepped}
 use Rattle.book_log.specs.declared.moved.Moved.{Moved}
-use Rattle.book_log.specs.declared.refusal.Refusal.{Refusal}
-use Rattle.book_log.specs.declared.refusal.Refusal.TheVariants.{Full, Memory}
-use Rattle.rollback_book.specs.Making.{AnswersStep}
+use Rattle.rollback_book.specs.Making.{IsMoveRefusal}
 use Rattle.rollback_book.specs.Tickets.{readiness_in}
 use Rattle.rollback_book.specs.declared.commits.CommitRefusal.{CommitRefusal}
 use Rattle.rollback_book.specs.declared.commits.CommitRefusal.TheVariants.{Stale, Refused}
 use Rattle.rollback_book.specs.declared.commits.Staleness.{Staleness}
 use Rattle.rollback_book.specs.declared.commits.Staleness.TheVariants as stale
-use Rattle.rollback_book.specs.declared.making.Made.{Made}
 
 abbrev pub is_ready : Phase → Bool
 is_ready Ready = true
@@ -47,25 +44,13 @@ abbrev pub IsStaleness : Story → Thread → Prepared → Option Staleness → 
 IsStaleness story t p None = IsFresh story t p
 IsStaleness story t p (Some why) = IsStale story t p why
 
--- there is no room for a step; or there is, and memory is wanting
-abbrev pub IsRoomRefusal : Story → Refusal → Type 0
-IsRoomRefusal story Full = is_full_for_step story ≡ true
-IsRoomRefusal story Memory = is_full_for_step story ≡ false
-IsRoomRefusal story _ = ⊥
-
--- A turn that is fresh is the thread's step, and is refused for want of room alone; one that isn't is handed back, with the reason.
+-- A turn that is fresh is the thread's step, and is refused as that is; one that isn't is handed back, with the reason.
 abbrev pub AnswersCommit : Story → Thread → Prepared → Result Moved CommitRefusal → Type 0
 AnswersCommit story t p (Ok moved) = IsFresh story t p × (step_answer story t ≡ Ok moved)
 AnswersCommit story t p (Err (Stale why prepared)) = IsStale story t p why × (prepared ≡ p)
-AnswersCommit story t p (Err (Refused e)) = IsFresh story t p × IsRoomRefusal story e
+AnswersCommit story t p (Err (Refused e)) = IsFresh story t p × IsMoveRefusal story t e
 
 -- the log has the step more, or is the same where it is refused
 abbrev pub Commits : Story → Result Moved CommitRefusal → Story → Type 0
 Commits before (Ok moved) after = after ≡ accepted before (Stepped moved.name moved.kind)
 Commits before (Err e) after = after ≡ before
-
--- ---- inside
-
--- everything is made for the step that is answered
-abbrev pub IsStepTold : Result Moved Refusal → Made → Type 0
-IsStepTold answer m = AnswersStep answer (Ok m)

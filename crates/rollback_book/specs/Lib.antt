@@ -1,4 +1,5 @@
 pub mod Book
+pub mod Holding
 pub mod Making
 pub mod Ready
 pub mod Ordering

@@ -1,5 +1,5 @@
 -- What is made ready of a command before it is entered.
-use Rattle.std.specs.Prelude.{◌≡◌, ◌+◌, ◌≤◌, ℕ, List, [], ◌++◌, length, slice_get, Some, None, option_map, Result, Ok, Err}
+use Rattle.std.specs.Prelude.{◌≡◌, ◌+◌, ◌≤◌, ◌⊎◌, ◌==◌, ℕ, Bool, List, [], ◌++◌, length, slice_get, Some, None, option_map, Result, Ok, Err}
 use Rattle.json_tree.specs.Data.{depth, most_levels}
 use Rattle.json_tree.specs.View.{data_of}
 use Rattle.serde_json.specs.View.{view}
@@ -12,17 +12,23 @@ use Rattle.saved_steps.specs.Steps.{Step, started, moved}
 use Rattle.saved_steps.specs.declared.made.Made.{Made as MadeStep}
 use Rattle.step_history.specs.History.{Past, HasRoom}
 use Rattle.settled_names.specs.Names.{HasRoomFor}
+use Rattle.saved_steps.specs.declared.record.StepRecord.{StepRecord}
+use Rattle.step_names.specs.Thread.{Thread}
 use Rattle.step_names.specs.declared.step.StepName.{StepName}
-use Rattle.book_log.specs.Answers.{IsDefineRefusal, settle_answer, start_answer, step_answer, plan_answer}
+use Rattle.book_log.specs.Answers.{IsDefineRefusal, HoldLacks, SettleLacks, StepLacks, hold_answer, settle_answer, start_answer, step_answer, plan_answer}
 use Rattle.book_log.specs.Legal.{IsAccepted}
-use Rattle.book_log.specs.Story.{Story, facts_of, setting_of, world_of}
+use Rattle.book_log.specs.Story.{Story, consequences_of, facts_of, setting_of, world_of}
 use Rattle.book_log.specs.declared.entry.Entry.{Entry}
-use Rattle.book_log.specs.declared.entry.Entry.TheVariants.{Define, Start, Step as Stepped, Settle}
+use Rattle.book_log.specs.declared.entry.Entry.TheVariants.{Define, Start, Step as Stepped, Settle, Hold}
 use Rattle.book_log.specs.declared.moved.Moved.{Moved}
 use Rattle.book_log.specs.declared.refusal.Refusal.{Refusal}
 use Rattle.book_log.specs.declared.refusal.Refusal.TheVariants.{Memory}
 use Rattle.rollback_book.specs.Book.{Volume, place_in}
 use Rattle.rollback_book.specs.Commuting.{IsAllowedOrder}
+use Rattle.std.specs.List.{list_any}
+use Rattle.step_index.specs.Held.{AreLeft}
+use Rattle.rollback_book.specs.Holding.{HasHeldRoom, IsHoldFor}
+use Rattle.rollback_book.specs.declared.hold.Hold as holds
 use Rattle.rollback_book.specs.declared.making.Change.{Change}
 use Rattle.rollback_book.specs.declared.making.Change.TheVariants as change
 use Rattle.rollback_book.specs.declared.making.Entered.{Entered}
@@ -51,17 +57,30 @@ abbrev pub AnswersStep : Result Moved Refusal → Result Made Refusal → Type 0
 AnswersStep answer (Ok m) = (moved : Moved) × (answer ≡ Ok moved) × Tells m (Stepped moved.name moved.kind) (entered.Stepped moved)
 AnswersStep answer (Err e) = OrMemory answer e
 
-abbrev pub AnswersSettle : Result (Unit {0}) Refusal → Result Made Refusal → Type 0
-AnswersSettle answer (Ok m) = (answer ≡ Ok tt) × Tells m Settle entered.Settled
-AnswersSettle answer (Err e) = OrMemory answer e
+-- a move is refused as it is answered, or memory is wanting where something is held
+abbrev pub IsMoveRefusal : Story → Thread → Refusal → Type 0
+IsMoveRefusal story t e = OrMemory (step_answer story t) e ⊎ ((e ≡ Memory) × StepLacks story t)
+
+abbrev pub AnswersMove : Story → Thread → Result Made Refusal → Type 0
+AnswersMove story t (Ok m) = AnswersStep (step_answer story t) (Ok m)
+AnswersMove story t (Err e) = IsMoveRefusal story t e
+
+abbrev pub AnswersSettle : Story → Result Made Refusal → Type 0
+AnswersSettle story (Ok m) = (settle_answer story ≡ Ok tt) × Tells m Settle entered.Settled
+AnswersSettle story (Err e) = OrMemory (settle_answer story) e ⊎ ((e ≡ Memory) × SettleLacks story)
+
+abbrev pub AnswersHold : Story → StepName → Result Made Refusal → Type 0
+AnswersHold story name (Ok m) = (count : ℕ) × (hold_answer story name ≡ Ok count) × Tells m (Hold name count) (entered.Held count)
+AnswersHold story name (Err e) = OrMemory (hold_answer story name) e ⊎ ((e ≡ Memory) × HoldLacks story name)
 
 -- the command that a change is, with its answer, or why it is refused
 abbrev pub Answers : Story → Change → Result Made Refusal → Type 0
 Answers story (change.Define name d) (Ok m) = (machine : Definition) × Defines (view d.now) machine × Tells m (Define name.now machine) entered.Defined
 Answers story (change.Define name d) (Err e) = IsDefineRefusal story name.now (view d.now) e
 Answers story (change.Start exec machine input) result = AnswersStart (start_answer story exec.now machine.now) (Start exec.now machine.now input) result
-Answers story (change.Step thread) result = AnswersStep (step_answer story thread.now) result
-Answers story change.Settle result = AnswersSettle (settle_answer story) result
+Answers story (change.Step thread) result = AnswersMove story thread.now result
+Answers story change.Settle result = AnswersSettle story result
+Answers story (change.Hold step) result = AnswersHold story step.now result
 
 -- a start's execution has no branches, and its input nests at most 127 deep
 abbrev pub IsProper : Change → Type 0
@@ -69,6 +88,7 @@ IsProper (change.Define name d) = Unit {0}
 IsProper (change.Start exec machine input) = (exec.now.path ≡ []) × (depth (data_of input) ≤ most_levels)
 IsProper (change.Step thread) = Unit {0}
 IsProper change.Settle = Unit {0}
+IsProper (change.Hold step) = Unit {0}
 
 -- ---- what can be entered
 
@@ -79,13 +99,16 @@ pub record IsStepFor (b : Volume) (step : Step) (m : MadeStep) : Type 0 where
   pub made : IsMadeFor m deed
   pub ready : CanApply b.history.world m
   pub room : HasRoom b.history
+  pub held_room : HasHeldRoom b.held
 
--- a definition has an empty place, a step can be applied, and there is room for the names of what is settled
+-- a definition has an empty place, a step can be applied, there is room for the names of what is settled, and what is held is
+-- marked
 abbrev pub Fits : Volume → Entry → MadeChange → Type 0
 Fits b (Define name machine) (made.Define place shared) = (place ≡ name) × (shared ≡ machine) × (place_in b.places name ≡ Some None)
 Fits b (Start exec machine input) (made.Step m) = IsStepFor b (started exec.exec machine input) m
 Fits b (Stepped name kind) (made.Step m) = IsStepFor b (moved name) m
 Fits b Settle made.Settle = HasRoomFor b.settled (length b.history.records.items)
+Fits b (Hold name count) (made.Hold h) = IsHoldFor b.story b.history.records.items name h
 Fits b _ _ = ⊥
 
 -- there is room for one more entry, and for that of its undoing
@@ -98,6 +121,17 @@ pub record CanEnter (b : Volume) (m : Made) : Type 0 where
   pub accepted : IsAccepted b.story m.entry
   pub fits : Fits b m.entry m.change
   pub room : HasLogRoom b
+
+-- everything is made to hold the steps at these places
+abbrev pub IsMadeHold : StepName → List StepRecord → List ℕ → Made → Type 0
+IsMadeHold name rs places m =
+    (h : holds.Hold) × (m ≡ record { entry = Hold name (length places); answer = entered.Held (length places); change = made.Hold h }) × (h.step ≡ name) × AreLeft rs h.left
+    × ((k : ℕ) (mark : Bool) → slice_get h.left.marks k ≡ Some mark → mark ≡ list_any (λ p. p == k) places)
+
+-- everything is made to hold so many steps
+abbrev pub MakesHold : Story → List StepRecord → StepName → Made → Type 0
+MakesHold story rs name m =
+    (h : holds.Hold) × (m ≡ record { entry = Hold name (length (consequences_of story name)); answer = entered.Held (length (consequences_of story name)); change = made.Hold h }) × IsHoldFor story rs name h
 
 -- ---- rollback
 

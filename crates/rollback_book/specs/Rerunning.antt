@@ -12,7 +12,7 @@ use Rattle.book_log.specs.Story.{Story, accepted}
 use Rattle.book_log.specs.declared.refusal.Refusal.{Refusal}
 use Rattle.book_log.specs.declared.refusal.Refusal.TheVariants.{NoStep, Memory}
 use Rattle.book_log.specs.declared.entry.Entry.{Entry}
-use Rattle.book_log.specs.declared.entry.Entry.TheVariants.{Define, Start, Step as Stepped, Undo, Rollback, Settle}
+use Rattle.book_log.specs.declared.entry.Entry.TheVariants.{Define, Start, Step as Stepped, Undo, Rollback, Settle, Hold}
 
 -- what a start has: its machine's name and its input
 abbrev pub Origin : Type 0
@@ -26,6 +26,7 @@ start_in t (Stepped name kind) = None
 start_in t (Undo name) = None
 start_in t (Rollback name undone) = None
 start_in t Settle = None
+start_in t (Hold name count) = None
 
 abbrev pub or_earlier : Option Origin → Option Origin → Option Origin
 or_earlier (Some origin) earlier = Some origin
@@ -66,3 +67,4 @@ MayDefine story (Stepped name kind) = Unit {0}
 MayDefine story (Undo name) = Unit {0}
 MayDefine story (Rollback name undone) = Unit {0}
 MayDefine story Settle = Unit {0}
+MayDefine story (Hold name count) = Unit {0}

@@ -10,6 +10,7 @@ ghost use Rattle.rollback_book.specs.Book.{IsAt, IsFreePlace};
 ghost use Rattle.rollback_book.specs.Calls.{IsLogOf, MakesRoom, PlansRollback, RollsBack, Shows, Undoes};
 ghost use Rattle.rollback_book.specs.Making.{IsPlanned, WasPlanned};
 
+use crate::hold::{Hold, take_out};
 use crate::lists::{absent_in, names_at, push_with_room};
 use crate::machines::Machines;
 use crate::room::{PlanRoom, Room};
@@ -37,6 +38,8 @@ pub struct Book {
     pub(crate) history: History,
     pub(crate) log: Vec<Entry>,
     pub(crate) settled: SettledNames,
+    /// Of a hold that stands, which steps are left.
+    pub(crate) held: Option<Hold>,
 }
 
 impl Model for Book {
@@ -45,15 +48,16 @@ impl Model for Book {
     ghost use Rattle.book_log.specs.contracts.begin.Begin as begin_row;
     ghost use Rattle.book_log.specs.contracts.entry.Entry as entry_row;
     ghost use Rattle.step_history.specs.contracts.history.History as history_row;
+    ghost use Rattle.rollback_book.specs.contracts.hold.Hold as hold_row;
     ghost use Rattle.std.specs.Coded.{codes};
 
     ghost Value = { Volume };
 
-    ghost coded = { Prim.hlevel (codes, begin_row.the_row.coded, entry_row.the_row.coded, history_row.the_row.coded, definition_code) };
+    ghost coded = { Prim.hlevel (codes, begin_row.the_row.coded, entry_row.the_row.coded, history_row.the_row.coded, hold_row.the_row.coded, definition_code) };
 
-    ghost view = { λ b. volume b.begin b.machines b.history b.log b.settled };
+    ghost view = { λ b. volume b.begin b.machines b.history b.log b.settled b.held };
 
-    ghost invariant = { λ b. IsTied (volume b.begin b.machines b.history b.log b.settled) };
+    ghost invariant = { λ b. IsTied (volume b.begin b.machines b.history b.log b.settled b.held) };
 }
 
 impl Book {
@@ -75,6 +79,7 @@ impl Book {
                 history: History::new(alloc, items),
                 log: Vec::new(alloc),
                 settled: SettledNames::new(alloc),
+                held: None,
             }),
             Err(fault) => {
                 drop(begin);
@@ -145,6 +150,7 @@ impl Book {
             entries: _,
         } = room;
         self.history.rollback(&places);
+        take_out(&mut self.held, places.places());
         push_with_room(&mut self.log, Entry::Rollback { step, undone });
         Ok(names)
     }
@@ -202,7 +208,7 @@ impl Book {
     }
 
     /// Why a step that doesn't remain can't be taken back.
-    fn absent(&self, name: &StepName) -> Refusal
+    pub(crate) fn absent(&self, name: &StepName) -> Refusal
         ensures { result ≡ absent self.now.story name.now }
     {
         absent_in(&self.settled, name)
@@ -231,6 +237,7 @@ impl Book {
         ensures { self.new.story ≡ accepted self.old.story (Entry.Undo step) }
     {
         self.history.undo(at);
+        take_out(&mut self.held, &[at]);
         push_with_room(&mut self.log, Entry::Undo { step });
     }
 }

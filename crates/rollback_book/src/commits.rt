@@ -1,18 +1,17 @@
 // Turns that were prepared apart from the book, and are taken where they are still their threads'.
 ghost use Rattle.std.specs.Prelude.{◌≡◌, true, false, IfOk, MatchResult};
-ghost use Rattle.book_log.specs.Answers.{step_answer};
-ghost use Rattle.rollback_book.specs.Commits.{AnswersCommit, Commits, IsFresh, IsRoomRefusal, IsSource, IsStaleness, IsStepTold, is_ready};
-ghost use Rattle.rollback_book.specs.Making.{CanEnter};
+ghost use Rattle.rollback_book.specs.Commits.{AnswersCommit, Commits, IsFresh, IsSource, IsStaleness, is_ready};
+ghost use Rattle.rollback_book.specs.Making.{AnswersMove, CanEnter};
 
 use crate::book::Book;
-use crate::checks::is_full_for_step;
+use crate::hold::is_full_unheld;
 use crate::machines::machine_in;
 use crate::making::{Entered, Made};
 use crate::stepping::{has_move, next_name};
 use book_log::{Moved, Refusal};
 use branch_tree::Readiness;
 use saved_steps::Next;
-use std::alloc::{AllocError, Global};
+use std::alloc::Global;
 use step_history::turns::{Frame, Phase, Prepared};
 use step_names::ThreadName;
 
@@ -35,7 +34,7 @@ pub enum Staleness {
 pub enum CommitRefusal {
     /// 9: the turn is no longer its thread's, and comes back.
     Stale(Staleness, Prepared),
-    /// 10 and 11: `Full` or `Memory`; the turn is dropped.
+    /// 13, 10 and 11: `Held`, `Full` or `Memory`; the turn is dropped.
     Refused(Refusal),
 }
 
@@ -53,7 +52,8 @@ impl Book {
     ///
     /// # Errors
     ///
-    /// `Stale`, then `Refused` with `Full` or `Memory`, in this order.
+    /// `Stale`, then `Refused` with `Held`, `Full` or `Memory`, in this order; while something is held `Memory` may stand for the two
+    /// before it.
     pub fn commit(
         &mut self,
         alloc: Global,
@@ -121,11 +121,11 @@ impl Book {
         prepared: Prepared,
     ) -> Result<Made, Refusal>
         requires { IsFresh self.old.story thread.now prepared }
-        ensures answer { MatchResult result (IsStepTold (step_answer self.old.story thread.now)) (IsRoomRefusal self.old.story) }
+        ensures answer { AnswersMove self.old.story thread.now result }
         ensures ready { IfOk result (λ m. CanEnter self.new m) }
         ensures story { self.new.story ≡ self.old.story }
     {
-        if is_full_for_step(self.log.len(), self.history.len()) {
+        if is_full_unheld(&self.held, self.log.len(), self.history.len()) {
             drop(prepared);
             return Err(Refusal::Full);
         }
@@ -133,9 +133,6 @@ impl Book {
             drop(prepared);
             return Err(Refusal::Memory);
         };
-        match self.ready_next(alloc, name, Next::Work(prepared)) {
-            Ok(made) => Ok(made),
-            Err(AllocError) => Err(Refusal::Memory),
-        }
+        self.ready_next(alloc, name, Next::Work(prepared))
     }
 }

@@ -19,6 +19,7 @@ ghost use Rattle.rollback_book.specs.Ready.{IsMadeIn, IsStartOf};
 
 use crate::book::Book;
 use crate::checks::{is_full_for_define, is_full_for_step, read_machine};
+use crate::hold::{add_unheld, reserve_held};
 use crate::lists::{push_with_room, reserve_entries};
 use crate::machines::{fill_place, machine_in, make_place};
 use crate::making::{Change, Entered, Made, MadeChange, make_define, start_entry};
@@ -89,6 +90,7 @@ impl Book {
             } => self.ready_start(alloc, exec, machine, input),
             Change::Step { thread } => self.ready_step(alloc, thread),
             Change::Settle => self.ready_settle(),
+            Change::Hold { step } => self.ready_hold(alloc, step),
         }
     }
 
@@ -107,6 +109,7 @@ impl Book {
             MadeChange::Define { name, machine } => self.enter_define(entry, name, machine),
             MadeChange::Step(step) => self.enter_step(entry, step),
             MadeChange::Settle => self.enter_settle(entry),
+            MadeChange::Hold(held) => self.enter_hold(entry, held),
         }
         answer
     }
@@ -128,6 +131,7 @@ impl Book {
         ensures { self.new.story ≡ accepted self.old.story entry }
     {
         self.history.apply(step);
+        add_unheld(&mut self.held);
         push_with_room(&mut self.log, entry);
     }
 
@@ -296,6 +300,10 @@ impl Book {
         ensures story { self.new.story ≡ self.old.story }
     {
         if reserve_entries(&mut self.log, self.history.len()).is_err() {
+            drop(next);
+            return Err(AllocError);
+        }
+        if reserve_held(&mut self.held).is_err() {
             drop(next);
             return Err(AllocError);
         }

@@ -1,11 +1,11 @@
 // The calls of a book that many callers may share.
-ghost use Rattle.std.specs.Prelude.{◌≡◌, ◌≤◌, []};
+ghost use Rattle.std.specs.Prelude.{◌≡◌, ◌≤◌, [], length, option_copied};
 ghost use Rattle.std.specs.BTreeSet.{contains};
 ghost use Rattle.json_tree.specs.Data.{depth, most_levels};
 ghost use Rattle.json_tree.specs.View.{data_of};
 ghost use Rattle.step_names.specs.Order.{thread_cmp};
-ghost use Rattle.book_log.specs.Story.{Story};
-ghost use Rattle.rollback_book.specs.Calls.{FindsFirst, IsLogOf, MakesRoom, PlansRollback, RollsBack, Shows, Starts, Steps, Undoes};
+ghost use Rattle.book_log.specs.Story.{Story, held, left_of};
+ghost use Rattle.rollback_book.specs.Calls.{FindsFirst, Holds, IsLatestLeft, IsLogOf, MakesRoom, PlansRollback, RollsBack, Shows, Starts, Steps, Undoes};
 ghost use Rattle.rollback_book.specs.Commits.{AnswersCommit, Commits};
 ghost use Rattle.rollback_book.specs.Making.{WasPlanned};
 ghost use Rattle.rollback_book.specs.Tickets.{AnswersTicket};
@@ -53,6 +53,22 @@ pub trait Events {
     ) -> Result<Moved, CommitRefusal>
         ensures answer { AnswersCommit (story self.old) thread.now prepared result }
         ensures story { Commits (story self.old) result (story self.new) };
+
+    /// As `Book::hold`.
+    fn hold(&mut self, alloc: Global, step: &StepName) -> Result<usize, Refusal>
+        ensures { Holds (story self.old) (story self.new) step.now result };
+
+    /// As `Book::held`.
+    fn held(&self) -> Option<&StepName>
+        ensures { option_copied result ≡ held (story self.now) };
+
+    /// As `Book::held_left`.
+    fn held_left(&self) -> usize
+        ensures { result ≡ length (left_of (story self.now)) };
+
+    /// As `Book::last_left`.
+    fn last_left(&self) -> Option<&StepName>
+        ensures { IsLatestLeft (story self.now) (option_copied result) };
 
     /// As `Book::room`.
     fn room(&self, alloc: Global, step: &StepName) -> Result<Room, Refusal>
@@ -116,6 +132,22 @@ impl Events for Book {
         prepared: Prepared,
     ) -> Result<Moved, CommitRefusal> {
         Book::commit(self, alloc, thread, prepared)
+    }
+
+    fn hold(&mut self, alloc: Global, step: &StepName) -> Result<usize, Refusal> {
+        Book::hold(self, alloc, step)
+    }
+
+    fn held(&self) -> Option<&StepName> {
+        Book::held(self)
+    }
+
+    fn held_left(&self) -> usize {
+        Book::held_left(self)
+    }
+
+    fn last_left(&self) -> Option<&StepName> {
+        Book::last_left(self)
     }
 
     fn room(&self, alloc: Global, step: &StepName) -> Result<Room, Refusal> {

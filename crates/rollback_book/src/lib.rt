@@ -6,6 +6,8 @@ mod checks;
 mod commits;
 mod entering;
 mod events;
+mod hold;
+mod holding;
 mod lists;
 mod machines;
 mod making;

@@ -1,6 +1,7 @@
 // Commands for which everything is made, so that to enter them takes no memory.
 ghost use Rattle.std.specs.Prelude.{◌≡◌, IfOk};
 
+use crate::hold::Hold;
 use asl_machine::{Machine, SharedMachine};
 use book_log::{Entry, Moved};
 use json_tree::{Json, Text};
@@ -24,6 +25,9 @@ pub enum Change<'a> {
         thread: &'a ThreadName,
     },
     Settle,
+    Hold {
+        step: &'a StepName,
+    },
 }
 
 /// What the caller of a command is told.
@@ -33,6 +37,7 @@ pub enum Entered {
     Started(StepName),
     Stepped(Moved),
     Settled,
+    Held(usize),
 }
 
 /// What a command puts into a book beside its entry.
@@ -41,6 +46,7 @@ pub enum MadeChange {
     Define { name: Text, machine: SharedMachine },
     Step(saved_steps::Made),
     Settle,
+    Hold(Hold),
 }
 
 /// A command for which everything is made.

@@ -1,9 +1,8 @@
 // Steps that can't be taken back any more, and commands of a log that are entered once more.
-ghost use Rattle.std.specs.Prelude.{◌≡◌, List, length, IfErr, IfOk, OnOk};
+ghost use Rattle.std.specs.Prelude.{◌≡◌, ℕ, List, length, IfErr, IfOk, OnOk};
 ghost use Rattle.settled_names.specs.Names.{HasRoomFor};
 ghost use Rattle.saved_steps.specs.declared.fact.Kind.{Kind};
 ghost use Rattle.step_names.specs.declared.step.StepName.{StepName};
-ghost use Rattle.book_log.specs.Answers.{settle_answer};
 ghost use Rattle.book_log.specs.Legal.{IsAccepted};
 ghost use Rattle.book_log.specs.Story.{accepted};
 ghost use Rattle.rollback_book.specs.Calls.{Settles};
@@ -24,7 +23,7 @@ impl Book {
     ///
     /// # Errors
     ///
-    /// `Full` and `Memory`, in this order.
+    /// `Held`, `Full` and `Memory`, in this order; `Memory` may stand for `Held`, since the name that it tells is a copy.
     pub fn settle(&mut self, _alloc: Global) -> Result<(), Refusal>
         ensures { Settles self.old.story self.new.story result }
     {
@@ -35,10 +34,13 @@ impl Book {
 
     /// Makes everything that a settlement needs.
     pub(crate) fn ready_settle(&mut self) -> Result<Made, Refusal>
-        ensures answer { AnswersSettle (settle_answer self.old.story) result }
+        ensures answer { AnswersSettle self.old.story result }
         ensures ready { IfOk result (λ m. CanEnter self.new m) }
         ensures story { self.new.story ≡ self.old.story }
     {
+        if let Err(refusal) = self.check_unheld() {
+            return Err(refusal);
+        }
         if is_full_for_define(self.log.len(), self.history.len()) {
             return Err(Refusal::Full);
         }
@@ -92,6 +94,7 @@ impl Book {
             Entry::Undo { step } => self.undo_as(alloc, step),
             Entry::Rollback { step, undone: _ } => self.roll_back_as(alloc, step),
             Entry::Settle => self.settle(alloc),
+            Entry::Hold { step, count: _ } => self.hold_as(alloc, step),
         }
     }
 
@@ -130,6 +133,16 @@ impl Book {
     {
         let room = self.room(alloc, step)?;
         drop(self.undo(room)?);
+        Ok(())
+    }
+
+    /// Holds a step that remains, with its consequences.
+    fn hold_as(&mut self, alloc: Global, step: &StepName) -> Result<(), Refusal>
+        requires { (count : ℕ) × IsAccepted self.old.story (Entry.Hold step.now count) }
+        ensures ok { (count : ℕ) → IsAccepted self.old.story (Entry.Hold step.now count) → OnOk result (self.new.story ≡ accepted self.old.story (Entry.Hold step.now count)) }
+        ensures err { IfErr result (λ e. e ≡ Refusal.Memory) }
+    {
+        self.hold(alloc, step)?;
         Ok(())
     }
 

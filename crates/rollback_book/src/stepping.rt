@@ -7,12 +7,11 @@ ghost use Rattle.saved_steps.specs.Deeds.{next_step};
 ghost use Rattle.saved_steps.specs.Made.{fact_made};
 ghost use Rattle.book_log.specs.Answers.{step_answer};
 ghost use Rattle.rollback_book.specs.Calls.{FindsFirst, Steps};
-ghost use Rattle.rollback_book.specs.Commits.{IsStepTold};
-ghost use Rattle.rollback_book.specs.Making.{AnswersStep, CanEnter, OrMemory};
-ghost use Rattle.rollback_book.specs.Ready.{IsNextOf, IsReadyTo};
+ghost use Rattle.rollback_book.specs.Making.{AnswersMove, CanEnter, IsMoveRefusal};
+ghost use Rattle.rollback_book.specs.Ready.{HasRoomUnlessHeld, IsHeldBack, IsNextOf, IsReadyTo, MayEnter};
 
 use crate::book::Book;
-use crate::checks::is_full_for_step;
+use crate::hold::{first_needed, is_full_unheld};
 use crate::machines::machine_in;
 use crate::making::{Entered, Made, MadeChange};
 use asl_machine::SharedMachine;
@@ -71,7 +70,7 @@ impl Book {
     ///
     /// # Errors
     ///
-    /// `NoThread`, `NotReady`, `Full` and `Memory`, in this order.
+    /// `NoThread`, `NotReady`, `Held`, `Full` and `Memory`, in this order; while something is held `Memory` may stand for the two before it.
     pub fn step(&mut self, alloc: Global, thread: &ThreadName) -> Result<Moved, Refusal>
         ensures { Steps self.old.story self.new.story thread.now result }
     {
@@ -84,15 +83,12 @@ impl Book {
 
     /// Makes everything that the next step of a thread needs.
     pub(crate) fn ready_step(&mut self, alloc: Global, thread: &ThreadName) -> Result<Made, Refusal>
-        ensures answer { AnswersStep (step_answer self.old.story thread.now) result }
+        ensures answer { AnswersMove self.old.story thread.now result }
         ensures ready { IfOk result (λ m. CanEnter self.new m) }
         ensures story { self.new.story ≡ self.old.story }
     {
         let (name, next) = self.next_of(alloc, thread)?;
-        match self.ready_next(alloc, name, next) {
-            Ok(made) => Ok(made),
-            Err(AllocError) => Err(Refusal::Memory),
-        }
+        self.ready_next(alloc, name, next)
     }
 
     /// Makes everything that a step needs which was worked out.
@@ -101,17 +97,46 @@ impl Book {
         alloc: Global,
         name: StepName,
         next: Next,
-    ) -> Result<Made, AllocError>
+    ) -> Result<Made, Refusal>
         requires { IsNextOf self.old name.thread name next }
-        ensures answer { IfOk result (IsStepTold (step_answer self.old.story name.thread)) }
+        ensures answer { AnswersMove self.old.story name.thread result }
         ensures ready { IfOk result (λ m. CanEnter self.new m) }
         ensures story { self.new.story ≡ self.old.story }
     {
         let Ok(step) = self.make_step(alloc, &name, next) else {
             drop(name);
-            return Err(AllocError);
+            return Err(Refusal::Memory);
         };
-        step_made(name, step)
+        if let Err(refusal) = self.check_made(&step) {
+            drop(name);
+            drop(step);
+            return Err(refusal);
+        }
+        match step_made(name, step) {
+            Ok(made) => Ok(made),
+            Err(AllocError) => Err(Refusal::Memory),
+        }
+    }
+
+    /// Whether a step that is made may be entered: where something is held, it must not depend directly on what is left, and there
+    /// must be room. Where nothing is held that there is room is known. Takes memory for what is known of the step, while something
+    /// is held.
+    fn check_made(&self, step: &saved_steps::Made) -> Result<(), Refusal>
+        requires { HasRoomUnlessHeld self.now.story }
+        ensures { MatchResult result
+            (λ _. MayEnter self.now.story (fact_made step.now))
+            (IsHeldBack self.now.story (fact_made step.now)) }
+    {
+        let Some(hold) = &self.held else {
+            return Ok(());
+        };
+        if let Some(place) = first_needed(hold, self.history.records(), step)? {
+            return Err(Refusal::Held(self.history.records()[place].fact.name.copy()?));
+        }
+        if self.is_full() {
+            return Err(Refusal::Full);
+        }
+        Ok(())
     }
 
     /// The least thread outside a set, by the order of names, that has a move. Takes the memory and the time of
@@ -137,7 +162,7 @@ impl Book {
     fn next_of(&self, alloc: Global, thread: &ThreadName) -> Result<(StepName, Next), Refusal>
         ensures { MatchResult result
             (λ p. IsNextOf self.now thread.now p.0 p.1)
-            (λ e. OrMemory (step_answer self.now.story thread.now) e) }
+            (IsMoveRefusal self.now.story thread.now) }
     {
         let (machine, frame) = self.check_step(thread)?;
         let Ok(name) = next_name(thread, frame) else {
@@ -153,7 +178,8 @@ impl Book {
         }
     }
 
-    /// The machine and the frame of a thread that may move.
+    /// The machine and the frame of a thread that may move, as far as its own state and the room tell it: where something is held, the room
+    /// is looked at later.
     fn check_step(&self, thread: &ThreadName) -> Result<(&SharedMachine, &Frame), Refusal>
         ensures { MatchResult result
             (λ p. IsReadyTo self.now thread.now p.0.now p.1.now)
@@ -165,7 +191,7 @@ impl Book {
         if !has_move(readiness) {
             return Err(Refusal::NotReady(readiness));
         }
-        if is_full_for_step(self.log.len(), self.history.len()) {
+        if is_full_unheld(&self.held, self.log.len(), self.history.len()) {
             return Err(Refusal::Full);
         }
         let Some(machine) = machine_in(&self.machines, &frame.level.machine) else {

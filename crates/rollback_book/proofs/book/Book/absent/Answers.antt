@@ -6,5 +6,5 @@ use Rattle.rollback_book.proofs.book.Book.absent.Goals as goal
 
 pub returns : goal.returns
 returns c =
-    let b = volume c.self.inside.begin c.self.inside.machines c.self.inside.history c.self.inside.log c.self.inside.settled in
+    let b = volume c.self.inside.begin c.self.inside.machines c.self.inside.history c.self.inside.log c.self.inside.settled c.self.inside.held in
     c.absent_in.ensures ∙ absent_is b c.self.invariant c.args.name.now ∙ ap (λ (v : Volume). absent v.story c.args.name.now) c.self.view_is

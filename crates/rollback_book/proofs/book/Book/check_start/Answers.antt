@@ -23,7 +23,7 @@ returns-then-has_frame-clause-answer c =
 
 pub returns-then-is_full_for_step-clause-answer : goal.returns-then-is_full_for_step-clause-answer
 returns-then-is_full_for_step-clause-answer c =
-    let b = volume c.self.inside.begin c.self.inside.machines c.self.inside.history c.self.inside.log c.self.inside.settled in
+    let b = volume c.self.inside.begin c.self.inside.machines c.self.inside.history c.self.inside.log c.self.inside.settled c.self.inside.held in
     let there = ap (λ (b : Volume). is_some (frames_of b.history.world c.args.exec.now)) c.self.view_is ∙ sym c.has_frame.ensures ∙ c.if-has_frame.false in
     let full = full_by b c.self.invariant c.len.result c.len-2.result c.is_full_for_step.result (c.len.ensures ∙ c.self.inside.log.ok.0) c.len-2.ensures c.is_full_for_step.ensures ∙ c.if-is_full_for_step.true in
     subst (λ (b : Volume). start_answer b.story c.args.exec.now c.args.machine.now ≡ Err Full) c.self.view_is
@@ -31,7 +31,7 @@ returns-then-is_full_for_step-clause-answer c =
 
 pub returns-clause-answer : goal.returns-clause-answer
 returns-clause-answer c =
-    let b = volume c.self.inside.begin c.self.inside.machines c.self.inside.history c.self.inside.log c.self.inside.settled in
+    let b = volume c.self.inside.begin c.self.inside.machines c.self.inside.history c.self.inside.log c.self.inside.settled c.self.inside.held in
     let there = ap (λ (b : Volume). is_some (frames_of b.history.world c.args.exec.now)) c.self.view_is ∙ sym c.has_frame.ensures ∙ c.if-has_frame.false in
     let full = full_by b c.self.invariant c.len.result c.len-2.result c.is_full_for_step.result (c.len.ensures ∙ c.self.inside.log.ok.0) c.len-2.ensures c.is_full_for_step.ensures ∙ c.if-is_full_for_step.false in
     subst (λ (b : Volume). start_answer b.story c.args.exec.now c.args.machine.now ≡ Ok (start_name c.args.exec.now.exec)) c.self.view_is

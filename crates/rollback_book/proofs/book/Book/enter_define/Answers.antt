@@ -9,7 +9,7 @@ use Rattle.rollback_book.proofs.book.Book.enter_define.Goals as goal
 
 pub invariant_of-self : goal.invariant_of-self
 invariant_of-self c =
-    let b = volume c.self.inside.begin c.self.inside.machines c.self.inside.history c.self.inside.log c.self.inside.settled in
+    let b = volume c.self.inside.begin c.self.inside.machines c.self.inside.history c.self.inside.log c.self.inside.settled c.self.inside.held in
     let accepted = subst (λ (b : Volume). IsAccepted b.story c.args.entry) (sym c.self.view_is) c.requires.accepted in
     let fits = subst (λ (b : Volume). Fits b c.args.entry (made.Define c.args.name c.args.machine)) (sym c.self.view_is) c.requires.fits in
     let room = subst HasLogRoom (sym c.self.view_is) c.requires.room in

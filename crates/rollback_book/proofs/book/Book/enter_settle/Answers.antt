@@ -9,12 +9,12 @@ use Rattle.rollback_book.proofs.book.Book.enter_settle.Goals as goal
 
 pub settle-requires : goal.settle-requires
 settle-requires c =
-    let b = volume c.self.inside.begin c.self.inside.machines c.self.inside.history c.self.inside.log c.self.inside.settled in
+    let b = volume c.self.inside.begin c.self.inside.machines c.self.inside.history c.self.inside.log c.self.inside.settled c.self.inside.held in
     names_fit b c.args.entry (subst (λ (b : Volume). Fits b c.args.entry made.Settle) (sym c.self.view_is) c.requires.fits)
 
 pub invariant_of-self : goal.invariant_of-self
 invariant_of-self c =
-    let b = volume c.self.inside.begin c.self.inside.machines c.self.inside.history c.self.inside.log c.self.inside.settled in
+    let b = volume c.self.inside.begin c.self.inside.machines c.self.inside.history c.self.inside.log c.self.inside.settled c.self.inside.held in
     let accepted = subst (λ (b : Volume). IsAccepted b.story c.args.entry) (sym c.self.view_is) c.requires.accepted in
     let fits = subst (λ (b : Volume). Fits b c.args.entry made.Settle) (sym c.self.view_is) c.requires.fits in
     let room = subst HasLogRoom (sym c.self.view_is) c.requires.room in

@@ -9,9 +9,9 @@ use Rattle.rollback_book.proofs.book.Book.enter_step.Goals as goal
 
 pub invariant_of-self : goal.invariant_of-self
 invariant_of-self c =
-    let b = volume c.self.inside.begin c.self.inside.machines c.self.inside.history c.self.inside.log c.self.inside.settled in
+    let b = volume c.self.inside.begin c.self.inside.machines c.self.inside.history c.self.inside.log c.self.inside.settled c.self.inside.held in
     let accepted = subst (λ (b : Volume). IsAccepted b.story c.args.entry) (sym c.self.view_is) c.requires.accepted in
     let fits = subst (λ (b : Volume). Fits b c.args.entry (made.Step c.args.step)) (sym c.self.view_is) c.requires.fits in
     let room = subst HasLogRoom (sym c.self.view_is) c.requires.room in
     rw c.push_with_room.ensures.items
-    (tied_stepped b c.self.invariant (vec_capacity c.push_with_room.new.list) room c.push_with_room.ensures.kept c.args.entry c.args.step c.apply.new.self accepted fits c.apply.ensures)
+    (tied_stepped b c.self.invariant (vec_capacity c.push_with_room.new.list) room c.push_with_room.ensures.kept c.args.entry c.args.step c.apply.new.self c.add_unheld.new.held accepted fits c.add_unheld.ensures c.apply.ensures)

@@ -21,7 +21,7 @@ unreachable-requires c = machine_known _ c.self.invariant c.args.thread.now c.in
 
 pub returns : goal.returns
 returns c =
-    let b = volume c.self.inside.begin c.self.inside.machines c.self.inside.history c.self.inside.log c.self.inside.settled in
+    let b = volume c.self.inside.begin c.self.inside.machines c.self.inside.history c.self.inside.log c.self.inside.settled c.self.inside.held in
     subst (λ (b : Volume). IsTicketed b.story c.args.thread.now c.in-Some-machine_in.machine.now c.in-Some.frame.now) c.self.view_is
     (ticketed b c.self.invariant c.args.thread.now c.in-Some.frame.now c.in-Some.ensures.frame c.in-Some-machine_in.machine.now c.in-Some.readiness c.in-Some.ensures.ready
     (sym c.has_move.ensures ∙ c.if-not-has_move.false) c.in-Some-machine_in.ensures)

@@ -6,7 +6,7 @@ use Rattle.saved_steps.specs.Held.{frames_of}
 use Rattle.step_history.specs.Levels.{HasNamesBelow}
 use Rattle.rollback_book.specs.Book.{Volume, volume}
 use Rattle.rollback_book.specs.Ready.{IsNextOf, IsReadyTo}
-use Rattle.rollback_book.proofs.Moving.{Finds, has_next, next_is}
+use Rattle.rollback_book.proofs.Moving.{Finds, has_next, next_is, ready_lacks}
 use Rattle.rollback_book.proofs.book.Book.next_of.Goals as goal
 
 pub next_name-requires : goal.next_name-requires
@@ -26,7 +26,7 @@ next_of-requires-clause-begins c ready =
 
 pub unreachable-requires : goal.unreachable-requires
 unreachable-requires c =
-    let b = volume c.self.inside.begin c.self.inside.machines c.self.inside.history c.self.inside.log c.self.inside.settled in
+    let b = volume c.self.inside.begin c.self.inside.machines c.self.inside.history c.self.inside.log c.self.inside.settled c.self.inside.held in
     let t = c.args.thread.now in
     let m = c.in_ok-machine.machine.now in
     let f = c.in_ok-machine.frame.now in
@@ -35,10 +35,16 @@ unreachable-requires c =
 
 pub returns-in-Ok-Some : goal.returns-in-Ok-Some
 returns-in-Ok-Some c =
-    let b = volume c.self.inside.begin c.self.inside.machines c.self.inside.history c.self.inside.log c.self.inside.settled in
+    let b = volume c.self.inside.begin c.self.inside.machines c.self.inside.history c.self.inside.log c.self.inside.settled c.self.inside.held in
     let t = c.args.thread.now in
     let m = c.in_ok-machine.machine.now in
     let f = c.in_ok-machine.frame.now in
     let ready = subst (λ (b : Volume). IsReadyTo b t m f) (sym c.self.view_is) c.in_ok-machine.ensures in
     subst (λ (b : Volume). IsNextOf b t c.in-Ok.name c.in-Ok-Some.next) c.self.view_is
     (next_is b c.self.invariant t f ready.frame m c.in-Ok.name c.in-Ok-Some.next ready c.in-Ok.ensures (subst (Finds b t m) c.in-Ok-Some.field-0-is c.in-Ok-Some.ensures))
+
+pub returns-in_default : goal.returns-in_default
+returns-in_default c = ready_lacks c.args.self.now c.args.thread.now c.in_ok-machine.machine.now c.in_ok-machine.frame.now c.in_ok-machine.ensures
+
+pub returns-in-Err : goal.returns-in-Err
+returns-in-Err c = ready_lacks c.args.self.now c.args.thread.now c.in_ok-machine.machine.now c.in_ok-machine.frame.now c.in_ok-machine.ensures

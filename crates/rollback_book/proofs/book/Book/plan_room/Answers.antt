@@ -11,7 +11,7 @@ returns-in_default c =
 
 pub returns-in-Err : goal.returns-in-Err
 returns-in-Err c =
-    let b = volume c.self.inside.begin c.self.inside.machines c.self.inside.history c.self.inside.log c.self.inside.settled in
+    let b = volume c.self.inside.begin c.self.inside.machines c.self.inside.history c.self.inside.log c.self.inside.settled c.self.inside.held in
     inl (
       refl,
       subst (λ (b : Volume). IsOk (plan_answer b.story c.args.step.now)) c.self.view_is

@@ -7,7 +7,7 @@ use Rattle.rollback_book.proofs.book.Book.ready_machine.Goals as goal
 
 pub returns-then-is_full_for_define-clause-refused : goal.returns-then-is_full_for_define-clause-refused
 returns-then-is_full_for_define-clause-refused c =
-    let b = volume c.self.inside.begin c.self.inside.machines c.self.inside.history c.self.inside.log c.self.inside.settled in
+    let b = volume c.self.inside.begin c.self.inside.machines c.self.inside.history c.self.inside.log c.self.inside.settled c.self.inside.held in
     inl (
       refl,
       subst (λ (b : Volume). is_full_for_define b.story ≡ true) c.self.view_is
@@ -16,7 +16,7 @@ returns-then-is_full_for_define-clause-refused c =
 
 pub returns-clause-ready : goal.returns-clause-ready
 returns-clause-ready c =
-    let b = volume c.self.inside.begin c.self.inside.machines c.self.inside.history c.self.inside.log c.self.inside.settled in
+    let b = volume c.self.inside.begin c.self.inside.machines c.self.inside.history c.self.inside.log c.self.inside.settled c.self.inside.held in
     let free = subst (λ (b : Volume). is_full_for_define b.story ≡ false) c.self.view_is
     (define_full_by b c.self.invariant c.len.result c.len-2.result c.is_full_for_define.result (c.len.ensures ∙ c.self.inside.log.ok.0) c.len-2.ensures c.is_full_for_define.ensures ∙ c.if-is_full_for_define.false) in
     let fine = sym c.is_err.ensures.value ∙ c.if-is_err.false in

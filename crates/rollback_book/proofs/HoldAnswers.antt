@@ -1,0 +1,87 @@
+-- What a hold is answered, and a settlement while one stands.
+use Rattle.std.proofs.Common.{◌≡◌, ℕ, Bool, true, false, cond, length, refl, ap, ap₂, sym, subst, ◌∙◌, inl, inr, None, Some, Result, Ok, Err}
+use Rattle.std.specs.Prelude.{◌⊎◌, IsSome, List, position, is_some}
+use Rattle.step_names.specs.declared.step.StepName.{StepName}
+use Rattle.saved_steps.specs.World.{is_same_step}
+use Rattle.saved_steps.specs.declared.fact.Fact.{Fact}
+use Rattle.saved_steps.specs.declared.record.StepRecord.{StepRecord}
+use Rattle.depends.specs.Plans.{plan}
+use Rattle.depends.proofs.Searching.{facts}
+use Rattle.book_log.specs.Answers.{HoldLacks, SettleLacks, absent, from_step, hold_answer, is_full_for_define, remains, settle_answer}
+use Rattle.book_log.specs.Story.{Story, consequences_of, held}
+use Rattle.book_log.specs.declared.entry.Entry.{Entry}
+use Rattle.book_log.specs.declared.entry.Entry.TheVariants.{Hold as HoldEntry}
+use Rattle.book_log.specs.declared.refusal.Refusal.{Refusal}
+use Rattle.book_log.specs.declared.refusal.Refusal.TheVariants.{Full, Held, Memory}
+use Rattle.rollback_book.specs.Book.{Volume, IsTied, IsAt}
+use Rattle.rollback_book.specs.Holding.{IsHoldFor, IsHoldRefusal}
+use Rattle.rollback_book.specs.Making.{AnswersHold, CanEnter, HasLogRoom, IsMadeHold, MakesHold, OrMemory}
+use Rattle.rollback_book.specs.declared.making.Made.{Made}
+use Rattle.rollback_book.specs.declared.making.Entered.TheVariants as told
+use Rattle.rollback_book.specs.declared.making.MadeChange.TheVariants as made
+use Rattle.rollback_book.proofs.Free.{remains_there}
+use Rattle.rollback_book.proofs.HoldMade.{plan_counted, plan_marked}
+use Rattle.rollback_book.proofs.Searching.{no_step}
+use Rattle.rollback_book.proofs.Settled.{settle_held}
+use Rattle.rollback_book.proofs.Tied.{facts_are}
+
+-- ---- a settlement
+
+pub settle_refusal : (story : Story) (e : Refusal) → IsHoldRefusal story e → OrMemory (settle_answer story) e ⊎ ((e ≡ Memory) × SettleLacks story)
+settle_refusal story e h = elim h.2 [
+  | inl k ↦ inl (subst (λ (r : Result (Unit {0}) Refusal). OrMemory r e) (sym (settle_held story h.0 h.1)) k)
+  | inr k ↦ inr (k, subst IsSome (sym h.1) refl)
+]
+
+-- ---- a hold
+
+-- a step that doesn't remain isn't held
+pub hold_absent : (b : Volume) (tied : IsTied b) (name : StepName) → position (λ (r : StepRecord). is_same_step r.fact.name name) b.history.records.items ≡ None → hold_answer b.story name ≡ Err (absent b.story name)
+unfolding hold_answer
+hold_absent b tied name none =
+    let gone : remains b.story name ≡ false = ap (λ (fs : List Fact). is_some (from_step name fs)) (sym (facts_are b tied)) ∙ ap is_some (no_step name b.history.records.items none) in
+    rw gone refl
+
+module _ (b : Volume) (tied : IsTied b) (name : StepName) (at : ℕ) (is_at : IsAt b name at) where
+  hold_held : (other : StepName) → held b.story ≡ Some other → hold_answer b.story name ≡ Err (Held other)
+  unfolding hold_answer
+  hold_held other e = let there = remains_there b tied name at is_at in rw (there, e) refl
+
+  pub hold_full : held b.story ≡ None → is_full_for_define b.story ≡ true → hold_answer b.story name ≡ Err Full
+  unfolding hold_answer
+  hold_full e full = let there = remains_there b tied name at is_at in rw (there, e, full) refl
+
+  pub hold_free : held b.story ≡ None → is_full_for_define b.story ≡ false → hold_answer b.story name ≡ Ok (length (consequences_of b.story name))
+  unfolding hold_answer
+  hold_free e free = let there = remains_there b tied name at is_at in rw (there, e, free) refl
+
+  -- the same of a book that is this one
+  pub free_answer : held b.story ≡ None → is_full_for_define b.story ≡ false → (d : Volume) → b ≡ d → hold_answer d.story name ≡ Ok (length (consequences_of d.story name))
+  free_answer e free d same = subst (λ (x : Volume). hold_answer x.story name ≡ Ok (length (consequences_of x.story name))) same (hold_free e free)
+
+  pub hold_refusal : (e : Refusal) → IsHoldRefusal b.story e → OrMemory (hold_answer b.story name) e ⊎ ((e ≡ Memory) × HoldLacks b.story name)
+  hold_refusal e h = elim h.2 [
+    | inl k ↦ inl (subst (λ (r : Result ℕ Refusal). OrMemory r e) (sym (hold_held h.0 h.1)) k)
+    | inr k ↦ inr (k, (subst IsSome (sym h.1) refl, remains_there b tied name at is_at))
+  ]
+
+  -- where everything is made for a plan, it is for the step and its consequences
+  pub made_hold : (places : List ℕ) → places ≡ plan (facts b.history.records.items) at → (m : Made) → IsMadeHold name b.history.records.items places m → MakesHold b.story b.history.records.items name m
+  made_hold places planned m h =
+      let count = plan_counted b tied name at is_at places planned in
+      (h.0, h.1 ∙ ap (λ (n : ℕ). let x : Made = record { entry = HoldEntry name n; answer = told.Held n; change = made.Hold h.0 } in x) count, (h.2, h.3, plan_marked b tied name at is_at places planned h.0.left h.3 h.4))
+
+-- ---- what is made
+
+pub hold_told : (story : Story) (rs : List StepRecord) (name : StepName) (m : Made) → MakesHold story rs name m → hold_answer story name ≡ Ok (length (consequences_of story name)) → AnswersHold story name (Ok m)
+hold_told story rs name m h answer = (length (consequences_of story name), answer, (ap (λ (x : Made). x.entry) h.1, ap (λ (x : Made). x.answer) h.1))
+
+pub hold_ready : (before : Story) (after : Volume) (name : StepName) (m : Made) → after.story ≡ before → MakesHold before after.history.records.items name m → hold_answer before name ≡ Ok (length (consequences_of before name)) → HasLogRoom after → CanEnter after m
+hold_ready before after name m same h answer room =
+    let count = length (consequences_of before name) in
+    let whole : CanEnter after (record { entry = HoldEntry name count; answer = told.Held count; change = made.Hold h.0 }) = record {
+      accepted = ap (λ (s : Story). hold_answer s name) same ∙ answer;
+      fits = subst (λ (s : Story). IsHoldFor s after.history.records.items name h.0) (sym same) h.2;
+      room = room;
+    } in
+    subst (λ (x : Made). CanEnter after x) (sym h.1) whole

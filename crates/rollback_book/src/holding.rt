@@ -1,0 +1,177 @@
+// A step and its consequences that are held: what is left of them is taken back, by many undoings, while the rest goes on.
+ghost use Rattle.std.specs.List.{All};
+ghost use Rattle.std.specs.Prelude.{◌≡◌, ◌<◌, IfOk, MatchResult, None, OnOk, length, option_copied};
+ghost use Rattle.book_log.specs.Answers.{is_full_for_step};
+ghost use Rattle.book_log.specs.Legal.{IsAccepted};
+ghost use Rattle.book_log.specs.Story.{accepted, held, left_of};
+ghost use Rattle.rollback_book.specs.Book.{IsAt};
+ghost use Rattle.rollback_book.specs.Calls.{Holds, IsLatestLeft};
+ghost use Rattle.rollback_book.specs.Holding.{IsHoldRefusal};
+ghost use Rattle.rollback_book.specs.Making.{AnswersHold, CanEnter, Fits, HasLogRoom, IsMadeHold, MakesHold};
+ghost use Rattle.rollback_book.specs.declared.making.MadeChange.TheVariants as made;
+
+use crate::book::Book;
+use crate::checks::{is_full_for_define, is_full_for_step};
+use crate::hold::Hold;
+use crate::lists::{push_with_room, reserve_entries};
+use crate::making::{Entered, Made, MadeChange};
+use book_log::{Entry, Refusal};
+use depends::Plan;
+use saved_steps::StepRecord;
+use std::alloc::{AllocError, Global};
+use step_index::HeldSteps;
+use step_names::StepName;
+
+impl Book {
+    /// Holds a step and its consequences, and answers how many they are: until they are taken back, no step is taken that would
+    /// depend directly on what is left of them. Takes memory for marks of the remaining steps, and for what `plan_room` plans; one
+    /// pass over the remaining steps.
+    ///
+    /// # Errors
+    ///
+    /// `NoStep` and `Settled`, `Held`, `Full` and `Memory`, in this order; `Memory` may stand for `Held`, since the name that it
+    /// tells is a copy.
+    pub fn hold(&mut self, alloc: Global, step: &StepName) -> Result<usize, Refusal>
+        ensures { Holds self.old.story self.new.story step.now result }
+    {
+        let made = self.ready_hold(alloc, step)?;
+        let Entered::Held(count) = self.enter(made) else {
+            unreachable!()
+        };
+        Ok(count)
+    }
+
+    /// The step of the hold that stands, if one does. Takes no memory.
+    pub fn held(&self) -> Option<&StepName>
+        ensures { option_copied result ≡ held self.now.story }
+    {
+        match &self.held {
+            Some(hold) => Some(&hold.step),
+            None => None,
+        }
+    }
+
+    /// How many steps are left of a hold: none without one. Takes no memory.
+    pub fn held_left(&self) -> usize
+        ensures { result ≡ length (left_of self.now.story) }
+    {
+        match &self.held {
+            Some(hold) => hold.left.len(),
+            None => 0,
+        }
+    }
+
+    /// The latest step that is left of a hold: none without one. It can be undone. Takes no memory.
+    pub fn last_left(&self) -> Option<&StepName>
+        ensures { IsLatestLeft self.now.story (option_copied result) }
+    {
+        let Some(hold) = &self.held else {
+            return None;
+        };
+        match hold.left.last() {
+            Some(place) => Some(&self.history.records()[place].fact.name),
+            None => None,
+        }
+    }
+
+    /// Whether no step can be taken more.
+    pub(crate) fn is_full(&self) -> bool
+        ensures { result ≡ is_full_for_step self.now.story }
+    {
+        is_full_for_step(self.log.len(), self.history.len())
+    }
+
+    /// Refuses where something is held.
+    pub(crate) fn check_unheld(&self) -> Result<(), Refusal>
+        ensures { MatchResult result (λ _. held self.now.story ≡ None) (IsHoldRefusal self.now.story) }
+    {
+        match self.held() {
+            Some(name) => Err(Refusal::Held(name.copy()?)),
+            None => Ok(()),
+        }
+    }
+
+    /// Makes everything that a hold needs.
+    pub(crate) fn ready_hold(&mut self, alloc: Global, step: &StepName) -> Result<Made, Refusal>
+        ensures answer { AnswersHold self.old.story step.now result }
+        ensures ready { IfOk result (λ m. CanEnter self.new m) }
+        ensures story { self.new.story ≡ self.old.story }
+    {
+        let Some(at) = self.history.find(step) else {
+            return Err(self.absent(step));
+        };
+        if let Err(refusal) = self.check_unheld() {
+            return Err(refusal);
+        }
+        if is_full_for_define(self.log.len(), self.history.len()) {
+            return Err(Refusal::Full);
+        }
+        match self.make_hold(alloc, step, at) {
+            Ok(made) => Ok(made),
+            Err(AllocError) => Err(Refusal::Memory),
+        }
+    }
+
+    /// Makes what the hold of the step at a place needs, and room for its entry and that of an undoing.
+    fn make_hold(&mut self, alloc: Global, step: &StepName, at: usize) -> Result<Made, AllocError>
+        requires { IsAt self.old step.now at }
+        ensures made { IfOk result (MakesHold self.old.story self.new.history.records.items step.now) }
+        ensures room { OnOk result (HasLogRoom self.new) }
+        ensures story { self.new.story ≡ self.old.story }
+    {
+        reserve_entries(&mut self.log, self.history.len())?;
+        let plan = self.history.plan(alloc, at)?;
+        match made_of_plan(alloc, step, self.history.records(), &plan) {
+            Ok(made) => Ok(made),
+            Err(AllocError) => Err(AllocError),
+        }
+    }
+
+    pub(crate) fn enter_hold(&mut self, entry: Entry, hold: Hold)
+        requires accepted { IsAccepted self.old.story entry }
+        requires fits { Fits self.old entry (made.Hold hold) }
+        requires room { HasLogRoom self.old }
+        ensures { self.new.story ≡ accepted self.old.story entry }
+    {
+        self.held = Some(hold);
+        push_with_room(&mut self.log, entry);
+    }
+}
+
+/// The hold of a step with this plan.
+fn made_of_plan(
+    alloc: Global,
+    step: &StepName,
+    records: &[StepRecord],
+    plan: &Plan,
+) -> Result<Made, AllocError>
+    requires { All (λ place. place < length records.now) plan.now }
+    ensures { IfOk result (IsMadeHold step.now records.now plan.now) }
+{
+    let left = HeldSteps::of_plan(alloc, records, plan)?;
+    match hold_made(step, plan.places().len(), left) {
+        Ok(made) => Ok(made),
+        Err(AllocError) => Err(AllocError),
+    }
+}
+
+/// The command that a hold is, with what is left of it.
+fn hold_made(step: &StepName, count: usize, left: HeldSteps) -> Result<Made, AllocError>
+    ensures { IfOk result (λ m. m ≡ record { entry = Entry.Hold step.now count; answer = Entered.Held count; change = MadeChange.Hold (record { step = step.now; left = left }) }) }
+{
+    let Ok((told, step)) = two_copies(step) else {
+        drop(left);
+        return Err(AllocError);
+    };
+    Ok(Made {
+        entry: Entry::Hold { step: told, count },
+        answer: Entered::Held(count),
+        change: MadeChange::Hold(Hold { step, left }),
+    })
+}
+
+fn two_copies(step: &StepName) -> Result<(StepName, StepName), AllocError>
+    ensures { IfOk result (λ p. (p.0 ≡ step.now) × (p.1 ≡ step.now)) }
+{
+    Ok((step.copy()?, step.copy()?))
+}
