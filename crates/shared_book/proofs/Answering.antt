@@ -7,11 +7,11 @@ use Rattle.json_tree.specs.declared.tree.Json.{Json}
 use Rattle.step_names.specs.Thread.{Thread}
 use Rattle.step_names.specs.declared.step.StepName.{StepName}
 use Rattle.rollback_book.specs.Fact.{Fact}
-use Rattle.book_log.specs.Answers.{Gives, absent, found_answer, free_answer, from_step, has_move, start_answer, step_answer, undo_answer}
+use Rattle.book_log.specs.Answers.{Gives, GivesOr, HoldLacks, StepLacks, absent, found_answer, free_answer, from_step, has_move, hold_answer, start_answer, step_answer, undo_answer}
 use Rattle.book_log.specs.Legal.{IsAccepted, IsLegal}
 use Rattle.book_log.specs.Story.{Story, accepted, facts_of}
 use Rattle.book_log.specs.declared.entry.Entry.{Entry}
-use Rattle.book_log.specs.declared.entry.Entry.TheVariants.{Start, Step as Stepped, Undo}
+use Rattle.book_log.specs.declared.entry.Entry.TheVariants.{Start, Step as Stepped, Undo, Hold}
 use Rattle.book_log.specs.declared.moved.Moved.{Moved}
 use Rattle.book_log.specs.declared.refusal.Refusal.{Refusal}
 use Rattle.book_log.specs.declared.refusal.Refusal.TheVariants.{Memory}
@@ -24,11 +24,13 @@ use Rattle.rollback_book.specs.Tickets.{AnswersTicket, IsMoving}
 use Rattle.rollback_book.specs.declared.room.PlanRoom.{PlanRoom}
 use Rattle.rollback_book.specs.declared.ticket.Ticket.{Ticket}
 use Rattle.rollback_book.proofs.Retaken.{given_ok, start_named, step_is_next}
+use Rattle.rollback_book.proofs.Settled.{ok_gives}
 use Rattle.rollback_book.proofs.Ticketed.{memory_alone}
 use Rattle.shared_book.specs.Numbers.{IsForeign, IsKnown, last_of}
-use Rattle.shared_book.specs.Views.{PassView, Extends, IsCounted, is_claimed}
+use Rattle.shared_book.specs.Away.{Away, is_among}
+use Rattle.shared_book.specs.Views.{PassView, Extends, IsCounted}
 use Rattle.shared_book.specs.Calls.{GivesReceipt, IsCause, IsNotAdmitted, IsRefusedFor, MaySee}
-use Rattle.shared_book.specs.Claims.{IsClaim}
+use Rattle.shared_book.specs.Claims.{IsClaim, IsFree, thread_of}
 use Rattle.shared_book.specs.Commits.{GivesTurn}
 use Rattle.shared_book.specs.declared.receipt.Receipt.{Receipt}
 use Rattle.shared_book.specs.declared.refusal.SharedRefusal.{SharedRefusal}
@@ -71,11 +73,14 @@ turn_of story t m answer = ap (λ (n : StepName). n.thread) (step_is_next story 
 pub turn_accepted : (story : Story) (t : Thread) (m : Moved) → step_answer story t ≡ Ok m → IsAccepted story (Stepped m.name m.kind)
 turn_accepted story t m answer = ap (step_answer story) (turn_of story t m answer) ∙ answer
 
-pub step_of : (story : Story) (t : Thread) (m : Moved) → Gives (Ok m) (step_answer story t) → m.name.thread ≡ t
-step_of story t m gives = turn_of story t m (given_ok (step_answer story t) m gives)
+pub step_of : (story : Story) (t : Thread) (m : Moved) → GivesOr (StepLacks story t) (Ok m) (step_answer story t) → m.name.thread ≡ t
+step_of story t m gives = turn_of story t m (given_ok (step_answer story t) m (ok_gives (StepLacks story t) (step_answer story t) m gives))
 
-pub step_accepted : (story : Story) (t : Thread) (m : Moved) → Gives (Ok m) (step_answer story t) → IsAccepted story (Stepped m.name m.kind)
-step_accepted story t m gives = turn_accepted story t m (given_ok (step_answer story t) m gives)
+pub step_accepted : (story : Story) (t : Thread) (m : Moved) → GivesOr (StepLacks story t) (Ok m) (step_answer story t) → IsAccepted story (Stepped m.name m.kind)
+step_accepted story t m gives = turn_accepted story t m (given_ok (step_answer story t) m (ok_gives (StepLacks story t) (step_answer story t) m gives))
+
+pub hold_accepted : (story : Story) (name : StepName) (count : ℕ) → GivesOr (HoldLacks story name) (Ok count) (hold_answer story name) → IsAccepted story (Hold name count)
+hold_accepted story name count gives = given_ok (hold_answer story name) count (ok_gives (HoldLacks story name) (hold_answer story name) count gives)
 
 free_is : (name n : StepName) (o : Option Fact) → free_answer name o ≡ Ok n → n ≡ name
 free_is name n None h = cc
@@ -115,6 +120,11 @@ cause begun answer had at e (Ok x) may is (inl h) = cc
 cause begun answer had at e (Ok x) may is (inr h) = inl cc
 cause begun answer had at e (Err f) may is h = inr (at, may, is ∙ sym h)
 
+-- also where want of memory may stand for any answer
+pub lacking_cause : {T : Type 0} (lacks : Type 0) (begun : Story) (answer : Story → Result T Refusal) (had : PassView) (at : Story) (e : Refusal) (result : Result T Refusal) → MaySee begun had at → answer at ≡ result → GivesOr lacks (Err e) result → IsCause begun answer had e
+lacking_cause lacks begun answer had at e result may is (inl h) = cause begun answer had at e result may is h
+lacking_cause lacks begun answer had at e result may is (inr h) = inl cc
+
 pub not_admitted : (begun at : Story) (entries : List Entry) (had : PassView) (Cause : Refusal → Type 0) (e : SharedRefusal) → Extends begun at → entries ≡ at.log → IsLegal at → IsNotAdmitted entries had.seen (last_of had.receipts) e → Cause Memory → IsRefusedFor begun had Cause e
 not_admitted begun at entries had Cause (Refused e) goes is legal not memory = subst Cause (sym not) memory
 not_admitted begun at entries had Cause (ForeignPass number there) goes is legal not memory =
@@ -127,16 +137,26 @@ and_first true c h = refl
 and_first false c h = h
 
 -- the least thread's ticket, and that it is refused for memory alone
-module _ (at : Story) (claims : List Thread) (t : Thread) (first : IsFirstToMove at (is_claimed claims) (Some t)) where
-  pub claimed : (k : Ticket) → AnswersTicket at t (Ok k) → IsClaim at claims (Some k)
+module _ (at : Story) (away : Away) (t : Thread) (first : IsFirstToMove at (is_among away.outside) (Some t)) where
+  pub claimed : (k : Ticket) → AnswersTicket at t (Ok k) → IsClaim at away (Some k)
   claimed k answer =
       record {
-        least = subst (λ (u : Thread). IsFirstToMove at (is_claimed claims) (Some u)) (sym answer.0) first;
+        least = subst (λ (u : Thread). IsFirstToMove at (is_among away.outside) (Some u)) (sym answer.0) first;
         ticket = subst (λ (u : Thread). IsMoving at u k.machine k.frame) (sym answer.0) answer.1;
       }
 
   pub not_claimed : (e : Refusal) → AnswersTicket at t (Err e) → e ≡ Memory
-  not_claimed e answer = memory_alone at t e (and_first (has_move at t) (not (is_claimed claims t)) first.1) answer
+  not_claimed e answer = memory_alone at t e (and_first (has_move at t) (not (is_among away.outside t)) first.1) answer
+
+and_not : (b c : Bool) → (b && not c) ≡ true → c ≡ false
+and_not true true h = cc
+and_not true false h = refl
+and_not false c h = cc
+
+-- it can be claimed
+pub free_to_claim : (at : Story) (away : Away) (found : Option Ticket) → IsClaim at away found → IsFree away (thread_of found)
+free_to_claim at away None claim = tt
+free_to_claim at away (Some k) claim = and_not (has_move at k.thread) (is_among away.outside k.thread) claim.least.1
 
 -- ---- rollback
 

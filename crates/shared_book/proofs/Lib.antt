@@ -1,3 +1,5 @@
 pub mod Counts
 pub mod Marking
 pub mod Answering
+pub mod Passing
+pub mod HeldBack

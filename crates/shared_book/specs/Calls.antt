@@ -1,17 +1,18 @@
 -- What a call promises to its caller. Between two calls of a pass others may add entries, so a call speaks of some legal log that goes
 -- on from that of the book that was shared (`begun`) and that the pass can have seen.
-use Rattle.std.specs.Prelude.{◌≡◌, ℕ, ◌+◌, ◌⊎◌, List, [], ◌∷◌, ◌++◌, length, Option, None, Some, Result, Ok, Err}
+use Rattle.std.specs.Prelude.{◌≡◌, ℕ, ◌+◌, ◌⊎◌, Bool, true, false, if◌then◌else◌, List, [], ◌∷◌, ◌++◌, length, Option, None, Some, Result, Ok, Err}
 use Rattle.step_names.specs.Thread.{Thread}
 use Rattle.step_names.specs.declared.step.StepName.{StepName}
 use Rattle.rollback_book.specs.Frame.{Frame}
 use Rattle.book_log.specs.Legal.{IsLegal}
 use Rattle.book_log.specs.Story.{Story, accepted, world_of}
 use Rattle.book_log.specs.declared.entry.Entry.{Entry}
-use Rattle.book_log.specs.declared.entry.Entry.TheVariants.{Step as Stepped, Rollback}
+use Rattle.book_log.specs.declared.entry.Entry.TheVariants.{Step as Stepped, Rollback, Hold}
 use Rattle.book_log.specs.declared.refusal.Refusal.{Refusal}
-use Rattle.book_log.specs.declared.refusal.Refusal.TheVariants.{Memory, NoThread}
+use Rattle.book_log.specs.declared.refusal.Refusal.TheVariants.{Held, Memory, NoThread}
 use Rattle.shared_book.specs.Numbers.{IsForeign, IsKnown, last_of}
-use Rattle.shared_book.specs.Views.{PassView, Extends}
+use Rattle.shared_book.specs.Away.{passed_by}
+use Rattle.shared_book.specs.Views.{DeskView, PassView, Extends, with_claims}
 use Rattle.shared_book.specs.declared.receipt.Receipt.{Receipt}
 use Rattle.shared_book.specs.declared.refusal.SharedRefusal.{SharedRefusal}
 use Rattle.shared_book.specs.declared.refusal.SharedRefusal.TheVariants.{Refused, ForeignPass}
@@ -69,11 +70,30 @@ abbrev pub IsNotAdmitted : List Entry → ℕ → Option Receipt → SharedRefus
 IsNotAdmitted log seen last (Refused e) = e ≡ Memory
 IsNotAdmitted log seen last (ForeignPass number there) = IsForeign log seen last number there
 
+-- ---- held back
+
+abbrev pub tells_hold : Refusal → Bool
+tells_hold (Held step) = true
+tells_hold _ = false
+
+-- refused since the step would depend on what a hold has left
+abbrev pub is_held : SharedRefusal → Bool
+is_held (Refused e) = tells_hold e
+is_held (ForeignPass number there) = false
+
+-- a thread that is so refused is passed by, where it was claimed
+abbrev pub after_refusal : DeskView → Thread → SharedRefusal → DeskView
+after_refusal d t e = if is_held e then with_claims d (passed_by d.claims t) else d
+
 -- ---- which entry
 
 abbrev pub IsStepOf : Thread → Entry → Type 0
 IsStepOf thread (Stepped name kind) = name.thread ≡ thread
 IsStepOf thread _ = ⊥
+
+abbrev pub IsHoldOf : StepName → Entry → Type 0
+IsHoldOf step (Hold name count) = name ≡ step
+IsHoldOf step _ = ⊥
 
 abbrev pub IsRollbackOf : StepName → Entry → Type 0
 IsRollbackOf step (Rollback name undone) = name ≡ step

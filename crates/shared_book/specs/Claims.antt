@@ -1,11 +1,11 @@
--- What a caller that claims a thread is given, at the log and the claims that it finds.
-use Rattle.std.specs.Prelude.{◌≡◌, ◌<◌, List, length, Option, None, Some}
+-- What a caller that claims a thread is given, at the log that it finds, and the threads that are claimed and passed by then.
+use Rattle.std.specs.Prelude.{◌≡◌, ◌<◌, false, length, Option, None, Some}
 use Rattle.step_names.specs.Thread.{Thread}
 use Rattle.book_log.specs.Story.{Story}
 use Rattle.rollback_book.specs.Ready.{IsFirstToMove}
 use Rattle.rollback_book.specs.Tickets.{IsMoving}
 use Rattle.rollback_book.specs.declared.ticket.Ticket.{Ticket}
-use Rattle.shared_book.specs.Views.{is_claimed}
+use Rattle.shared_book.specs.Away.{Away, is_among}
 use Rattle.shared_book.specs.declared.claiming.Offer.{Offer}
 use Rattle.shared_book.specs.declared.claiming.Offer.TheVariants as offer
 
@@ -18,9 +18,9 @@ abbrev pub IsTicketAt : Story → Option Ticket → Type 0
 IsTicketAt at None = Unit {0}
 IsTicketAt at (Some k) = IsMoving at k.thread k.machine k.frame
 
--- the ticket of the least thread that has a move and isn't claimed; none, where there is no such thread
-pub record IsClaim (at : Story) (claims : List Thread) (found : Option Ticket) : Type 0 where
-  pub least : IsFirstToMove at (is_claimed claims) (thread_of found)
+-- the ticket of the least thread that has a move, and is neither claimed nor passed by; none, where there is no such thread
+pub record IsClaim (at : Story) (away : Away) (found : Option Ticket) : Type 0 where
+  pub least : IsFirstToMove at (is_among away.outside) (thread_of found)
   pub ticket : IsTicketAt at found
 
 -- ---- offers
@@ -34,7 +34,14 @@ abbrev pub thread_offered : Offer → Option Thread
 thread_offered o = thread_of (ticket_of o)
 
 -- a ticket as for a claim; and where there is none, so many claims are out, or none is
-abbrev pub IsOffer : Story → List Thread → Offer → Type 0
-IsOffer at claims (offer.Ticket k) = IsClaim at claims (Some k)
-IsOffer at claims (offer.Busy n) = IsClaim at claims None × (n ≡ length claims) × (0 < n)
-IsOffer at claims offer.Idle = IsClaim at claims None × (length claims ≡ 0)
+abbrev pub IsOffer : Story → Away → Offer → Type 0
+IsOffer at away (offer.Ticket k) = IsClaim at away (Some k)
+IsOffer at away (offer.Busy n) = IsClaim at away None × (n ≡ length away.claimed) × (0 < n)
+IsOffer at away offer.Idle = IsClaim at away None × (length away.claimed ≡ 0)
+
+-- ---- inside
+
+-- a thread that can be claimed, if there is one
+abbrev pub IsFree : Away → Option Thread → Type 0
+IsFree away None = Unit {0}
+IsFree away (Some t) = is_among away.outside t ≡ false

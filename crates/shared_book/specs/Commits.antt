@@ -1,5 +1,5 @@
 -- What a caller that commits a turn is promised: a receipt of its thread's step, or why there is none.
-use Rattle.std.specs.Prelude.{◌≡◌, ◌⊎◌, Err}
+use Rattle.std.specs.Prelude.{◌≡◌, ◌⊎◌, Bool, false, if◌then◌else◌, Err}
 use Rattle.step_names.specs.Thread.{Thread}
 use Rattle.book_log.specs.Story.{Story}
 use Rattle.book_log.specs.declared.refusal.Refusal.{Refusal}
@@ -8,8 +8,9 @@ use Rattle.rollback_book.specs.Prepared.{Prepared}
 use Rattle.rollback_book.specs.Commits.{AnswersCommit, IsFresh}
 use Rattle.rollback_book.specs.declared.commits.CommitRefusal.{CommitRefusal}
 use Rattle.rollback_book.specs.declared.commits.CommitRefusal.TheVariants as book
-use Rattle.shared_book.specs.Calls.{GivesReceipt, IsRefusedFor, MaySee}
-use Rattle.shared_book.specs.Views.{PassView}
+use Rattle.shared_book.specs.Away.{claim_ended, passed_by}
+use Rattle.shared_book.specs.Calls.{GivesReceipt, IsRefusedFor, MaySee, is_held}
+use Rattle.shared_book.specs.Views.{DeskView, PassView, with_claims}
 use Rattle.shared_book.specs.declared.receipt.Receipt.{Receipt}
 use Rattle.shared_book.specs.declared.refusal.SharedCommitRefusal.{SharedCommitRefusal}
 use Rattle.shared_book.specs.declared.refusal.SharedCommitRefusal.TheVariants.{Stale, Refused}
@@ -27,6 +28,15 @@ IsTurnCause begun t p had e = (e ≡ Memory) ⊎ ((at : Story) × MaySee begun h
 abbrev pub IsNotTaken : Story → Thread → Prepared → PassView → SharedCommitRefusal → Type 0
 IsNotTaken begun t p had (Stale why prepared) = (at : Story) × MaySee begun had at × AnswersCommit at t p (Err (book.Stale why prepared))
 IsNotTaken begun t p had (Refused e) = IsRefusedFor begun had (IsTurnCause begun t p had) e
+
+-- refused since the step would depend on what a hold has left
+abbrev pub is_turn_held : SharedCommitRefusal → Bool
+is_turn_held (Stale why prepared) = false
+is_turn_held (Refused e) = is_held e
+
+-- the thread of a turn that is so refused is passed by, and after any other refusal the claim has ended
+abbrev pub after_turn : DeskView → Thread → SharedCommitRefusal → DeskView
+after_turn d t e = with_claims d (if is_turn_held e then passed_by d.claims t else claim_ended d.claims t)
 
 -- ---- inside
 

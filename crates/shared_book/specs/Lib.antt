@@ -1,3 +1,4 @@
+pub mod Away
 pub mod Views
 pub mod Numbers
 pub mod Calls

@@ -1,12 +1,8 @@
 -- What contracts see of a pass and of what lies under the lock.
-use Rattle.std.specs.Prelude.{◌≡◌, ℕ, ◌+◌, ◌-◌, ◌/◌, Bool, List, [], ◌++◌, length, Option, None, Some}
-use Rattle.std.specs.BTreeMap.{is_at}
-use Rattle.std.specs.BTreeSet.{contains, insert_key}
-use Rattle.std.specs.Set.{remove_key}
-use Rattle.step_names.specs.Order.{thread_cmp}
-use Rattle.step_names.specs.Thread.{Thread}
+use Rattle.std.specs.Prelude.{◌≡◌, ℕ, ◌+◌, ◌-◌, ◌/◌, List, [], ◌++◌, length}
 use Rattle.book_log.specs.Story.{Story, accepted}
 use Rattle.book_log.specs.declared.entry.Entry.{Entry}
+use Rattle.shared_book.specs.Away.{Away, claimed_alone}
 use Rattle.shared_book.specs.declared.receipt.Receipt.{Receipt}
 
 -- how many entries were seen, the receipts, and the parts of the right to call
@@ -22,11 +18,11 @@ first_half had = record { seen = had.seen; receipts = had.receipts; parts = had.
 abbrev pub second_half : PassView → PassView
 second_half had = record { seen = had.seen; receipts = []; parts = had.parts / 2 }
 
--- the story of the book, the number of its first entry since it was shared, and the threads that are claimed, in their order
+-- the story of the book, the number of its first entry since it was shared, and the threads that a claim leaves out
 pub record DeskView : Type 0 where
   pub story : Story
   pub first : ℕ
-  pub claims : List Thread
+  pub claims : Away
 
 -- a story that began so, and went on
 pub record Extends (begun now : Story) : Type 0 where
@@ -40,18 +36,12 @@ pub record IsCounted (begun story : Story) (first total : ℕ) : Type 0 where
   pub is_first : first ≡ length begun.log + 1
   pub counted : first + total ≡ length story.log + 1
 
+abbrev pub with_claims : DeskView → Away → DeskView
+with_claims d claims = record { story = d.story; first = d.first; claims = claims }
+
 abbrev pub with_entry : DeskView → Entry → DeskView
 with_entry d e = record { story = accepted d.story e; first = d.first; claims = d.claims }
 
-abbrev pub is_claimed : List Thread → Thread → Bool
-is_claimed claims t = contains thread_cmp (record { keys = claims }) t
-
-abbrev pub claimed_with : List Thread → Option Thread → List Thread
-claimed_with claims None = claims
-claimed_with claims (Some t) = insert_key thread_cmp claims t
-
-abbrev pub claims_without : List Thread → Thread → List Thread
-claims_without claims t = remove_key (is_at (thread_cmp t)) claims
-
-abbrev pub with_claims : DeskView → List Thread → DeskView
-with_claims d claims = record { story = d.story; first = d.first; claims = claims }
+-- an entry that takes steps back, after which none is passed by
+abbrev pub with_undoing : DeskView → Entry → DeskView
+with_undoing d e = with_claims (with_entry d e) (claimed_alone d.claims)

@@ -1,11 +1,12 @@
 // The calls that add an entry. Each first sees whether the pass is of this book and makes all memory that the receipt takes, and then
 // calls the book, so that an entry never lacks its receipt.
-ghost use Rattle.std.specs.Prelude.{◌≡◌, ◌+◌, ◌<◌, ◌≤◌, ◌∷◌, ◌++◌, [], vec_len, vec_capacity, IfOk, IfErr};
+ghost use Rattle.std.specs.Prelude.{◌≡◌, ◌+◌, ◌<◌, ◌≤◌, ◌∷◌, ◌++◌, [], true, vec_len, vec_capacity, IfOk, IfErr};
 ghost use Rattle.json_tree.specs.Data.{depth, most_levels};
 ghost use Rattle.json_tree.specs.View.{data_of};
-ghost use Rattle.book_log.specs.Answers.{plan_answer, start_answer, step_answer, undo_answer};
-ghost use Rattle.shared_book.specs.Calls.{GivesReceipt, IsRefused, IsRollbackOf, IsStepOf};
-ghost use Rattle.shared_book.specs.Views.{with_entry};
+ghost use Rattle.book_log.specs.Answers.{hold_answer, plan_answer, start_answer, step_answer, undo_answer};
+ghost use Rattle.shared_book.specs.Away.{WasRefused};
+ghost use Rattle.shared_book.specs.Calls.{GivesReceipt, IsHoldOf, IsRefused, IsRollbackOf, IsStepOf, after_refusal, is_held};
+ghost use Rattle.shared_book.specs.Views.{with_entry, with_undoing};
 
 use crate::admitting::admit;
 use crate::copies::copy_names;
@@ -75,7 +76,28 @@ impl<B: Events, L: Sharing> Desk<B, L> {
         ensures receipt { IfOk result (GivesReceipt L.begun pass.old pass.new) }
         ensures entry { IfOk result (λ r. IsStepOf thread.now r.entry) }
         ensures log { IfOk result (λ r. self.new ≡ with_entry self.old r.entry) }
+        ensures err { IfErr result (λ e. IsRefused L.begun (λ at. step_answer at thread.now) pass.old e × (pass.new ≡ pass.old) × (self.new ≡ after_refusal self.old thread.now e)) }
+    {
+        match self.take_step(alloc, pass, thread) {
+            Ok(receipt) => Ok(receipt),
+            Err(refusal) => {
+                self.note_refusal(thread, &refusal);
+                Err(refusal)
+            }
+        }
+    }
+
+    fn take_step(
+        &mut self,
+        alloc: Global,
+        pass: &mut Pass<L>,
+        thread: &ThreadName,
+    ) -> Result<Receipt, SharedRefusal>
+        ensures receipt { IfOk result (GivesReceipt L.begun pass.old pass.new) }
+        ensures entry { IfOk result (λ r. IsStepOf thread.now r.entry) }
+        ensures log { IfOk result (λ r. self.new ≡ with_entry self.old r.entry) }
         ensures err { IfErr result (λ e. IsRefused L.begun (λ at. step_answer at thread.now) pass.old e × (pass.new ≡ pass.old) × (self.new ≡ self.old)) }
+        ensures held { IfErr result (λ e. is_held e ≡ true → WasRefused self.old.story thread.now) }
     {
         let (_, entries) = self.book.entries();
         let number = admit(entries, pass.seen, &mut pass.receipts)?;
@@ -108,7 +130,7 @@ impl<B: Events, L: Sharing> Desk<B, L> {
     ) -> Result<Receipt, SharedRefusal>
         ensures receipt { IfOk result (GivesReceipt L.begun pass.old pass.new) }
         ensures entry { IfOk result (λ r. r.entry ≡ Entry.Undo step.now) }
-        ensures log { IfOk result (λ r. self.new ≡ with_entry self.old r.entry) }
+        ensures log { IfOk result (λ r. self.new ≡ with_undoing self.old r.entry) }
         ensures err { IfErr result (λ e. IsRefused L.begun (λ at. undo_answer at step.now) pass.old e × (pass.new ≡ pass.old) × (self.new ≡ self.old)) }
     {
         let (_, entries) = self.book.entries();
@@ -131,6 +153,7 @@ impl<B: Events, L: Sharing> Desk<B, L> {
         }
         let kept = Receipt { number, entry };
         hand_out(&mut self.calls, &mut pass.share, &mut pass.receipts, kept);
+        self.claims.forget_passed();
         pass.seen = number;
         Ok(Receipt {
             number,
@@ -146,7 +169,7 @@ impl<B: Events, L: Sharing> Desk<B, L> {
     ) -> Result<Receipt, SharedRefusal>
         ensures receipt { IfOk result (GivesReceipt L.begun pass.old pass.new) }
         ensures entry { IfOk result (λ r. IsRollbackOf step.now r.entry) }
-        ensures log { IfOk result (λ r. self.new ≡ with_entry self.old r.entry) }
+        ensures log { IfOk result (λ r. self.new ≡ with_undoing self.old r.entry) }
         ensures err { IfErr result (λ e. IsRefused L.begun (λ at. plan_answer at step.now) pass.old e × (pass.new ≡ pass.old) × (self.new ≡ self.old)) }
     {
         let (_, entries) = self.book.entries();
@@ -165,10 +188,46 @@ impl<B: Events, L: Sharing> Desk<B, L> {
         }
         let kept = Receipt { number, entry };
         hand_out(&mut self.calls, &mut pass.share, &mut pass.receipts, kept);
+        self.claims.forget_passed();
         pass.seen = number;
         Ok(Receipt {
             number,
             entry: told,
+        })
+    }
+
+    pub(crate) fn hold(
+        &mut self,
+        alloc: Global,
+        pass: &mut Pass<L>,
+        step: &StepName,
+    ) -> Result<Receipt, SharedRefusal>
+        ensures receipt { IfOk result (GivesReceipt L.begun pass.old pass.new) }
+        ensures entry { IfOk result (λ r. IsHoldOf step.now r.entry) }
+        ensures log { IfOk result (λ r. self.new ≡ with_undoing self.old r.entry) }
+        ensures err { IfErr result (λ e. IsRefused L.begun (λ at. hold_answer at step.now) pass.old e × (pass.new ≡ pass.old) × (self.new ≡ self.old)) }
+    {
+        let (_, entries) = self.book.entries();
+        let number = admit(entries, pass.seen, &mut pass.receipts)?;
+        let Ok((name, told)) = two_names(step) else {
+            return Err(SharedRefusal::Refused(Refusal::Memory));
+        };
+        let count = match self.book.hold(alloc, step) {
+            Ok(count) => count,
+            Err(refusal) => {
+                drop(name);
+                drop(told);
+                return Err(SharedRefusal::Refused(refusal));
+            }
+        };
+        let entry = Entry::Hold { step: name, count };
+        let kept = Receipt { number, entry };
+        hand_out(&mut self.calls, &mut pass.share, &mut pass.receipts, kept);
+        self.claims.forget_passed();
+        pass.seen = number;
+        Ok(Receipt {
+            number,
+            entry: Entry::Hold { step: told, count },
         })
     }
 }
@@ -211,6 +270,15 @@ fn start_entries(
             input,
         },
     )
+}
+
+/// Two copies of a name.
+fn two_names(step: &StepName) -> Result<(StepName, StepName), AllocError>
+    ensures { IfOk result (λ p. (p.0 ≡ step.now) × (p.1 ≡ step.now)) }
+{
+    let one = step.copy()?;
+    let other = step.copy()?;
+    Ok((one, other))
 }
 
 /// The entry of an undoing, twice.

@@ -1,22 +1,25 @@
 // Which threads callers claim, as tickets, and how a claim ends.
-ghost use Rattle.std.specs.Prelude.{◌≡◌, length, IfOk, IfErr, MatchResult, OnErr, OnOk};
+ghost use Rattle.std.specs.Prelude.{◌≡◌, length, IfOk, IfErr, MatchResult, OnErr, OnOk, true};
 ghost use Rattle.book_log.specs.declared.refusal.Refusal.TheVariants.{Memory};
-ghost use Rattle.shared_book.specs.Calls.{IsRefusedFor, Sees};
-ghost use Rattle.shared_book.specs.Claims.{IsClaim, IsOffer, thread_of, thread_offered};
-ghost use Rattle.shared_book.specs.Views.{claimed_with, claims_without, with_claims};
+ghost use Rattle.shared_book.specs.Away.{AreAway, AreOutside, PassesNoOther, WasRefused, claim_ended, claimed_with, passed_by};
+ghost use Rattle.shared_book.specs.Calls.{IsRefusedFor, Sees, after_refusal, is_held};
+ghost use Rattle.shared_book.specs.Claims.{IsClaim, IsFree, IsOffer, thread_of, thread_offered};
+ghost use Rattle.shared_book.specs.Commits.{after_turn, is_turn_held};
+ghost use Rattle.shared_book.specs.Views.{with_claims};
 
 use crate::admitting::{known, turned_away};
+use crate::claims::Claims;
 use crate::desk::Desk;
 use crate::pass::Pass;
-use crate::refusal::SharedRefusal;
+use crate::refusal::{SharedCommitRefusal, SharedRefusal};
 use crate::sharing::Sharing;
 use book_log::Refusal;
 use rollback_book::{Events, Ticket};
 use std::alloc::{AllocError, Global};
-use std::collections::BTreeSet;
 use step_names::ThreadName;
 
-/// What a caller is offered: a ticket where a thread has a move that nobody has claimed, and else whether others are at work.
+/// What a caller is offered: a ticket where a thread has a move that nobody has claimed and isn't passed by, and else whether others
+/// are at work.
 #[derive(Drop)]
 pub enum Offer {
     /// The least such thread, which is claimed now.
@@ -34,6 +37,7 @@ impl<B: Events, L: Sharing> Desk<B, L> {
         pass: &mut Pass<L>,
     ) -> Result<Option<Ticket>, SharedRefusal>
         ensures claim { IfOk result (IsClaim self.old.story self.old.claims) }
+        ensures away { OnOk result (AreAway self.old.story self.old.claims) }
         ensures claimed { IfOk result (λ found. self.new ≡ with_claims self.old (claimed_with self.old.claims (thread_of found))) }
         ensures seen { OnOk result (Sees L.begun pass.old pass.new self.old.story) }
         ensures err { IfErr result (λ e. IsRefusedFor L.begun pass.old (λ cause. cause ≡ Memory) e × (pass.new ≡ pass.old) × (self.new ≡ self.old)) }
@@ -61,6 +65,7 @@ impl<B: Events, L: Sharing> Desk<B, L> {
         pass: &mut Pass<L>,
     ) -> Result<Offer, SharedRefusal>
         ensures offer { IfOk result (IsOffer self.old.story self.old.claims) }
+        ensures away { OnOk result (AreAway self.old.story self.old.claims) }
         ensures claimed { IfOk result (λ offer. self.new ≡ with_claims self.old (claimed_with self.old.claims (thread_offered offer))) }
         ensures seen { OnOk result (Sees L.begun pass.old pass.new self.old.story) }
         ensures err { IfErr result (λ e. IsRefusedFor L.begun pass.old (λ cause. cause ≡ Memory) e × (pass.new ≡ pass.old) × (self.new ≡ self.old)) }
@@ -76,22 +81,53 @@ impl<B: Events, L: Sharing> Desk<B, L> {
     }
 
     pub(crate) fn give_back(&mut self, ticket: Ticket)
-        ensures { self.new ≡ with_claims self.old (claims_without self.old.claims ticket.thread) }
+        ensures { self.new ≡ with_claims self.old (claim_ended self.old.claims ticket.thread) }
     {
         self.end_claim(ticket.thread());
     }
 
     pub(crate) fn end_claim(&mut self, thread: &ThreadName)
-        ensures { self.new ≡ with_claims self.old (claims_without self.old.claims thread.now) }
+        ensures { self.new ≡ with_claims self.old (claim_ended self.old.claims thread.now) }
     {
-        self.claims.remove(thread);
+        self.claims.end(thread);
     }
 
-    /// The ticket of the least thread that has a move and that nobody has claimed.
-    fn first_ticket(&self, alloc: Global) -> Result<Option<Ticket>, Refusal>
-        ensures { MatchResult result (IsClaim self.now.story self.now.claims) (λ e. e ≡ Memory) }
+    /// Passes a claimed thread by, whose move is refused for a hold.
+    fn pass_by(&mut self, thread: &ThreadName)
+        requires { WasRefused self.old.story thread.now }
+        ensures { self.new ≡ with_claims self.old (passed_by self.old.claims thread.now) }
     {
-        let thread = match self.book.first_ready(alloc, &self.claims) {
+        self.claims.pass_by(thread);
+    }
+
+    /// What becomes of a thread's claim after the refusal of its step.
+    pub(crate) fn note_refusal(&mut self, thread: &ThreadName, refusal: &SharedRefusal)
+        requires { is_held refusal.now ≡ true → WasRefused self.old.story thread.now }
+        ensures { self.new ≡ after_refusal self.old thread.now refusal.now }
+    {
+        if refusal.is_held() {
+            self.pass_by(thread);
+        }
+    }
+
+    /// What becomes of it after the refusal of its turn.
+    pub(crate) fn end_refused(&mut self, thread: &ThreadName, refusal: &SharedCommitRefusal)
+        requires { is_turn_held refusal.now ≡ true → WasRefused self.old.story thread.now }
+        ensures { self.new ≡ after_turn self.old thread.now refusal.now }
+    {
+        if refusal.is_held() {
+            self.pass_by(thread);
+        } else {
+            self.end_claim(thread);
+        }
+    }
+
+    /// The ticket of the least thread that has a move, and is neither claimed nor passed by.
+    fn first_ticket(&self, alloc: Global) -> Result<Option<Ticket>, Refusal>
+        ensures found { MatchResult result (IsClaim self.now.story self.now.claims) (λ e. e ≡ Memory) }
+        ensures claimed { AreOutside self.now.claims }
+    {
+        let thread = match self.book.first_ready(alloc, self.claims.outside()) {
             Ok(Some(thread)) => thread,
             Ok(None) => return Ok(None),
             Err(refusal) => return Err(refusal),
@@ -104,21 +140,21 @@ impl<B: Events, L: Sharing> Desk<B, L> {
 
     /// How many claims are out.
     fn claims_out(&self) -> usize
-        ensures { result ≡ length self.now.claims }
+        ensures { result ≡ length self.now.claims.claimed }
     {
         self.claims.len()
     }
 }
 
 /// Puts the thread of a ticket among those that are claimed.
-fn note(claims: &mut BTreeSet<ThreadName>, found: &Option<Ticket>) -> Result<(), AllocError>
-    ensures ok { OnOk result (claims.new.keys ≡ claimed_with claims.old.keys (thread_of found.now)) }
-    ensures err { OnErr result (claims.new.keys ≡ claims.old.keys) }
+fn note(claims: &mut Claims, found: &Option<Ticket>) -> Result<(), AllocError>
+    requires { IsFree claims.old (thread_of found.now) }
+    ensures ok { OnOk result (claims.new ≡ claimed_with claims.old (thread_of found.now)) }
+    ensures passed { OnOk result (PassesNoOther claims.old claims.new) }
+    ensures err { OnErr result (claims.new ≡ claims.old) }
 {
-    let Some(ticket) = found else {
-        return Ok(());
-    };
-    let thread = ticket.thread().copy()?;
-    claims.insert(thread)?;
-    Ok(())
+    match found {
+        Some(ticket) => claims.claim(ticket.thread()),
+        None => Ok(()),
+    }
 }

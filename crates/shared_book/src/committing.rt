@@ -1,8 +1,9 @@
 // The call that takes a turn which was prepared outside of the lock.
-ghost use Rattle.std.specs.Prelude.{◌≡◌, IfOk, IfErr};
+ghost use Rattle.std.specs.Prelude.{◌≡◌, true, IfOk, IfErr};
 ghost use Rattle.shared_book.specs.Calls.{IsStepOf};
-ghost use Rattle.shared_book.specs.Commits.{GivesTurn, IsNotTaken, shared_refusal};
-ghost use Rattle.shared_book.specs.Views.{claims_without, with_claims, with_entry};
+ghost use Rattle.shared_book.specs.Away.{WasRefused, claim_ended};
+ghost use Rattle.shared_book.specs.Commits.{GivesTurn, IsNotTaken, after_turn, is_turn_held, shared_refusal};
+ghost use Rattle.shared_book.specs.Views.{with_claims, with_entry};
 
 use crate::admitting::admit;
 use crate::changing::hand_out;
@@ -27,11 +28,19 @@ impl<B: Events, L: Sharing> Desk<B, L> {
     ) -> Result<Receipt, SharedCommitRefusal>
         ensures receipt { IfOk result (GivesTurn L.begun ticket.thread prepared pass.old pass.new) }
         ensures entry { IfOk result (λ r. IsStepOf ticket.thread r.entry) }
-        ensures log { IfOk result (λ r. self.new ≡ with_claims (with_entry self.old r.entry) (claims_without self.old.claims ticket.thread)) }
-        ensures err { IfErr result (λ e. IsNotTaken L.begun ticket.thread prepared pass.old e × (pass.new ≡ pass.old) × (self.new ≡ with_claims self.old (claims_without self.old.claims ticket.thread))) }
+        ensures log { IfOk result (λ r. self.new ≡ with_claims (with_entry self.old r.entry) (claim_ended self.old.claims ticket.thread)) }
+        ensures err { IfErr result (λ e. IsNotTaken L.begun ticket.thread prepared pass.old e × (pass.new ≡ pass.old) × (self.new ≡ after_turn self.old ticket.thread e)) }
     {
-        self.end_claim(ticket.thread());
-        self.take_turn(alloc, pass, ticket.thread(), prepared)
+        match self.take_turn(alloc, pass, ticket.thread(), prepared) {
+            Ok(receipt) => {
+                self.end_claim(ticket.thread());
+                Ok(receipt)
+            }
+            Err(refusal) => {
+                self.end_refused(ticket.thread(), &refusal);
+                Err(refusal)
+            }
+        }
     }
 
     fn take_turn(
@@ -45,6 +54,7 @@ impl<B: Events, L: Sharing> Desk<B, L> {
         ensures entry { IfOk result (λ r. IsStepOf thread.now r.entry) }
         ensures log { IfOk result (λ r. self.new ≡ with_entry self.old r.entry) }
         ensures err { IfErr result (λ e. IsNotTaken L.begun thread.now prepared pass.old e × (pass.new ≡ pass.old) × (self.new ≡ self.old)) }
+        ensures held { IfErr result (λ e. is_turn_held e ≡ true → WasRefused self.old.story thread.now) }
     {
         let (_, entries) = self.book.entries();
         let number = match admit(entries, pass.seen, &mut pass.receipts) {

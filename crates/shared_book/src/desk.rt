@@ -2,22 +2,22 @@
 ghost use Rattle.book_log.specs.Legal.{IsLegal};
 ghost use Rattle.shared_book.specs.Views.{Extends};
 
+use crate::claims::Claims;
 use crate::sharing::Sharing;
 use rollback_book::Events;
-use std::collections::BTreeSet;
 use std::marker::Model;
 use std::sync::ledger::{Book, Share};
-use step_names::ThreadName;
 
 /// The book, the number of its first entry since it was shared, the ledger of the receipts that were handed out, and the threads
-/// that callers have claimed.
+/// that callers have claimed or that are passed by. The move of each of the latter was refused for a hold, and since then only starts
+/// and steps came.
 #[derive(Drop)]
 pub(crate) struct Desk<B: Events, L: Sharing> {
     pub(crate) book: B,
     pub(crate) first: usize,
     pub(crate) calls: Book<L>,
     pub(crate) spare: Share<L>,
-    pub(crate) claims: BTreeSet<ThreadName>,
+    pub(crate) claims: Claims,
 }
 
 impl<B: Events, L: Sharing> Model for Desk<B, L> {
@@ -25,15 +25,16 @@ impl<B: Events, L: Sharing> Model for Desk<B, L> {
     ghost use Rattle.std.specs.Coded.{codes};
     ghost use Rattle.book_log.specs.contracts.begin.Begin as begin_row;
     ghost use Rattle.book_log.specs.contracts.entry.Entry as entry_row;
+    ghost use Rattle.shared_book.specs.Away.{WereRefused};
     ghost use Rattle.shared_book.specs.Views.{DeskView, IsCounted};
 
     ghost Value = { DeskView };
 
     ghost coded = { Prim.hlevel (codes, begin_row.the_row.coded, entry_row.the_row.coded) };
 
-    ghost view = { λ d. record { story = B.story d.book; first = d.first; claims = d.claims.keys } };
+    ghost view = { λ d. record { story = B.story d.book; first = d.first; claims = d.claims } };
 
-    ghost invariant = { λ d. IsCounted L.begun (B.story d.book) d.first d.calls.total × (d.spare.amount ≡ 0) };
+    ghost invariant = { λ d. IsCounted L.begun (B.story d.book) d.first d.calls.total × (d.spare.amount ≡ 0) × WereRefused (B.story d.book) d.claims };
 }
 
 impl<B: Events, L: Sharing> Desk<B, L> {

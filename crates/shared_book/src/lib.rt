@@ -5,6 +5,7 @@
 mod admitting;
 mod changing;
 mod claiming;
+mod claims;
 mod closing;
 mod committing;
 mod copies;
@@ -20,7 +21,7 @@ mod sharing;
 pub use admitting::{Foreign, known};
 pub use claiming::Offer;
 pub use closing::{CloseRefusal, close};
-pub use looking::Shown;
+pub use looking::{HeldLeft, Shown};
 pub use pass::Pass;
 pub use receipt::Receipt;
 pub use refusal::{CloseReason, SharedCommitRefusal, SharedRefusal};

@@ -1,6 +1,8 @@
 // What a caller is shown. It adds no entry.
 ghost use Rattle.std.specs.Prelude.{◌≡◌, length, IfOk, IfErr, Ok, OnOk};
-ghost use Rattle.shared_book.specs.Calls.{IsRefused, Sees, frame_answer};
+ghost use Rattle.book_log.specs.Story.{left_of};
+ghost use Rattle.book_log.specs.declared.refusal.Refusal.TheVariants.{Memory};
+ghost use Rattle.shared_book.specs.Calls.{IsRefused, IsRefusedFor, Sees, frame_answer};
 
 use crate::admitting::{known, turned_away};
 use crate::desk::Desk;
@@ -16,6 +18,13 @@ use step_names::ThreadName;
 #[derive(Debug, Drop)]
 pub struct Shown {
     pub frame: Frame,
+    pub entries: usize,
+}
+
+/// How many steps are left of a hold, none without one, and how many entries the log had then.
+#[derive(Clone, Copy, Debug)]
+pub struct HeldLeft {
+    pub left: usize,
     pub entries: usize,
 }
 
@@ -44,6 +53,23 @@ impl<B: Events, L: Sharing> Desk<B, L> {
         Ok(Shown {
             frame,
             entries: entries.len(),
+        })
+    }
+
+    pub(crate) fn held_left(&self, pass: &mut Pass<L>) -> Result<HeldLeft, SharedRefusal>
+        ensures left { IfOk result (λ s. (s.entries ≡ length self.now.story.log) × (s.left ≡ length (left_of self.now.story))) }
+        ensures seen { OnOk result (Sees L.begun pass.old pass.new self.now.story) }
+        ensures err { IfErr result (λ e. IsRefusedFor L.begun pass.old (λ cause. cause ≡ Memory) e × (pass.new ≡ pass.old)) }
+    {
+        let (_, entries) = self.book.entries();
+        if let Err(foreign) = known(entries, pass.seen, pass.receipts.last()) {
+            return Err(turned_away(foreign));
+        }
+        let entries = entries.len();
+        pass.seen = entries;
+        Ok(HeldLeft {
+            left: self.book.held_left(),
+            entries,
         })
     }
 }

@@ -1,9 +1,14 @@
 // Why a shared book refuses a call.
+ghost use Rattle.std.specs.Prelude.{◌≡◌};
+ghost use Rattle.shared_book.specs.Calls.{is_held};
+ghost use Rattle.shared_book.specs.Commits.{is_turn_held};
+
 use book_log::{Entry, Refusal};
 use rollback_book::Staleness;
 use rollback_book::turns::Prepared;
 
-/// Why a call of a shared book is refused. Each refusal leaves the book, the pass and, but for `commit`, the claims as they were.
+/// Why a call of a shared book is refused. Each refusal leaves the book and the pass as they were, and
+/// but for `commit` and a step that is held back the claims.
 #[derive(Debug, Drop)]
 pub enum SharedRefusal {
     /// The pass is of another book: what stands at this number isn't what it has seen.
@@ -12,13 +17,35 @@ pub enum SharedRefusal {
     Refused(Refusal),
 }
 
+impl SharedRefusal {
+    /// Whether the step would depend on what a hold has left.
+    pub fn is_held(&self) -> bool
+        ensures { result ≡ is_held self.now }
+    {
+        matches!(self, SharedRefusal::Refused(Refusal::Held(_)))
+    }
+}
+
 /// Why a turn isn't taken. Each refusal leaves the book and the pass as they were, and the claim has ended.
 #[derive(Debug, Drop)]
 pub enum SharedCommitRefusal {
     /// The turn is no longer its thread's, and comes back.
     Stale(Staleness, Prepared),
-    /// The pass is of another book, the book is full, or memory was refused. The turn is dropped.
+    /// The pass is of another book, the step would depend on what a hold has left, the book is full, or memory was refused. The turn
+    /// is dropped.
     Refused(SharedRefusal),
+}
+
+impl SharedCommitRefusal {
+    /// Whether the step would depend on what a hold has left.
+    pub fn is_held(&self) -> bool
+        ensures { result ≡ is_turn_held self.now }
+    {
+        match self {
+            SharedCommitRefusal::Stale(_, _) => false,
+            SharedCommitRefusal::Refused(refusal) => refusal.is_held(),
+        }
+    }
 }
 
 /// Why a shared book isn't closed.

@@ -1,19 +1,21 @@
 // A book under one lock.
-ghost use Rattle.std.specs.Prelude.{◌≡◌, ◌≤◌, ◌+◌, [], List, length, IfOk, IfErr, Ok};
+ghost use Rattle.std.specs.Prelude.{◌≡◌, ◌≤◌, ◌+◌, [], length, IfOk, IfErr, Ok};
 ghost use Rattle.json_tree.specs.Data.{depth, most_levels};
 ghost use Rattle.json_tree.specs.View.{data_of};
-ghost use Rattle.step_names.specs.Thread.{Thread};
-ghost use Rattle.book_log.specs.Answers.{plan_answer, start_answer, step_answer, undo_answer};
+ghost use Rattle.book_log.specs.Answers.{hold_answer, plan_answer, start_answer, step_answer, undo_answer};
 ghost use Rattle.book_log.specs.Legal.{IsLegal};
+ghost use Rattle.book_log.specs.Story.{left_of};
 ghost use Rattle.book_log.specs.declared.refusal.Refusal.TheVariants.{Memory};
-ghost use Rattle.shared_book.specs.Calls.{GivesReceipt, IsRefused, IsRefusedFor, IsRollbackOf, IsShown, IsStepOf, frame_answer};
+ghost use Rattle.shared_book.specs.Away.{AreAway, Away};
+ghost use Rattle.shared_book.specs.Calls.{GivesReceipt, IsHoldOf, IsRefused, IsRefusedFor, IsRollbackOf, IsShown, IsStepOf, frame_answer};
 ghost use Rattle.shared_book.specs.Claims.{IsClaim, IsOffer};
 ghost use Rattle.shared_book.specs.Commits.{GivesTurn, IsNotTaken};
 ghost use Rattle.shared_book.specs.Views.{Extends};
 
 use crate::claiming::Offer;
+use crate::claims::Claims;
 use crate::desk::Desk;
-use crate::looking::Shown;
+use crate::looking::{HeldLeft, Shown};
 use crate::pass::Pass;
 use crate::receipt::Receipt;
 use crate::refusal::{SharedCommitRefusal, SharedRefusal};
@@ -23,7 +25,6 @@ use json_tree::{Json, Text};
 use rollback_book::turns::Prepared;
 use rollback_book::{Events, Ticket};
 use std::alloc::Global;
-use std::collections::BTreeSet;
 use std::sync::ledger::Blank;
 use std::sync::{Mutex, Wait};
 use step_names::{StepName, ThreadName};
@@ -55,7 +56,7 @@ pub fn share<B: Events, L: Sharing>(alloc: Global, blank: Blank, book: B) -> (Sh
         first: seen + 1,
         calls,
         spare,
-        claims: BTreeSet::new(alloc),
+        claims: Claims::new(alloc),
     };
     let pass = Pass {
         seen,
@@ -95,7 +96,8 @@ impl<B: Events, L: Sharing> Shared<B, L> {
         self.desk.lock(rt).start(alloc, pass, exec, machine, input)
     }
 
-    /// Takes the next step of a thread. Takes what the book's call takes, and memory for one name.
+    /// Takes the next step of a thread. One that is claimed and is refused for a hold is passed by, until steps are taken back. Takes
+    /// what the book's call takes, and memory for one name.
     ///
     /// # Errors
     ///
@@ -153,6 +155,38 @@ impl<B: Events, L: Sharing> Shared<B, L> {
         self.desk.lock(rt).rollback(alloc, pass, step)
     }
 
+    /// Holds a step and its consequences until they are taken back; the receipt's entry has their number. Takes what the book's call
+    /// takes, and memory for two names.
+    ///
+    /// # Errors
+    ///
+    /// As `start`.
+    pub fn hold(
+        &self,
+        rt: &impl Wait,
+        alloc: Global,
+        pass: &mut Pass<L>,
+        step: &StepName,
+    ) -> Result<Receipt, SharedRefusal>
+        ensures receipt { IfOk result (GivesReceipt L.begun pass.old pass.new) }
+        ensures entry { IfOk result (λ r. IsHoldOf step.now r.entry) }
+        ensures err { IfErr result (λ e. IsRefused L.begun (λ at. hold_answer at step.now) pass.old e × (pass.new ≡ pass.old)) }
+    {
+        self.desk.lock(rt).hold(alloc, pass, step)
+    }
+
+    /// How many steps are left of a hold, and how many entries there were, at least as many as the pass had seen.
+    ///
+    /// # Errors
+    ///
+    /// `ForeignPass`, and `Memory` for the entry that it tells.
+    pub fn held_left(&self, rt: &impl Wait, pass: &mut Pass<L>) -> Result<HeldLeft, SharedRefusal>
+        ensures shown { IfOk result (λ s. IsShown L.begun pass.old pass.new (λ at. (s.entries ≡ length at.log) × (s.left ≡ length (left_of at)))) }
+        ensures err { IfErr result (λ e. IsRefusedFor L.begun pass.old (λ cause. cause ≡ Memory) e × (pass.new ≡ pass.old)) }
+    {
+        self.desk.lock(rt).held_left(pass)
+    }
+
     /// A copy of a thread's frame, and how many entries there were, at least as many as the pass had seen. Takes memory for what of
     /// the frame isn't shared.
     ///
@@ -171,9 +205,9 @@ impl<B: Events, L: Sharing> Shared<B, L> {
         self.desk.lock(rt).show(pass, thread)
     }
 
-    /// Claims the least thread that has a move and that nobody has claimed, and gives its ticket, of which its move is prepared with no
-    /// hold of the lock. The claim ends by `commit` or `give_back`; a ticket that is dropped leaves it. Takes what the book's two
-    /// calls take, and memory for a copy of the name.
+    /// Claims the least thread that has a move, that nobody has claimed and that isn't passed by, and gives its ticket, of which its
+    /// move is prepared with no hold of the lock. The claim ends by `commit` or `give_back`; a ticket that is dropped leaves it. Takes
+    /// what the book's two calls take, and memory for two copies of the name.
     ///
     /// # Errors
     ///
@@ -184,7 +218,7 @@ impl<B: Events, L: Sharing> Shared<B, L> {
         alloc: Global,
         pass: &mut Pass<L>,
     ) -> Result<Option<Ticket>, SharedRefusal>
-        ensures shown { IfOk result (λ found. IsShown L.begun pass.old pass.new (λ at. (claims : List Thread) × IsClaim at claims found)) }
+        ensures shown { IfOk result (λ found. IsShown L.begun pass.old pass.new (λ at. (away : Away) × AreAway at away × IsClaim at away found)) }
         ensures err { IfErr result (λ e. IsRefusedFor L.begun pass.old (λ cause. cause ≡ Memory) e × (pass.new ≡ pass.old)) }
     {
         self.desk.lock(rt).claim(alloc, pass)
@@ -201,19 +235,19 @@ impl<B: Events, L: Sharing> Shared<B, L> {
         alloc: Global,
         pass: &mut Pass<L>,
     ) -> Result<Offer, SharedRefusal>
-        ensures shown { IfOk result (λ offer. IsShown L.begun pass.old pass.new (λ at. (claims : List Thread) × IsOffer at claims offer)) }
+        ensures shown { IfOk result (λ offer. IsShown L.begun pass.old pass.new (λ at. (away : Away) × AreAway at away × IsOffer at away offer)) }
         ensures err { IfErr result (λ e. IsRefusedFor L.begun pass.old (λ cause. cause ≡ Memory) e × (pass.new ≡ pass.old)) }
     {
         self.desk.lock(rt).offer(alloc, pass)
     }
 
-    /// Takes a turn that was prepared of a ticket's frame, and ends the claim, also where it is refused. Takes what the book's call
-    /// takes, and memory for one name.
+    /// Takes a turn that was prepared of a ticket's frame, and ends the claim, also where it is refused: for a hold, the thread is
+    /// passed by until steps are taken back. Takes what the book's call takes, and memory for one name.
     ///
     /// # Errors
     ///
-    /// `ForeignPass`, `Stale` with the turn, and `Full`, in this order. Memory may also be refused to the receipt, before the book is
-    /// called.
+    /// `ForeignPass`, `Stale` with the turn, `Held` and `Full`, in this order. Memory may also be refused to the receipt, before the
+    /// book is called.
     pub fn commit(
         &self,
         rt: &impl Wait,
@@ -229,7 +263,7 @@ impl<B: Events, L: Sharing> Shared<B, L> {
         self.desk.lock(rt).commit(alloc, pass, ticket, prepared)
     }
 
-    /// Ends the claim of a ticket's thread without a move. Takes no memory.
+    /// Ends the claim of a ticket's thread without a move, if it has one still. Takes no memory.
     pub fn give_back(&self, rt: &impl Wait, ticket: Ticket) {
         self.desk.lock(rt).give_back(ticket)
     }

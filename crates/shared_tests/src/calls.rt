@@ -113,6 +113,7 @@ pub(crate) enum Act {
     Step(&'static str),
     Undo(&'static str),
     Rollback(&'static str),
+    Hold(&'static str),
 }
 
 fn out_of_memory() -> SharedRefusal {
@@ -179,6 +180,19 @@ fn roll_back<L: Sharing>(
     }
 }
 
+fn hold<L: Sharing>(
+    rt: &impl Wait,
+    alloc: Global,
+    shared: &Shared<Book, L>,
+    pass: &mut Pass<L>,
+    step: &str,
+) -> Result<Receipt, SharedRefusal> {
+    match StepName::read(alloc, step) {
+        Ok(step) => shared.hold(rt, alloc, pass, &step),
+        Err(_fault) => Err(out_of_memory()),
+    }
+}
+
 /// A receipt's number and entry, as `3 step a#1`.
 pub(crate) fn spelled(alloc: Global, receipt: &Receipt) -> Result<String, AllocError> {
     let number = receipt.number;
@@ -202,6 +216,10 @@ pub(crate) fn spelled(alloc: Global, receipt: &Receipt) -> Result<String, AllocE
             format!(in alloc; "{number} rollback {step} of {count}")
         }
         Entry::Settle => format!(in alloc; "{number} settle"),
+        Entry::Hold { step, count } => {
+            let step = step.write_text(alloc)?;
+            format!(in alloc; "{number} hold {step} of {count}")
+        }
     }
 }
 
@@ -220,6 +238,7 @@ fn is_refused(refusal: &SharedRefusal, want: &str) -> Result<bool, Fail> {
         SharedRefusal::Refused(Refusal::NotReady(_)) => Ok(want == "not ready"),
         SharedRefusal::Refused(Refusal::NoStep) => Ok(want == "no step"),
         SharedRefusal::Refused(Refusal::HasDependents(_)) => Ok(want == "has dependents"),
+        SharedRefusal::Refused(Refusal::Held(_)) => Ok(want == "held"),
         _ => Ok(false),
     }
 }
@@ -238,6 +257,7 @@ pub(crate) fn is_told<L: Sharing>(
         Act::Step(thread) => step(rt, alloc, shared, pass, thread),
         Act::Undo(name) => undo(rt, alloc, shared, pass, name),
         Act::Rollback(name) => roll_back(rt, alloc, shared, pass, name),
+        Act::Hold(name) => hold(rt, alloc, shared, pass, name),
     };
     match answer {
         Ok(receipt) => is_spelled(alloc, receipt, want),

@@ -57,7 +57,13 @@ fn is_committed<L: Sharing>(
             drop(prepared);
             Ok(is_stale(&why, want))
         }
-        Err(SharedCommitRefusal::Refused(refusal)) => Err(refusal.into()),
+        Err(SharedCommitRefusal::Refused(refusal)) => {
+            if refusal.is_held() {
+                drop(refusal);
+                return Ok(want == "held");
+            }
+            Err(refusal.into())
+        }
     }
 }
 
@@ -150,6 +156,23 @@ const CASES: &[Case] = &[
             (Act::Start("a", "1"), "4 start a"),
         ],
         want: "other",
+        then: "ticket",
+    },
+    // a thread whose move a hold keeps back is passed by
+    Case {
+        machine: PASS,
+        between: &[(Act::Hold("a#0"), "3 hold a#0 of 1")],
+        want: "held",
+        then: "idle",
+    },
+    Case {
+        machine: PASS,
+        between: &[
+            (Act::Hold("a#0"), "3 hold a#0 of 1"),
+            (Act::Start("b", "{}"), "4 start b"),
+            (Act::Hold("b#0"), "held"),
+        ],
+        want: "held",
         then: "ticket",
     },
 ];

@@ -14,7 +14,7 @@ use std::sync::ledger::Blank;
 use std::test::Fail;
 use std::thread;
 use std::thread::Threads;
-use step_names::ThreadName;
+use step_names::{StepName, ThreadName};
 use step_workers::{Gate, OpenGate, Outcome, Stopped, work};
 
 /// A fork of two branches of two steps each.
@@ -246,6 +246,57 @@ fn workers_on_a_fork(rt: HostRuntime) -> Result<(), Fail> {
     assert_eq!(rt; entries, 8);
     assert!(rt; done);
     assert!(rt; taken >= 6);
+    Ok(())
+}
+
+/// The threads of the steps of a fork and its branches.
+const TAKEN: &[&str] = &["x0", "x0/1.0", "x0/1.0", "x0/1.1", "x0/1.1"];
+
+/// Takes the steps of a fork and its branches, holds them all, and starts another execution.
+fn hold_fork(alloc: Global, book: &mut Book) -> Result<bool, Fail> {
+    for &thread in TAKEN {
+        let thread = ThreadName::read(alloc, thread)?;
+        drop(book.step(alloc, &thread)?);
+    }
+    let step = StepName::read(alloc, "x0#1")?;
+    let count = book.hold(alloc, &step)?;
+    start(alloc, book, "x1")?;
+    Ok(count == 5)
+}
+
+fn held_book(alloc: Global) -> Result<Book, Fail> {
+    let mut book = book_of(alloc, FORK, 1)?;
+    match hold_fork(alloc, &mut book) {
+        Ok(true) => Ok(book),
+        Ok(false) => {
+            drop(book);
+            Err("another number of steps is held".into())
+        }
+        Err(fail) => {
+            drop(book);
+            Err(fail)
+        }
+    }
+}
+
+/// The join of the first execution would depend on what is held: its thread is passed by, and the only worker goes on with the other.
+#[test]
+fn a_worker_passes_by_what_is_held(rt: HostRuntime) -> Result<(), Fail> {
+    let book = held_book(rt.alloc())?;
+    let round = run::<Brand, OpenGate, _>(
+        &rt,
+        rt.alloc(),
+        Blank::new(PARTS),
+        book,
+        1,
+        100,
+        &OpenGate,
+    )?;
+    let (entries, done, budgets, taken) = told(rt.alloc(), round, 1)?;
+    assert_eq!(rt; entries, 15);
+    assert!(rt; !done);
+    assert_eq!(rt; budgets, 0);
+    assert_eq!(rt; taken, 7);
     Ok(())
 }
 

@@ -2,7 +2,7 @@
 use Rattle.std.proofs.Common.{◌≡◌, ℕ, ◌+◌, ◌≤◌, List, [], ◌∷◌, ◌++◌, length, refl, ap, ◌∙◌, arith}
 use Rattle.step_names.specs.Thread.{Thread}
 use Rattle.book_log.specs.declared.entry.Entry.{Entry}
-use Rattle.book_log.specs.declared.entry.Entry.TheVariants.{Define, Start, Step as Stepped, Undo, Rollback, Settle}
+use Rattle.book_log.specs.declared.entry.Entry.TheVariants.{Define, Start, Step as Stepped, Undo, Rollback, Settle, Hold}
 use Rattle.shared_book.specs.Calls.{IsStepOf}
 use Rattle.shared_book.specs.Views.{PassView}
 use Rattle.shared_book.specs.declared.receipt.Receipt.{Receipt}
@@ -15,6 +15,7 @@ is_step t (Start _ _ _) s = s
 is_step t (Undo _) s = s
 is_step t (Rollback _ _) s = s
 is_step t Settle s = s
+is_step t (Hold _ _) s = s
 
 append_none : (xs : List Receipt) → xs ≡ xs ++ []
 append_none [] = refl

@@ -112,6 +112,7 @@ use Rattle.book_log.specs.contracts.begin.Begin as begin
 use Rattle.book_log.specs.contracts.entry.Entry as entry
 use Rattle.rollback_book.specs.contracts.ticket.Ticket as ticket
 use Rattle.rollback_book.below.settled_names.proofs.names.SettledNames.TheSendSync as settled_names
+use Rattle.rollback_book.proofs.hold.Hold.TheSendSync as hold
 use Rattle.rollback_book.specs.contracts.book.Book as book
 use Rattle.shared_book.specs.contracts.receipt.Receipt as receipt
 use Rattle.shared_book.specs.contracts.refusal.SharedRefusal as refusal
@@ -551,16 +552,16 @@ pub ticket_sync : IsSync ticket.the_row
 ticket_sync = search (frame_send, frame_sync, shared_machine_send, shared_machine_sync, frame_field_send, frame_field_sync, shared_machine_field_send, shared_machine_field_sync, base) depth 60 fits 20000
 
 pub book_field_send : IsSend (book.the_field).row
-book_field_send = search (settled_names.the_send, settled_names.the_sync, begin_send, begin_sync, history_send, history_sync, entry_send, entry_sync, shared_machine_send, shared_machine_sync, begin_field_send, begin_field_sync, history_field_send, history_field_sync, entry_field_send, entry_field_sync, shared_machine_field_send, shared_machine_field_sync, base) depth 60 fits 20000
+book_field_send = search (settled_names.the_send, settled_names.the_sync, hold.the_send, hold.the_sync, hold.the_field_send, hold.the_field_sync, begin_send, begin_sync, history_send, history_sync, entry_send, entry_sync, shared_machine_send, shared_machine_sync, begin_field_send, begin_field_sync, history_field_send, history_field_sync, entry_field_send, entry_field_sync, shared_machine_field_send, shared_machine_field_sync, base) depth 60 fits 20000
 
 pub book_send : IsSend book.the_row
-book_send = search (settled_names.the_send, settled_names.the_sync, begin_send, begin_sync, history_send, history_sync, entry_send, entry_sync, shared_machine_send, shared_machine_sync, begin_field_send, begin_field_sync, history_field_send, history_field_sync, entry_field_send, entry_field_sync, shared_machine_field_send, shared_machine_field_sync, base) depth 60 fits 20000
+book_send = search (settled_names.the_send, settled_names.the_sync, hold.the_send, hold.the_sync, hold.the_field_send, hold.the_field_sync, begin_send, begin_sync, history_send, history_sync, entry_send, entry_sync, shared_machine_send, shared_machine_sync, begin_field_send, begin_field_sync, history_field_send, history_field_sync, entry_field_send, entry_field_sync, shared_machine_field_send, shared_machine_field_sync, base) depth 60 fits 20000
 
 pub book_field_sync : IsSync (book.the_field).row
-book_field_sync = search (settled_names.the_send, settled_names.the_sync, begin_send, begin_sync, history_send, history_sync, entry_send, entry_sync, shared_machine_send, shared_machine_sync, begin_field_send, begin_field_sync, history_field_send, history_field_sync, entry_field_send, entry_field_sync, shared_machine_field_send, shared_machine_field_sync, base) depth 60 fits 20000
+book_field_sync = search (settled_names.the_send, settled_names.the_sync, hold.the_send, hold.the_sync, hold.the_field_send, hold.the_field_sync, begin_send, begin_sync, history_send, history_sync, entry_send, entry_sync, shared_machine_send, shared_machine_sync, begin_field_send, begin_field_sync, history_field_send, history_field_sync, entry_field_send, entry_field_sync, shared_machine_field_send, shared_machine_field_sync, base) depth 60 fits 20000
 
 pub book_sync : IsSync book.the_row
-book_sync = search (settled_names.the_send, settled_names.the_sync, begin_send, begin_sync, history_send, history_sync, entry_send, entry_sync, shared_machine_send, shared_machine_sync, begin_field_send, begin_field_sync, history_field_send, history_field_sync, entry_field_send, entry_field_sync, shared_machine_field_send, shared_machine_field_sync, base) depth 60 fits 20000
+book_sync = search (settled_names.the_send, settled_names.the_sync, hold.the_send, hold.the_sync, hold.the_field_send, hold.the_field_sync, begin_send, begin_sync, history_send, history_sync, entry_send, entry_sync, shared_machine_send, shared_machine_sync, begin_field_send, begin_field_sync, history_field_send, history_field_sync, entry_field_send, entry_field_sync, shared_machine_field_send, shared_machine_field_sync, base) depth 60 fits 20000
 
 pub receipt_field_send : IsSend (receipt.the_field).row
 receipt_field_send = search (entry_send, entry_sync, entry_field_send, entry_field_sync, base) depth 60 fits 20000

@@ -10,7 +10,8 @@ use shared_book::{Pass, Receipt, Shared, SharedCommitRefusal, SharedRefusal, Sha
 use std::alloc::Global;
 use std::sync::Wait;
 
-/// Takes the move of a ticket's thread, and ends its claim. A move that another made, or made impossible, is no refusal.
+/// Takes the move of a ticket's thread, and ends its claim. A move that another made, or made impossible, is no refusal, nor is one
+/// that a hold keeps back: its thread is passed by then.
 pub(crate) fn take_move<B: Events, L: Sharing, G: Gate>(
     rt: &impl Wait,
     alloc: Global,
@@ -63,7 +64,7 @@ fn commit<B: Events, L: Sharing>(
             drop(prepared);
             Ok(())
         }
-        Err(SharedCommitRefusal::Refused(refusal)) => Err(refusal),
+        Err(SharedCommitRefusal::Refused(refusal)) => unless_in_the_way(refusal),
     }
 }
 
@@ -84,14 +85,15 @@ fn join<B: Events, L: Sharing>(
             drop(receipt);
             Ok(())
         }
-        Err(refusal) => unless_overtaken(refusal),
+        Err(refusal) => unless_in_the_way(refusal),
     }
 }
 
-/// A thread that is gone or has no move now was overtaken, which is no refusal of the worker.
-fn unless_overtaken(refusal: SharedRefusal) -> Result<(), SharedRefusal> {
+/// A thread that is gone or has no move now was overtaken, and one that is held back is passed by, which is no refusal of the worker.
+fn unless_in_the_way(refusal: SharedRefusal) -> Result<(), SharedRefusal> {
     match refusal {
         SharedRefusal::Refused(Refusal::NoThread | Refusal::NotReady(_)) => Ok(()),
+        SharedRefusal::Refused(Refusal::Held(_)) => Ok(()),
         refusal => Err(refusal),
     }
 }

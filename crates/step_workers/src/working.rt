@@ -62,7 +62,8 @@ impl<L: Ledger> Rooms<L> {
 }
 
 /// Works on a shared book with a thread for each pass, until no thread of the book can move or the budget of moves is spent, which the
-/// workers share equally (the first ones have one more where it doesn't divide). A move that was overtaken costs one too.
+/// workers share equally (the first ones have one more where it doesn't divide). A move that was overtaken or that a hold keeps back
+/// costs one too.
 /// All that a round itself needs of memory is taken before the first move.
 ///
 /// # Errors

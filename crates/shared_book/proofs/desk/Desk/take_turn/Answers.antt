@@ -1,7 +1,12 @@
-use Rattle.std.proofs.Common.{refl, ap, ◌∙◌}
+use Rattle.std.proofs.Common.{◌≡◌, true, refl, ap, subst, ◌∙◌}
 use Rattle.step_names.specs.declared.step.StepName.{StepName}
 use Rattle.book_log.specs.declared.entry.Entry.TheVariants.{Step as Stepped}
 use Rattle.shared_book.proofs.Answering.{counted_more, given_turn, turn_accepted, turn_of}
+use Rattle.shared_book.specs.Away.{WasRefused}
+use Rattle.shared_book.specs.Commits.{is_turn_held}
+use Rattle.shared_book.specs.Views.{DeskView}
+use Rattle.shared_book.specs.declared.refusal.SharedCommitRefusal.{SharedCommitRefusal}
+use Rattle.shared_book.proofs.HeldBack.{held_turn, were_more}
 use Rattle.shared_book.proofs.desk.Desk.take_turn.Goals as goal
 
 pub returns-clause-receipt : goal.returns-clause-receipt
@@ -15,4 +20,10 @@ pub returns-clause-entry : goal.returns-clause-entry
 returns-clause-entry g c = ap (λ (n : StepName). n.thread) c.step-told.ensures ∙ turn_of _ c.args.thread.now c.in-Ok-commit.moved c.in-Ok-commit.ensures.answer.1
 
 pub invariant_of-self-2 : goal.invariant_of-self-2
-invariant_of-self-2 g c = (counted_more _ _ _ _ _ _ _ c.self.invariant.0 c.in-Ok-commit.ensures.story c.hand_out.ensures.total, c.self.invariant.1)
+invariant_of-self-2 g c = (counted_more _ _ _ _ _ _ _ c.self.invariant.0 c.in-Ok-commit.ensures.story c.hand_out.ensures.total, c.self.invariant.1, were_more _ _ _ (Stepped c.in-Ok-commit.moved.name c.in-Ok-commit.moved.kind) tt c.in-Ok-commit.ensures.story c.self.invariant.2)
+
+pub returns-in-Err-commit-clause-held : goal.returns-in-Err-commit-clause-held
+returns-in-Err-commit-clause-held g c = λ h.
+    let t = c.args.thread.now in
+    let told = subst (λ (e : SharedCommitRefusal). is_turn_held e ≡ true) c.not_taken.ensures h in
+    subst (λ (d : DeskView). WasRefused d.story t) c.self.view_is (held_turn (g.B.Events.story c.self.inside.book) t c.args.prepared c.in-Err-commit.refusal c.entries.ensures.legal c.in-Err-commit.ensures.answer told)

@@ -1,7 +1,8 @@
 use Rattle.std.proofs.Common.{ap, ◌∙◌}
 use Rattle.step_names.specs.declared.step.StepName.{StepName}
 use Rattle.book_log.specs.Answers.{undo_answer}
-use Rattle.shared_book.proofs.Answering.{given, undo_accepted}
+use Rattle.shared_book.proofs.Answering.{counted_more, given, undo_accepted}
+use Rattle.shared_book.proofs.HeldBack.{were_none}
 use Rattle.shared_book.proofs.desk.Desk.undo.Goals as goal
 
 pub returns-clause-receipt : goal.returns-clause-receipt
@@ -11,3 +12,10 @@ returns-clause-receipt g c =
     let accepted = undo_accepted story c.args.step.now c.in-Ok-undo.name answer in
     rw (← c.pass.view_is) (given _ _ _ _ _ _ _ _ _ c.self.invariant.0.goes c.entries.ensures.log c.entries.ensures.legal accepted c.in_ok-number.ensures.known c.in_ok-number.ensures.number
     c.in-Ok.ensures.0 c.in-Ok.ensures.1 (rw c.admit.ensures.same at c.hand_out.ensures.items))
+
+pub invariant_of-self-2 : goal.invariant_of-self-2
+invariant_of-self-2 g c = (
+  counted_more _ _ _ _ _ _ _ c.self.invariant.0 c.in-Ok-undo.ensures.ok c.hand_out.ensures.total,
+  c.self.invariant.1,
+  were_none _ _ c.forget_passed.ensures.passed,
+)

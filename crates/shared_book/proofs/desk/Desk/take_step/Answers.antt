@@ -1,0 +1,31 @@
+use Rattle.std.proofs.Common.{refl, ap, subst, ◌∙◌}
+use Rattle.step_names.specs.declared.step.StepName.{StepName}
+use Rattle.book_log.specs.declared.entry.Entry.TheVariants.{Step as Stepped}
+use Rattle.shared_book.proofs.Answering.{counted_more, given, step_accepted, step_of}
+use Rattle.shared_book.specs.Away.{WasRefused}
+use Rattle.shared_book.specs.Views.{DeskView}
+use Rattle.shared_book.proofs.HeldBack.{held_step, were_more}
+use Rattle.shared_book.proofs.desk.Desk.take_step.Goals as goal
+
+pub returns-clause-receipt : goal.returns-clause-receipt
+returns-clause-receipt g c =
+    let moved = c.in-Ok-step.moved in
+    let accepted = step_accepted _ c.args.thread.now moved c.in-Ok-step.ensures.answer in
+    rw (← c.pass.view_is) (given _ _ _ _ _ _ _ _ _ c.self.invariant.0.goes c.entries.ensures.log c.entries.ensures.legal accepted c.in_ok-number.ensures.known c.in_ok-number.ensures.number
+    refl (ap (λ (n : StepName). Stepped n moved.kind) c.step-told.ensures) (rw c.admit.ensures.same at c.hand_out.ensures.items))
+
+pub returns-clause-entry : goal.returns-clause-entry
+returns-clause-entry g c = ap (λ (n : StepName). n.thread) c.step-told.ensures ∙ step_of _ c.args.thread.now c.in-Ok-step.moved c.in-Ok-step.ensures.answer
+
+pub returns-in-Err-clause-held : goal.returns-in-Err-clause-held
+returns-in-Err-clause-held g c = λ h.
+    let t = c.args.thread.now in
+    subst (λ (d : DeskView). WasRefused d.story t) c.self.view_is (held_step (g.B.Events.story c.self.inside.book) t c.in-Err.refusal c.entries.ensures.legal c.in-Err.ensures.answer h)
+
+pub invariant_of-self-2 : goal.invariant_of-self-2
+invariant_of-self-2 g c =
+    let moved = c.in-Ok-step.moved in (
+      counted_more _ _ _ _ _ _ _ c.self.invariant.0 c.in-Ok-step.ensures.ok c.hand_out.ensures.total,
+      c.self.invariant.1,
+      were_more _ _ _ (Stepped moved.name moved.kind) tt c.in-Ok-step.ensures.ok c.self.invariant.2,
+    )

@@ -1,0 +1,89 @@
+-- The threads that a claim leaves out: those that callers have claimed, and those that are passed by, since a hold kept their moves
+-- back.
+use Rattle.std.specs.Prelude.{◌≡◌, Bool, true, not, ◌&&◌, List, [], ◌∷◌, ◌++◌, Option, None, Some, Err, filter, if◌then◌else◌}
+use Rattle.std.specs.BTreeMap.{is_at}
+use Rattle.std.specs.BTreeSet.{contains, insert_key}
+use Rattle.std.specs.Set.{remove_key}
+use Rattle.step_names.specs.Order.{thread_cmp}
+use Rattle.step_names.specs.Thread.{Thread}
+use Rattle.step_names.specs.declared.step.StepName.{StepName}
+use Rattle.book_log.specs.Answers.{step_answer}
+use Rattle.book_log.specs.Legal.{IsLegal}
+use Rattle.book_log.specs.Story.{Story}
+use Rattle.book_log.specs.declared.entry.Entry.{Entry}
+use Rattle.book_log.specs.declared.entry.Entry.TheVariants.{Start, Step as Stepped}
+use Rattle.book_log.specs.declared.refusal.Refusal.TheVariants.{Held}
+
+-- the threads that are claimed; and these together with those that are passed by; each in their order
+pub record Away : Type 0 where
+  pub claimed : List Thread
+  pub outside : List Thread
+
+abbrev pub is_among : List Thread → Thread → Bool
+is_among threads t = contains thread_cmp (record { keys = threads }) t
+
+abbrev pub is_passed : Away → Thread → Bool
+is_passed a t = is_among a.outside t && not (is_among a.claimed t)
+
+-- ---- changes
+
+abbrev pub with_thread : List Thread → Thread → List Thread
+with_thread threads t = insert_key thread_cmp threads t
+
+abbrev pub without_thread : List Thread → Thread → List Thread
+without_thread threads t = remove_key (is_at (thread_cmp t)) threads
+
+-- a thread more is claimed, if there is one
+abbrev pub claimed_with : Away → Option Thread → Away
+claimed_with a None = a
+claimed_with a (Some t) = record { claimed = with_thread a.claimed t; outside = with_thread a.outside t }
+
+-- the claim of a thread has ended, if there was one
+abbrev pub claim_ended : Away → Thread → Away
+claim_ended a t = if is_among a.claimed t then record { claimed = without_thread a.claimed t; outside = without_thread a.outside t } else a
+
+-- a thread that was claimed is passed by
+abbrev pub passed_by : Away → Thread → Away
+passed_by a t = record { claimed = without_thread a.claimed t; outside = a.outside }
+
+-- none is passed by
+abbrev pub claimed_alone : Away → Away
+claimed_alone a = record { claimed = a.claimed; outside = filter (is_among a.claimed) a.outside }
+
+-- ---- who is passed by
+
+-- each that is claimed is outside
+abbrev pub AreOutside : Away → Type 0
+AreOutside a = (t : Thread) → is_among a.claimed t ≡ true → is_among a.outside t ≡ true
+
+-- no other is passed by
+abbrev pub PassesNoOther : Away → Away → Type 0
+PassesNoOther before after = (t : Thread) → is_passed after t ≡ true → is_passed before t ≡ true
+
+-- starts and steps alone
+abbrev pub IsMove : Entry → Type 0
+IsMove (Start exec machine input) = Unit {0}
+IsMove (Stepped name kind) = Unit {0}
+IsMove _ = ⊥
+
+abbrev pub AreMoves : List Entry → Type 0
+AreMoves [] = Unit {0}
+AreMoves (e ∷ es) = IsMove e × AreMoves es
+
+-- at some legal beginning of the log the thread's move was refused for a hold, and since then only starts and steps came
+pub record WasRefused (story : Story) (t : Thread) : Type 0 where
+  pub before : Story
+  pub since : List Entry
+  pub parts : story ≡ record { begin = before.begin; log = before.log ++ since }
+  pub legal : IsLegal before
+  pub moves : AreMoves since
+  pub step : StepName
+  pub refused : step_answer before t ≡ Err (Held step)
+
+-- so it was of each thread that is passed by
+abbrev pub WereRefused : Story → Away → Type 0
+WereRefused story a = (t : Thread) → is_passed a t ≡ true → WasRefused story t
+
+pub record AreAway (story : Story) (a : Away) : Type 0 where
+  pub claimed : AreOutside a
+  pub passed : WereRefused story a
