@@ -12,7 +12,7 @@ use Rattle.attr_values.specs.declared.key.KeyAttribute.{KeyAttribute}
 use Rattle.attr_values.specs.declared.key.KeyType.{KeyType}
 use Rattle.attr_values.specs.declared.key.KeyType.TheVariants.{S, N}
 use Rattle.asl_fields.specs.Fields.{is_text}
-use Rattle.command_lines.specs.Grammar.{Spoken, table, define, start, step, undo, plan, rollback, settle, drive, work, show, items, history, is_table_name, is_table_name_byte, execution_in, count_in, workers_in, work_of, type_in, key_name_in, key_in, first_word, table_by, table_of, define_of, start_of, words_command}
+use Rattle.command_lines.specs.Grammar.{Spoken, table, define, start, step, undo, plan, rollback, settle, hold, drive, work, show, items, history, held, is_table_name, is_table_name_byte, execution_in, count_in, workers_in, work_of, type_in, key_name_in, key_in, first_word, table_by, table_of, define_of, start_of, words_command}
 use Rattle.command_lines.specs.Spelled.{type_text, key_text, items_text, is_key_name, IsExecution, IsSort, IsProper, line_of}
 use Rattle.command_lines.specs.GrammarLaws.{LineIsRead}
 use Rattle.command_lines.proofs.Cuts.{cut_some}
@@ -121,11 +121,13 @@ text_reads (undo named) kept = rw (step_reads named kept)
 text_reads (plan named) kept = rw (step_reads named kept)
 text_reads (rollback named) kept = rw (step_reads named kept)
 text_reads settle kept = refl
+text_reads (hold named) kept = rw (step_reads named kept)
 text_reads (drive count) kept = rw (count_reads count kept)
 text_reads (work workers moves) kept = work_reads workers moves kept.0 kept.1
 text_reads (show thread) kept = rw (thread_reads thread kept)
 text_reads items kept = refl
 text_reads history kept = refl
+text_reads held kept = refl
 
 pub line_is_read : LineIsRead
 line_is_read command kept utf8 one = rw (utf8, one) (text_reads command kept)

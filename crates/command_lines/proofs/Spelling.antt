@@ -15,7 +15,7 @@ use Rattle.attr_values.specs.declared.key.KeyAttribute.{KeyAttribute}
 use Rattle.attr_values.specs.declared.key.KeyType.{KeyType}
 use Rattle.attr_values.specs.declared.key.KeyType.TheVariants.{S, N}
 use Rattle.asl_fields.specs.Fields.{is_text}
-use Rattle.command_lines.specs.Grammar.{Spoken, table, step, undo, plan, rollback, settle, drive, show, items, history, cut_at, is_table_name, execution_in, within_drive, count_in, within_workers, workers_in, work_of, type_in, key_name_in, key_in, first_word, table_by, table_of, define_of, start_of, command_by, is_one_line, text_command, words_command}
+use Rattle.command_lines.specs.Grammar.{Spoken, table, step, undo, plan, rollback, settle, hold, drive, show, items, history, held, cut_at, is_table_name, execution_in, within_drive, count_in, within_workers, workers_in, work_of, type_in, key_name_in, key_in, first_word, table_by, table_of, define_of, start_of, command_by, is_one_line, text_command, words_command}
 use Rattle.command_lines.specs.Spelled.{type_text, key_text, items_text, is_key_name, IsExecution, IsSort, IsProper, line_of}
 use Rattle.command_lines.specs.GrammarLaws.{LineSaysOne, LineIsSpelled}
 
@@ -207,6 +207,12 @@ rollback_line text command h =
     let named = step_writes text found.0 found.1 in
     subst (λ (s : Spoken). IsProper s × (codes "rollback " ++ text ≡ line_of s)) found.2 (named.0, ap (λ (w : List ℕ). codes "rollback " ++ w) (sym named.1))
 
+hold_line : (text : List ℕ) (command : Spoken) → option_map hold (read_step text) ≡ Some command → IsProper command × (codes "hold " ++ text ≡ line_of command)
+hold_line text command h =
+    let found = map_found (read_step text) hold command h in
+    let named = step_writes text found.0 found.1 in
+    subst (λ (s : Spoken). IsProper s × (codes "hold " ++ text ≡ line_of s)) found.2 (named.0, ap (λ (w : List ℕ). codes "hold " ++ w) (sym named.1))
+
 drive_line : (text : List ℕ) (command : Spoken) → option_map drive (count_in text) ≡ Some command → IsProper command × (codes "drive " ++ text ≡ line_of command)
 drive_line text command h =
     let found = map_found (count_in text) drive command h in
@@ -244,13 +250,16 @@ command_says keyword text command h = elim (choice_found (is_text keyword (codes
             | inl w ↦ by_word keyword text (codes "plan") command w.0 (plan_line text command w.1)
             | inr h6 ↦ elim (choice_found (is_text keyword (codes "rollback")) (option_map rollback (read_step text)) _ command h6) [
               | inl w ↦ by_word keyword text (codes "rollback") command w.0 (rollback_line text command w.1)
-              | inr h7 ↦ elim (choice_found (is_text keyword (codes "drive")) (option_map drive (count_in text)) _ command h7) [
-                | inl w ↦ by_word keyword text (codes "drive") command w.0 (drive_line text command w.1)
-                | inr h8 ↦ elim (choice_found (is_text keyword (codes "work")) (work_of text) _ command h8) [
-                  | inl w ↦ by_word keyword text (codes "work") command w.0 (work_line text command w.1)
-                  | inr h9 ↦ elim (choice_found (is_text keyword (codes "show")) (option_map show (read_thread text)) _ command h9) [
-                    | inl w ↦ by_word keyword text (codes "show") command w.0 (show_line text command w.1)
-                    | inr h10 ↦ cc
+              | inr h7 ↦ elim (choice_found (is_text keyword (codes "hold")) (option_map hold (read_step text)) _ command h7) [
+                | inl w ↦ by_word keyword text (codes "hold") command w.0 (hold_line text command w.1)
+                | inr h8 ↦ elim (choice_found (is_text keyword (codes "drive")) (option_map drive (count_in text)) _ command h8) [
+                  | inl w ↦ by_word keyword text (codes "drive") command w.0 (drive_line text command w.1)
+                  | inr h9 ↦ elim (choice_found (is_text keyword (codes "work")) (work_of text) _ command h9) [
+                    | inl w ↦ by_word keyword text (codes "work") command w.0 (work_line text command w.1)
+                    | inr h10 ↦ elim (choice_found (is_text keyword (codes "show")) (option_map show (read_thread text)) _ command h10) [
+                      | inl w ↦ by_word keyword text (codes "show") command w.0 (show_line text command w.1)
+                      | inr h11 ↦ cc
+                    ]
                   ]
                 ]
               ]
@@ -269,10 +278,13 @@ text_says text command h = elim (choice_found (is_text text (codes "items")) (So
     | inl w ↦ subst (λ (s : Spoken). IsProper s × (text ≡ line_of s)) (same_some history command w.1) (tt, (bytes_decides text (codes "history")).0 w.0)
     | inr h2 ↦ elim (choice_found (is_text text (codes "settle")) (Some settle) _ command h2) [
       | inl w ↦ subst (λ (s : Spoken). IsProper s × (text ≡ line_of s)) (same_some settle command w.1) (tt, (bytes_decides text (codes "settle")).0 w.0)
-      | inr h3 ↦
-          let cut = bind_found (cut_at 32 text) _ command h3 in
-          let says = command_says cut.0.0 cut.0.1 command cut.2 in
-          (says.0, (cut_back 32 text cut.0 cut.1).0 ∙ says.1)
+      | inr h3 ↦ elim (choice_found (is_text text (codes "held")) (Some held) _ command h3) [
+        | inl w ↦ subst (λ (s : Spoken). IsProper s × (text ≡ line_of s)) (same_some held command w.1) (tt, (bytes_decides text (codes "held")).0 w.0)
+        | inr h4 ↦
+            let cut = bind_found (cut_at 32 text) _ command h4 in
+            let says = command_says cut.0.0 cut.0.1 command cut.2 in
+            (says.0, (cut_back 32 text cut.0 cut.1).0 ∙ says.1)
+      ]
     ]
   ]
 ]

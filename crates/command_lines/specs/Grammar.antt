@@ -1,8 +1,8 @@
 -- The grammar of lines: which command a line is, if it is one.
 --
---     table NAME2 K:TYPE [K:TYPE] J        step T        plan S          items
---     define NAME J                        show T        rollback S      history
---     start NAME NAME J                    undo S        drive K         work W K        settle
+--     table NAME2 K:TYPE [K:TYPE] J        step T        plan S          items         settle
+--     define NAME J                        show T        rollback S      history       hold S
+--     start NAME NAME J                    undo S        drive K         work W K      held
 --
 -- Between two words stands one space and no more, and J is all that is left. A line has at most 1,048,576 bytes, and no line feed in it. NAME is the name of an execution or a machine.
 -- T is a thread and S a step, written as these names are; K is a number from 1 to 65,536, and W one from 1 to 8.
@@ -20,7 +20,7 @@ use Rattle.attr_values.specs.declared.key.KeyType.{KeyType}
 use Rattle.attr_values.specs.declared.key.KeyType.TheVariants.{S, N}
 use Rattle.command_lines.specs.declared.words.KeyWord.{KeyWord}
 use Rattle.command_lines.specs.declared.command.Command.{Command}
-use Rattle.command_lines.specs.declared.command.Command.TheVariants.{Table, Define, Start, Step, Undo, Plan, Rollback, Settle, Drive, Work, Show, Items, History}
+use Rattle.command_lines.specs.declared.command.Command.TheVariants.{Table, Define, Start, Step, Undo, Plan, Rollback, Settle, Hold, Drive, Work, Show, Items, History, Held}
 
 -- A command: of a table its name, its key and its items' JSON; of a definition the machine's name and the definition's
 -- JSON; of a start the execution's thread, the machine's name and the input's JSON. Texts are their bytes.
@@ -33,11 +33,13 @@ pub data Spoken : Type 0 where
   plan : StepName → Spoken
   rollback : StepName → Spoken
   settle : Spoken
+  hold : StepName → Spoken
   drive : ℕ → Spoken
   work : ℕ → ℕ → Spoken
   show : Thread → Spoken
   items : Spoken
   history : Spoken
+  held : Spoken
 
 -- one part after another: nothing where one of them is nothing
 infixl 10 ◌>>=◌
@@ -162,10 +164,11 @@ command_by keyword text =
     else (if is_text keyword (codes "undo") then option_map undo (read_step text)
     else (if is_text keyword (codes "plan") then option_map plan (read_step text)
     else (if is_text keyword (codes "rollback") then option_map rollback (read_step text)
+    else (if is_text keyword (codes "hold") then option_map hold (read_step text)
     else (if is_text keyword (codes "drive") then option_map drive (count_in text)
     else (if is_text keyword (codes "work") then work_of text
     else (if is_text keyword (codes "show") then option_map show (read_thread text)
-    else None)))))))))
+    else None))))))))))
 
 -- of a text whose words are these
 abbrev pub words_command : List ℕ → Option Spoken
@@ -173,9 +176,10 @@ words_command text =
     if is_text text (codes "items") then Some items
     else (if is_text text (codes "history") then Some history
     else (if is_text text (codes "settle") then Some settle
+    else (if is_text text (codes "held") then Some held
     else (do
       (keyword, rest) ← cut_at 32 text
-      command_by keyword rest)))
+      command_by keyword rest))))
 
 -- a line has at most so many bytes, without its end
 abbrev pub longest_line : ℕ
@@ -211,8 +215,10 @@ spoken (Undo named) = undo named
 spoken (Plan named) = plan named
 spoken (Rollback named) = rollback named
 spoken Settle = settle
+spoken (Hold named) = hold named
 spoken (Drive count) = drive count
 spoken (Work workers moves) = work workers moves
 spoken (Show thread) = show thread
 spoken Items = items
 spoken History = history
+spoken Held = held

@@ -2,7 +2,7 @@
 use Rattle.std.specs.Prelude.{◌≡◌, [], ◌∷◌, codes, Some, None, refl}
 use Rattle.step_names.specs.Thread.{execution}
 use Rattle.attr_values.specs.declared.key.KeyType.TheVariants.{S, N}
-use Rattle.command_lines.specs.Grammar.{table, define, start, step, undo, plan, rollback, settle, drive, work, show, items, history, text_command}
+use Rattle.command_lines.specs.Grammar.{table, define, start, step, undo, plan, rollback, settle, hold, drive, work, show, items, history, held, text_command}
 
 row_one_key : text_command (codes "table items id:S []")
     ≡ Some (table (codes "items") (record { partition = record { name = codes "id"; kind = S }; sort = None }) (codes "[]"))
@@ -114,6 +114,21 @@ row_settle = refl
 
 row_settle_a_step : text_command (codes "settle a#1") ≡ None
 row_settle_a_step = refl
+
+row_hold : text_command (codes "hold e/1.1#2") ≡ Some (hold (record { thread = record { exec = codes "e"; path = (1, 1) ∷ [] }; no = 2 }))
+row_hold = refl
+
+row_hold_nothing : text_command (codes "hold") ≡ None
+row_hold_nothing = refl
+
+row_hold_a_thread : text_command (codes "hold e") ≡ None
+row_hold_a_thread = refl
+
+row_held : text_command (codes "held") ≡ Some held
+row_held = refl
+
+row_held_a_step : text_command (codes "held e#1") ≡ None
+row_held_a_step = refl
 
 row_nothing : text_command [] ≡ None
 row_nothing = refl

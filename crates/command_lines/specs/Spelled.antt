@@ -8,7 +8,7 @@ use Rattle.attr_values.specs.declared.key.KeyAttribute.{KeyAttribute}
 use Rattle.attr_values.specs.declared.key.KeyType.{KeyType}
 use Rattle.attr_values.specs.declared.key.KeyType.TheVariants.{S, N}
 use Rattle.asl_fields.specs.Fields.{is_text}
-use Rattle.command_lines.specs.Grammar.{Spoken, table, define, start, step, undo, plan, rollback, settle, drive, work, show, items, history, is_table_name, first_word, key_in, most_driven, most_workers}
+use Rattle.command_lines.specs.Grammar.{Spoken, table, define, start, step, undo, plan, rollback, settle, hold, drive, work, show, items, history, held, is_table_name, first_word, key_in, most_driven, most_workers}
 
 abbrev pub type_text : KeyType → List ℕ
 type_text S = codes "S"
@@ -32,11 +32,13 @@ line_of (undo named) = codes "undo " ++ step_text named
 line_of (plan named) = codes "plan " ++ step_text named
 line_of (rollback named) = codes "rollback " ++ step_text named
 line_of settle = codes "settle"
+line_of (hold named) = codes "hold " ++ step_text named
 line_of (drive count) = codes "drive " ++ decimal count
 line_of (work workers moves) = codes "work " ++ (decimal workers ++ 32 ∷ decimal moves)
 line_of (show thread) = codes "show " ++ thread_text thread
 line_of items = codes "items"
 line_of history = codes "history"
+line_of held = codes "held"
 
 -- an execution's own thread
 abbrev pub IsExecution : Thread → Type 0
@@ -61,8 +63,10 @@ IsProper (undo named) = IsStep named.thread named.no
 IsProper (plan named) = IsStep named.thread named.no
 IsProper (rollback named) = IsStep named.thread named.no
 IsProper settle = Unit {0}
+IsProper (hold named) = IsStep named.thread named.no
 IsProper (drive count) = (1 ≤ count) × (count ≤ most_driven)
 IsProper (work workers moves) = ((1 ≤ workers) × (workers ≤ most_workers)) × ((1 ≤ moves) × (moves ≤ most_driven))
 IsProper (show thread) = IsThread thread
 IsProper items = Unit {0}
 IsProper history = Unit {0}
+IsProper held = Unit {0}

@@ -72,6 +72,8 @@ pub enum Command<'a> {
     Rollback(StepName),
     /// To settle the remaining steps, which can't be taken back then.
     Settle,
+    /// To hold a step and its consequences, which are to be taken back one by one.
+    Hold(StepName),
     /// At most so many steps, from 1 to 65,536.
     Drive(u32),
     /// A round of so many workers, from 1 to 8, that take at most so many steps together, from 1 to 65,536.
@@ -85,6 +87,8 @@ pub enum Command<'a> {
     Items,
     /// To list the remaining steps.
     History,
+    /// To list what is left of the hold.
+    Held,
 }
 
 impl<'a> Command<'a> {
@@ -124,6 +128,7 @@ fn read_spelled(alloc: Global, text: &str) -> Result<Command<'_>, CommandFault>
         "items" => Ok(Command::Items),
         "history" => Ok(Command::History),
         "settle" => Ok(Command::Settle),
+        "held" => Ok(Command::Held),
         _ => match cut(text, ' ') {
             Some((keyword, rest)) => read_words(alloc, keyword, rest),
             None => Err(CommandFault::BadLine),
@@ -144,6 +149,7 @@ fn read_words<'a>(alloc: Global, keyword: &str, rest: &'a str) -> Result<Command
         "undo" => Ok(Command::Undo(read_step(alloc, rest)?)),
         "plan" => Ok(Command::Plan(read_step(alloc, rest)?)),
         "rollback" => Ok(Command::Rollback(read_step(alloc, rest)?)),
+        "hold" => Ok(Command::Hold(read_step(alloc, rest)?)),
         "drive" => Ok(Command::Drive(read_count(rest)?)),
         "work" => read_work(rest),
         "show" => Ok(Command::Show(read_thread(alloc, rest)?)),

@@ -46,6 +46,10 @@ kind_text Terminate = codes " terminate"
 abbrev pub moved_reply : Moved → List ℕ
 moved_reply m = codes "ok " ++ (step_text m.name ++ with_feed (kind_text m.kind))
 
+-- how many there are
+abbrev pub count_reply : ℕ → List ℕ
+count_reply count = codes "ok " ++ with_feed (decimal count)
+
 -- how many there are, and each in a line of its own
 abbrev pub list_reply : List (List ℕ) → List ℕ
 list_reply texts = codes "ok " ++ (with_feed (decimal (length texts)) ++ flat_map with_feed texts)
@@ -140,6 +144,7 @@ refusal_reply (refusals.Stale entries) = refused 9
 refusal_reply refusals.Full = refused 10
 refusal_reply refusals.Memory = memory_reply
 refusal_reply refusals.Settled = refused 12
+refusal_reply (refusals.Held step) = refused_for_step 13 step
 
 -- ---- JSON that is none
 

@@ -7,7 +7,7 @@ ghost use Rattle.item_store.specs.Listing.{items_left};
 ghost use Rattle.json_tree.specs.View.{data_of};
 ghost use Rattle.json_tree.specs.Written.{quoted, text_of};
 ghost use Rattle.step_names.specs.Written.{step_text};
-ghost use Rattle.reply_lines.specs.Replies.{done_reply, step_reply, moved_reply, kind_text, with_feed, list_reply, names_reply, place_text, fault_text, frame_reply, refused, refused_by, refused_for_step, refused_for_field, machine_reply, readiness_text, refusal_reply};
+ghost use Rattle.reply_lines.specs.Replies.{done_reply, step_reply, moved_reply, kind_text, with_feed, count_reply, list_reply, names_reply, place_text, fault_text, frame_reply, refused, refused_by, refused_for_step, refused_for_field, machine_reply, readiness_text, refusal_reply};
 ghost use Rattle.reply_lines.specs.Replying.{Writes, AreLines, has_room_for_step, has_room_for_lines};
 
 use crate::lines::Lines;
@@ -88,6 +88,18 @@ impl Reply {
         self.text.push_str("ok ")?;
         moved.name.write_to(&mut self.text)?;
         self.text.push_str(kind_word(moved.kind))?;
+        self.text.push_str("\n")
+    }
+
+    /// `ok` and a number of steps.
+    #[tactic(auto, using(crate::proofs::Counts::few_digits))]
+    pub fn accept_count(&mut self, count: usize) -> Result<(), AllocError>
+        ensures ok { Writes result self.old self.new (count_reply count) }
+        ensures room { has_room_for_step self.old.text → OnErr result ⊥ }
+    {
+        self.text.reserve(LONGEST_COUNT + 4)?;
+        self.text.push_str("ok ")?;
+        push_count(&mut self.text, count);
         self.text.push_str("\n")
     }
 
@@ -217,6 +229,7 @@ impl Reply {
             Refusal::Full => self.refuse(10),
             Refusal::Memory => Err(AllocError),
             Refusal::Settled => self.refuse(12),
+            Refusal::Held(step) => self.refuse_for_step(13, &step),
         }
     }
 
@@ -334,6 +347,23 @@ impl Reply {
     {
         self.text.push_str(word)
     }
+}
+
+/// The most digits of a count.
+const LONGEST_COUNT: usize = 20;
+
+/// Puts a count's digits at the end, in room that is there.
+#[tactic(auto, using(crate::proofs::Counts::more_digits, crate::proofs::Counts::only_digit))]
+fn push_count(out: &mut String, count: usize)
+    requires { string_len out.old + length (decimal count) ≤ string_capacity out.old }
+    ensures bytes { string_bytes out.new ≡ string_bytes out.old ++ decimal count }
+    ensures len { string_len out.new ≡ string_len out.old + length (decimal count) }
+    ensures capacity { string_capacity out.old ≤ string_capacity out.new }
+{
+    if count >= 10 {
+        push_count(out, count / 10);
+    }
+    push_decimal(out, (count % 10) as u32);
 }
 
 fn kind_word(kind: Kind) -> &'static str

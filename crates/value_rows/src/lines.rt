@@ -76,6 +76,7 @@ fn put_command(alloc: Global, out: &mut String, command: &Command<'_>) -> Result
         Command::Plan(step) => put_step(alloc, out, "plan", step),
         Command::Rollback(step) => put_step(alloc, out, "rollback", step),
         Command::Settle => put_word(out, "settle"),
+        Command::Hold(step) => put_step(alloc, out, "hold", step),
         Command::Drive(count) => {
             write!(out, "drive|{count}")?;
             Ok(())
@@ -87,6 +88,7 @@ fn put_command(alloc: Global, out: &mut String, command: &Command<'_>) -> Result
         Command::Show(thread) => put_thread(alloc, out, "show", thread),
         Command::Items => put_word(out, "items"),
         Command::History => put_word(out, "history"),
+        Command::Held => put_word(out, "held"),
     }
 }
 
