@@ -1,20 +1,23 @@
 -- What comes of a command that was made ready and entered.
-use Rattle.std.proofs.Common.{◌≡◌, ℕ, List, Option, None, Some, Result, Ok, Err, refl, sym, ap, ◌∙◌}
-use Rattle.std.specs.Prelude.{IfSome, IsSome}
+use Rattle.std.proofs.Common.{rules, ◌≡◌, ℕ, List, Option, None, Some, Result, Ok, Err, refl, sym, ap, ◌∙◌}
+use Rattle.std.specs.Prelude.{IfSome, IsOk, IsSome}
 use Rattle.serde_json.specs.Data as source
 use Rattle.sqlite.specs.State.{State}
 use Rattle.asl_tree.specs.Definition.{Definition}
 use Rattle.rollback_book.specs.Profile.{Defines}
 use Rattle.step_names.specs.Thread.{Thread}
-use Rattle.book_log.specs.Answers.{step_answer}
-use Rattle.book_log.specs.declared.entry.Entry.TheVariants.{Define, Step as Stepped}
+use Rattle.step_names.specs.declared.step.StepName.{StepName}
+use Rattle.book_log.specs.Answers.{hold_answer, step_answer}
+use Rattle.book_log.specs.declared.entry.Entry.TheVariants.{Define, Step as Stepped, Hold}
 use Rattle.book_log.specs.declared.moved.Moved.{Moved}
+use Rattle.book_log.specs.declared.refusal.Refusal.{Refusal}
 use Rattle.rollback_book.specs.Book.{Volume}
-use Rattle.rollback_book.specs.Making.{AnswersStep, Tells}
+use Rattle.rollback_book.specs.Making.{AnswersHold, AnswersStep, Tells}
 use Rattle.rollback_book.specs.declared.making.Entered.{Entered}
 use Rattle.rollback_book.specs.declared.making.Entered.TheVariants as entered
 use Rattle.rollback_book.specs.declared.making.Made.{Made}
-use Rattle.journaled_book.specs.Changes.{Appends}
+use Rattle.book_journal.specs.declared.fault.JournalFault.{JournalFault}
+use Rattle.journaled_book.specs.Changes.{Appends, IsStoreFault}
 
 -- the entry of a step is the one that is told
 pub stepped_entry : (book : Option Volume) (t : Thread) (m : Made) (told : Entered) (moved : Moved) → IsSome book → IfSome book (λ b. AnswersStep (step_answer b.story t) (Ok m))
@@ -24,6 +27,41 @@ stepped_entry (Some b) t m told moved some h a e =
     let both : entered.Stepped h.0 ≡ entered.Stepped moved = sym h.2.1 ∙ sym a ∙ e in
     let same : h.0 ≡ moved = cc in
     h.2.0 ∙ ap (λ (x : Moved). Stepped x.name x.kind) same
+
+-- a step is told by its move
+pub stepped_told : (book : Option Volume) (t : Thread) (m : Made) (told : Entered) → IsSome book → IfSome book (λ b. AnswersStep (step_answer b.story t) (Ok m)) → told ≡ m.answer → (moved : Moved) × (told ≡ entered.Stepped moved)
+stepped_told None t m told some h a = cc
+stepped_told (Some b) t m told some h a = (h.0, a ∙ h.2.1)
+
+-- so is the entry of a hold
+pub held_entry : (book : Option Volume) (step : StepName) (m : Made) (told : Entered) (count : ℕ) → IsSome book → IfSome book (λ b. AnswersHold b.story step (Ok m))
+    → told ≡ m.answer → told ≡ entered.Held count → m.entry ≡ Hold step count
+held_entry None step m told count some h a e = cc
+held_entry (Some b) step m told count some h a e =
+    let both : entered.Held h.0 ≡ entered.Held count = sym h.2.1 ∙ sym a ∙ e in
+    let same : h.0 ≡ count = cc in
+    h.2.0 ∙ ap (λ (n : ℕ). Hold step n) same
+
+pub held_told : (book : Option Volume) (step : StepName) (m : Made) (told : Entered) → IsSome book → IfSome book (λ b. AnswersHold b.story step (Ok m)) → told ≡ m.answer → (count : ℕ) × (told ≡ entered.Held count)
+held_told None step m told some h a = cc
+held_told (Some b) step m told some h a = (h.0, a ∙ h.2.1)
+
+pub held_answer : (book : Option Volume) (step : StepName) (m : Made) (told : Entered) (count : ℕ) → IsSome book → IfSome book (λ b. AnswersHold b.story step (Ok m)) → told ≡ m.answer → told ≡ entered.Held count
+    → IfSome book (λ b. hold_answer b.story step ≡ Ok count)
+held_answer None step m told count some h a e = cc
+held_answer (Some b) step m told count some h a e =
+    let both : entered.Held h.0 ≡ entered.Held count = sym h.2.1 ∙ sym a ∙ e in
+    let same : h.0 ≡ count = cc in
+    h.1 ∙ ap (λ (n : ℕ). let r : Result ℕ Refusal = Ok n in r) same
+
+is_ok_of : (r : Result ℕ Refusal) (n : ℕ) → r ≡ Ok n → IsOk r
+is_ok_of (Ok m) n e = search rules
+is_ok_of (Err f) n e = cc
+
+pub held_unwritten : (book : Option Volume) (step : StepName) (m : Made) (fault : JournalFault) → IfSome book (λ b. AnswersHold b.story step (Ok m)) → IsStoreFault fault
+    → IfSome book (λ b. IsOk (hold_answer b.story step) × IsStoreFault fault)
+held_unwritten None step m fault h s = tt
+held_unwritten (Some b) step m fault h s = (is_ok_of (hold_answer b.story step) h.0 h.1, s)
 
 -- the entry of a definition is one of a machine
 pub defined_entry : (book : Option Volume) (name : List ℕ) (d : source.Data) (m : Made) → IsSome book

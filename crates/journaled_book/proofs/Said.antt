@@ -1,6 +1,6 @@
 -- What a line says, and what its command comes to.
-use Rattle.std.proofs.Common.{◌≡◌, ℕ, Bool, true, false, List, Option, None, Some, Result, Ok, Err, IsTrue, refl, sym, ap, subst, ◌∙◌}
-use Rattle.std.specs.Prelude.{[], ◌∷◌, IsOk, IsSome, IfOk}
+use Rattle.std.proofs.Common.{◌≡◌, ℕ, Bool, true, false, List, Option, None, Some, Result, Ok, Err, IsTrue, inl, inr, refl, sym, ap, subst, ◌∙◌}
+use Rattle.std.specs.Prelude.{[], ◌∷◌, ◌⊎◌, IsOk, IsSome, IfOk}
 use Rattle.std.specs.List.{find}
 use Rattle.std.proofs.lemmas.Option.{same_Some}
 use Rattle.serde_json.specs.Data as source
@@ -18,15 +18,15 @@ use Rattle.step_names.specs.declared.step.StepName.{StepName}
 use Rattle.rollback_book.specs.Kind.{Kind}
 use Rattle.rollback_book.specs.Fact.{Fact}
 use Rattle.rollback_book.specs.Dependence.{depends_directly}
-use Rattle.book_log.specs.Answers.{absent, settle_answer, free_answer, found_answer, from_step, IsDefineRefusal, is_full_for_define, start_answer, step_answer, undo_answer, plan_answer}
+use Rattle.book_log.specs.Answers.{absent, settle_answer, free_answer, found_answer, from_step, HoldLacks, IsDefineRefusal, SettleLacks, StepLacks, hold_answer, is_full_for_define, start_answer, step_answer, undo_answer, plan_answer}
 use Rattle.book_log.specs.Beginning.{table_of}
 use Rattle.book_log.specs.Legal.{IsAccepted}
 use Rattle.book_log.specs.Story.{Story, accepted, facts_of, machine_of}
 use Rattle.book_log.specs.declared.begin.Begin.{Begin}
 use Rattle.book_log.specs.declared.entry.Entry.{Entry}
-use Rattle.book_log.specs.declared.entry.Entry.TheVariants.{Define, Start, Step as Stepped, Undo, Rollback, Settle}
+use Rattle.book_log.specs.declared.entry.Entry.TheVariants.{Define, Start, Step as Stepped, Undo, Rollback, Settle, Hold}
 use Rattle.book_log.specs.declared.refusal.Refusal.{Refusal}
-use Rattle.book_log.specs.declared.refusal.Refusal.TheVariants.{NoMachine, MachineTaken, BadMachine, ExecTaken, NoThread, NotReady, NoStep, HasDependents, Stale, Full, Memory, Settled}
+use Rattle.book_log.specs.declared.refusal.Refusal.TheVariants.{NoMachine, MachineTaken, BadMachine, ExecTaken, NoThread, NotReady, NoStep, HasDependents, Stale, Full, Memory, Settled, Held}
 use Rattle.command_lines.specs.Grammar as spoken
 use Rattle.command_lines.specs.Grammar.{Spoken, command_of}
 use Rattle.rollback_book.specs.Making.{Answers, OrMemory}
@@ -47,6 +47,7 @@ is_entry (spoken.step thread) = true
 is_entry (spoken.undo name) = true
 is_entry (spoken.rollback name) = true
 is_entry spoken.settle = true
+is_entry (spoken.hold name) = true
 is_entry (spoken.table name schema json) = false
 is_entry (spoken.plan name) = false
 is_entry (spoken.drive count) = false
@@ -54,6 +55,7 @@ is_entry (spoken.work workers moves) = false
 is_entry (spoken.show thread) = false
 is_entry spoken.items = false
 is_entry spoken.history = false
+is_entry spoken.held = false
 
 module _ (line : List ℕ) where
   both : (a b : Spoken) → command_of line ≡ Some a → command_of line ≡ Some b → a ≡ b
@@ -67,6 +69,7 @@ module _ (line : List ℕ) where
   no_entry c is none (Undo name) h = let e = both c (spoken.undo name) is h in let f : is_entry (spoken.undo name) ≡ false = ap is_entry (sym e) ∙ none in cc
   no_entry c is none (Rollback name undone) h = let e = both c (spoken.rollback name) is h in let f : is_entry (spoken.rollback name) ≡ false = ap is_entry (sym e) ∙ none in cc
   no_entry c is none Settle h = let e = both c spoken.settle is h in let f : is_entry spoken.settle ≡ false = ap is_entry (sym e) ∙ none in cc
+  no_entry c is none (Hold name count) h = let e = both c (spoken.hold name) is h in let f : is_entry (spoken.hold name) ≡ false = ap is_entry (sym e) ∙ none in cc
 
   module _ (P : Entry → Type 0) where
     pub by_define : (name json : List ℕ) → command_of line ≡ Some (spoken.define name json) → ((machine : Definition) (d : source.Data) → source_text.read json ≡ Some d → Defines d machine → P (Define name machine)) → (entry : Entry) → IsLineOf line entry → P entry
@@ -80,6 +83,7 @@ module _ (line : List ℕ) where
     by_define name json is p (Undo n) h = let e = both (spoken.define name json) (spoken.undo n) is h in cc
     by_define name json is p (Rollback n undone) h = let e = both (spoken.define name json) (spoken.rollback n) is h in cc
     by_define name json is p Settle h = let e = both (spoken.define name json) spoken.settle is h in cc
+    by_define name json is p (Hold n count) h = let e = both (spoken.define name json) (spoken.hold n) is h in cc
 
     pub by_start : (exec : Thread) (machine json : List ℕ) → command_of line ≡ Some (spoken.start exec machine json) → ((input : Json) → read_json json ≡ Some (data_of input) → P (Start exec machine input)) → (entry : Entry) → IsLineOf line entry → P entry
     by_start exec machine json is p (Start x m input) h =
@@ -93,6 +97,7 @@ module _ (line : List ℕ) where
     by_start exec machine json is p (Undo n) h = let e = both (spoken.start exec machine json) (spoken.undo n) is h in cc
     by_start exec machine json is p (Rollback n undone) h = let e = both (spoken.start exec machine json) (spoken.rollback n) is h in cc
     by_start exec machine json is p Settle h = let e = both (spoken.start exec machine json) spoken.settle is h in cc
+    by_start exec machine json is p (Hold n count) h = let e = both (spoken.start exec machine json) (spoken.hold n) is h in cc
 
     pub by_step : (thread : Thread) → command_of line ≡ Some (spoken.step thread) → ((name : StepName) (kind : Kind) → name.thread ≡ thread → P (Stepped name kind)) → (entry : Entry) → IsLineOf line entry → P entry
     by_step thread is p (Stepped name kind) h = let e = both (spoken.step name.thread) (spoken.step thread) h is in let same : name.thread ≡ thread = cc in p name kind same
@@ -101,6 +106,7 @@ module _ (line : List ℕ) where
     by_step thread is p (Undo n) h = let e = both (spoken.step thread) (spoken.undo n) is h in cc
     by_step thread is p (Rollback n undone) h = let e = both (spoken.step thread) (spoken.rollback n) is h in cc
     by_step thread is p Settle h = let e = both (spoken.step thread) spoken.settle is h in cc
+    by_step thread is p (Hold n count) h = let e = both (spoken.step thread) (spoken.hold n) is h in cc
 
     pub by_undo : (name : StepName) → command_of line ≡ Some (spoken.undo name) → P (Undo name) → (entry : Entry) → IsLineOf line entry → P entry
     by_undo name is p (Undo n) h = let e = both (spoken.undo name) (spoken.undo n) is h in let same : name ≡ n = cc in subst (λ (x : StepName). P (Undo x)) same p
@@ -109,6 +115,7 @@ module _ (line : List ℕ) where
     by_undo name is p (Stepped n kind) h = let e = both (spoken.undo name) (spoken.step n.thread) is h in cc
     by_undo name is p (Rollback n undone) h = let e = both (spoken.undo name) (spoken.rollback n) is h in cc
     by_undo name is p Settle h = let e = both (spoken.undo name) spoken.settle is h in cc
+    by_undo name is p (Hold n count) h = let e = both (spoken.undo name) (spoken.hold n) is h in cc
 
     pub by_rollback : (name : StepName) → command_of line ≡ Some (spoken.rollback name) → ((undone : List StepName) → P (Rollback name undone)) → (entry : Entry) → IsLineOf line entry → P entry
     by_rollback name is p (Rollback n undone) h = let e = both (spoken.rollback name) (spoken.rollback n) is h in let same : name ≡ n = cc in subst (λ (x : StepName). P (Rollback x undone)) same (p undone)
@@ -117,6 +124,7 @@ module _ (line : List ℕ) where
     by_rollback name is p (Stepped n kind) h = let e = both (spoken.rollback name) (spoken.step n.thread) is h in cc
     by_rollback name is p (Undo n) h = let e = both (spoken.rollback name) (spoken.undo n) is h in cc
     by_rollback name is p Settle h = let e = both (spoken.rollback name) spoken.settle is h in cc
+    by_rollback name is p (Hold n count) h = let e = both (spoken.rollback name) (spoken.hold n) is h in cc
 
     pub by_settle : command_of line ≡ Some spoken.settle → P Settle → (entry : Entry) → IsLineOf line entry → P entry
     by_settle is p Settle h = p
@@ -125,6 +133,16 @@ module _ (line : List ℕ) where
     by_settle is p (Stepped n kind) h = let e = both spoken.settle (spoken.step n.thread) is h in cc
     by_settle is p (Undo n) h = let e = both spoken.settle (spoken.undo n) is h in cc
     by_settle is p (Rollback n undone) h = let e = both spoken.settle (spoken.rollback n) is h in cc
+    by_settle is p (Hold n count) h = let e = both spoken.settle (spoken.hold n) is h in cc
+
+    pub by_hold : (name : StepName) → command_of line ≡ Some (spoken.hold name) → ((count : ℕ) → P (Hold name count)) → (entry : Entry) → IsLineOf line entry → P entry
+    by_hold name is p (Hold n count) h = let e = both (spoken.hold name) (spoken.hold n) is h in let same : name ≡ n = cc in subst (λ (x : StepName). P (Hold x count)) same (p count)
+    by_hold name is p (Define n m) h = let e = both (spoken.hold name) (spoken.define n h.json) is h.is_define in cc
+    by_hold name is p (Start exec machine input) h = let e = both (spoken.hold name) (spoken.start exec machine h.json) is h.is_start in cc
+    by_hold name is p (Stepped n kind) h = let e = both (spoken.hold name) (spoken.step n.thread) is h in cc
+    by_hold name is p (Undo n) h = let e = both (spoken.hold name) (spoken.undo n) is h in cc
+    by_hold name is p (Rollback n undone) h = let e = both (spoken.hold name) (spoken.rollback n) is h in cc
+    by_hold name is p Settle h = let e = both (spoken.hold name) spoken.settle is h in cc
 
 -- ---- the table's line
 
@@ -164,6 +182,7 @@ made_said story (change.Start exec machine input) made line h says = subst (IsLi
 made_said story (change.Step thread) made line h says =
     subst (IsLineOf line) (sym h.2.0) (says ∙ ap (λ (t : Thread). Some (spoken.step t)) (sym (step_thread story thread.now h.0 h.1)))
 made_said story change.Settle made line h says = subst (IsLineOf line) (sym h.1.0) says
+made_said story (change.Hold step) made line h says = subst (IsLineOf line) (sym h.2.0) says
 
 pub said_if_ok : (story : Story) (what : Change) (r : Result Made Refusal) → Answers story what r → IfOk r (λ made. (line : List ℕ) → SaysChange what line → IsLineOf line made.entry)
 said_if_ok story what (Ok made) h = λ line says. made_said story what made line h says
@@ -187,6 +206,10 @@ or_memory : {T : Type 0} (answer : Result T Refusal) (e : Refusal) (x : T) → O
 or_memory (Ok y) e x h told is = memory_told e h told
 or_memory (Err f) e x h told is = cc
 
+or_lacks : {T : Type 0} (lacks : Type 0) (answer : Result T Refusal) (e : Refusal) (x : T) → OrMemory answer e ⊎ ((e ≡ Memory) × lacks) → refused_line e ≡ line_fault.Damaged → answer ≡ Ok x → ⊥
+or_lacks lacks answer e x (inl h) told is = or_memory answer e x h told is
+or_lacks lacks answer e x (inr h) told is = memory_told e h.0 told
+
 not_taken : {A : Type 0} (o : Option A) → IsSome o → o ≡ None → ⊥
 not_taken None h is = cc
 not_taken (Some x) h is = cc
@@ -209,6 +232,7 @@ define_refused story name d NoStep h told machine defines free room = absurd h
 define_refused story name d (HasDependents step) h told machine defines free room = absurd h
 define_refused story name d (Stale entries) h told machine defines free room = absurd h
 define_refused story name d Settled h told machine defines free room = absurd h
+define_refused story name d (Held step) h told machine defines free room = absurd h
 
 pub refused_said : (story : Story) (what : Change) (e : Refusal) (line : List ℕ) → Answers story what (Err e) → refused_line e ≡ line_fault.Damaged → SaysChange what line → IsDamaged (Some story) line
 refused_said story (change.Define name definition) e line h told says =
@@ -219,8 +243,10 @@ refused_said story (change.Start exec machine input) e line h told says =
     (λ input read ok. or_memory (start_answer story exec.now machine.now) e _ h told ok.0)
 refused_said story (change.Step thread) e line h told says =
     by_step line (λ entry. IsAccepted story entry → ⊥) thread.now says
-    (λ name kind same ok. or_memory (step_answer story thread.now) e _ h told (ap (step_answer story) (sym same) ∙ ok))
-refused_said story change.Settle e line h told says = by_settle line (λ entry. IsAccepted story entry → ⊥) says (λ ok. or_memory (settle_answer story) e tt h told ok)
+    (λ name kind same ok. or_lacks (StepLacks story thread.now) (step_answer story thread.now) e _ h told (ap (step_answer story) (sym same) ∙ ok))
+refused_said story change.Settle e line h told says = by_settle line (λ entry. IsAccepted story entry → ⊥) says (λ ok. or_lacks (SettleLacks story) (settle_answer story) e tt h told ok)
+refused_said story (change.Hold step) e line h told says =
+    by_hold line (λ entry. IsAccepted story entry → ⊥) step.now says (λ count ok. or_lacks (HoldLacks story step.now) (hold_answer story step.now) e count h told ok)
 
 -- ---- each command
 

@@ -81,6 +81,15 @@ abbrev pub AnswersChange : {T : Type 0} → Result T Refusal → Result T Change
 AnswersChange answer (Ok told) = answer ≡ Ok told
 AnswersChange answer (Err fault) = RefusesChange answer fault
 
+-- the same; and in some cases want of memory may be told for any answer of the book
+abbrev pub RefusesChangeOr : {T : Type 0} → Type 0 → Result T Refusal → ChangeFault → Type 0
+RefusesChangeOr lacks answer (change_fault.Book refusal) = OrMemory answer refusal ⊎ ((refusal ≡ refused.Memory) × lacks)
+RefusesChangeOr lacks answer (change_fault.Journal fault) = IsOk answer × IsStoreFault fault
+
+abbrev pub AnswersChangeOr : {T : Type 0} → Type 0 → Result T Refusal → Result T ChangeFault → Type 0
+AnswersChangeOr lacks answer (Ok told) = answer ≡ Ok told
+AnswersChangeOr lacks answer (Err fault) = RefusesChangeOr lacks answer fault
+
 -- the book refuses a definition for what stands, or the journal refuses the line of a machine
 abbrev pub RefusesDefine : Story → List ℕ → source.Data → ChangeFault → Type 0
 RefusesDefine story name d (change_fault.Book refusal) = IsDefineRefusal story name d refusal

@@ -15,7 +15,7 @@ use Rattle.book_log.specs.Legal.{IsAccepted}
 use Rattle.book_log.specs.Story.{Story, accepted}
 use Rattle.book_log.specs.declared.begin.Begin.{Begin}
 use Rattle.book_log.specs.declared.entry.Entry.{Entry}
-use Rattle.book_log.specs.declared.entry.Entry.TheVariants.{Define, Start, Step as Stepped, Undo, Rollback, Settle}
+use Rattle.book_log.specs.declared.entry.Entry.TheVariants.{Define, Start, Step as Stepped, Undo, Rollback, Settle, Hold}
 use Rattle.command_lines.specs.Grammar as spoken
 use Rattle.command_lines.specs.Grammar.{command_of}
 use Rattle.rollback_book.specs.declared.making.Change.{Change}
@@ -49,6 +49,7 @@ IsLineOf line (Stepped name kind) = command_of line ≡ Some (spoken.step name.t
 IsLineOf line (Undo name) = command_of line ≡ Some (spoken.undo name)
 IsLineOf line (Rollback name undone) = command_of line ≡ Some (spoken.rollback name)
 IsLineOf line Settle = command_of line ≡ Some spoken.settle
+IsLineOf line (Hold name count) = command_of line ≡ Some (spoken.hold name)
 
 -- the line defines what this JSON is under this name
 abbrev pub SaysDefine : List ℕ → source.Data → List ℕ → Type 0
@@ -60,6 +61,7 @@ SaysChange (change.Define name definition) line = SaysDefine name.now (view defi
 SaysChange (change.Start exec machine input) line = IsStartLine line exec.now machine.now input
 SaysChange (change.Step thread) line = command_of line ≡ Some (spoken.step thread.now)
 SaysChange change.Settle line = command_of line ≡ Some spoken.settle
+SaysChange (change.Hold step) line = command_of line ≡ Some (spoken.hold step.now)
 
 -- one line for each entry
 abbrev pub AreEntryLines : List (List ℕ) → List Entry → Type 0

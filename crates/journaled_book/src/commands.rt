@@ -6,10 +6,10 @@ ghost use Rattle.json_tree.specs.Data.{depth, most_levels};
 ghost use Rattle.json_tree.specs.View.{data_of};
 ghost use Rattle.asl_tree.specs.Definition.{Definition};
 ghost use Rattle.rollback_book.specs.Profile.{Defines};
-ghost use Rattle.book_log.specs.Answers.{settle_answer, start_answer, step_answer};
+ghost use Rattle.book_log.specs.Answers.{HoldLacks, SettleLacks, StepLacks, hold_answer, settle_answer, start_answer, step_answer};
 ghost use Rattle.command_lines.specs.Grammar as grammar;
 ghost use Rattle.command_lines.specs.Grammar.{command_of};
-ghost use Rattle.journaled_book.specs.Changes.{AnswersChange, Appends, RefusesDefine};
+ghost use Rattle.journaled_book.specs.Changes.{AnswersChange, AnswersChangeOr, Appends, RefusesDefine};
 ghost use Rattle.journaled_book.specs.Journaled.{story_of, with_entry};
 ghost use Rattle.journaled_book.specs.Lines.{IsStartLine, SaysDefine};
 
@@ -105,7 +105,7 @@ impl<S: Alter> JournaledBook<S> {
     ) -> Result<Moved, ChangeFault>
         requires open { IsSome self.old.book }
         requires line { command_of line.now ≡ Some (grammar.step thread.now) }
-        ensures answer { IfSome self.old.book (λ b. AnswersChange (step_answer b.story thread.now) result) }
+        ensures answer { IfSome self.old.book (λ b. AnswersChangeOr (StepLacks b.story thread.now) (step_answer b.story thread.now) result) }
         ensures ok { IfOk result (λ m. story_of self.new.book ≡ with_entry (story_of self.old.book) (Entry.Step m.name m.kind)) }
         ensures err { OnErr result (story_of self.new.book ≡ story_of self.old.book) }
         ensures journal { Appends (state S.Store self.old.journal) (state S.Store self.new.journal) line.now result }
@@ -129,7 +129,7 @@ impl<S: Alter> JournaledBook<S> {
     pub fn settle(&mut self, alloc: Global, line: &str) -> Result<(), ChangeFault>
         requires open { IsSome self.old.book }
         requires line { command_of line.now ≡ Some grammar.settle }
-        ensures answer { IfSome self.old.book (λ b. AnswersChange (settle_answer b.story) result) }
+        ensures answer { IfSome self.old.book (λ b. AnswersChangeOr (SettleLacks b.story) (settle_answer b.story) result) }
         ensures ok { OnOk result (story_of self.new.book ≡ with_entry (story_of self.old.book) Entry.Settle) }
         ensures err { OnErr result (story_of self.new.book ≡ story_of self.old.book) }
         ensures journal { Appends (state S.Store self.old.journal) (state S.Store self.new.journal) line.now result }
@@ -140,6 +140,29 @@ impl<S: Alter> JournaledBook<S> {
         };
         match self.enter(made, line) {
             Ok(Entered::Settled) => Ok(()),
+            Ok(_) => unreachable!(),
+            Err(fault) => Err(ChangeFault::Journal(fault)),
+        }
+    }
+    /// Holds a step and its consequences, as `Book::hold`, appends its line before, and answers how many steps are held.
+    ///
+    /// # Errors
+    ///
+    /// As the book refuses, before anything is appended; or as the journal refuses the line. The story and the journal are as before then.
+    pub fn hold(&mut self, alloc: Global, step: &StepName, line: &str) -> Result<usize, ChangeFault>
+        requires open { IsSome self.old.book }
+        requires line { command_of line.now ≡ Some (grammar.hold step.now) }
+        ensures answer { IfSome self.old.book (λ b. AnswersChangeOr (HoldLacks b.story step.now) (hold_answer b.story step.now) result) }
+        ensures ok { IfOk result (λ count. story_of self.new.book ≡ with_entry (story_of self.old.book) (Entry.Hold step.now count)) }
+        ensures err { OnErr result (story_of self.new.book ≡ story_of self.old.book) }
+        ensures journal { Appends (state S.Store self.old.journal) (state S.Store self.new.journal) line.now result }
+    {
+        let made = match self.ready(alloc, Change::Hold { step }) {
+            Ok(made) => made,
+            Err(refusal) => return Err(ChangeFault::Book(refusal)),
+        };
+        match self.enter(made, line) {
+            Ok(Entered::Held(count)) => Ok(count),
             Ok(_) => unreachable!(),
             Err(fault) => Err(ChangeFault::Journal(fault)),
         }

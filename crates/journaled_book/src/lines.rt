@@ -123,6 +123,7 @@ fn enter_command(alloc: Global, book: &mut Book, command: Command<'_>) -> Result
         Command::Undo(step) => enter_undo(alloc, book, &step),
         Command::Rollback(step) => enter_rollback(alloc, book, &step),
         Command::Settle => enter_settle(alloc, book),
+        Command::Hold(step) => enter_hold(alloc, book, &step),
         other => {
             drop(other);
             Err(LineFault::Damaged)
@@ -184,6 +185,13 @@ fn enter_settle(alloc: Global, book: &mut Book) -> Result<(), LineFault>
     ensures damaged { result ≡ Err LineFault.Damaged → IsDamagedBy (Some book.old.story) grammar.settle }
 {
     enter_change(alloc, book, Change::Settle)
+}
+
+fn enter_hold(alloc: Global, book: &mut Book, step: &StepName) -> Result<(), LineFault>
+    ensures ok { OnOk result (AddsBy book.old.story (grammar.hold step.now) book.new.story) }
+    ensures damaged { result ≡ Err LineFault.Damaged → IsDamagedBy (Some book.old.story) (grammar.hold step.now) }
+{
+    enter_change(alloc, book, Change::Hold { step })
 }
 
 fn enter_change(alloc: Global, book: &mut Book, change: Change<'_>) -> Result<(), LineFault>

@@ -6,3 +6,4 @@ pub mod Json
 pub mod Feeds
 pub mod Refused
 pub mod Settling
+pub mod Left

@@ -6,9 +6,10 @@ use Rattle.serde_json.specs.Data as source
 use Rattle.serde_json.specs.Read as source_text
 use Rattle.json_tree.specs.Data.{Data, null, boolean, whole, text, list, fields}
 use Rattle.json_tree.specs.Reading.{source_of, whole_of}
+use Rattle.step_names.specs.Thread.{Thread}
 use Rattle.step_names.specs.declared.step.StepName.{StepName}
 use Rattle.book_log.specs.Story.{Story, world_of}
-use Rattle.book_log.specs.Answers.{settle_answer, start_answer, step_answer, undo_answer, plan_answer}
+use Rattle.book_log.specs.Answers.{settle_answer, hold_answer, start_answer, step_answer, undo_answer, plan_answer}
 use Rattle.book_log.specs.declared.begin.Begin.{Begin}
 use Rattle.journaled_book.specs.Frame.{Frame}
 use Rattle.book_log.specs.declared.entry.Entry.{Entry}
@@ -20,7 +21,7 @@ use Rattle.book_log.specs.declared.moved.Moved.{Moved}
 use Rattle.journaled_book.specs.declared.fault.ChangeFault.{ChangeFault}
 use Rattle.command_lines.specs.Grammar as spoken
 use Rattle.command_lines.specs.Grammar.{Spoken, command_of}
-use Rattle.operator_line.specs.Answers.{Tells, Enters, OfWhole, OfSource, AnswersBegin, AnswersItems, AnswersDefine, AnswersStarted, AnswersStep, AnswersUndo, AnswersPlan, AnswersRollback, AnswersSettle, Drives, drive_reply, AnswersDrive, AnswersWork, AnswersShow, AnswersOpen, AnswersClosed, AnswersSpoken, AnswersText, AnswersLine}
+use Rattle.operator_line.specs.Answers.{Tells, Enters, OfWhole, OfSource, AnswersBegin, AnswersItems, AnswersDefine, AnswersStarted, AnswersStep, AnswersUndo, AnswersPlan, AnswersRollback, AnswersSettle, AnswersHold, Turn, took, skipped, taken_in, Drives, drive_reply, AnswersDrive, AnswersWork, AnswersShow, AnswersOpen, AnswersClosed, AnswersSpoken, AnswersText, AnswersLine}
 use Rattle.operator_line.specs.LineLaws.{is_refusal}
 
 -- what changes nothing where it is refused
@@ -92,15 +93,21 @@ settle_keeps : (story : Story) (answer : Result (Unit {0}) Refusal) → Unchangi
 settle_keeps story (Ok done) = enters _ _ _ refl
 settle_keeps story (Err refusal) = keeps _ _
 
-drive_told : (story last : Story) (count : ℕ) (names : List StepName) (stop : Option ChangeFault) → Drives count story names stop last
-    → Unchanging (Tells (drive_reply names stop) (Some last)) (Some story)
-drive_told story last count [] None d = accepts _ _ _ refl
-drive_told story last zero [] (Some fault) d = absurd d
-drive_told story last (suc count) [] (Some fault) d = λ reply after h refused. h.1 ∙ ap Some d.1
-drive_told story last count (name ∷ names) stop d = accepts _ _ _ refl
+hold_keeps : (story : Story) (name : StepName) (answer : Result ℕ Refusal) → Unchanging (AnswersHold story name answer) (Some story)
+hold_keeps story name (Ok count) = enters _ _ _ refl
+hold_keeps story name (Err refusal) = keeps _ _
+
+drive_told : (story last : Story) (count : ℕ) (passed : List Thread) (turns : List Turn) (stop : Option ChangeFault) → Drives count passed story turns stop last
+    → Unchanging (Tells (drive_reply (taken_in turns) stop) (Some last)) (Some story)
+drive_told story last count passed [] None d = accepts _ _ _ refl
+drive_told story last zero passed [] (Some fault) d = absurd d
+drive_told story last (suc count) passed [] (Some fault) d = λ reply after h refused. h.1 ∙ ap Some d.1
+drive_told story last count passed (took name ∷ turns) stop d = accepts _ _ _ refl
+drive_told story last zero passed (skipped t ∷ turns) stop d = absurd d
+drive_told story last (suc count) passed (skipped t ∷ turns) stop d = drive_told story last (suc count) (t ∷ passed) turns stop d.2
 
 drive_keeps : (story : Story) (count : ℕ) → Unchanging (AnswersDrive story count) (Some story)
-drive_keeps story count reply after h refused = drive_told story h.last count h.names h.stop h.drives reply after h.told refused
+drive_keeps story count reply after h refused = drive_told story h.last count [] h.turns h.stop h.drives reply after h.told refused
 
 work_keeps : (story : Story) (moves : ℕ) → Unchanging (AnswersWork story moves) (Some story)
 work_keeps story moves reply after (inl h) refused = accepts _ _ _ refl reply after h.told refused
@@ -120,11 +127,13 @@ open_keeps story (spoken.undo name) = undo_keeps story name (undo_answer story n
 open_keeps story (spoken.plan name) = plan_keeps story (plan_answer story name)
 open_keeps story (spoken.rollback name) = rollback_keeps story name (plan_answer story name)
 open_keeps story spoken.settle = settle_keeps story (settle_answer story)
+open_keeps story (spoken.hold name) = hold_keeps story name (hold_answer story name)
 open_keeps story (spoken.drive count) = drive_keeps story count
 open_keeps story (spoken.work workers moves) = work_keeps story moves
 open_keeps story (spoken.show thread) = show_keeps story ((world_of story).frames thread)
 open_keeps story spoken.items = λ reply after h. accepts _ _ _ refl reply after h.told
 open_keeps story spoken.history = keeps _ _
+open_keeps story spoken.held = keeps _ _
 
 closed_keeps : (command : Spoken) → Unchanging (AnswersClosed command) None
 closed_keeps (spoken.table name schema json) =
@@ -136,11 +145,13 @@ closed_keeps (spoken.undo name) = keeps _ _
 closed_keeps (spoken.plan name) = keeps _ _
 closed_keeps (spoken.rollback name) = keeps _ _
 closed_keeps spoken.settle = keeps _ _
+closed_keeps (spoken.hold name) = keeps _ _
 closed_keeps (spoken.drive count) = keeps _ _
 closed_keeps (spoken.work workers moves) = keeps _ _
 closed_keeps (spoken.show thread) = keeps _ _
 closed_keeps spoken.items = keeps _ _
 closed_keeps spoken.history = keeps _ _
+closed_keeps spoken.held = keeps _ _
 
 spoken_keeps : (before : Option Story) (command : Option Spoken) → Unchanging (AnswersSpoken before command) before
 spoken_keeps before None = keeps _ _

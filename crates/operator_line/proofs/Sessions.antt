@@ -7,7 +7,7 @@ use Rattle.book_log.specs.Story.{Story}
 use Rattle.book_log.specs.declared.entry.Entry.{Entry}
 use Rattle.command_lines.specs.Grammar.{Spoken, command_of, text_command, spoken}
 use Rattle.command_lines.specs.declared.command.Command.{Command}
-use Rattle.command_lines.specs.declared.command.Command.TheVariants.{Table, Define, Start, Step, Undo, Plan, Rollback, Settle, Drive, Work, Show, Items, History}
+use Rattle.command_lines.specs.declared.command.Command.TheVariants.{Table, Define, Start, Step, Undo, Plan, Rollback, Settle, Hold, Drive, Work, Show, Items, History, Held}
 use Rattle.journaled_book.specs.Book.{Volume}
 use Rattle.journaled_book.specs.Journaled.{story_of, with_entry}
 use Rattle.reply_lines.specs.Replies.{refused}
@@ -90,8 +90,10 @@ no_round (Undo step) apart = refl
 no_round (Plan step) apart = refl
 no_round (Rollback step) apart = refl
 no_round Settle apart = refl
+no_round (Hold step) apart = refl
 no_round (Drive count) apart = refl
 no_round (Work workers moves) apart = absurd (apart workers moves refl)
 no_round (Show thread) apart = refl
 no_round Items apart = refl
 no_round History apart = refl
+no_round Held apart = refl

@@ -9,7 +9,7 @@ use Rattle.book_log.specs.Answers.{step_answer}
 use Rattle.book_log.specs.Legal.{GoesOnLegally}
 use Rattle.book_log.specs.Story.{Story, accepted}
 use Rattle.book_log.specs.declared.entry.Entry.{Entry}
-use Rattle.book_log.specs.declared.entry.Entry.TheVariants.{Define, Start, Step as Stepped, Undo, Rollback, Settle}
+use Rattle.book_log.specs.declared.entry.Entry.TheVariants.{Define, Start, Step as Stepped, Undo, Rollback, Settle, Hold}
 use Rattle.book_rounds.specs.Rounds.{AreSteps, IsRound, with_entries}
 use Rattle.book_rounds.proofs.Logs.{with_more, with_none}
 use Rattle.step_workers.specs.Work.{IsStep}
@@ -32,6 +32,7 @@ names_both (Start exec machine input ∷ xs) ys = names_both xs ys
 names_both (Undo name ∷ xs) ys = names_both xs ys
 names_both (Rollback name undone ∷ xs) ys = names_both xs ys
 names_both (Settle ∷ xs) ys = names_both xs ys
+names_both (Hold name count ∷ xs) ys = names_both xs ys
 
 names_few : (es : List Entry) → length (stepped_names es) ≤ length es
 names_few [] = omega arith
@@ -41,6 +42,7 @@ names_few (Start exec machine input ∷ es) = let h = names_few es in omega (ari
 names_few (Undo name ∷ es) = let h = names_few es in omega (arith, h)
 names_few (Rollback name undone ∷ es) = let h = names_few es in omega (arith, h)
 names_few (Settle ∷ es) = let h = names_few es in omega (arith, h)
+names_few (Hold name count ∷ es) = let h = names_few es in omega (arith, h)
 
 -- steps that are legal were taken, each a move where it stands
 takes_legal : (story : Story) (es : List Entry) → AreSteps es → GoesOnLegally story es → Takes story (stepped_names es) (with_entries story es)
@@ -56,6 +58,7 @@ takes_legal story (Start exec machine input ∷ es) steps legal = absurd steps.0
 takes_legal story (Undo name ∷ es) steps legal = absurd steps.0
 takes_legal story (Rollback name undone ∷ es) steps legal = absurd steps.0
 takes_legal story (Settle ∷ es) steps legal = absurd steps.0
+takes_legal story (Hold name count ∷ es) steps legal = absurd steps.0
 
 -- ---- a round
 

@@ -1,103 +1,245 @@
 -- Steps that are taken one after another, while some are left to take.
-use Rattle.std.proofs.Common.{◌≡◌, ◌<◌, ◌+◌, ◌-◌, ◌^◌, ℕ, zero, suc, List, [], ◌∷◌, ◌++◌, map, length, true, false, Bool, not, ◌&&◌, Option, None, Some, Ok, Err, refl, sym, subst, ◌∙◌, arith}
+use Rattle.std.proofs.Common.{◌≡◌, ◌<◌, ◌+◌, ◌-◌, ◌^◌, ℕ, zero, suc, List, [], ◌∷◌, ◌++◌, map, length, true, false, Bool, not, ◌&&◌, ◌||◌, cond, Option, None, Some, Result, Ok, Err, inl, inr, refl, sym, ap, subst, ◌∙◌, arith}
+use Rattle.std.specs.Prelude.{◌⊎◌, IfOk, IfSome}
+use Rattle.std.specs.BTreeSet.{BTreeSet}
+use Rattle.std.specs.Ordering.{eq_by_cmp}
+use Rattle.std.specs.declared.cmp.Ordering.TheVariants.{Less}
 use Rattle.std.proofs.lemmas.List.{append_assoc, append-nil, length-append, length-map, map-append}
+use Rattle.step_names.specs.Order.{thread_cmp}
+use Rattle.step_names.specs.Thread.{Thread, IsThread}
 use Rattle.step_names.specs.Written.{step_text}
 use Rattle.step_names.specs.declared.step.StepName.{StepName}
+use Rattle.book_log.specs.Answers.{StepLacks, has_move, step_answer}
 use Rattle.book_log.specs.Story.{Story}
+use Rattle.book_log.specs.declared.moved.Moved.{Moved}
+use Rattle.book_log.specs.declared.refusal.Refusal.{Refusal}
+use Rattle.book_log.specs.declared.refusal.Refusal.TheVariants.{NoMachine, MachineTaken, BadMachine, ExecTaken, NoThread, NotReady, NoStep, HasDependents, Stale, Full, Memory, Settled, Held}
+use Rattle.journaled_book.specs.Changes.{RefusesChangeOr}
+use Rattle.journaled_book.specs.Making.{OrMemory}
+use Rattle.journaled_book.specs.Ready.{IsFirstToMove, moves_freely}
 use Rattle.journaled_book.specs.declared.fault.ChangeFault.{ChangeFault}
+use Rattle.journaled_book.specs.declared.fault.ChangeFault.TheVariants as by
 use Rattle.reply_lines.specs.Replies.{names_reply}
 use Rattle.reply_lines.specs.Replying.{AreLines}
 use Rattle.reply_lines.specs.declared.lines.Lines.{Lines}
-use Rattle.journaled_book.specs.Ready.{IsFirstToMove}
-use Rattle.book_log.specs.Answers.{has_move}
-use Rattle.step_names.specs.Thread.{Thread}
-use Rattle.operator_line.specs.Answers.{Drives, MovesFirst, NoneMoves, drive_reply}
-use Rattle.operator_line.specs.Driving.{Taken, TakesOne}
+use Rattle.operator_line.specs.Answers.{Drives, MovesFirst, NeedsHeld, NoneMoves, StopsDrive, Turn, took, skipped, drive_reply, is_held, is_passed, taken_in}
+use Rattle.operator_line.specs.Driving.{AddsThread, IsFirst, KeepsLines, PassesBy, Taken, TakesOne, is_for_hold, passed_in}
+use Rattle.operator_line.specs.declared.driving.Tried.{Tried}
+use Rattle.operator_line.specs.declared.driving.Tried.TheVariants.{Taken as StepTaken, PassedBy, NoMove}
 
--- Whatever is taken from here on, with the steps so far it was taken from the beginning.
-pub record HasTaken (count left : ℕ) (before now : Story) (lines : Lines) : Type 0 where
-  pub names : List StepName
-  pub lines_are : AreLines lines (map step_text names)
-  pub counted : length names + left ≡ count
-  pub goes_on : (rest : List StepName) (stop : Option ChangeFault) (after : Story) → Drives left now rest stop after → Drives count before (names ++ rest) stop after
+-- ---- turns
 
-pub begins : (count : ℕ) (before : Story) (lines : Lines) → AreLines lines [] → HasTaken count count before before lines
-begins count before lines h = record { names = []; lines_are = h; counted = omega arith; goes_on = λ rest stop after d. d }
+took_more : (turns more : List Turn) → taken_in (turns ++ more) ≡ taken_in turns ++ taken_in more
+took_more [] more = refl
+took_more (took name ∷ turns) more = ap (λ (ns : List StepName). name ∷ ns) (took_more turns more)
+took_more (skipped t ∷ turns) more = took_more turns more
+
+-- ---- who is passed by
+
+module _ (P Q : Thread → Bool) (same : (u : Thread) → P u ≡ Q u) (story : Story) where
+  free_same : (u : Thread) (b : Bool) → moves_freely story P u ≡ b → moves_freely story Q u ≡ b
+  free_same u b h = subst (λ (c : Bool). (has_move story u && not c) ≡ b) (same u) h
+
+  none_same : NoneMoves P story → NoneMoves Q story
+  none_same h = λ t is. free_same t false (h t is)
+
+  first_same : (t : Thread) → MovesFirst P story t → MovesFirst Q story t
+  first_same t h = record { moves = free_same t true h.moves; least = λ u is less. free_same u false (h.least u is less) }
+
+  stops_same : (fault : ChangeFault) → StopsDrive P story fault → StopsDrive Q story fault
+  stops_same (by.Book refusal) (inl h) = inl h
+  stops_same (by.Book refusal) (inr h) = inr (h.0, first_same h.0 h.1, h.2, h.3)
+  stops_same (by.Journal fault) h = (h.0, first_same h.0 h.1, h.2)
+
+or_cond : (a b : Bool) → cond a true b ≡ (a || b)
+or_cond true b = refl
+or_cond false b = refl
+
+not_true : (a b : Bool) → (a && not b) ≡ true → b ≡ false
+not_true true true h = cc
+not_true true false h = refl
+not_true false true h = cc
+not_true false false h = refl
+
+-- the first one isn't passed by
+pub first_is_free : (story : Story) (P : Thread → Bool) (r : Result (Option Thread) Refusal) → IfOk r (IsFirstToMove story P) → IfOk r (λ found. IfSome found (λ t. P t ≡ false))
+first_is_free story P (Ok None) h = tt
+first_is_free story P (Ok (Some t)) h = not_true (has_move story t) (P t) h.1
+first_is_free story P (Err e) h = tt
+
+pub first_found : (story : Story) (P : Thread → Bool) (r : Result (Option Thread) Refusal) → IfOk r (IsFirstToMove story P) → IfOk r (IsFirst P story)
+first_found story P (Ok None) h = h
+first_found story P (Ok (Some t)) h = record { moves = h.1; least = h.2 }
+first_found story P (Err e) h = tt
+
+-- one more is passed by
+pub one_passed : (t : Thread) (old new : Thread → Bool) → ((u : Thread) → new u ≡ cond (eq_by_cmp thread_cmp t u) true (old u)) → (u : Thread) → new u ≡ (eq_by_cmp thread_cmp t u || old u)
+one_passed t old new h u = h u ∙ or_cond (eq_by_cmp thread_cmp t u) (old u)
+
+-- ---- a refusal
+
+pub not_held : (fault : ChangeFault) → ((x : StepName) → fault ≡ by.Book (Held x) → ⊥) → is_for_hold fault ≡ false
+not_held (by.Book NoMachine) apart = refl
+not_held (by.Book MachineTaken) apart = refl
+not_held (by.Book (BadMachine fault)) apart = refl
+not_held (by.Book ExecTaken) apart = refl
+not_held (by.Book NoThread) apart = refl
+not_held (by.Book (NotReady readiness)) apart = refl
+not_held (by.Book NoStep) apart = refl
+not_held (by.Book (HasDependents step)) apart = refl
+not_held (by.Book (Stale entries)) apart = refl
+not_held (by.Book Full) apart = refl
+not_held (by.Book Memory) apart = refl
+not_held (by.Book Settled) apart = refl
+not_held (by.Book (Held x)) apart = absurd (apart x refl)
+not_held (by.Journal fault) apart = refl
+
+needs_held : (story : Story) (t : Thread) (x : StepName) → RefusesChangeOr (StepLacks story t) (step_answer story t) (by.Book (Held x)) → NeedsHeld story t
+needs_held story t x (inr h) = let wrong = h.0 in cc
+needs_held story t x (inl h) = by_answer (step_answer story t) refl h
+  where
+    by_answer : (a : Result Moved Refusal) → step_answer story t ≡ a → OrMemory a (Held x) → NeedsHeld story t
+    by_answer (Ok m) is same = cc
+    by_answer (Err f) is same = (x, is ∙ ap (λ (e : Refusal). let r : Result Moved Refusal = Err e in r) (sym same))
+
+pub stops_drive : (story : Story) (passed : Thread → Bool) (t : Thread) (fault : ChangeFault) → MovesFirst passed story t → RefusesChangeOr (StepLacks story t) (step_answer story t) fault → is_for_hold fault ≡ false
+    → StopsDrive passed story fault
+stops_drive story passed t (by.Book e) first (inr h) other = inl h.0
+stops_drive story passed t (by.Book e) first (inl h) other = by_answer (step_answer story t) refl h
+  where
+    by_answer : (a : Result Moved Refusal) → step_answer story t ≡ a → OrMemory a e → (e ≡ Memory) ⊎ ((u : Thread) × MovesFirst passed story u × (step_answer story u ≡ Err e) × (is_held e ≡ false))
+    by_answer (Ok m) is same = inl same
+    by_answer (Err f) is same = inr (t, first, is ∙ ap (λ (x : Refusal). let r : Result Moved Refusal = Err x in r) (sym same), other)
+stops_drive story passed t (by.Journal f) first h other = (t, first, h.0)
+
+pub refused_turn : (story : Story) (t : Thread) (passed more : BTreeSet Thread) (lines same : Lines) (fault : ChangeFault) (r : Result Tried ChangeFault) → MovesFirst (passed_in passed) story t
+    → RefusesChangeOr (StepLacks story t) (step_answer story t) fault → PassesBy t fault passed more r → KeepsLines lines same → TakesOne story story passed more lines same r
+refused_turn story t passed more lines same fault (Ok StepTaken) first h p k = absurd p
+refused_turn story t passed more lines same fault (Ok PassedBy) first h p k =
+    (t, first, needs_held story t p.0 (subst (RefusesChangeOr (StepLacks story t) (step_answer story t)) p.1 h), refl, k, p.2)
+refused_turn story t passed more lines same fault (Ok NoMove) first h p k = absurd p
+refused_turn story t passed more lines same fault (Err told) first h (inl memory) k = (subst (StopsDrive (passed_in passed) story) (sym memory) (inl refl), refl, k)
+refused_turn story t passed more lines same fault (Err told) first h (inr p) k = (subst (StopsDrive (passed_in passed) story) (sym p.0) (stops_drive story (passed_in passed) t fault first h p.1), refl, k)
+
+-- ---- all turns
+
+-- Whatever comes from here on, with the turns so far it came from the beginning.
+pub record HasTaken (count left : ℕ) (before now : Story) (set : BTreeSet Thread) (lines : Lines) : Type 0 where
+  pub turns : List Turn
+  pub passed : List Thread
+  pub passed_are : (u : Thread) → passed_in set u ≡ is_passed passed u
+  pub lines_are : AreLines lines (map step_text (taken_in turns))
+  pub counted : length (taken_in turns) + left ≡ count
+  pub goes_on : (rest : List Turn) (stop : Option ChangeFault) (after : Story) → Drives left passed now rest stop after → Drives count [] before (turns ++ rest) stop after
+
+pub begins : (count : ℕ) (before : Story) (set : BTreeSet Thread) (lines : Lines) → ((u : Thread) → passed_in set u ≡ false) → AreLines lines [] → HasTaken count count before before set lines
+begins count before set lines none h = record { turns = []; passed = []; passed_are = none; lines_are = h; counted = omega arith; goes_on = λ rest stop after d. d }
 
 one_less : (n : ℕ) → suc n - 1 ≡ n
 one_less n = omega arith
 
 -- one step more
-pub one_more : (count left : ℕ) (before now next : Story) (lines longer : Lines) → 0 < left → HasTaken count left before now lines → TakesOne now next lines longer (Ok true)
-    → HasTaken count (left - 1) before next longer
-one_more count zero before now next lines longer some t one = absurd (omega (arith, some))
-one_more count (suc left) before now next lines longer some t one =
+pub one_more : (count left : ℕ) (before now next : Story) (set more : BTreeSet Thread) (lines longer : Lines) → 0 < left → HasTaken count left before now set lines → TakesOne now next set more lines longer (Ok StepTaken)
+    → HasTaken count (left - 1) before next more longer
+one_more count zero before now next set more lines longer some t one = absurd (omega (arith, some))
+one_more count (suc left) before now next set more lines longer some t one =
     let x = one.0.name in
+    let names : taken_in (t.turns ++ took x ∷ []) ≡ taken_in t.turns ++ x ∷ [] = took_more t.turns (took x ∷ []) in
+    let texts : map step_text (taken_in (t.turns ++ took x ∷ [])) ≡ map step_text (taken_in t.turns) ++ step_text x ∷ [] = ap (map step_text) names ∙ map-append step_text (taken_in t.turns) (x ∷ []) in
+    let long : length (taken_in (t.turns ++ took x ∷ [])) ≡ length (taken_in t.turns) + 1 = ap length names ∙ length-append (taken_in t.turns) (x ∷ []) in
+    let c = t.counted in
     record {
-      names = t.names ++ x ∷ [];
-      lines_are = subst (AreLines longer) (sym (map-append step_text t.names (x ∷ []))) (one.5 (map step_text t.names) t.lines_are);
-      counted = omega (arith, length-append t.names (x ∷ []), t.counted);
+      turns = t.turns ++ took x ∷ [];
+      passed = t.passed;
+      passed_are = subst (λ (s : BTreeSet Thread). (u : Thread) → passed_in s u ≡ is_passed t.passed u) (sym one.6) t.passed_are;
+      lines_are = subst (AreLines longer) (sym texts) (one.5 (map step_text (taken_in t.turns)) t.lines_are);
+      counted = omega (arith, long, c);
       goes_on = λ rest stop after d.
-          subst (λ (l : List StepName). Drives count before l stop after) (sym (append_assoc t.names (x ∷ []) rest))
-          (t.goes_on (x ∷ rest) stop after (one.0, one.1, one.2, refl, subst (λ (s : Story). Drives left s rest stop after) one.3 (subst (λ (n : ℕ). Drives n next rest stop after) (one_less left) d)));
+          subst (λ (l : List Turn). Drives count [] before l stop after) (sym (append_assoc t.turns (took x ∷ []) rest))
+          (t.goes_on (took x ∷ rest) stop after (
+            one.0,
+            first_same (passed_in set) (is_passed t.passed) t.passed_are now x.thread one.1,
+            one.2,
+            refl,
+            subst (λ (s : Story). Drives left t.passed s rest stop after) one.3 (subst (λ (n : ℕ). Drives n t.passed next rest stop after) (one_less left) d),
+          ));
     }
 
-ended : (count left : ℕ) (before now : Story) (lines : Lines) (stop : Option ChangeFault) → HasTaken count left before now lines → Drives left now [] stop now → Taken count before now lines stop
-ended count left before now lines stop t d =
-    record { names = t.names; drives = subst (λ (l : List StepName). Drives count before l stop now) (append-nil t.names) (t.goes_on [] stop now d); lines_are = t.lines_are }
+-- one thread more is passed by
+pub one_skipped : (count left : ℕ) (before now next : Story) (set more : BTreeSet Thread) (lines same : Lines) → 0 < left → HasTaken count left before now set lines → TakesOne now next set more lines same (Ok PassedBy)
+    → HasTaken count left before next more same
+one_skipped count zero before now next set more lines same some t one = absurd (omega (arith, some))
+one_skipped count (suc left) before now next set more lines same some t one =
+    let x = one.0 in
+    let names : taken_in (t.turns ++ skipped x ∷ []) ≡ taken_in t.turns = took_more t.turns (skipped x ∷ []) ∙ append-nil (taken_in t.turns) in
+    record {
+      turns = t.turns ++ skipped x ∷ [];
+      passed = x ∷ t.passed;
+      passed_are = λ u. one.5.has u ∙ ap (λ (b : Bool). eq_by_cmp thread_cmp x u || b) (t.passed_are u);
+      lines_are = subst (λ (ns : List StepName). AreLines same (map step_text ns)) (sym names) (one.4.1 (map step_text (taken_in t.turns)) t.lines_are);
+      counted = ap (λ (ns : List StepName). length ns + suc left) names ∙ t.counted;
+      goes_on = λ rest stop after d.
+          subst (λ (l : List Turn). Drives count [] before l stop after) (sym (append_assoc t.turns (skipped x ∷ []) rest))
+          (t.goes_on (skipped x ∷ rest) stop after (
+            first_same (passed_in set) (is_passed t.passed) t.passed_are now x one.1,
+            one.2,
+            subst (λ (s : Story). Drives (suc left) (x ∷ t.passed) s rest stop after) one.3 d,
+          ));
+    }
+
+ended : (count left : ℕ) (before now : Story) (set : BTreeSet Thread) (lines : Lines) (stop : Option ChangeFault) (t : HasTaken count left before now set lines) → Drives left t.passed now [] stop now → Taken count before now lines stop
+ended count left before now set lines stop t d =
+    record { turns = t.turns; drives = subst (λ (l : List Turn). Drives count [] before l stop now) (append-nil t.turns) (t.goes_on [] stop now d); lines_are = t.lines_are }
+
+abbrev kept : (count left : ℕ) (before now : Story) (set : BTreeSet Thread) (lines same : Lines) → KeepsLines lines same → HasTaken count left before now set lines → HasTaken count left before now set same
+kept count left before now set lines same k t = record {
+  turns = t.turns;
+  passed = t.passed;
+  passed_are = t.passed_are;
+  lines_are = k.1 (map step_text (taken_in t.turns)) t.lines_are;
+  counted = t.counted;
+  goes_on = t.goes_on;
+}
 
 -- as many as were wanted
-pub all_taken : (count left : ℕ) (before now : Story) (lines : Lines) → left ≡ 0 → HasTaken count left before now lines → Taken count before now lines None
-all_taken count zero before now lines none t = ended count zero before now lines None t refl
-all_taken count (suc left) before now lines none t = cc
+pub all_taken : (count left : ℕ) (before now : Story) (set : BTreeSet Thread) (lines : Lines) → left ≡ 0 → HasTaken count left before now set lines → Taken count before now lines None
+all_taken count zero before now set lines none t = ended count zero before now set lines None t refl
+all_taken count (suc left) before now set lines none t = cc
 
 -- no more, since none can move or a step was refused
-pub none_left : (count left : ℕ) (before now next : Story) (lines same : Lines) → 0 < left → HasTaken count left before now lines → TakesOne now next lines same (Ok false)
+pub none_left : (count left : ℕ) (before now next : Story) (set more : BTreeSet Thread) (lines same : Lines) → 0 < left → HasTaken count left before now set lines → TakesOne now next set more lines same (Ok NoMove)
     → Taken count before next same None
-none_left count zero before now next lines same some t one = absurd (omega (arith, some))
-none_left count (suc left) before now next lines same some t one =
-    let kept : HasTaken count (suc left) before now same = record { names = t.names; lines_are = one.2.1 (map step_text t.names) t.lines_are; counted = t.counted; goes_on = t.goes_on } in
-    subst (λ (s : Story). Taken count before s same None) (sym one.1) (ended count (suc left) before now same None kept (one.0, refl))
+none_left count zero before now next set more lines same some t one = absurd (omega (arith, some))
+none_left count (suc left) before now next set more lines same some t one =
+    subst (λ (s : Story). Taken count before s same None) (sym one.1)
+    (ended count (suc left) before now set same None (kept count (suc left) before now set lines same one.2 t) (none_same (passed_in set) (is_passed t.passed) t.passed_are now one.0, refl))
 
-pub stopped : (count left : ℕ) (before now next : Story) (lines same : Lines) (fault : ChangeFault) → 0 < left → HasTaken count left before now lines → TakesOne now next lines same (Err fault)
+pub stopped : (count left : ℕ) (before now next : Story) (set more : BTreeSet Thread) (lines same : Lines) (fault : ChangeFault) → 0 < left → HasTaken count left before now set lines → TakesOne now next set more lines same (Err fault)
     → Taken count before next same (Some fault)
-stopped count zero before now next lines same fault some t one = absurd (omega (arith, some))
-stopped count (suc left) before now next lines same fault some t one =
-    let kept : HasTaken count (suc left) before now same = record { names = t.names; lines_are = one.2.1 (map step_text t.names) t.lines_are; counted = t.counted; goes_on = t.goes_on } in
-    subst (λ (s : Story). Taken count before s same (Some fault)) (sym one.1) (ended count (suc left) before now same (Some fault) kept (one.0, refl))
-
--- ---- the first thread that can move
-
-freely : (a b : Bool) → b ≡ false → (a && not b) ≡ true → a ≡ true
-freely true b e h = refl
-freely false b e h = cc
-
-stuck : (a b : Bool) → b ≡ false → (a && not b) ≡ false → a ≡ false
-stuck true true e h = cc
-stuck true false e h = cc
-stuck false b e h = refl
-
--- where none is passed by
-pub first_of_all : (story : Story) (passed : Thread → Bool) (t : Thread) → ((u : Thread) → passed u ≡ false) → IsFirstToMove story passed (Some t) → MovesFirst story t
-first_of_all story passed t none h =
-    record { moves = freely (has_move story t) (passed t) (none t) h.1; least = λ u is less. stuck (has_move story u) (passed u) (none u) (h.2 u is less) }
-
-pub none_at_all : (story : Story) (passed : Thread → Bool) → ((u : Thread) → passed u ≡ false) → IsFirstToMove story passed None → NoneMoves story
-none_at_all story passed none h = λ u is. stuck (has_move story u) (passed u) (none u) (h u is)
+stopped count zero before now next set more lines same fault some t one = absurd (omega (arith, some))
+stopped count (suc left) before now next set more lines same fault some t one =
+    subst (λ (s : Story). Taken count before s same (Some fault)) (sym one.1)
+    (ended count (suc left) before now set same (Some fault) (kept count (suc left) before now set lines same one.2 t) (stops_same (passed_in set) (is_passed t.passed) t.passed_are now fault one.0, refl))
 
 -- ---- what is told
 
-pub few_lines : (count left : ℕ) (before now : Story) (lines : Lines) → HasTaken count left before now lines → 0 < left → count < 2 ^ 32 → lines.count + 1 < 2 ^ 32
-few_lines count left before now lines t some few = omega (arith, t.lines_are.counted, length-map t.names step_text, t.counted, some, few)
+pub few_lines : (count left : ℕ) (before now : Story) (set : BTreeSet Thread) (lines : Lines) → HasTaken count left before now set lines → 0 < left → count < 2 ^ 32 → lines.count + 1 < 2 ^ 32
+few_lines count left before now set lines t some few =
+    let l = t.lines_are.counted in
+    let m = length-map (taken_in t.turns) step_text in
+    let c = t.counted in
+    omega (arith, l, m, c, some, few)
 
 -- where no line is there, and it ended at a refusal, nothing was taken
 pub none_taken : (count : ℕ) (before after : Story) (lines : Lines) (fault : ChangeFault) → Taken count before after lines (Some fault) → lines.count ≡ 0 → after ≡ before
-none_taken count before after lines fault t none = by_names count t.names t.drives (sym t.lines_are.counted ∙ none)
+none_taken count before after lines fault t none = by_turns count [] t.turns t.drives (sym t.lines_are.counted ∙ none)
   where
-    by_names : (n : ℕ) (names : List StepName) → Drives n before names (Some fault) after → length (map step_text names) ≡ 0 → after ≡ before
-    by_names zero [] d e = absurd d
-    by_names (suc n) [] d e = d.1
-    by_names n (x ∷ names) d e = cc
+    by_turns : (n : ℕ) (passed : List Thread) (turns : List Turn) → Drives n passed before turns (Some fault) after → length (map step_text (taken_in turns)) ≡ 0 → after ≡ before
+    by_turns zero passed [] d e = absurd d
+    by_turns (suc n) passed [] d e = d.1
+    by_turns n passed (took x ∷ turns) d e = cc
+    by_turns zero passed (skipped t ∷ turns) d e = absurd d
+    by_turns (suc n) passed (skipped t ∷ turns) d e = by_turns (suc n) (t ∷ passed) turns d.2 e
 
 pub drive_done : (names : List StepName) (stop : Option ChangeFault) → stop ≡ None → drive_reply names stop ≡ names_reply names
 drive_done [] None e = refl

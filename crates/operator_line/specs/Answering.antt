@@ -4,7 +4,7 @@ use Rattle.std.specs.declared.alloc.AllocError.{AllocError}
 use Rattle.step_names.specs.declared.step.StepName.{StepName}
 use Rattle.book_log.specs.Story.{Story}
 use Rattle.book_log.specs.declared.entry.Entry.{Entry}
-use Rattle.book_log.specs.declared.entry.Entry.TheVariants.{Define, Start, Step as Stepped, Undo, Rollback, Settle}
+use Rattle.book_log.specs.declared.entry.Entry.TheVariants.{Define, Start, Step as Stepped, Undo, Rollback, Settle, Hold}
 use Rattle.book_rounds.specs.Rounds.{AreSteps, with_entries}
 use Rattle.command_lines.specs.Grammar as spoken
 use Rattle.command_lines.specs.Grammar.{Spoken, command_of}
@@ -50,6 +50,7 @@ stepped_names (Start exec machine input ∷ es) = stepped_names es
 stepped_names (Undo name ∷ es) = stepped_names es
 stepped_names (Rollback name undone ∷ es) = stepped_names es
 stepped_names (Settle ∷ es) = stepped_names es
+stepped_names (Hold name count ∷ es) = stepped_names es
 
 -- the entries after the first so many
 abbrev pub since : ℕ → Story → List Entry

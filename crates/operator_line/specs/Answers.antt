@@ -1,6 +1,8 @@
 -- What lines are answered, and what the book is afterwards. Open are want of memory and the journal's refusal of a line, which are
 -- told and change nothing, where a drive stops early because of them, and which fault of a definition is told, among those that stand.
-use Rattle.std.specs.Prelude.{◌≡◌, ◌≤◌, ℕ, zero, suc, ◌⊎◌, List, [], ◌∷◌, ◌++◌, length, map, false, true, Option, None, Some, option_and_then, Result, Ok, Err, IsOk}
+use Rattle.std.specs.Prelude.{◌≡◌, ◌≤◌, ℕ, zero, suc, ◌⊎◌, List, [], ◌∷◌, ◌++◌, length, map, reverse, Bool, false, true, Option, None, Some, option_and_then, Result, Ok, Err, IsOk}
+use Rattle.std.specs.List.{list_any}
+use Rattle.std.specs.Ordering.{eq_by_cmp}
 use Rattle.std.specs.declared.cmp.Ordering.TheVariants.{Less}
 use Rattle.serde_json.specs.Data as source
 use Rattle.serde_json.specs.Read as source_text
@@ -18,25 +20,26 @@ use Rattle.item_store.specs.Table.{Table}
 use Rattle.journaled_book.specs.Definition.{Definition}
 use Rattle.book_log.specs.Profile.{Defines as DefinesMachine}
 use Rattle.journaled_book.specs.Frame.{Frame}
+use Rattle.journaled_book.specs.Ready.{moves_freely}
 use Rattle.step_names.specs.Order.{thread_cmp}
 use Rattle.step_names.specs.Thread.{Thread, IsThread}
 use Rattle.step_names.specs.Written.{step_text}
 use Rattle.step_names.specs.declared.step.StepName.{StepName}
 use Rattle.journaled_book.specs.Steps.{name_of}
-use Rattle.book_log.specs.Answers.{settle_answer, IsDefineRefusal, start_answer, step_answer, undo_answer, plan_answer, has_move, is_full_for_step}
+use Rattle.book_log.specs.Answers.{settle_answer, hold_answer, IsDefineRefusal, start_answer, step_answer, undo_answer, plan_answer, names_of_facts, is_full_for_step}
 use Rattle.book_log.specs.Beginning.{table_of}
-use Rattle.book_log.specs.Story.{Story, accepted, remaining, world_of}
+use Rattle.book_log.specs.Story.{Story, accepted, left_of, remaining, world_of}
 use Rattle.book_log.specs.declared.begin.Begin.{Begin}
 use Rattle.book_log.specs.declared.entry.Entry.{Entry}
-use Rattle.book_log.specs.declared.entry.Entry.TheVariants.{Define, Start, Step as Stepped, Undo, Rollback, Settle}
+use Rattle.book_log.specs.declared.entry.Entry.TheVariants.{Define, Start, Step as Stepped, Undo, Rollback, Settle, Hold}
 use Rattle.book_log.specs.declared.moved.Moved.{Moved}
 use Rattle.book_log.specs.declared.refusal.Refusal.{Refusal}
-use Rattle.book_log.specs.declared.refusal.Refusal.TheVariants.{Full, Memory}
+use Rattle.book_log.specs.declared.refusal.Refusal.TheVariants.{Full, Held, Memory}
 use Rattle.journaled_book.specs.declared.fault.ChangeFault.{ChangeFault}
 use Rattle.journaled_book.specs.declared.fault.ChangeFault.TheVariants as by
 use Rattle.command_lines.specs.Grammar as spoken
 use Rattle.command_lines.specs.Grammar.{Spoken, command_of}
-use Rattle.reply_lines.specs.Replies.{done_reply, step_reply, moved_reply, list_reply, names_reply, item_fault_reply, frame_reply, refused, refused_by, refusal_reply, memory_reply, no_journal, bad_json, bad_beginning, table_taken, no_table, bad_line}
+use Rattle.reply_lines.specs.Replies.{done_reply, step_reply, moved_reply, count_reply, list_reply, names_reply, item_fault_reply, frame_reply, refused, refused_by, refusal_reply, memory_reply, no_journal, bad_json, bad_beginning, table_taken, no_table, bad_line}
 
 -- this is told, and this is the book then: such is the reply, and the book afterwards
 abbrev pub Tells : List ℕ → Option Story → List ℕ → Option Story → Type 0
@@ -139,6 +142,15 @@ abbrev pub AnswersSettle : Story → Result (Unit {0}) Refusal → List ℕ → 
 AnswersSettle story (Ok done) = Enters done_reply (Some (accepted story Settle)) (Some story)
 AnswersSettle story (Err refusal) = Tells (refusal_reply refusal) (Some story)
 
+-- so many steps are held
+abbrev pub AnswersHold : Story → StepName → Result ℕ Refusal → List ℕ → Option Story → Type 0
+AnswersHold story name (Ok count) = Enters (count_reply count) (Some (accepted story (Hold name count))) (Some story)
+AnswersHold story name (Err refusal) = Tells (refusal_reply refusal) (Some story)
+
+-- the names of what is left of the hold, the latest first: none without one
+abbrev pub left_names : Story → List StepName
+left_names story = names_of_facts (reverse (left_of story))
+
 abbrev pub AnswersShow : Story → Option Frame → List ℕ → Option Story → Type 0
 AnswersShow story None = Tells (refused 5) (Some story)
 AnswersShow story (Some f) = Tells (frame_reply f) (Some story)
@@ -158,30 +170,54 @@ history_reply story = list_reply (map (λ s. step_text (name_of s)) (remaining s
 
 -- ---- several steps
 
--- no thread has a move
-abbrev pub NoneMoves : Story → Type 0
-NoneMoves story = (t : Thread) → IsThread t → has_move story t ≡ false
+-- One turn of a drive: a step is taken; or a thread is passed by until the drive ends.
+pub data Turn : Type 0 where
+  took : StepName → Turn
+  skipped : Thread → Turn
 
--- the least thread, by the order of names, that has a move
-pub record MovesFirst (story : Story) (t : Thread) : Type 0 where
-  pub moves : has_move story t ≡ true
-  pub least : (u : Thread) → IsThread u → thread_cmp u t ≡ Less → has_move story u ≡ false
+-- the steps that are taken
+abbrev pub taken_in : List Turn → List StepName
+taken_in [] = []
+taken_in (took name ∷ turns) = name ∷ taken_in turns
+taken_in (skipped t ∷ turns) = taken_in turns
 
--- a refusal of the step of the thread whose turn it is, by the book or by the journal, or want of memory
-abbrev pub StopsDrive : Story → ChangeFault → Type 0
-StopsDrive story (by.Book refusal) = (refusal ≡ Memory) ⊎ ((t : Thread) × MovesFirst story t × (step_answer story t ≡ Err refusal))
-StopsDrive story (by.Journal fault) = (t : Thread) × MovesFirst story t × IsOk (step_answer story t)
+-- whether a thread is among those that are passed by
+abbrev pub is_passed : List Thread → Thread → Bool
+is_passed passed t = list_any (λ u. eq_by_cmp thread_cmp u t) passed
 
--- At most so many steps are taken, each of the least thread that has a move then: these, to this story. It ends where no more are
--- wanted or none can move, or at a refusal.
-abbrev pub Drives : ℕ → Story → List StepName → Option ChangeFault → Story → Type 0
-Drives zero story [] None after = after ≡ story
-Drives zero story [] (Some fault) after = ⊥
-Drives zero story (name ∷ names) stop after = ⊥
-Drives (suc more) story [] None after = NoneMoves story × (after ≡ story)
-Drives (suc more) story [] (Some fault) after = StopsDrive story fault × (after ≡ story)
-Drives (suc more) story (name ∷ names) stop after =
-    (m : Moved) × MovesFirst story name.thread × (step_answer story name.thread ≡ Ok m) × (name ≡ m.name) × Drives more (accepted story (Stepped m.name m.kind)) names stop after
+-- each thread that has a move is passed by
+abbrev pub NoneMoves : (Thread → Bool) → Story → Type 0
+NoneMoves passed story = (t : Thread) → IsThread t → moves_freely story passed t ≡ false
+
+-- the least thread, by the order of names, that has a move and isn't passed by
+pub record MovesFirst (passed : Thread → Bool) (story : Story) (t : Thread) : Type 0 where
+  pub moves : moves_freely story passed t ≡ true
+  pub least : (u : Thread) → IsThread u → thread_cmp u t ≡ Less → moves_freely story passed u ≡ false
+
+-- the thread's step would depend directly on what is left of a hold
+abbrev pub NeedsHeld : Story → Thread → Type 0
+NeedsHeld story t = (name : StepName) × (step_answer story t ≡ Err (Held name))
+
+abbrev pub is_held : Refusal → Bool
+is_held (Held name) = true
+is_held _ = false
+
+-- a refusal, for another cause than a hold, of the step of the thread whose turn it is, by the book or by the journal; or want of memory
+abbrev pub StopsDrive : (Thread → Bool) → Story → ChangeFault → Type 0
+StopsDrive passed story (by.Book refusal) = (refusal ≡ Memory) ⊎ ((t : Thread) × MovesFirst passed story t × (step_answer story t ≡ Err refusal) × (is_held refusal ≡ false))
+StopsDrive passed story (by.Journal fault) = (t : Thread) × MovesFirst passed story t × IsOk (step_answer story t)
+
+-- At most so many steps are taken, each of the least thread that has a move then and isn't passed by, to this story. A thread whose
+-- step needs what is held is passed by from its turn on. It ends where no more are wanted or none can move, or at a refusal.
+abbrev pub Drives : ℕ → List Thread → Story → List Turn → Option ChangeFault → Story → Type 0
+Drives zero passed story [] None after = after ≡ story
+Drives zero passed story [] (Some fault) after = ⊥
+Drives zero passed story (turn ∷ turns) stop after = ⊥
+Drives (suc more) passed story [] None after = NoneMoves (is_passed passed) story × (after ≡ story)
+Drives (suc more) passed story [] (Some fault) after = StopsDrive (is_passed passed) story fault × (after ≡ story)
+Drives (suc more) passed story (took name ∷ turns) stop after =
+    (m : Moved) × MovesFirst (is_passed passed) story name.thread × (step_answer story name.thread ≡ Ok m) × (name ≡ m.name) × Drives more passed (accepted story (Stepped m.name m.kind)) turns stop after
+Drives (suc more) passed story (skipped t ∷ turns) stop after = MovesFirst (is_passed passed) story t × NeedsHeld story t × Drives (suc more) (t ∷ passed) story turns stop after
 
 -- what is told of a command that isn't accepted
 abbrev pub change_reply : ChangeFault → List ℕ
@@ -195,11 +231,11 @@ drive_reply [] (Some fault) = change_reply fault
 drive_reply (name ∷ names) stop = names_reply (name ∷ names)
 
 pub record AnswersDrive (story : Story) (count : ℕ) (reply : List ℕ) (after : Option Story) : Type 0 where
-  pub names : List StepName
+  pub turns : List Turn
   pub stop : Option ChangeFault
   pub last : Story
-  pub drives : Drives count story names stop last
-  pub told : Tells (drive_reply names stop) (Some last) reply after
+  pub drives : Drives count [] story turns stop last
+  pub told : Tells (drive_reply (taken_in turns) stop) (Some last) reply after
 
 -- ---- a round of workers
 
@@ -237,11 +273,13 @@ AnswersOpen story (spoken.undo name) = AnswersUndo story name (undo_answer story
 AnswersOpen story (spoken.plan name) = AnswersPlan story (plan_answer story name)
 AnswersOpen story (spoken.rollback name) = AnswersRollback story name (plan_answer story name)
 AnswersOpen story spoken.settle = AnswersSettle story (settle_answer story)
+AnswersOpen story (spoken.hold name) = AnswersHold story name (hold_answer story name)
 AnswersOpen story (spoken.drive count) = AnswersDrive story count
 AnswersOpen story (spoken.work workers moves) = AnswersWork story moves
 AnswersOpen story (spoken.show thread) = AnswersShow story ((world_of story).frames thread)
 AnswersOpen story spoken.items = AnswersListing story
 AnswersOpen story spoken.history = Tells (history_reply story) (Some story)
+AnswersOpen story spoken.held = Tells (names_reply (left_names story)) (Some story)
 
 -- before its table is given
 abbrev pub AnswersClosed : Spoken → List ℕ → Option Story → Type 0
@@ -253,11 +291,13 @@ AnswersClosed (spoken.undo name) = Tells (refused no_table) None
 AnswersClosed (spoken.plan name) = Tells (refused no_table) None
 AnswersClosed (spoken.rollback name) = Tells (refused no_table) None
 AnswersClosed spoken.settle = Tells (refused no_table) None
+AnswersClosed (spoken.hold name) = Tells (refused no_table) None
 AnswersClosed (spoken.drive count) = Tells (refused no_table) None
 AnswersClosed (spoken.work workers moves) = Tells (refused no_table) None
 AnswersClosed (spoken.show thread) = Tells (refused no_table) None
 AnswersClosed spoken.items = Tells (refused no_table) None
 AnswersClosed spoken.history = Tells (refused no_table) None
+AnswersClosed spoken.held = Tells (refused no_table) None
 
 abbrev pub AnswersCommand : Option Story → Spoken → List ℕ → Option Story → Type 0
 AnswersCommand None command = AnswersClosed command

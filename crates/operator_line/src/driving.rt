@@ -1,7 +1,7 @@
 // Steps that are taken one after another.
-ghost use Rattle.std.specs.Prelude.{◌≡◌, ◌+◌, ◌<◌, ◌^◌, [], IfOk, IfErr, IfSome, IsSome, string_bytes, string_len, OnOk, OnErr};
+ghost use Rattle.std.specs.Prelude.{◌≡◌, ◌+◌, ◌<◌, ◌^◌, [], false, IfOk, IfErr, IfSome, IsSome, string_bytes, string_len, OnOk, OnErr};
 ghost use Rattle.operator_line.specs.Answers.{AnswersDrive};
-ghost use Rattle.operator_line.specs.Driving.{IsFirst, TakenOf, TakesOneOf};
+ghost use Rattle.operator_line.specs.Driving.{AddsThread, Grows, IsFirst, PassesBy, TakenOf, TakesOneOf, passed_in};
 ghost use Rattle.operator_line.specs.Sessions.{story_in};
 ghost use Rattle.reply_lines.specs.Replying.{AreLines, has_room_for_lines};
 
@@ -15,8 +15,20 @@ use std::alloc::{AllocError, Global};
 use std::collections::BTreeSet;
 use step_names::ThreadName;
 
-/// Takes at most so many steps, each of the least thread that has a move then, and writes what is told of them. Room for the reply is
-/// made before each step, and each stands in the journal by a line of its own. A step takes what the book's `first_ready` and `step` take.
+/// What came of one turn.
+#[derive(Clone, Copy)]
+pub(crate) enum Tried {
+    /// A step was taken.
+    Taken,
+    /// A step needs what is held, so its thread is passed by.
+    PassedBy,
+    /// Each thread that has a move is passed by.
+    NoMove,
+}
+
+/// Takes at most so many steps, each of the least thread that has a move then, and writes what is told of them. A thread whose step
+/// needs what is held is passed by. Room for the reply is made before each step, and each stands in the journal by a line of its
+/// own. A step takes what the book's `first_ready` and `step` take.
 pub(crate) fn drive<S: Alter>(
     alloc: Global,
     book: &mut JournaledBook<S>,
@@ -51,58 +63,98 @@ fn take_steps<S: Alter>(
     ensures text { string_bytes reply.new.text ≡ string_bytes reply.old.text }
     ensures room { has_room_for_lines reply.new.text (string_len lines.new.text) }
 {
+    let mut passed = BTreeSet::new(alloc);
     let mut left = count;
     while 0 < left {
-        left -= 1;
-        match take_step(alloc, book, lines, reply) {
-            Ok(true) => {}
-            Ok(false) => return None,
+        match take_step(alloc, book, &mut passed, lines, reply) {
+            Ok(Tried::Taken) => left -= 1,
+            Ok(Tried::PassedBy) => {}
+            Ok(Tried::NoMove) => return None,
             Err(fault) => return Some(fault),
         }
     }
     None
 }
 
-/// Whether there was a step to take.
 fn take_step<S: Alter>(
     alloc: Global,
     book: &mut JournaledBook<S>,
+    passed: &mut BTreeSet<ThreadName>,
     lines: &mut Lines,
     reply: &mut Reply,
-) -> Result<bool, ChangeFault>
+) -> Result<Tried, ChangeFault>
     requires open { IsSome book.old.book }
     requires few { lines.old.count + 1 < 2 ^ 32 }
     requires room { has_room_for_lines reply.old.text (string_len lines.old.text) }
-    ensures step { TakesOneOf (story_in book.old) (story_in book.new) lines.old lines.new result }
+    ensures step { TakesOneOf (story_in book.old) (story_in book.new) passed.old passed.new lines.old lines.new result }
+    ensures grows { Grows passed.old passed.new result }
     ensures open { IsSome book.new.book }
     ensures text { string_bytes reply.new.text ≡ string_bytes reply.old.text }
     ensures room { has_room_for_lines reply.new.text (string_len lines.new.text) }
 {
     lines.reserve_step()?;
     reply.reserve_lines(lines)?;
-    let Some(thread) = first_ready(alloc, book)? else {
-        return Ok(false);
+    let Some(thread) = first_ready(alloc, book, passed)? else {
+        return Ok(Tried::NoMove);
     };
     let line = step_line(alloc, &thread)?;
-    let moved = book.step(alloc, &thread, line.as_str())?;
+    let moved = match book.step(alloc, &thread, line.as_str()) {
+        Ok(moved) => moved,
+        Err(fault) => return pass_by(passed, thread, fault),
+    };
     let Ok(()) = lines.add_step(&moved.name) else {
         unreachable!()
     };
-    Ok(true)
+    Ok(Tried::Taken)
 }
 
-/// The least thread that has a move, if one has.
+/// The least thread that has a move and isn't passed by, if there is one.
+#[tactic(auto, using(crate::proofs::Taken::first_found, crate::proofs::Taken::first_is_free))]
 fn first_ready<S: Alter>(
     alloc: Global,
     book: &JournaledBook<S>,
+    passed: &BTreeSet<ThreadName>,
 ) -> Result<Option<ThreadName>, Refusal>
     requires { IsSome book.now.book }
-    ensures first { IfSome (story_in book.now) (λ story. IfOk result (IsFirst story)) }
+    ensures first { IfSome (story_in book.now) (λ story. IfOk result (IsFirst (passed_in passed.now) story)) }
+    ensures free { IfOk result (λ found. IfSome found (λ thread. passed_in passed.now thread ≡ false)) }
     ensures memory { IfErr result (λ e. e ≡ Refusal.Memory) }
 {
     let Some(book) = book.book() else {
         unreachable!()
     };
-    let nobody = BTreeSet::new(alloc);
-    book.first_ready(alloc, &nobody)
+    book.first_ready(alloc, passed)
+}
+
+/// What comes of a refused step: where it needs what is held, its thread is passed by; else the refusal is told.
+#[tactic(auto, using(crate::proofs::Taken::not_held))]
+fn pass_by(
+    passed: &mut BTreeSet<ThreadName>,
+    thread: ThreadName,
+    fault: ChangeFault,
+) -> Result<Tried, ChangeFault>
+    requires { passed_in passed.old thread ≡ false }
+    ensures passes { PassesBy thread fault passed.old passed.new result }
+    ensures grows { Grows passed.old passed.new result }
+{
+    match fault {
+        ChangeFault::Book(Refusal::Held(_)) => {
+            add_thread(passed, thread)?;
+            Ok(Tried::PassedBy)
+        }
+        fault => {
+            drop(thread);
+            Err(fault)
+        }
+    }
+}
+
+#[tactic(auto, using(crate::proofs::Taken::one_passed))]
+fn add_thread(passed: &mut BTreeSet<ThreadName>, thread: ThreadName) -> Result<(), AllocError>
+    requires { passed_in passed.old thread ≡ false }
+    ensures { OnOk result (AddsThread thread passed.old passed.new) }
+{
+    prove!(passed.len() < usize::MAX);
+    passed.insert(thread)?;
+    Ok(())
 }

@@ -2,18 +2,19 @@
 ghost use Rattle.std.specs.Prelude.{◌≡◌, [], Some, None, false, string_bytes, IsSome, OnOk, OnErr};
 ghost use Rattle.journaled_book.specs.Lines.{IsBeginLine};
 ghost use Rattle.operator_line.specs.Answering.{is_work};
-ghost use Rattle.operator_line.specs.Answers.{AnswersBeginning, AnswersCommand, change_reply};
+ghost use Rattle.operator_line.specs.Answers.{AnswersBeginning, AnswersCommand, change_reply, left_names};
 ghost use Rattle.operator_line.specs.Sessions.{story_in};
 ghost use Rattle.command_lines.specs.Grammar as grammar;
 ghost use Rattle.command_lines.specs.Grammar.{command_of, spoken};
-ghost use Rattle.reply_lines.specs.Replies.{json_reply, item_fault_reply};
+ghost use Rattle.reply_lines.specs.Replies.{json_reply, item_fault_reply, names_reply};
 ghost use Rattle.reply_lines.specs.Replying.{Writes};
 
 use crate::driving::drive;
+use crate::working::tell_no_steps;
 use attr_values::{ItemFault, KeySchema};
 use book_log::Refusal;
 use command_lines::{Command, Execution};
-use journaled_book::books::{Begin, Room};
+use journaled_book::books::{Begin, Book, Room};
 use journaled_book::{BeginRefusal, ChangeFault, JournaledBook};
 use json_tree::{Json, JsonFault, Text, read};
 use reply_lines::Reply;
@@ -85,11 +86,13 @@ impl<S: Alter> OpenSession<S> {
             Command::Plan(step) => self.plan(&step, reply),
             Command::Rollback(step) => self.rollback(&step, line, reply),
             Command::Settle => self.settle(line, reply),
+            Command::Hold(step) => self.hold(&step, line, reply),
             Command::Drive(count) => self.drive(count, reply),
             Command::Work { .. } => unreachable!(),
             Command::Show(thread) => self.show(&thread, reply),
             Command::Items => self.items(reply),
             Command::History => self.history(reply),
+            Command::Held => self.held(reply),
         }
     }
 
@@ -289,6 +292,22 @@ impl<S: Alter> OpenSession<S> {
         }
     }
 
+    fn hold(&mut self, step: &StepName, line: &str, reply: &mut Reply) -> Result<(), AllocError>
+        requires line { command_of line.now ≡ Some (grammar.hold step.now) }
+        requires empty { string_bytes reply.old.text ≡ [] }
+        ensures ok { OnOk result (AnswersCommand (story_in self.old) (grammar.hold step.now) (string_bytes reply.new.text) (story_in self.new)) }
+        ensures err { OnErr result (story_in self.new ≡ story_in self.old) }
+    {
+        if !self.book.is_open() {
+            return reply.refuse(NO_TABLE);
+        }
+        reply.reserve_step()?;
+        match self.book.hold(self.alloc, step, line) {
+            Ok(count) => reply.accept_count(count),
+            Err(fault) => refuse_change(self.alloc, fault, reply),
+        }
+    }
+
     fn drive(&mut self, count: u32, reply: &mut Reply) -> Result<(), AllocError>
         requires { string_bytes reply.old.text ≡ [] }
         ensures ok { OnOk result (AnswersCommand (story_in self.old) (grammar.drive count) (string_bytes reply.new.text) (story_in self.new)) }
@@ -331,6 +350,31 @@ impl<S: Alter> OpenSession<S> {
             Some(book) => reply.accept_steps(book.history()),
             None => reply.refuse(NO_TABLE),
         }
+    }
+
+    fn held(&self, reply: &mut Reply) -> Result<(), AllocError>
+        requires { string_bytes reply.old.text ≡ [] }
+        ensures ok { OnOk result (AnswersCommand (story_in self.now) grammar.held (string_bytes reply.new.text) (story_in self.now)) }
+    {
+        match self.book.book() {
+            Some(book) => tell_left(self.alloc, book, reply),
+            None => reply.refuse(NO_TABLE),
+        }
+    }
+}
+
+/// Tells what is left of the hold, the latest first. Its step remains, so that its plan is refused for want of memory alone.
+#[tactic(auto, using(crate::proofs::Left::left_planned, crate::proofs::Left::none_left_of))]
+fn tell_left(alloc: Global, book: &Book, reply: &mut Reply) -> Result<(), AllocError>
+    requires { string_bytes reply.old.text ≡ [] }
+    ensures { OnOk result (string_bytes reply.new.text ≡ names_reply (left_names book.now.story)) }
+{
+    let Some(step) = book.held() else {
+        return tell_no_steps(alloc, reply);
+    };
+    match book.plan_room(alloc, step) {
+        Ok(room) => reply.accept_names(room.names()),
+        Err(_) => Err(AllocError),
     }
 }
 

@@ -135,7 +135,7 @@ fn tell_none(
     Err(AllocError)
 }
 
-fn tell_no_steps(alloc: Global, reply: &mut Reply) -> Result<(), AllocError>
+pub(crate) fn tell_no_steps(alloc: Global, reply: &mut Reply) -> Result<(), AllocError>
     requires { string_bytes reply.old.text ≡ [] }
     ensures { OnOk result (string_bytes reply.new.text ≡ names_reply []) }
 {

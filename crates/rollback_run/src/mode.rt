@@ -10,7 +10,7 @@ use std::alloc::{AllocError, Global};
 use std::io;
 
 const ABOUT: &str =
-    "Runs executions of state machines, and takes their steps back: a command a line. The command work takes steps by several workers at once, for hundreds of executions; which step is taken first is open.";
+    "Runs executions of state machines, and takes their steps back: a command a line. The command work takes steps by several workers at once, for hundreds of executions; which step is taken first is open. The command hold lets no new step build on a step and its consequences, while they are taken back one by one.";
 
 /// As CHANGELOG.md counts them.
 const VERSION: &str = "0.1.0";

@@ -2,7 +2,7 @@ use Rattle.std.proofs.Common.{◌≡◌, ◌++◌, List, [], ℕ, map, Some, OnO
 use Rattle.std.proofs.lemmas.Result.{on_ok_weaker}
 use Rattle.step_names.specs.Written.{step_text}
 use Rattle.book_log.specs.Story.{Story}
-use Rattle.operator_line.specs.Answers.{AnswersDrive, drive_reply}
+use Rattle.operator_line.specs.Answers.{AnswersDrive, drive_reply, taken_in}
 use Rattle.operator_line.specs.Sessions.{story_in}
 use Rattle.reply_lines.specs.Replies.{names_reply}
 use Rattle.operator_line.proofs.Sessions.{some_story, if_story, on_err-from}
@@ -25,12 +25,12 @@ returns-clause-ok g c =
     if_story (λ story. OnOk c.accept_lines.result (AnswersDrive story c.args.count text after)) (story_in c.args.book.now)
     (λ before held.
     let it = c.take_steps.ensures.taken before held in
-    let names = it.2.names in
+    let names = taken_in it.2.turns in
     let stop = c.take_steps.result in
     let told_is : drive_reply names stop ≡ names_reply names = elim c.in_default.branch [
       | in_default-via-in-Some+else-count-eq0 w ↦ drive_taken c.take_steps.new.lines names stop it.2.lines_are (λ z. w.if-count-eq0.false (w.count.ensures ∙ z))
       | in_default-via-in_default w ↦ drive_done names stop w.in_default.is
     ] in
     on_ok_weaker c.accept_lines.result
-    (λ e. record { names = names; stop = stop; last = it.0; drives = it.2.drives; told = (e ∙ ap (λ (l : List ℕ). l ++ names_reply names) empty ∙ sym told_is, it.1) })
+    (λ e. record { turns = it.2.turns; stop = stop; last = it.0; drives = it.2.drives; told = (e ∙ ap (λ (l : List ℕ). l ++ names_reply names) empty ∙ sym told_is, it.1) })
     (c.accept_lines.ensures.ok (map step_text names) it.2.lines_are))

@@ -1,8 +1,8 @@
-use Rattle.std.proofs.Common.{Option, ap, ◌∙◌}
+use Rattle.std.proofs.Common.{arith, rules, Option, ap, ◌∙◌}
 use Rattle.book_log.specs.Story.{Story}
 use Rattle.book_log.specs.declared.entry.Entry.{Entry}
 use Rattle.journaled_book.specs.Journaled.{story_of, with_entry}
-use Rattle.journaled_book.proofs.Entering.{stepped_entry}
+use Rattle.journaled_book.proofs.Entering.{stepped_entry, stepped_told}
 use Rattle.journaled_book.proofs.book.JournaledBook.step.Goals as goal
 
 pub returns-in-Ok-Stepped-clause-ok : goal.returns-in-Ok-Stepped-clause-ok
@@ -10,3 +10,9 @@ returns-in-Ok-Stepped-clause-ok g c =
     let book = c.args.self.now.book in
     let entry = stepped_entry book c.args.thread.now c.in-Ok.made c.in-Ok-Stepped.field-0 c.in-Ok-Stepped.moved c.requires.open c.in-Ok.ensures.answer c.in-Ok-Stepped.ensures.ok.0 c.in-Ok-Stepped.field-0-is in
     c.in-Ok-Stepped.ensures.ok.1 ∙ ap (λ (s : Option Story). with_entry s c.in-Ok.made.entry) c.in-Ok.ensures.story ∙ ap (λ (e : Entry). with_entry (story_of book) e) entry
+
+pub unreachable-requires : goal.unreachable-requires
+unreachable-requires g c =
+    let told = stepped_told c.args.self.now.book c.args.thread.now c.in-Ok.made c.in-Ok-enter.field-0 c.requires.open c.in-Ok.ensures.answer c.in-Ok-enter.ensures.ok.0 in
+    let is = told.1 in
+    first_of (search (rules, is), grind (arith, is))

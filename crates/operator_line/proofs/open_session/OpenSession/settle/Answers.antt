@@ -1,11 +1,11 @@
 use Rattle.std.proofs.Common.{rules, ◌≡◌, [], ◌++◌, true, Option, string_bytes, ap, ◌∙◌, subst}
 use Rattle.std.specs.Prelude.{is_some, IfSome}
 use Rattle.std.proofs.lemmas.Result.{on_ok_weaker}
-use Rattle.book_log.specs.Answers.{settle_answer}
+use Rattle.book_log.specs.Answers.{SettleLacks, settle_answer}
 use Rattle.book_log.specs.declared.entry.Entry.TheVariants.{Settle}
 use Rattle.command_lines.specs.Grammar as grammar
 use Rattle.journaled_book.specs.Book.{Volume}
-use Rattle.journaled_book.specs.Changes.{AnswersChange}
+use Rattle.journaled_book.specs.Changes.{AnswersChangeOr}
 use Rattle.journaled_book.specs.Journaled.{story_of, with_entry}
 use Rattle.operator_line.specs.Answers.{change_reply}
 use Rattle.operator_line.specs.Sessions.{story_in}
@@ -24,16 +24,16 @@ returns-clause-ok g c =
     let empty : string_bytes c.reserve_step.new.self.text ≡ [] = c.reserve_step.ensures.same ∙ c.requires.empty in
     rw (← c.self.view_is) (answers_open book grammar.settle c.match-settle.result text after opened
     (λ b is.
-    let answer : AnswersChange (settle_answer b.story) c.settle.result =
-    subst (λ (o : Option Volume). IfSome o (λ x. AnswersChange (settle_answer x.story) c.settle.result)) is c.settle.ensures.answer
+    let answer : AnswersChangeOr (SettleLacks b.story) (settle_answer b.story) c.settle.result =
+    subst (λ (o : Option Volume). IfSome o (λ x. AnswersChangeOr (SettleLacks x.story) (settle_answer x.story) c.settle.result)) is c.settle.ensures.answer
     in
     elim c.match-settle.branch [
       | in-Ok w ↦ rw (w.result-is, w.reply-is) (settle-done b.story after (settle_answer b.story) w.accept.result _
-          (subst (AnswersChange (settle_answer b.story)) w.in-Ok.is answer)
+          (subst (AnswersChangeOr (SettleLacks b.story) (settle_answer b.story)) w.in-Ok.is answer)
           (w.in-Ok.ensures.ok ∙ ap (λ (o : Option Volume). with_entry (story_of o) Settle) is)
           (on_ok_weaker w.accept.result (λ e. e ∙ ap (λ l. l ++ done_reply) empty) w.accept.ensures.ok))
-      | in-Err w ↦ rw (w.result-is, w.reply-is) (settle-refused b.story after w.in-Err.fault (settle_answer b.story) w.refuse_change.result _
-          (subst (AnswersChange (settle_answer b.story)) w.in-Err.is answer)
+      | in-Err w ↦ rw (w.result-is, w.reply-is) (settle-refused b.story after w.in-Err.fault (settle_answer b.story) w.refuse_change.result _ (SettleLacks b.story)
+          (subst (AnswersChangeOr (SettleLacks b.story) (settle_answer b.story)) w.in-Err.is answer)
           (w.in-Err.ensures.err ∙ ap story_of is)
           w.refuse_change.ensures.memory
           (on_ok_weaker w.refuse_change.result (λ e. e ∙ ap (λ l. l ++ change_reply w.in-Err.fault) empty) w.refuse_change.ensures.ok))
