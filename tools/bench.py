@@ -103,6 +103,23 @@ def one_map(branches, bound):
     yield f'start run over {{"all":[{",".join(["{}"] * branches)}]}}'
 
 
+def one_item_read(count, held):
+    """A write of an item and so many reads of it, which are held or not; and executions that wait before a Pass, and before a write of it."""
+    yield TABLE
+    yield define("write", workloads.WRITE)
+    yield define("read", workloads.READ)
+    yield define("three", workloads.chain(3))
+    yield from ('start first write {"key":"hot","value":"v"}', "step first")
+    for at in range(count):
+        yield f'start reader-{at} read {{"key":"hot"}}'
+        yield f"step reader-{at}"
+    for at in range(50):
+        yield f"start run-{at} three {{}}"
+        yield f'start writer-{at} write {{"key":"hot","value":"w"}}'
+    if held:
+        yield "hold first#1"
+
+
 def filled(count, size):
     """So many executions that stand before a Pass whose template fills so many bytes by paths."""
     fields = {f"field-{at}.$": "$.text" for at in range(size // 32)}
@@ -138,6 +155,13 @@ def single_calls():
                 yield f"start run-{at} three {{}}"
         yield f"step by drive, {count:,} executions", "instructions", waiting, ["drive 60"], 60
         yield f"step by one worker, {count:,} executions", "instructions", waiting, ["work 1 60"], 60
+    for held, said in ((False, "beside 6,000 reads of an item"), (True, "beside a hold of 6,000 reads of an item")):
+        def reads(held=held):
+            return one_item_read(6_000, held)
+
+        yield f"step of a Pass {said}", "instructions", reads, [f"step run-{at}" for at in range(50)], 50
+        yield f"write of that item {said}", "instructions", reads, ["step writer-0"], 1
+    yield "hold of 6,000 reads of an item", "instructions", lambda: one_item_read(6_000, False), ["hold first#1"], 1
     for branches in (64, 4_096):
         for bound, said in ((0, "without a bound"), (10, "with a bound of 10")):
             def fresh(branches=branches, bound=bound):

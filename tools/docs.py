@@ -39,7 +39,7 @@ SHORT = (
     "docs/USER_GUIDE.md",
 )
 SESSIONS = ("README.md", "docs/USER_GUIDE.md")
-LISTS = ("items", "history", "plan", "rollback", "drive", "work")
+LISTS = ("items", "history", "plan", "rollback", "drive", "work", "held")
 FILE = re.compile(r"(?<![\w/.-])(?:\.\./)*((?:docs|crates|rows|tools|examples)/[\w./*-]+|[A-Z_]+\.md|[a-z_-]+\.txt)")
 SPAN = re.compile(r"`([^`]+)`")
 FOREIGN = ("Connection",)  # types of the kit's libraries

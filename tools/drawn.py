@@ -7,14 +7,17 @@ After any list of commands the book's executions and items are those that its re
 start, give. A rollback takes a step and its dependents and no other, with one result for every order in which they may be undone.
 
 A session is a table, some machines over few keys, and about L drawn lines: starts, steps, drives, undoings, plans, rollbacks,
-and lines of all kinds that are refused. While it goes on,
+in half of them holds, in some settlements, and lines of all kinds that are refused. While it goes on,
 
-- the remaining steps, as `history` lists them, are taken anew in a fresh process: each has to answer its name and kind, and items
-  and threads have to be the same bytes. So after each undoing, before and after each rollback, and at the end, where the steps
-  are also taken in another order that dependence allows;
+- the remaining steps, as `history` lists them, are taken anew in a fresh process, behind those that were settled: each has to answer
+  its name and kind, and items and threads have to be the same bytes. So after each undoing, before and after each rollback, and at the
+  end, where the steps are also taken in another order that dependence allows;
 - each step's plan has to be the least set that dependence closes, and each step with a dependent has to be refused to `undo` by
   its first one. Dependence is worked out here, from its definition: the machines are made so that the name of a state says
   which item it calls for;
+- a hold has to count the plan of its step, and what is left is that plan without the steps that were taken back since. Each move under
+  a hold is tried in a fresh process without it: one that depends on what is left has to be refused for the earliest step on which it
+  does, and any other has to be answered as there. A drive has to pass by the first kind, and a round of workers takes none of it;
 - a rollback has to take its plan and leave the others in their order; and in two copies of the session the plan's steps are undone one
   by one, in the plan's order and in another one that is allowed: each is accepted, and all three come to the same.
 
@@ -36,154 +39,19 @@ import sys
 import tempfile
 import time
 
+sys.dont_write_bytecode = True
+from drawn_holds import Hold, can_move, wanted_reply  # noqa: E402: beside this file
+from drawn_steps import Dependence, Difference, Session, Step, path_of, served  # noqa: E402: beside this file
+
 HERE = os.path.dirname(os.path.abspath(__file__))
 PROGRAM = os.path.join(HERE, "..", "crates", "rollback_program", "out", "rollback_program")
 RESOURCE = "arn:aws:states:::dynamodb:"
-LISTS = ("items", "history", "plan", "rollback", "drive", "work")
-CHANGES = ("table", "define", "start", "step", "undo", "rollback")
-
-
-class Difference(Exception):
-    """What isn't as the headline says."""
+CHANGES = ("table", "define", "start", "step", "undo", "rollback", "settle", "hold")
+SETTLE = "settle"
 
 
 def text_of(value):
     return json.dumps(value, separators=(",", ":"), ensure_ascii=False)
-
-
-# ---- The program ----
-
-
-def replies_of(lines, next_line):
-    """Reads the reply of each line: its own lines, as a list."""
-    replies = []
-    for line in lines:
-        if not line:
-            replies.append([])
-            continue
-        reply = [next_line(line)]
-        if reply[0].startswith("ok ") and line.split(" ", 1)[0] in LISTS:
-            reply += [next_line(line) for _ in range(int(reply[0][3:]))]
-        replies.append(reply)
-    return replies
-
-
-def bytes_of(lines):
-    return "".join(line + "\n" for line in lines).encode("utf-8", "surrogateescape")
-
-
-class Session:
-    """A process that is asked line by line."""
-
-    def __init__(self, program, words=()):
-        self.process = subprocess.Popen([program, *words], stdin=subprocess.PIPE, stdout=subprocess.PIPE, bufsize=-1)
-
-    def next_line(self, asked):
-        line = self.process.stdout.readline()
-        if not line.endswith(b"\n"):
-            raise Difference(f"the program ended at: {asked[:200]}")
-        return line[:-1].decode("utf-8")
-
-    def ask(self, lines):
-        try:
-            self.process.stdin.write(bytes_of(lines))
-            self.process.stdin.flush()
-        except BrokenPipeError:
-            raise Difference("the program ended") from None
-        return replies_of(lines, self.next_line)
-
-    def close(self):
-        try:
-            self.process.stdin.close()
-        except BrokenPipeError:
-            pass
-        self.process.stdout.close()
-        return self.process.wait()
-
-    def __enter__(self):
-        return self
-
-    def __exit__(self, *_):
-        self.close()
-
-
-def served(program, lines, words=()):
-    """The replies of a whole session, given at once."""
-    done = subprocess.run([program, *words], input=bytes_of(lines), stdout=subprocess.PIPE, check=False)
-    if done.returncode != 0:
-        raise Difference(f"a session ended with status {done.returncode}")
-    left = iter(done.stdout.decode("utf-8").split("\n"))
-    replies = replies_of(lines, lambda _: next(left))
-    if list(left) != [""]:
-        raise Difference("a session wrote more than its replies")
-    return replies
-
-
-# ---- Steps, and which depends on which ----
-
-
-class Step:
-    """A step as its name, its kind and its access say: a key, and whether it was written."""
-
-    def __init__(self, name, kind, access):
-        thread, no = name.rsplit("#", 1)
-        self.name, self.kind, self.access = name, kind, access
-        self.path, self.no = path_of(thread), int(no)
-
-
-def path_of(thread):
-    execution, *branches = thread.split("/")
-    return (execution, *(tuple(map(int, branch.split("."))) for branch in branches))
-
-
-def lies_under(path, thread, fork):
-    """Whether a thread lies under the fork that step `fork` of another made, at any depth."""
-    return len(path) > len(thread) and path[: len(thread)] == thread and path[len(thread)][0] == fork
-
-
-def depends(later, earlier):
-    if later.path == earlier.path:
-        return True
-    if earlier.no == 0 and earlier.path == later.path[:1]:
-        return True
-    if earlier.kind == "fork" and lies_under(later.path, earlier.path, earlier.no):
-        return True
-    if later.kind in ("join", "terminate") and lies_under(earlier.path, later.path, later.no - 1):
-        return True
-    if later.access and earlier.access and later.access[0] == earlier.access[0]:
-        return later.access[1] or earlier.access[1]
-    return False
-
-
-class Dependence:
-    """Of a list of steps: whom each one depends on directly."""
-
-    def __init__(self, steps):
-        self.steps = steps
-        self.on = [sum(1 << a for a in range(b) if depends(steps[b], steps[a])) for b in range(len(steps))]
-
-    def plan(self, at):
-        """The least set with a step that holds each later one which depends directly on a member: the latest first."""
-        held = 1 << at
-        for later in range(at + 1, len(self.steps)):
-            if self.on[later] & held:
-                held |= 1 << later
-        return [place for place in range(len(self.steps) - 1, at - 1, -1) if held >> place & 1]
-
-    def first_dependent(self, at):
-        return next((later for later in range(at + 1, len(self.steps)) if self.on[later] >> at & 1), None)
-
-    def drawn_order(self, chance, places=None):
-        """These places, or all, in an order drawn from those that keep dependent ones as they are."""
-        left = list(range(len(self.steps))) if places is None else sorted(places)
-        mask, order = sum(1 << place for place in left), []
-        while left:
-            free = [place for place in left if not self.on[place] & mask]
-            place = chance.choice(free)
-            left.remove(place)
-            mask &= ~(1 << place)
-            order.append(place)
-        return order
 
 
 # ---- Tables and machines ----
@@ -345,8 +213,13 @@ class Checked:
         self.lines, self.entries = [], 0
         self.table, self.first, self.starts, self.kinds = None, [], {}, {}
         self.history, self.items, self.shown, self.seen = [], [], {}, set()
-        self.dependence = None
+        self.base, self.forks = [], {}
+        self.dependence = self.hold = None
         self.checks = 0
+
+    def left(self):
+        """What is left of the hold, the latest first."""
+        return self.hold.names() if self.hold else []
 
     def take(self, line):
         """Gives a line, and checks what it leaves."""
@@ -358,7 +231,10 @@ class Checked:
             self.check_plans()
             dependence, before, earlier = self.dependence, list(self.history), list(self.lines)
             plan = [before[place] for place in dependence.plan(before.index(step))]
+        wanted, was_held = wanted_reply(self, line), self.hold is not None
         reply = self.live.ask([line])[0]
+        if wanted is not None and reply != wanted:
+            raise Difference(f"{line}: answered {reply}, and {wanted} is right by what is held")
         self.lines.append(line)
         if word == "work" and reply[0].startswith("ok "):
             # Another process might take other steps: these are the ones that were taken.
@@ -366,7 +242,7 @@ class Checked:
         if not reply or reply[0].startswith("no "):
             if plan is not None:
                 raise Difference(f"{line}: {reply[0]}, though the step remains")
-            if reply and reply[0] in ("no 10", "no 11", "no 24"):
+            if reply and (reply[0] in ("no 10", "no 11", "no 24") or (reply[0].startswith("no 13") and wanted is None)):
                 raise Difference(f"{line}: {reply[0]}")
             return reply
         if not reply[0].startswith("ok"):
@@ -381,14 +257,23 @@ class Checked:
             self.look()
             self.check_rollback(line, earlier, before, plan, dependence)
             self.check_forward()
+        if was_held or self.hold:
+            self.check_held(word, reply)
         return reply
 
     def keep(self, word, line, reply):
         """Notes what an accepted line has changed."""
-        if word in CHANGES or word in ("drive", "work"):
+        if word == "hold":
+            self.hold = Hold(self, line[5:])
+        elif word in CHANGES or word in ("drive", "work"):
             self.dependence = None
         if word in CHANGES:
             self.entries += 1
+        if word == "settle":
+            self.base += [*self.history, SETTLE]
+            self.look()
+            if self.history:
+                raise Difference(f"{line}: {self.history} remain")
         if word == "table":
             self.table = table_of(line)
         if word in ("table", "define"):
@@ -419,17 +304,24 @@ class Checked:
     def look(self):
         """Reads the history, and each thread that is there, by going down the forks."""
         (_, *self.history), (_, *self.items) = self.live.ask(["history", "items"])
-        self.shown = {}
-        level = sorted({name.split("#")[0].split("/")[0] for name in self.history})
+        self.shown = self.threads(self.live)
+        self.seen.update(self.shown)
+        if self.hold:
+            self.hold = self.hold.after(self.history)
+
+    def threads(self, live):
+        """Each thread that is there in a session of these executions, as it is shown."""
+        found = {}
+        level = sorted({name.split("#")[0].split("/")[0] for name in [*self.base, *self.history] if name != SETTLE})
         while level:
             below = []
-            for thread, (shown,) in zip(level, self.live.ask(["show " + thread for thread in level])):
-                self.shown[thread] = shown
+            for thread, (shown,) in zip(level, live.ask(["show " + thread for thread in level])):
+                found[thread] = shown
                 if shown.startswith("ok parked "):
                     *_, count, branches = shown.split(" ")
                     below += [f"{thread}/{count}.{branch}" for branch in range(int(branches))]
             level = below
-        self.seen.update(self.shown)
+        return found
 
     def picture(self):
         """The lines that show all: the history, the items, and each thread that was ever seen."""
@@ -443,45 +335,14 @@ class Checked:
             return
         self.checks += 1
         names = self.history if order is None else order
-        lines = list(self.first)
-        for name in names:
-            thread, no = name.rsplit("#", 1)
-            if no == "0":
-                lines.append(self.starts[thread])
-            else:
-                lines += ["show " + thread, "items", "step " + thread]
         picture = self.picture()
-        replies = iter(served(self.program, lines + picture))
+        replies = iter(served(self.program, self.forward_lines(names, ("show", "items")) + picture))
         for line in self.first:
             (reply,) = next(replies)
             if reply != "ok":
                 raise Difference(f"run forward, {line[:80]} is answered {reply}")
-        steps, forks = [], {}
-        for name in names:
-            thread, no = name.rsplit("#", 1)
-            if no == "0":
-                (reply,) = next(replies)
-                if reply != f"ok {name}":
-                    raise Difference(f"run forward, {self.starts[thread][:80]} is answered {reply}")
-                steps.append(Step(name, "start", None))
-                continue
-            (shown,), (_, *items), (reply,) = next(replies), next(replies), next(replies)
-            words = reply.split(" ")
-            if words[:2] != ["ok", name] or len(words) != 3:
-                raise Difference(f"run forward, step {thread} is answered {reply}, and {name} remains")
-            kind = words[2]
-            if self.kinds.get(name, kind) != kind:
-                raise Difference(f"run forward, {name} is {kind}, and it was {self.kinds[name]}")
-            access = None
-            if shown.startswith("ok ready "):
-                state = json.loads(shown[9 : shown.rindex(" ")])
-                if kind == "fork":
-                    forks[name] = state.split(" ")[1]
-                elif kind == "call":
-                    access = self.access_of(name, state, forks, items)
-            elif kind == "call":
-                raise Difference(f"{name} is a call of a thread that was {shown}")
-            steps.append(Step(name, kind, access))
+        self.forks = {}
+        steps = [self.ran_forward(name, replies) for name in [*self.base, *names]][len(self.base) :]
         found = [next(replies) for _ in picture]
         live = self.live.ask(picture)
         for line, wanted, here in zip(picture, found, live):
@@ -489,6 +350,48 @@ class Checked:
                 raise Difference(f"{line}: the session answers {here}, and its remaining steps run forward give {wanted}")
         if order is None:
             self.dependence = Dependence(steps)
+
+    def forward_lines(self, names, looks=()):
+        """The lines that take steps anew, behind those that were settled, each move after these looks."""
+        lines = list(self.first)
+        for name in [*self.base, *names]:
+            thread, _, no = name.rpartition("#")
+            if name == SETTLE:
+                lines.append(name)
+            elif no == "0":
+                lines.append(self.starts[thread])
+            else:
+                lines += [look + " " + thread if look == "show" else look for look in looks] + ["step " + thread]
+        return lines
+
+    def ran_forward(self, name, replies):
+        """A step as its replies say that it is, where it was taken anew."""
+        thread, _, no = name.rpartition("#")
+        if name == SETTLE or no == "0":
+            (reply,) = next(replies)
+            if reply != ("ok" if name == SETTLE else f"ok {name}"):
+                raise Difference(f"run forward, {name} is answered {reply}")
+            return None if name == SETTLE else Step(name, "start", None)
+        (shown,), (_, *items), (reply,) = next(replies), next(replies), next(replies)
+        words = reply.split(" ")
+        if words[:2] != ["ok", name] or len(words) != 3:
+            raise Difference(f"run forward, step {thread} is answered {reply}, and {name} remains")
+        if self.kinds.get(name, words[2]) != words[2]:
+            raise Difference(f"run forward, {name} is {words[2]}, and it was {self.kinds[name]}")
+        return self.step_of(name, words[2], shown, items, self.forks)
+
+    def step_of(self, name, kind, shown, items, forks):
+        """A step that a thread took which was shown so, with these items there."""
+        access = None
+        if shown.startswith("ok ready "):
+            state = json.loads(shown[9 : shown.rindex(" ")])
+            if kind == "fork":
+                forks[name] = state.split(" ")[1]
+            elif kind == "call":
+                access = self.access_of(name, state, forks, items)
+        elif kind == "call":
+            raise Difference(f"{name} is a call of a thread that was {shown}")
+        return Step(name, kind, access)
 
     def access_of(self, name, state, forks, items):
         """The key of a call, and whether it writes."""
@@ -532,6 +435,21 @@ class Checked:
             if right != here:
                 raise Difference(f"{line}: answered {here}, and dependence says {right}")
 
+    def check_held(self, word, reply):
+        """Looks that no new step needs what is left, and after an undoing that what is left is told, as the plan of the held step."""
+        if word == "work":
+            self.check_forward()
+            steps = {step.name: step for step in self.dependence.steps}
+            for name in reply[1:]:
+                if (first := self.hold.first_needed(steps[name])) is not None:
+                    raise Difference(f"work took {name}, which needs {first}, and that is held")
+        elif word in ("hold", "undo", "rollback"):
+            self.checks += 1
+            wanted = [f"ok {len(self.left())}", *self.left()]
+            for line in ("held", "plan " + self.hold.name) if self.hold else ("held",):
+                if (here := self.live.ask([line])[0]) != wanted:
+                    raise Difference(f"{line}: answered {here}, and {wanted} is left")
+
     def check_rollback(self, line, earlier, before, plan, dependence):
         """Compares what a rollback left with what undoing one by one leaves, in the plan's order and in another."""
         self.checks += 1
@@ -540,7 +458,7 @@ class Checked:
             raise Difference(f"{line}: {before} came to {self.history}")
         places = [before.index(name) for name in plan]
         other = [before[place] for place in reversed(dependence.drawn_order(self.chance, places))]
-        picture = self.picture()
+        picture = [*self.picture(), "held"]
         left = self.live.ask(picture)
         for order in [plan] if other == plan else [plan, other]:
             replies = served(self.program, earlier + ["undo " + name for name in order] + picture)
@@ -560,7 +478,7 @@ class Checked:
             self.check_plans()
             order = self.dependence.drawn_order(self.chance)
             self.check_forward([self.history[place] for place in order])
-        picture = self.picture()
+        picture = [*self.picture(), "held"]
         left = self.live.ask(picture)
         if self.live.close() != 0:
             raise Difference("the session ended with another status than 0")
@@ -581,8 +499,9 @@ class Checked:
 class Drawer:
     """Draws a session's lines, each one after what the session has answered so far."""
 
-    def __init__(self, chance, count):
-        self.chance, self.left = chance, count
+    def __init__(self, chance, count, aside=None):
+        self.chance, self.left, self.aside = chance, count, aside
+        self.holds, self.settles = (aside.random() < 0.5, aside.random() < 0.25) if aside else (False, False)
         self.form = Table(chance)
         self.depths = [chance.choice((0, 1, 2)) for _ in range(chance.choice((2, 3)))]
         self.names = [f"e{at}" for at in range(5)]
@@ -603,14 +522,38 @@ class Drawer:
         if self.left == 0:
             return None
         self.left -= 1
-        return self.drawn(session)
+        return self.beside(session) or self.drawn(session)
+
+    def beside(self, session):
+        """Now and then a line of a hold or a settlement, by chances of its own: in a session without these all lines stay as they are."""
+        if not (self.holds or self.settles) or not session.history:
+            return None
+        chance, left = self.aside, session.left()
+        kind = chance.random()
+        if self.settles and kind > 0.98:
+            return "settle"
+        if not self.holds:
+            return None
+        if not left:
+            late = session.history[len(session.history) // 2 :]
+            step = chance.choice(late if chance.random() < 0.5 else session.history)
+            return f"hold {step}" if kind < 0.1 else "held" if kind < 0.11 else None
+        if kind < 0.2:
+            return "undo " + (left[0] if chance.random() < 0.6 else chance.choice(left))
+        if kind < 0.23:
+            return "rollback " + chance.choice(left)
+        if kind < 0.28:
+            return chance.choice(("held", "settle", "hold " + chance.choice(session.history), f"hold {left[-1]}"))
+        return None
 
     def drawn(self, session):
         chance = self.chance
         free = [name for name in self.names if name not in session.shown]
         ready = [thread for thread in session.shown if can_move(thread, session.shown)]
-        if not session.history or (free and chance.random() < (0.08 if ready else 0.4)):
+        if free and (not session.history or chance.random() < (0.08 if ready else 0.4)):
             return self.start(chance.choice(free))
+        if not session.history:
+            return "step " + chance.choice(ready) if ready else "drive 1"
         kind = chance.random()
         if kind < 0.62 and ready:
             return "step " + chance.choice(ready)
@@ -648,18 +591,7 @@ class Drawer:
             f"undo {step}", f"undo {taken}/{number}.0#1", f"plan {taken}#{number + 7}", "rollback nobody#0", f"rollback {taken}#4294967296", "start e0 m0 {}", "start e1 m1 []", "start e9 nothing {}",
             "start e9 m0", "start e9 m0 {", 'start e9 m0 {"n":1.5}', "start e9/1.0 m0 {}", "start e+ m0 {}", "define m0 {}", "define x {}", "define x [", 'define x {"StartAt":"A","States":{}}',
             'define x {"StartAt":"A","States":{"A":{"Type":"Pass","Next":"B"}}}', "define x 7", f"table {self.form.name} id:S []", "table items id:B []", "table t id:S", "drive 0", "drive 65537", "drive -1", "drive",
-            "items all", "history 3", "Items", "undo e0#1 e0#2", "step e0\udcff", "work 0 1", "work 9 1", "work 1 65537", "work 1", "hold e0#1", f"rollback {step} ", f"show {step}"))
-
-
-def can_move(thread, shown):
-    state = shown[thread]
-    if state.startswith("ok ready "):
-        return True
-    if not state.startswith("ok parked "):
-        return False
-    *_, count, branches = state.split(" ")
-    below = [shown.get(f"{thread}/{count}.{branch}", "") for branch in range(int(branches))]
-    return all(state.startswith("ok done ") for state in below) or any(state.startswith("ok failed ") for state in below)
+            "items all", "history 3", "Items", "undo e0#1 e0#2", "step e0\udcff", "work 0 1", "work 9 1", "work 1 65537", "work 1", "hold e0", f"rollback {step} ", f"show {step}"))
 
 
 # ---- Sessions, one after another ----
@@ -715,7 +647,7 @@ def cut_short(program, seed, number, on_file, lines, limit):
 def run_session(program, seed, number, count):
     chance = random.Random(f"lines {seed} {number}")
     on_file = chance.random() < 0.125
-    drawer = Drawer(chance, chance.randrange(count // 2, count + count // 2 + 1))
+    drawer = Drawer(chance, chance.randrange(count // 2, count + count // 2 + 1), random.Random(f"holds {seed} {number}"))
     difference, lines, checks = follow(program, random.Random(f"orders {seed} {number}"), on_file, drawer.line)
     if difference is None:
         return number, len(lines), checks, None

@@ -32,11 +32,11 @@ import tempfile
 import time
 
 import drawn
-from drawn import Difference
+from drawn_steps import Difference, Session, bytes_of, replies_of, served
 
 PARTS = ("kills", "damages", "disks", "rounds", "files")
 TEXTS = (b"rollback: damaged ", b"rollback: gap ", b"rollback: store\n")
-QUESTIONS = ("show", "items", "history", "plan")
+QUESTIONS = ("show", "items", "history", "plan", "held")
 NOBODY = 65534
 
 
@@ -124,8 +124,8 @@ def picture_of(seen):
 def check_book(program, path, lines, seen, what):
     """Compares the book of a journal with what its lines give in memory."""
     picture = picture_of(seen)
-    wanted = drawn.served(program, lines + picture)[len(lines) :]
-    found = drawn.served(program, picture, ("--journal", path))
+    wanted = served(program, lines + picture)[len(lines) :]
+    found = served(program, picture, ("--journal", path))
     for line, right, here in zip(picture, wanted, found):
         if right != here:
             raise Difference(f"{what}: {line} is answered {here}, and the journal's lines give {right}")
@@ -170,7 +170,7 @@ def check_rest(program, lines, sure, found):
         word, *words = line.split(" ")
         if word in QUESTIONS:
             continue
-        reply = drawn.served(program, found[:at] + [line])[-1]
+        reply = served(program, found[:at] + [line])[-1]
         if not reply or not reply[0].startswith("ok") or reply == ["ok 0"]:
             continue
         if word == "work":
@@ -193,7 +193,7 @@ def round_of(program, before, found, most):
     while steps < min(most, len(found)) and found[steps].startswith("step "):
         steps += 1
     for count in range(steps, 0, -1):
-        if count == most or drawn.served(program, before + found[:count] + ["drive 1"])[-1] == ["ok 0"]:
+        if count == most or served(program, before + found[:count] + ["drive 1"])[-1] == ["ok 0"]:
             return count
     raise Difference(f"{steps} steps of a round of {most} are in the journal, and threads could move on")
 
@@ -208,7 +208,7 @@ def serve_until(program, lines, path, at_once, last, wait, sent):
         while given <= last:
             group = lines[given : min(given + at_once, last + 1)]
             given += len(group)
-            data += give(process, drawn.bytes_of(group))
+            data += give(process, bytes_of(group))
             if given <= last:
                 data = read_replies(process, data, lines[:given])
         time.sleep(wait)
@@ -266,7 +266,7 @@ def whole_replies(lines, data):
     left, replies = iter(data.decode("utf-8").split("\n")[:-1]), []
     for line in lines:
         try:
-            replies += drawn.replies_of([line], lambda _: next(left))
+            replies += replies_of([line], lambda _: next(left))
         except (StopIteration, RuntimeError):
             break
     return replies
@@ -283,7 +283,7 @@ def try_damage(program, chance, room):
         # A process that is killed leaves its write-ahead log.
         serve_until(program, lines, path, len(lines), len(lines) - 1, 0.2, signal.SIGKILL)
     else:
-        drawn.served(program, lines, ("--journal", path))
+        served(program, lines, ("--journal", path))
     sizes = {name: os.path.getsize(name) for name in (path, path + "-wal") if os.path.exists(name)}
     hit = path + "-wal" if in_log and sizes.get(path + "-wal") else path
     if not sizes.get(hit):
@@ -305,7 +305,7 @@ def try_damage(program, chance, room):
         raise Difference(f"{kind}: --check ends with {checked.returncode}, {checked.stderr!r}")
     found = journal_lines(copy)
     if found is None:
-        drawn.served(program, picture_of(seen), ("--journal", copy))
+        served(program, picture_of(seen), ("--journal", copy))
         return f"{kind}, opened where another SQLite refuses"
     if found:
         check_book(program, copy, found, seen, kind)
@@ -343,7 +343,7 @@ def try_disk(program, chance, room, rounds):
     early = chance.randrange(1, len(lines))
     process = subprocess.Popen([program, "--journal", path], stdin=subprocess.PIPE, stdout=subprocess.PIPE, stderr=subprocess.PIPE,
                                preexec_fn=lambda: signal.signal(signal.SIGXFSZ, signal.SIG_IGN))
-    live = drawn.Session.__new__(drawn.Session)
+    live = Session.__new__(Session)
     live.process = process
     try:
         return follow_disk(program, live, lines, early, path, seen)
@@ -412,7 +412,7 @@ def refused(program, words, what, user=None):
 
 
 def good_journal(program, path):
-    drawn.served(program, ["table items id:S []"], ("--journal", path))
+    served(program, ["table items id:S []"], ("--journal", path))
 
 
 def try_another_kind(program, room):
@@ -431,7 +431,7 @@ def try_another_kind(program, room):
 
 def try_two_sessions(program, room):
     path = os.path.join(room, "journal.db")
-    with drawn.Session(program, ("--journal", path)) as first:
+    with Session(program, ("--journal", path)) as first:
         first.ask(["table items id:S []"])
         refused(program, ("--journal", path), "a second session")
         if first.ask(['define p {"StartAt":"P","States":{"P":{"Type":"Pass","End":true}}}'])[0] != ["ok"]:

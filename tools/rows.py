@@ -27,7 +27,7 @@ import tty
 
 TOP = pathlib.Path(__file__).resolve().parent.parent
 PROGRAM = TOP / "crates/rollback_program/out/rollback_program"
-LISTS = (b"items", b"history", b"plan", b"rollback", b"drive", b"work")
+LISTS = (b"items", b"history", b"plan", b"rollback", b"drive", b"work", b"held")
 PLACES = 60
 CUT = ("first-path", "terminate")
 

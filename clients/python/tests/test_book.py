@@ -4,8 +4,8 @@ import signal
 import unittest
 
 from rollback_client import (
-    BadBeginning, BadJson, BadLine, Book, Done, ExecutionTaken, Failed, HasDependents, MachineFault, MachineTaken, NoMachine, NoMove, NoStep,
-    NoTable, NoThread, Parked, ProgramEnded, Ready, RollbackError, Step, TableTaken, Taken,
+    BadBeginning, BadJson, BadLine, Book, Done, ExecutionTaken, Failed, HasDependents, Held, MachineFault, MachineTaken, NoMachine, NoMove, NoStep,
+    NoTable, NoThread, Parked, ProgramEnded, Ready, RollbackError, Settled, Step, TableTaken, Taken,
 )
 from tests.program import FORK, GET, PASS, PROGRAM, PUT, InFolder, takes_work
 
@@ -70,6 +70,36 @@ class Commands(InFolder):
         self.assertEqual(sorted(map(str, book.work(4, 100))), [f"e{number}#1" for number in range(8)])
         self.assertEqual(book.work(4, 100), [])
 
+    def test_settled_steps_are_no_more_in_the_history(self):
+        book = self.book
+        book.define("p", PASS)
+        book.start("a", "p", {})
+        book.settle()
+        self.assertEqual(book.history(), [])
+        self.assertEqual(book.step("a"), Taken(Step("a", 1), "plain"))
+        self.assertEqual(book.history(), [Step("a", 1)])
+
+    def test_what_is_held_is_undone_while_the_rest_goes_on(self):
+        book = self.book
+        book.define("put", PUT)
+        book.define("get", GET)
+        book.define("p", PASS)
+        self.assertEqual(book.held(), [])
+        book.start("w", "put", {"v": "x"})
+        for name in ("r", "s"):
+            book.start(name, "get", None)
+        book.start("z", "p", {})
+        book.step("w")
+        book.step("r")
+        self.assertEqual(book.hold(Step("w", 1)), 2)
+        self.assertEqual(book.held(), [Step("r", 1), Step("w", 1)])
+        self.assertEqual(book.drive(9), [Step("z", 1)])
+        book.undo("r#1")
+        self.assertEqual(book.held(), [Step("w", 1)])
+        book.undo("w#1")
+        self.assertEqual(book.held(), [])
+        self.assertEqual(book.drive(9), [Step("r", 1), Step("s", 1), Step("w", 1)])
+
 
 class Refusals(InFolder):
     def setUp(self):
@@ -107,6 +137,30 @@ class Refusals(InFolder):
         self.refused(NoStep, book.undo, "a#7")
         self.refused(HasDependents, book.undo, "a#0", step=Step("a", 1))
         self.refused(BadJson, book.start, "b", "p", 1.5, fault=2)
+
+    def test_of_a_settled_book(self):
+        book = self.book
+        book.table("items", {"id": "S"})
+        book.define("p", PASS)
+        book.start("a", "p", {})
+        book.settle()
+        self.refused(Settled, book.undo, "a#0")
+        self.refused(Settled, book.hold, "a#0")
+
+    def test_of_a_hold(self):
+        book = self.book
+        book.table("items", {"id": "S"})
+        book.define("p", PASS)
+        self.refused(NoStep, book.hold, "a#0")
+        book.start("a", "p", {})
+        book.step("a")
+        self.assertEqual(book.hold("a#0"), 2)
+        self.refused(Held, book.hold, "a#1", step=Step("a", 0))
+        self.refused(Held, book.settle, step=Step("a", 0))
+        book.undo("a#1")
+        self.refused(Held, book.step, "a", step=Step("a", 0))
+        book.undo("a#0")
+        self.refused(BadLine, book.ask, "hold a")
 
     def test_a_line_is_one_line(self):
         for line in ("", "show a\nshow b"):
