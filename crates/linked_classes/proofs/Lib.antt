@@ -9,3 +9,5 @@ pub mod Members
 pub mod Back
 pub mod Neighbours
 pub mod Numbered
+pub mod Blocks
+pub mod Filled

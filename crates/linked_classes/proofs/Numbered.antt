@@ -172,35 +172,41 @@ map_same (m ∷ ms) f g h = ap₂ (λ (x : Option ℕ) (xs : List (Option ℕ)).
 
 -- ---- a place comes
 
+pub more_rises : (ns : List ℕ) (end : ℕ) → IsRising ns → ((i n : ℕ) → slice_get ns i ≡ Some n → n < end) → IsRising (ns ++ end ∷ [])
+more_rises ns end h below = record { rises = rises }
+  where
+    last_is : (i n : ℕ) → i ≡ length ns → slice_get (ns ++ end ∷ []) i ≡ Some n → n ≡ end
+    last_is i n w is = sym (same_Some end n (sym (newest ns end) ∙ ap (slice_get (ns ++ end ∷ [])) (sym w) ∙ is))
+
+    within : (i m : ℕ) → i ≢ length ns → slice_get (ns ++ end ∷ []) i ≡ Some m → i < length ns
+    within i m w is = slice_get_within ns i m (sym (older ns end i w) ∙ is)
+
+    rises : (i j m n : ℕ) → i < j → slice_get (ns ++ end ∷ []) i ≡ Some m → slice_get (ns ++ end ∷ []) j ≡ Some n → m < n
+    rises i j m n l a b = elim (one_or_other j (length ns)) [
+      | inl w ↦ let e = last_is j n w b in let x = below i m (sym (older ns end i (λ v. omega (arith, v, w, l))) ∙ a) in omega (arith, e, x)
+      | inr w ↦ let far = within j n w b in h.rises i j m n l (sym (older ns end i (λ v. omega (arith, v, far, l))) ∙ a) (sym (older ns end j w) ∙ b)
+    ]
+
+pub more_below : (ns : List ℕ) (end : ℕ) → ((i n : ℕ) → slice_get ns i ≡ Some n → n < end) → (i n : ℕ) → slice_get (ns ++ end ∷ []) i ≡ Some n → n < end + 1
+more_below ns end below i n is = elim (one_or_other i (length ns)) [
+  | inl w ↦ let e = same_Some end n (sym (newest ns end) ∙ ap (slice_get (ns ++ end ∷ [])) (sym w) ∙ is) in omega (arith, e)
+  | inr w ↦ let l = below i n (sym (older ns end i w) ∙ is) in omega (arith, l)
+]
+
 module _ (ns : List ℕ) (f g : ℕ → Option ℕ) (end reached : ℕ) (h : ArePlaces ns f end reached) (class : Option ℕ) (put : (k : ℕ) → g k ≡ updated end f class k) where
   others : (n : ℕ) → n ≢ end → g n ≡ f n
   others n e = put n ∙ updated_elsewhere f end class n e
 
   pub one_more : (now : ℕ) → now ≤ end + 1 → ArePlaces (ns ++ end ∷ []) g (end + 1) now
   one_more now far = record {
-    rising = record { rises = rises };
-    below = λ i n is. elim (one_or_other i (length ns)) [
-      | inl w ↦ let e = last_is i n w is in omega (arith, e)
-      | inr w ↦ let l = h.below i n (sym (older ns end i w) ∙ is) in omega (arith, l)
-    ];
+    rising = more_rises ns end h.rising h.below;
+    below = more_below ns end h.below;
     stand = λ n c is. elim (one_or_other n end) [
       | inl w ↦ (length ns, newest ns end ∙ ap Some (sym w))
       | inr w ↦ let i = h.stand n c (sym (others n w) ∙ is) in (i.0, older ns end i.0 (λ e. let l = slice_get_within ns i.0 n i.1 in omega (arith, l, e)) ∙ i.1)
     ];
     reaches = far;
   }
-    where
-      last_is : (i n : ℕ) → i ≡ length ns → slice_get (ns ++ end ∷ []) i ≡ Some n → n ≡ end
-      last_is i n w is = sym (same_Some end n (sym (newest ns end) ∙ ap (slice_get (ns ++ end ∷ [])) (sym w) ∙ is))
-
-      within : (i m : ℕ) → i ≢ length ns → slice_get (ns ++ end ∷ []) i ≡ Some m → i < length ns
-      within i m w is = slice_get_within ns i m (sym (older ns end i w) ∙ is)
-
-      rises : (i j m n : ℕ) → i < j → slice_get (ns ++ end ∷ []) i ≡ Some m → slice_get (ns ++ end ∷ []) j ≡ Some n → m < n
-      rises i j m n l a b = elim (one_or_other j (length ns)) [
-        | inl w ↦ let e = last_is j n w b in let x = h.below i m (sym (older ns end i (λ v. omega (arith, v, w, l))) ∙ a) in omega (arith, e, x)
-        | inr w ↦ let far = within j n w b in h.rising.rises i j m n l (sym (older ns end i (λ v. omega (arith, v, far, l))) ∙ a) (sym (older ns end j w) ∙ b)
-      ]
 
   pub one_more_seen : map g (ns ++ end ∷ []) ≡ map f ns ++ class ∷ []
   one_more_seen =
@@ -210,13 +216,13 @@ module _ (ns : List ℕ) (f g : ℕ → Option ℕ) (end reached : ℕ) (h : Are
 -- ---- a place goes
 
 -- where the number of a place that is left stood
-record Was (ns : List ℕ) (at i n : ℕ) : Type 0 where
-  place : ℕ
-  is : slice_get ns place ≡ Some n
-  low : i < at → place ≡ i
-  high : at ≤ i → place ≡ i + 1
+pub record Was (ns : List ℕ) (at i n : ℕ) : Type 0 where
+  pub place : ℕ
+  pub is : slice_get ns place ≡ Some n
+  pub low : i < at → place ≡ i
+  pub high : at ≤ i → place ≡ i + 1
 
-was : (ns : List ℕ) (at i n : ℕ) → slice_get (remove ns at) i ≡ Some n → Was ns at i n
+pub was : (ns : List ℕ) (at i n : ℕ) → slice_get (remove ns at) i ≡ Some n → Was ns at i n
 was [] zero i n h = absurd (let e : None ≡ Some n = h in cc)
 was [] (suc at) i n h = absurd (let e : None ≡ Some n = h in cc)
 was (x ∷ xs) zero i n h = record { place = suc i; is = h; low = λ l. absurd (omega (arith, l)); high = λ l. omega arith }
@@ -225,8 +231,20 @@ was (x ∷ xs) (suc at) (suc i) n h =
     let w = was xs at i n h in
     record { place = suc w.place; is = w.is; low = λ l. ap suc (w.low (omega (arith, l))); high = λ l. let e = w.high (omega (arith, l)) in omega (arith, e) }
 
-was_apart : (ns : List ℕ) (at i n : ℕ) (w : Was ns at i n) → w.place ≢ at
+pub was_apart : (ns : List ℕ) (at i n : ℕ) (w : Was ns at i n) → w.place ≢ at
 was_apart ns at i n w e = elim (cases_lt i at) [ inl l ↦ let k = w.low l in omega (arith, k, e, l) | inr l ↦ let k = w.high l in omega (arith, k, e, l) ]
+
+pub less_rises : (ns : List ℕ) (at : ℕ) → IsRising ns → IsRising (remove ns at)
+less_rises ns at h = record { rises = rises }
+  where
+    rises : (i j m n : ℕ) → i < j → slice_get (remove ns at) i ≡ Some m → slice_get (remove ns at) j ≡ Some n → m < n
+    rises i j m n l a b =
+        let v = was ns at i m a in
+        let w = was ns at j n b in
+        h.rises v.place w.place m n (elim (cases_lt i at) [
+          | inl x ↦ elim (cases_lt j at) [ inl y ↦ let p = v.low x in let q = w.low y in omega (arith, p, q, l) | inr y ↦ let p = v.low x in let q = w.high y in omega (arith, p, q, l) ]
+          | inr x ↦ elim (cases_lt j at) [ inl y ↦ absurd (omega (arith, x, y, l)) | inr y ↦ let p = v.high x in let q = w.high y in omega (arith, p, q, l) ]
+        ]) v.is w.is
 
 still : (ns : List ℕ) (at j n : ℕ) → slice_get ns j ≡ Some n → j ≢ at → (i : ℕ) × (slice_get (remove ns at) i ≡ Some n)
 still [] at j n h apart = absurd (let e : None ≡ Some n = h in cc)
@@ -250,7 +268,7 @@ module _ (ns : List ℕ) (f g : ℕ → Option ℕ) (end reached : ℕ) (h : Are
 
   pub one_less : (now : ℕ) → now ≤ end → ArePlaces (remove ns at) g end now
   one_less now far = record {
-    rising = record { rises = rises };
+    rising = less_rises ns at h.rising;
     below = λ i n is. let w = was ns at i n is in h.below w.place n w.is;
     stand = λ n c is.
         let other : n ≢ number = λ e. let x : None ≡ Some c = sym (updated_here f number None n e) ∙ sym (ap (λ k. k n) gone) ∙ is in cc in
@@ -258,15 +276,6 @@ module _ (ns : List ℕ) (f g : ℕ → Option ℕ) (end reached : ℕ) (h : Are
         still ns at j.0 n j.1 (λ e. other (same_Some n number (sym j.1 ∙ ap (slice_get ns) e ∙ is_at)));
     reaches = far;
   }
-    where
-      rises : (i j m n : ℕ) → i < j → slice_get (remove ns at) i ≡ Some m → slice_get (remove ns at) j ≡ Some n → m < n
-      rises i j m n l a b =
-          let v = was ns at i m a in
-          let w = was ns at j n b in
-          h.rising.rises v.place w.place m n (elim (cases_lt i at) [
-            | inl x ↦ elim (cases_lt j at) [ inl y ↦ let p = v.low x in let q = w.low y in omega (arith, p, q, l) | inr y ↦ let p = v.low x in let q = w.high y in omega (arith, p, q, l) ]
-            | inr x ↦ elim (cases_lt j at) [ inl y ↦ absurd (omega (arith, x, y, l)) | inr y ↦ let p = v.high x in let q = w.high y in omega (arith, p, q, l) ]
-          ]) v.is w.is
 
   pub one_less_seen : map g (remove ns at) ≡ remove (map f ns) at
   one_less_seen = map_same (remove ns at) f g (λ i n is. stays n (other_number i n is)) ∙ map_remove ns at f

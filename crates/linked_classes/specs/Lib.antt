@@ -4,3 +4,5 @@ pub mod Linked
 pub mod Classes
 pub mod Members
 pub mod Places
+pub mod Numbers
+pub mod Listed

@@ -27,6 +27,6 @@ pub record ArePlaces (ns : List ℕ) (f : ℕ → Option ℕ) (end reached : ℕ
   pub stand : (n c : ℕ) → f n ≡ Some c → (i : ℕ) × (slice_get ns i ≡ Some n)
   pub reaches : reached ≤ end
 
--- so many numbers have room for one more, and so have the classes for the next number
-abbrev pub has_room : ℕ → ℕ → ℕ → Classes → Bool
-has_room count capacity end c = nat_lt count capacity && (nat_lt end 4294967295 && (nat_lt end c.room && nat_le 1 c.spare))
+-- the numbers have room for the next, which is this, and so have the classes
+abbrev pub has_room : Bool → ℕ → Classes → Bool
+has_room ready end c = ready && (nat_lt end c.room && nat_le 1 c.spare)

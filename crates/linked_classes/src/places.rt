@@ -2,26 +2,25 @@
 ghost use Rattle.std.specs.Prelude.{◌≡◌, ◌<◌, ◌≤◌, ◌+◌, ℕ, [], ◌∷◌, ◌++◌, None, Some, IfSome, OnOk, true, length, remove, slice_get};
 ghost use Rattle.linked_classes.specs.Classes.{class_of};
 ghost use Rattle.linked_classes.specs.Linked.{IsNext, IsBefore, IsFirst, IsLast, updated};
-ghost use Rattle.linked_classes.specs.Places.{place_class, IsRising};
+ghost use Rattle.linked_classes.specs.Places.{place_class};
 
 use crate::classes::LinkedClasses;
+use crate::numbers::RisingNumbers;
 use std::alloc::{AllocError, Global};
 use std::marker::Model;
 
 /// The places of a list, each in one class or in none, whose elements come at the end and go anywhere: from a place in a class
 /// one goes to the next there, or to the one before it. Contracts see the class of each place, how many classes there are, and whether there is room
-/// for one more place. A place costs 8 bytes, one in a class 24 more, a place that was there 4, and a class 16.
+/// for one more place. A place costs 8 bytes, one that was there too, one in a class 24 more, and a class 16.
 #[derive(Debug, Drop)]
 pub struct ClassedPlaces {
-    /// The number of each place: they rise, and none comes twice.
-    numbers: Vec<u32>,
-    /// The next number.
-    end: u32,
+    /// The number of each place.
+    numbers: RisingNumbers,
     members: LinkedClasses,
 }
 
 impl Model for ClassedPlaces {
-    ghost use Rattle.std.specs.Prelude.{length, map, vec_capacity};
+    ghost use Rattle.std.specs.Prelude.{length, map};
     ghost use Rattle.linked_classes.specs.Classes.{class_of};
     ghost use Rattle.linked_classes.specs.Places.{Places, ArePlaces, has_room};
 
@@ -30,10 +29,10 @@ impl Model for ClassedPlaces {
     ghost view = { λ a. record {
       classes = map (class_of a.members) a.numbers.items;
       width = a.members.width;
-      has_room = has_room (length a.numbers.items) (vec_capacity a.numbers) a.end a.members;
+      has_room = has_room a.numbers.has_room a.numbers.end a.members;
     } };
 
-    ghost invariant = { λ a. ArePlaces a.numbers.items (class_of a.members) a.end (length a.members.classes) };
+    ghost invariant = { λ a. ArePlaces a.numbers.items (class_of a.members) a.numbers.end (length a.members.classes) };
 }
 
 impl ClassedPlaces {
@@ -43,8 +42,7 @@ impl ClassedPlaces {
         ensures width { result.width ≡ 0 }
     {
         ClassedPlaces {
-            numbers: Vec::new(alloc),
-            end: 0,
+            numbers: RisingNumbers::new(alloc),
             members: LinkedClasses::new(alloc),
         }
     }
@@ -57,11 +55,9 @@ impl ClassedPlaces {
         ensures width { OnOk result (width ≤ self.new.width) }
         ensures old_width { self.old.width ≤ self.new.width }
     {
-        if self.end == u32::MAX {
-            return Err(AllocError);
-        }
-        self.numbers.reserve(1)?;
-        self.members.reserve(self.end as usize + 1, 1, width)
+        self.numbers.reserve()?;
+        self.members
+            .reserve(self.numbers.end() as usize + 1, 1, width)
     }
 
     /// The class of a place, in one step.
@@ -69,7 +65,7 @@ impl ClassedPlaces {
         requires { at < length self.now.classes }
         ensures { result ≡ place_class self.now at }
     {
-        self.members.class(self.numbers[at])
+        self.members.class(self.numbers.get(at))
     }
 
     /// The first place of a class, in time logarithmic in the number of places.
@@ -80,7 +76,7 @@ impl ClassedPlaces {
         let Some(number) = self.members.first(class) else {
             return None;
         };
-        Some(place_of(self.numbers.as_slice(), number))
+        Some(self.numbers.place(number))
     }
 
     /// The next place of the class of a place, in the same time.
@@ -91,10 +87,10 @@ impl ClassedPlaces {
         ensures later { IfSome result (λ k. at < k) }
         ensures within { IfSome result (λ k. k < length self.now.classes) }
     {
-        let Some(number) = self.members.next(self.numbers[at]) else {
+        let Some(number) = self.members.next(self.numbers.get(at)) else {
             return None;
         };
-        Some(place_of(self.numbers.as_slice(), number))
+        Some(self.numbers.place(number))
     }
 
     /// The last place of a class, in the same time.
@@ -105,7 +101,7 @@ impl ClassedPlaces {
         let Some(number) = self.members.last(class) else {
             return None;
         };
-        Some(place_of(self.numbers.as_slice(), number))
+        Some(self.numbers.place(number))
     }
 
     /// The place before one of a class there, in the same time.
@@ -115,10 +111,10 @@ impl ClassedPlaces {
         ensures none { place_class self.now at ≡ None → result ≡ None }
         ensures earlier { IfSome result (λ k. k < at) }
     {
-        let Some(number) = self.members.before(self.numbers[at]) else {
+        let Some(number) = self.members.before(self.numbers.get(at)) else {
             return None;
         };
-        Some(place_of(self.numbers.as_slice(), number))
+        Some(self.numbers.place(number))
     }
 
     /// Adds a place at the end, in a class or in none. Takes no memory, and the time of `LinkedClasses::push`.
@@ -128,14 +124,12 @@ impl ClassedPlaces {
         ensures classes { self.new.classes ≡ self.old.classes ++ class ∷ [] }
         ensures width { self.new.width ≡ self.old.width }
     {
-        let number = self.end;
+        let number = self.numbers.push();
         put(&mut self.members, number, class);
-        self.numbers.push_reserved(number);
-        self.end = number + 1;
     }
 
-    /// Takes a place out: those behind it come one forward. Takes no memory, a few steps in the classes, and a copy of four
-    /// bytes for each place behind it.
+    /// Takes a place out: those behind it come one forward. Takes no memory, a few steps in the classes, and the time of
+    /// `RisingNumbers::remove`.
     pub fn remove(&mut self, at: usize)
         requires { at < length self.old.classes }
         ensures classes { self.new.classes ≡ remove self.old.classes at }
@@ -144,18 +138,6 @@ impl ClassedPlaces {
         let number = self.numbers.remove(at);
         self.members.remove(number);
     }
-}
-
-/// The place of a number.
-fn place_of(numbers: &[u32], number: u32) -> usize
-    requires rising { IsRising numbers.now }
-    requires there { (i : ℕ) × (slice_get numbers.now i ≡ Some number) }
-    ensures { slice_get numbers.now result ≡ Some number }
-{
-    let Ok(place) = numbers.binary_search(&number) else {
-        unreachable!()
-    };
-    place
 }
 
 /// Puts a number that is behind all others into a class, if there is one.

@@ -2,7 +2,7 @@
 ghost use Rattle.std.specs.Prelude.{◌≡◌, length};
 ghost use Rattle.linked_classes.specs.Classes.{class_of};
 
-use crate::{LinkedClasses, Member};
+use crate::{LinkedClasses, Member, NumberedVec};
 use std::alloc::{AllocError, Global};
 
 /// Numbers that are put into classes, and some that then leave.
@@ -169,5 +169,56 @@ fn links_follow_a_scan(rt: HostRuntime) -> Result<(), AllocError> {
     for row in ROWS {
         assert!(rt; follows(rt.alloc(), row)?);
     }
+    Ok(())
+}
+
+/// How many values come first: more than two thousands of numbers.
+const VALUES: u32 = 2500;
+
+/// Places from which values go: the last, the first, one in the middle again and again, those about the ends of a thousand.
+const GONE: &[usize] = &[2499, 0, 1023, 1023, 1022, 2046, 0, 2000, 511, 1, 1700];
+
+/// Whether each value stands where it does in a list.
+fn stand_alike(listed: &NumberedVec<u32>, values: &[u32]) -> bool {
+    for place in 0..values.len() {
+        if place >= listed.len() || *listed.get(place) != values[place] {
+            return false;
+        }
+    }
+    listed.len() == values.len()
+}
+
+fn add(listed: &mut NumberedVec<u32>, values: &mut Vec<u32>, value: u32) -> Result<(), AllocError> {
+    listed.reserve()?;
+    values.push(value)?;
+    listed.push(value);
+    Ok(())
+}
+
+/// Whether the same value goes from a place of both.
+fn go_alike(listed: &mut NumberedVec<u32>, values: &mut Vec<u32>, place: usize) -> bool {
+    place < listed.len() && place < values.len() && listed.remove(place) == values.remove(place)
+}
+
+#[test]
+fn values_stand_as_in_a_list(rt: HostRuntime) -> Result<(), AllocError> {
+    let mut listed = NumberedVec::new(rt.alloc());
+    let mut values = Vec::new(rt.alloc());
+    assert!(rt; listed.is_empty());
+    for value in 0..VALUES {
+        add(&mut listed, &mut values, value)?;
+    }
+    for place in GONE {
+        assert!(rt; go_alike(&mut listed, &mut values, *place));
+        assert!(rt; stand_alike(&listed, values.as_slice()));
+        add(&mut listed, &mut values, 7)?;
+    }
+    assert!(rt; stand_alike(&listed, values.as_slice()));
+    for _ in 0..values.len() {
+        assert!(rt; go_alike(&mut listed, &mut values, 0));
+    }
+    assert!(rt; listed.is_empty());
+    add(&mut listed, &mut values, 8)?;
+    assert!(rt; stand_alike(&listed, values.as_slice()));
     Ok(())
 }

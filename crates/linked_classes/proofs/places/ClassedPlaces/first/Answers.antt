@@ -1,5 +1,4 @@
-use Rattle.std.proofs.Common.{◌≡◌, Some, subst}
-use Rattle.std.specs.Prelude.{slice_get}
+use Rattle.std.proofs.Common.{subst}
 use Rattle.linked_classes.specs.Classes.{class_of}
 use Rattle.linked_classes.specs.Linked.{IsFirst}
 use Rattle.linked_classes.proofs.Numbered.{first_none, first_place, place_within}
@@ -14,10 +13,10 @@ pub returns-clause-first : goal.returns-clause-first
 returns-clause-first c =
     let f = class_of c.self.inside.members in
     let ns = c.self.inside.numbers.items in
-    let at = subst (λ l. slice_get l c.place_of.result ≡ Some c.in-Some.number) c.as_slice.ensures.value c.place_of.ensures in
-    rw (← c.self.view_is) (first_place ns c.self.invariant.rising f c.args.class c.place_of.result c.in-Some.number at (subst (IsFirst f c.args.class) c.in-Some.is c.first.ensures))
+    let at = c.place.ensures in
+    rw (← c.self.view_is) (first_place ns c.self.invariant.rising f c.args.class c.place.result c.in-Some.number at (subst (IsFirst f c.args.class) c.in-Some.is c.first.ensures))
 
 pub returns-clause-within : goal.returns-clause-within
 returns-clause-within c =
-    let at = subst (λ l. slice_get l c.place_of.result ≡ Some c.in-Some.number) c.as_slice.ensures.value c.place_of.ensures in
-    rw (← c.self.view_is) (place_within c.self.inside.numbers.items (class_of c.self.inside.members) c.place_of.result c.in-Some.number at)
+    let at = c.place.ensures in
+    rw (← c.self.view_is) (place_within c.self.inside.numbers.items (class_of c.self.inside.members) c.place.result c.in-Some.number at)

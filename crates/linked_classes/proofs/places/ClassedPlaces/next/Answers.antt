@@ -1,7 +1,4 @@
-use Rattle.std.proofs.Common.{◌≡◌, ◌<◌, Some, arith, length, map, refl, sym, subst, ◌∙◌}
-use Rattle.std.specs.Prelude.{slice_get}
-use Rattle.std.proofs.lemmas.List.{length-map}
-use Rattle.std.proofs.lemmas.Option.{slice_get_read}
+use Rattle.std.proofs.Common.{◌≡◌, Some, map, sym, subst, ◌∙◌}
 use Rattle.linked_classes.specs.Cells.{cell_at}
 use Rattle.linked_classes.specs.Classes.{class_of}
 use Rattle.linked_classes.specs.Linked.{IsNext}
@@ -12,33 +9,30 @@ pub returns-in_default-clause-member : goal.returns-in_default-clause-member
 returns-in_default-clause-member c class h =
     let f = class_of c.self.inside.members in
     let ns = c.self.inside.numbers.items in
-    let within : c.args.at < length (map f ns) = rw (← c.self.view_is) at c.requires in
-    let here = slice_get_read ns (length ns) c.args.at c.index.result.now refl (omega (arith, within, length-map ns f)) c.index.ensures in
+    let here = c.get.ensures in
     let is : cell_at (map f ns) c.args.at ≡ Some class = rw (← c.self.view_is) at h in
-    let told = c.next.ensures.member class (sym (class_here ns f c.args.at c.index.result.now here) ∙ is) in
-    rw (← c.self.view_is) (next_none ns c.self.invariant.rising f class c.args.at c.index.result.now here (subst (IsNext f class c.index.result.now) c.in_default.is told))
+    let told = c.next.ensures.member class (sym (class_here ns f c.args.at c.get.result here) ∙ is) in
+    rw (← c.self.view_is) (next_none ns c.self.invariant.rising f class c.args.at c.get.result here (subst (IsNext f class c.get.result) c.in_default.is told))
 
 pub returns-clause-member : goal.returns-clause-member
 returns-clause-member c class h =
     let f = class_of c.self.inside.members in
     let ns = c.self.inside.numbers.items in
-    let within : c.args.at < length (map f ns) = rw (← c.self.view_is) at c.requires in
-    let here = slice_get_read ns (length ns) c.args.at c.index.result.now refl (omega (arith, within, length-map ns f)) c.index.ensures in
+    let here = c.get.ensures in
     let is : cell_at (map f ns) c.args.at ≡ Some class = rw (← c.self.view_is) at h in
-    let told = c.next.ensures.member class (sym (class_here ns f c.args.at c.index.result.now here) ∙ is) in
-    let at = subst (λ l. slice_get l c.place_of.result ≡ Some c.in-Some.number) c.as_slice.ensures.value c.place_of.ensures in
-    rw (← c.self.view_is) (next_place ns c.self.invariant.rising f class c.args.at c.index.result.now c.place_of.result c.in-Some.number here at (subst (IsNext f class c.index.result.now) c.in-Some.is told))
+    let told = c.next.ensures.member class (sym (class_here ns f c.args.at c.get.result here) ∙ is) in
+    let at = c.place.ensures in
+    rw (← c.self.view_is) (next_place ns c.self.invariant.rising f class c.args.at c.get.result c.place.result c.in-Some.number here at (subst (IsNext f class c.get.result) c.in-Some.is told))
 
 pub returns-clause-later : goal.returns-clause-later
 returns-clause-later c =
     let f = class_of c.self.inside.members in
     let ns = c.self.inside.numbers.items in
-    let within : c.args.at < length (map f ns) = rw (← c.self.view_is) at c.requires in
-    let here = slice_get_read ns (length ns) c.args.at c.index.result.now refl (omega (arith, within, length-map ns f)) c.index.ensures in
-    let at = subst (λ l. slice_get l c.place_of.result ≡ Some c.in-Some.number) c.as_slice.ensures.value c.place_of.ensures in
-    place_later ns c.self.invariant.rising f c.args.at c.index.result.now c.place_of.result c.in-Some.number c.next.result here at c.next.ensures.member c.next.ensures.none c.in-Some.is
+    let here = c.get.ensures in
+    let at = c.place.ensures in
+    place_later ns c.self.invariant.rising f c.args.at c.get.result c.place.result c.in-Some.number c.next.result here at c.next.ensures.member c.next.ensures.none c.in-Some.is
 
 pub returns-clause-within : goal.returns-clause-within
 returns-clause-within c =
-    let at = subst (λ l. slice_get l c.place_of.result ≡ Some c.in-Some.number) c.as_slice.ensures.value c.place_of.ensures in
-    rw (← c.self.view_is) (place_within c.self.inside.numbers.items (class_of c.self.inside.members) c.place_of.result c.in-Some.number at)
+    let at = c.place.ensures in
+    rw (← c.self.view_is) (place_within c.self.inside.numbers.items (class_of c.self.inside.members) c.place.result c.in-Some.number at)

@@ -1,5 +1,5 @@
 use Rattle.linked_classes.proofs.Numbered.{never_missing, place_found}
-use Rattle.linked_classes.proofs.places.place_of.Goals as goal
+use Rattle.linked_classes.proofs.numbers.place_of.Goals as goal
 
 pub unreachable-requires : goal.unreachable-requires
 unreachable-requires c = never_missing c.args.numbers.now c.requires.rising c.args.number c.requires.there.0 c.binary_search.result c.binary_search.ensures.position c.requires.there.1 c.in_default.field-0 c.in_default.is
