@@ -16,7 +16,7 @@ sum_test most entries steps = grind (arith, nat_tests)
 as_many_steps : (story : Story) (records : List StepRecord) → map (λ (r : StepRecord). r.fact.name) records ≡ map name_of (remaining story) → length records ≡ length (remaining story)
 as_many_steps story records names = sym (length-map records (λ (r : StepRecord). r.fact.name)) ∙ ap (λ (ns : List StepName). length ns) names ∙ length-map (remaining story) name_of
 
-pub full_by : (story : Story) (entries : ℕ) (records : List StepRecord) (full : Bool) → map (λ (r : StepRecord). r.fact.name) records ≡ map name_of (remaining story) → entries ≡ length story.log
-    → full ≡ (nat_le 65536 (length records) || nat_lt 999998 (entries + length records)) → full ≡ is_full_for_step story
+pub full_by : (story : Story) (entries count : ℕ) (records : List StepRecord) (full : Bool) → map (λ (r : StepRecord). r.fact.name) records ≡ map name_of (remaining story) → entries ≡ length story.log → count ≡ length records
+    → full ≡ (nat_le 65536 count || nat_lt 999998 (entries + count)) → full ≡ is_full_for_step story
 unfolding is_full_for_step
-full_by story entries records full names e is = is ∙ ap₂ (λ (m n : ℕ). nat_le 65536 n || nat_lt 999998 (m + n)) e (as_many_steps story records names)
+full_by story entries count records full names e many is = is ∙ ap₂ (λ (m n : ℕ). nat_le 65536 n || nat_lt 999998 (m + n)) e (many ∙ as_many_steps story records names)

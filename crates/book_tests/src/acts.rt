@@ -314,8 +314,9 @@ fn put_items(alloc: Global, book: &Book, text: &mut String) -> Result<(), AllocE
 }
 
 fn put_names(alloc: Global, book: &Book, text: &mut String) -> Result<(), AllocError> {
-    for taken in book.history() {
-        text.push_str(taken.fact.name.write_text(alloc)?.as_str())?;
+    let steps = book.history();
+    for place in 0..steps.len() {
+        text.push_str(steps.get(place).fact.name.write_text(alloc)?.as_str())?;
         text.push(' ')?;
     }
     Ok(())

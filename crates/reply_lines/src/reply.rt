@@ -14,12 +14,13 @@ use crate::lines::Lines;
 use attr_values::{Item, write_item};
 use book_log::branches::Readiness;
 use book_log::machines::MachineFault;
-use book_log::steps::{Kind, StepRecord};
+use book_log::steps::Kind;
 use book_log::turns::{Fault, Frame, Phase};
 use book_log::{Moved, Refusal};
 use item_store::Items;
 use json_tree::{Json, Text, write_text};
 use std::alloc::{AllocError, Global};
+use step_index::StepRecords;
 use step_names::{LONGEST_STEP, StepName, decimal_len, push_decimal};
 
 /// A reply that is being written. It keeps the room of the longest one so far.
@@ -104,12 +105,12 @@ impl Reply {
     }
 
     /// `ok`, the number of steps, and a line for each.
-    pub fn accept_steps(&mut self, records: &[StepRecord]) -> Result<(), AllocError>
-        ensures ok { Writes result self.old self.new (list_reply (map (λ r. step_text r.fact.name) records.now)) }
+    pub fn accept_steps(&mut self, records: &StepRecords) -> Result<(), AllocError>
+        ensures ok { Writes result self.old self.new (list_reply (map (λ r. step_text r.fact.name) records.now.items)) }
     {
         self.count(records.len() as u64)?;
-        for record in records {
-            self.step_line(&record.fact.name)?;
+        for place in 0..records.len() {
+            self.step_line(&records.get(place).fact.name)?;
         }
         Ok(())
     }

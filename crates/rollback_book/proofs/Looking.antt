@@ -1,44 +1,35 @@
 -- What is left while an order is looked at.
-use Rattle.std.proofs.Common.{◌≡◌, ◌≤◌, arith, ℕ, ◌+◌, ◌-◌, Bool, true, false, cond, List, [], ◌∷◌, drop, get_or, length, suc, refl, ap, sym, subst, ◌∙◌, Option, None, Some, Err, Bor}
+use Rattle.std.proofs.Common.{◌≡◌, ◌≤◌, ◌<◌, arith, ℕ, ◌+◌, ◌-◌, Bool, cond, List, [], ◌∷◌, ◌++◌, length, map, suc, take, refl, ap, sym, ◌∙◌, Option, None, Some, Ok, Err}
 use Rattle.std.specs.Prelude.{slice_get, position, option_map}
-use Rattle.std.specs.List.{find, position_from, remove}
+use Rattle.std.specs.List.{position_from, remove}
 use Rattle.std.proofs.lemmas.Iterator.Adapters.{position_from-zero}
-use Rattle.std.proofs.lemmas.Option.{same_Some, slice_get_read, slice_get_within}
+use Rattle.std.proofs.lemmas.List.{map-append, take_more}
+use Rattle.std.proofs.lemmas.Option.{get_or_from_slice_get, same_Some, slice_get-map, slice_get_within}
 use Rattle.step_names.specs.declared.step.StepName.{StepName}
 use Rattle.trace_theory.proofs.Lists.{by_bool}
 use Rattle.saved_steps.specs.World.{is_same_step}
 use Rattle.saved_steps.specs.declared.fact.Fact.{Fact}
 use Rattle.saved_steps.specs.declared.record.StepRecord.{StepRecord}
-use Rattle.depends.specs.Dependence.{depends_directly}
+use Rattle.depends.specs.Plans.{first_dependent}
+use Rattle.depends.proofs.Searching.{facts}
+use Rattle.depends.proofs.Searching as searching
 use Rattle.book_log.specs.Answers.{from_step, found_answer, free_answer}
 use Rattle.book_log.specs.declared.refusal.Refusal.{Refusal}
-use Rattle.rollback_book.specs.Ordering.{facts_left, left_by}
+use Rattle.book_log.specs.declared.refusal.Refusal.TheVariants.{HasDependents}
+use Rattle.rollback_book.specs.Ordering.{left_by}
+use Rattle.rollback_book.proofs.Searching.{step_at, no_step, dependent_at, no_dependent_at, behind, same_either}
 
--- the step of a name is taken out at its place
-pub record TakenOut (name : StepName) (rs : List (Bor StepRecord)) (i : ℕ) : Type 0 where
-  pub step : Bor StepRecord
-  pub there : slice_get rs i ≡ Some step
-  pub found : from_step name (facts_left rs) ≡ Some (step.now.fact, facts_left (drop i (remove rs i)))
-  pub rest : facts_left (remove rs i) ≡ left_by name (facts_left rs)
+-- ---- the facts are copied
 
-abbrev is_of : StepName → Bor StepRecord → Bool
-is_of name r = is_same_step name r.now.fact.name
+taken : (rs : List StepRecord) (i : ℕ) (r : StepRecord) → slice_get rs i ≡ Some r → take (i + 1) rs ≡ take i rs ++ r ∷ []
+taken rs i r h = take_more rs i r (slice_get_within rs i r h) ∙ ap (λ (x : StepRecord). take i rs ++ x ∷ []) (get_or_from_slice_get rs i r r h)
 
-out_first : (name : StepName) (r : Bor StepRecord) (rs : List (Bor StepRecord)) (i : ℕ) → is_of name r ≡ true → i ≡ 0 → TakenOut name (r ∷ rs) i
-out_first name r rs i h e = subst (TakenOut name (r ∷ rs)) (sym e) (record {
-  step = r;
-  there = refl;
-  found = ap (λ (b : Bool). cond b (Some (r.now.fact, facts_left rs)) (from_step name (facts_left rs))) h;
-  rest = sym (ap (λ (b : Bool). cond b (facts_left rs) (r.now.fact ∷ left_by name (facts_left rs))) h);
-})
+pub one_fact : (rs left new : List StepRecord) (r kept : StepRecord) (i : ℕ) → slice_get rs i ≡ Some r → kept.fact ≡ r.fact → new ≡ left ++ kept ∷ [] → facts left ≡ facts (take i rs) → facts new ≡ facts (take (i + 1) rs)
+one_fact rs left new r kept i here same more before =
+    ap facts more ∙ map-append (λ (x : StepRecord). x.fact) left (kept ∷ []) ∙ ap (λ (fs : List Fact). fs ++ kept.fact ∷ []) before ∙ ap (λ (f : Fact). facts (take i rs) ++ f ∷ []) same
+    ∙ sym (map-append (λ (x : StepRecord). x.fact) (take i rs) (r ∷ [])) ∙ ap facts (sym (taken rs i r here))
 
-out_later : (name : StepName) (r : Bor StepRecord) (rs : List (Bor StepRecord)) (i j : ℕ) → is_of name r ≡ false → i ≡ suc j → TakenOut name rs j → TakenOut name (r ∷ rs) i
-out_later name r rs i j h e k = subst (TakenOut name (r ∷ rs)) (sym e) (record {
-  step = k.step;
-  there = k.there;
-  found = ap (λ (b : Bool). cond b (Some (r.now.fact, facts_left rs)) (from_step name (facts_left rs))) h ∙ k.found;
-  rest = ap (λ (fs : List Fact). r.now.fact ∷ fs) k.rest ∙ sym (ap (λ (b : Bool). cond b (facts_left rs) (r.now.fact ∷ left_by name (facts_left rs))) h);
-})
+-- ---- a step is taken out
 
 -- a place is no less than the number from which places are counted
 no_earlier : {A : Type 0} (p : A → Bool) (xs : List A) (from at : ℕ) → position_from p from xs ≡ Some at → from ≤ at
@@ -46,44 +37,61 @@ no_earlier p [] from at h = cc
 no_earlier p (x ∷ xs) from at h =
     by_bool (p x) _ (λ k. let e = same_Some from at (rw k at h) in omega (arith, e)) (λ k. let l = no_earlier p xs (from + 1) at (rw k at h) in omega (arith, l))
 
-out_from : (name : StepName) (rs : List (Bor StepRecord)) (from at : ℕ) → position_from (is_of name) from rs ≡ Some at → TakenOut name rs (at - from)
+abbrev is_of : StepName → StepRecord → Bool
+is_of name r = is_same_step r.fact.name name
+
+out_from : (name : StepName) (rs : List StepRecord) (from at : ℕ) → position_from (is_of name) from rs ≡ Some at → facts (remove rs (at - from)) ≡ left_by name (facts rs)
 out_from name [] from at h = cc
 out_from name (r ∷ rs) from at h =
     by_bool (is_of name r) _
-    (λ k. let e = same_Some from at (rw k at h) in out_first name r rs (at - from) k (omega (arith, e)))
+    (λ k. let e = same_Some from at (rw k at h) in
+    let z : at - from ≡ 0 = omega (arith, e) in
+    ap (λ (i : ℕ). facts (remove (r ∷ rs) i)) z ∙ sym (ap (λ (b : Bool). cond b (facts rs) (r.fact ∷ left_by name (facts rs))) (sym (same_either r.fact.name name) ∙ k)))
     (λ k. let rest : position_from (is_of name) (from + 1) rs ≡ Some at = rw k at h in
     let l = no_earlier (is_of name) rs (from + 1) at rest in
-    out_later name r rs (at - from) (at - (from + 1)) k (omega (arith, l)) (out_from name rs (from + 1) at rest))
+    let n : at - from ≡ suc (at - (from + 1)) = omega (arith, l) in
+    ap (λ (i : ℕ). facts (remove (r ∷ rs) i)) n ∙ ap (λ (fs : List Fact). r.fact ∷ fs) (out_from name rs (from + 1) at rest)
+    ∙ sym (ap (λ (b : Bool). cond b (facts rs) (r.fact ∷ left_by name (facts rs))) (sym (same_either r.fact.name name) ∙ k)))
 
-pub out_at : (name : StepName) (rs : List (Bor StepRecord)) (at : ℕ) → position (λ r. is_same_step name r.now.fact.name) rs ≡ Some at → TakenOut name rs at
-out_at name rs at h =
-    let z : at - 0 ≡ at = omega arith in
-    subst (TakenOut name rs) z (out_from name rs 0 at (sym (position_from-zero (is_of name) rs) ∙ h))
+pub taken_out : (name : StepName) (rs new : List StepRecord) (at : ℕ) → position (λ (r : StepRecord). is_same_step r.fact.name name) rs ≡ Some at → new ≡ remove rs at → facts new ≡ left_by name (facts rs)
+taken_out name rs new at h e =
+    let z : at ≡ at - 0 = omega arith in
+    ap facts e ∙ ap (λ (i : ℕ). facts (remove rs i)) z ∙ out_from name rs 0 at (sym (position_from-zero (is_of name) rs) ∙ h)
 
-none_from : (name : StepName) (rs : List (Bor StepRecord)) (from : ℕ) → position_from (is_of name) from rs ≡ None → from_step name (facts_left rs) ≡ None
-none_from name [] from h = refl
-none_from name (r ∷ rs) from h =
-    by_bool (is_of name r) _ (λ k. let e : ◌≡◌ {A = Option ℕ} (Some from) None = rw k at h in cc)
-    (λ k. ap (λ (b : Bool). cond b (Some (r.now.fact, facts_left rs)) (from_step name (facts_left rs))) k ∙ none_from name rs (from + 1) (rw k at h))
+-- ---- what it is answered
 
-pub none_there : (gone : Refusal) (name : StepName) (rs : List (Bor StepRecord)) → position (λ r. is_same_step name r.now.fact.name) rs ≡ None → found_answer gone name (from_step name (facts_left rs)) ≡ Err gone
-none_there gone name rs h = ap (found_answer gone name) (none_from name rs 0 (sym (position_from-zero (is_of name) rs) ∙ h))
+pub none_there : (gone : Refusal) (name : StepName) (rs : List StepRecord) → position (λ (r : StepRecord). is_same_step r.fact.name name) rs ≡ None → found_answer gone name (from_step name (facts rs)) ≡ Err gone
+none_there gone name rs h = ap (found_answer gone name) (no_step name rs h)
 
-found_in : (q : Fact → Bool) (rs : List (Bor StepRecord)) → find q (facts_left rs) ≡ option_map (λ r. r.now.fact) (find (λ r. q r.now.fact) rs)
-found_in q [] = refl
-found_in q (r ∷ rs) = by_bool (q r.now.fact) _ (λ k. rw k refl) (λ k. rw k (found_in q rs))
+module _ (gone : Refusal) (name : StepName) (rs : List StepRecord) (at : ℕ) (is_at : position (λ (r : StepRecord). is_same_step r.fact.name name) rs ≡ Some at) where
+  abbrev fact_here : Fact
+  fact_here = (step_at name rs at is_at).fact
 
--- what a step that is found is answered
-pub out_answer : (gone : Refusal) (name : StepName) (rs : List (Bor StepRecord)) (i : ℕ) (k : TakenOut name rs i) (o : Option (Bor StepRecord)) → o ≡ find (λ r. depends_directly k.step.now.fact r.now.fact) (drop i (remove rs i))
-    → found_answer gone name (from_step name (facts_left rs)) ≡ free_answer name (option_map (λ r. r.now.fact) o)
-out_answer gone name rs i k o h = ap (found_answer gone name) k.found ∙ ap (free_answer name) (found_in (depends_directly k.step.now.fact) (drop i (remove rs i)) ∙ ap (option_map (λ r. r.now.fact)) (sym h))
+  zero_less : at - 0 ≡ at
+  zero_less = omega arith
 
--- what a step that is found is answered, where it is read and what is left is searched
-pub searched : (gone : Refusal) (name : StepName) (rs left later : List (Bor StepRecord)) (at : ℕ) (step : Bor StepRecord) (o : Option (Bor StepRecord)) → position (λ r. is_same_step name r.now.fact.name) rs ≡ Some at → step ≡ get_or rs at step → left ≡ remove rs at → later ≡ drop at left
-    → o ≡ find (λ r. depends_directly step.now.fact r.now.fact) later → found_answer gone name (from_step name (facts_left rs)) ≡ free_answer name (option_map (λ r. r.now.fact) o)
-searched gone name rs left later at step o here read out rest h =
-    let k = out_at name rs at here in
-    let there : slice_get rs at ≡ Some step = slice_get_read rs (length rs) at step refl (slice_get_within rs at k.step k.there) read in
-    let same : step ≡ k.step = same_Some step k.step (sym there ∙ k.there) in
-    let own : later ≡ drop at (remove rs at) = rest ∙ ap (drop at) out in
-    out_answer gone name rs at k o (h ∙ ap (λ (s : Bor StepRecord). find (λ r. depends_directly s.now.fact r.now.fact) later) same ∙ ap (find (λ r. depends_directly k.step.now.fact r.now.fact)) own)
+  here : slice_get (facts rs) at ≡ Some fact_here
+  here = ap (slice_get (facts rs)) (sym zero_less) ∙ (step_at name rs at is_at).there
+
+  found : from_step name (facts rs) ≡ Some (fact_here, behind (facts rs) at)
+  found =
+      (step_at name rs at is_at).answer
+      ∙ ap (λ (i : ℕ). let p : Fact × List Fact = (fact_here, behind (facts rs) i) in Some p) zero_less
+
+  within_facts : (i : ℕ) (f : Fact) → slice_get (facts rs) i ≡ Some f → i < length rs
+  within_facts i f h = let k = slice_get_within (facts rs) i f h in let m = searching.as_many rs in omega (arith, k, m)
+
+  pub there : at < length rs
+  there = within_facts at fact_here here
+
+  pub dependent_there : (dependent : ℕ) → first_dependent (facts rs) at ≡ Some dependent → dependent < length rs
+  dependent_there dependent h = let d = dependent_at (facts rs) at dependent fact_here here h in within_facts dependent d.fact d.there
+
+  pub needing_answer : (dependent : ℕ) (r : StepRecord) → first_dependent (facts rs) at ≡ Some dependent → slice_get rs dependent ≡ Some r → found_answer gone name (from_step name (facts rs)) ≡ Err (HasDependents r.fact.name)
+  needing_answer dependent r h k =
+      let d = dependent_at (facts rs) at dependent fact_here here h in
+      let same : d.fact ≡ r.fact = same_Some d.fact r.fact (sym d.there ∙ slice_get-map (λ (x : StepRecord). x.fact) rs dependent ∙ ap (option_map (λ (x : StepRecord). x.fact)) k) in
+      ap (found_answer gone name) found ∙ ap (free_answer name) d.found ∙ ap (λ (f : Fact). Err (HasDependents f.name)) same
+
+  pub free_answered : first_dependent (facts rs) at ≡ None → found_answer gone name (from_step name (facts rs)) ≡ Ok name
+  free_answered h = ap (found_answer gone name) found ∙ ap (free_answer name) (no_dependent_at (facts rs) at fact_here here h)

@@ -51,7 +51,7 @@ module _ {A : Type 0} (p : A → Bool) where
 
 -- ---- steps by their names
 
-same_either : (a b : StepName) → is_same_step a b ≡ is_same_step b a
+pub same_either : (a b : StepName) → is_same_step a b ≡ is_same_step b a
 same_either a b =
     by_bool (is_same_step a b) _ (λ k. subst (λ (x : StepName). is_same_step a x ≡ is_same_step x a) (step_same a b k) refl)
     (λ k. by_bool (is_same_step b a) _ (λ l. subst (λ (x : StepName). is_same_step x b ≡ is_same_step b x) (step_same b a l) refl) (λ l. k ∙ sym l))

@@ -1,16 +1,10 @@
 -- Steps undone one by one in an order, as their facts tell it.
-use Rattle.std.specs.Prelude.{List, [], ◌∷◌, map, Option, None, Some, Result, Ok, Err, if◌then◌else◌}
-use Rattle.std.specs.Borrow.{Bor}
+use Rattle.std.specs.Prelude.{List, [], ◌∷◌, Option, None, Some, Result, Ok, Err, if◌then◌else◌}
 use Rattle.saved_steps.specs.World.{is_same_step}
 use Rattle.saved_steps.specs.declared.fact.Fact.{Fact}
-use Rattle.saved_steps.specs.declared.record.StepRecord.{StepRecord}
 use Rattle.step_names.specs.declared.step.StepName.{StepName}
 use Rattle.book_log.specs.Answers.{from_step, found_answer}
 use Rattle.book_log.specs.declared.refusal.Refusal.{Refusal}
-
--- the facts of records that are left
-abbrev pub facts_left : List (Bor StepRecord) → List Fact
-facts_left rs = map (λ r. r.now.fact) rs
 
 -- the facts but that of the step of a name
 abbrev pub left_by : StepName → List Fact → List Fact

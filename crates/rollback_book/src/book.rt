@@ -17,13 +17,13 @@ use crate::room::{PlanRoom, Room};
 use attr_values::ItemFault;
 use book_log::{Begin, Entry, Refusal, StepNames, first_store};
 use item_store::Items;
-use saved_steps::StepRecord;
 use settled_names::SettledNames;
 use std::alloc::{AllocError, Global};
 use std::collections::BTreeMap;
 use std::marker::Model;
 use step_history::History;
 use step_history::turns::Frame;
+use step_index::StepRecords;
 use step_names::{StepName, ThreadName};
 
 /// Executions of state machines over one table, and the steps that were taken and not taken back.
@@ -174,9 +174,9 @@ impl Book {
     }
 
     /// The remaining steps in the order in which they were taken, each with what its undoing gives back. Takes no memory.
-    pub fn history(&self) -> &[StepRecord]
-        ensures names { map (λ r. r.fact.name) result.now ≡ map name_of (remaining self.now.story) }
-        ensures saved { AreRecordsOf self.now.history.world.items result.now (past_of self.now.story) }
+    pub fn history(&self) -> &StepRecords
+        ensures names { map (λ r. r.fact.name) result.now.items ≡ map name_of (remaining self.now.story) }
+        ensures saved { AreRecordsOf self.now.history.world.items result.now.items (past_of self.now.story) }
     {
         self.history.records()
     }
@@ -203,7 +203,7 @@ impl Book {
             return Ok((at, room));
         };
         let Room { step: _, spare } = room;
-        let needing = &self.history.records()[dependent];
+        let needing = self.history.records().get(dependent);
         Err(Refusal::HasDependents(spare.step(&needing.fact.name)))
     }
 

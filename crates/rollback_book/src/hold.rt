@@ -7,9 +7,9 @@ ghost use Rattle.book_log.specs.Answers.{most_before_a_step, most_places, most_s
 ghost use Rattle.rollback_book.specs.Holding.{AddsUnheld, AreWithin, CanTakeOut, HasHeldRoom, IsFirstNeeded, KeepsHold, TakesOut, full_unheld, removed_each};
 
 use crate::checks::is_full_for_step;
-use saved_steps::{Made, StepRecord};
+use saved_steps::Made;
 use std::alloc::AllocError;
-use step_index::HeldSteps;
+use step_index::{HeldSteps, StepRecords};
 use step_names::StepName;
 
 /// The step of a hold, and which of the remaining steps are left to be taken back.
@@ -70,11 +70,11 @@ pub fn take_out(held: &mut Option<Hold>, places: &[usize])
 /// known of that step.
 pub fn first_needed(
     hold: &Hold,
-    records: &[StepRecord],
+    records: &StepRecords,
     step: &Made,
 ) -> Result<Option<usize>, AllocError>
-    requires { AreLeft records.now hold.now.left }
-    ensures { IfOk result (IsFirstNeeded records.now hold.now.left (fact_made step.now)) }
+    requires { AreLeft records.now.items hold.now.left }
+    ensures { IfOk result (IsFirstNeeded records.now.items hold.now.left (fact_made step.now)) }
 {
     let fact = step.fact()?;
     let found = hold.left.first_needed(records, &fact);

@@ -17,9 +17,8 @@ use crate::lists::{push_with_room, reserve_entries};
 use crate::making::{Entered, Made, MadeChange};
 use book_log::{Entry, Refusal};
 use depends::Plan;
-use saved_steps::StepRecord;
 use std::alloc::{AllocError, Global};
-use step_index::HeldSteps;
+use step_index::{HeldSteps, StepRecords};
 use step_names::StepName;
 
 impl Book {
@@ -69,7 +68,7 @@ impl Book {
             return None;
         };
         match hold.left.last() {
-            Some(place) => Some(&self.history.records()[place].fact.name),
+            Some(place) => Some(&self.history.records().get(place).fact.name),
             None => None,
         }
     }
@@ -142,11 +141,11 @@ impl Book {
 fn made_of_plan(
     alloc: Global,
     step: &StepName,
-    records: &[StepRecord],
+    records: &StepRecords,
     plan: &Plan,
 ) -> Result<Made, AllocError>
-    requires { All (λ place. place < length records.now) plan.now }
-    ensures { IfOk result (IsMadeHold step.now records.now plan.now) }
+    requires { All (λ place. place < length records.now.items) plan.now }
+    ensures { IfOk result (IsMadeHold step.now records.now.items plan.now) }
 {
     let left = HeldSteps::of_plan(alloc, records, plan)?;
     match hold_made(step, plan.places().len(), left) {

@@ -28,4 +28,5 @@ pub use making::{Change, Entered, Made};
 pub use room::{PlanRoom, Room};
 pub use saved_steps::{Access, Fact, Kind, Saved, StepRecord};
 pub use step_history::turns as turns;
+pub use step_index::StepRecords;
 pub use ticket::Ticket;

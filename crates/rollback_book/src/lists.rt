@@ -5,9 +5,9 @@ ghost use Rattle.book_log.specs.Answers.{most_steps};
 ghost use Rattle.rollback_book.specs.Settling.{absent_in};
 
 use book_log::{Entry, Refusal, StepNames};
-use saved_steps::StepRecord;
 use settled_names::SettledNames;
 use std::alloc::{AllocError, Global};
+use step_index::StepRecords;
 use step_names::StepName;
 
 /// Makes room for one more entry, and for those of the undoing of it and of so many steps.
@@ -44,15 +44,15 @@ pub fn absent_in(settled: &SettledNames, name: &StepName) -> Refusal
 /// The names of the steps at some places.
 pub fn names_at(
     alloc: Global,
-    records: &[StepRecord],
+    records: &StepRecords,
     places: &[usize],
 ) -> Result<StepNames, AllocError>
-    requires { All (λ place. place < length records.now) places.now }
-    ensures { IfOk result (λ names. map Some names ≡ map (λ place. option_map (λ r. r.fact.name) (slice_get records.now place)) places.now) }
+    requires { All (λ place. place < length records.now.items) places.now }
+    ensures { IfOk result (λ names. map Some names ≡ map (λ place. option_map (λ r. r.fact.name) (slice_get records.now.items place)) places.now) }
 {
     let mut names = Vec::new(alloc);
     for place in places {
-        names.push(records[*place].fact.name.copy()?)?;
+        names.push(records.get(*place).fact.name.copy()?)?;
     }
     Ok(StepNames::new(names))
 }

@@ -1,27 +1,24 @@
 // Steps taken back one by one in an order, or none of them: the order is looked at whole before anything is changed.
-ghost use Rattle.std.specs.Prelude.{◌≡◌, ◌⊎◌, map, position, reverse, None, Some, Ok, Err, IfOk, IfErr, MatchResult, OnOk, OnErr};
-ghost use Rattle.std.specs.List.{find};
-ghost use Rattle.depends.specs.Dependence.{depends_directly};
-ghost use Rattle.saved_steps.specs.World.{is_same_step};
+ghost use Rattle.std.specs.Prelude.{◌≡◌, ◌⊎◌, ◌∷◌, ◌++◌, [], map, reverse, None, Some, Ok, Err, IfOk, IfErr, MatchResult, OnOk, OnErr};
 ghost use Rattle.book_log.specs.Answers.{from_step, found_answer, order_answer, undo_answer};
 ghost use Rattle.book_log.specs.Story.{Story, accepted};
 ghost use Rattle.rollback_book.specs.Commuting.{HasConsequences, IsOnlyResult, UndoesAllowed};
-ghost use Rattle.rollback_book.specs.Ordering.{facts_left, left_by, order_refusal};
+ghost use Rattle.rollback_book.specs.Ordering.{left_by, order_refusal};
 ghost use Rattle.rollback_book.specs.Settling.{absent_in};
 
 use crate::book::Book;
 use crate::lists::absent_in;
 use book_log::{Entry, Refusal};
-use depends::depends;
-use saved_steps::StepRecord;
+use saved_steps::{Access, Fact, Saved, StepRecord};
 use settled_names::SettledNames;
 use std::alloc::{AllocError, Global};
+use step_index::StepRecords;
 use step_names::StepName;
 
 impl Book {
-    /// Takes back steps one by one in this order, or none of them. Takes memory for a reference to each remaining step, a copy of
-    /// each name and the name that a refusal tells. The time is that of the number of names times the number of the remaining
-    /// steps at most.
+    /// Takes back steps one by one in this order, or none of them. Takes memory for a copy of what is known of each remaining step
+    /// and its classes, for a copy of each name and the name that a refusal tells. One pass over the remaining steps; then each
+    /// step is found, looked at and taken out as `undo` does it.
     ///
     /// # Errors
     ///
@@ -94,74 +91,102 @@ fn last_first(alloc: Global, names: &[StepName]) -> Result<Vec<StepName>, AllocE
 fn look_at_order(
     alloc: Global,
     settled: &SettledNames,
-    records: &[StepRecord],
+    records: &StepRecords,
     steps: &[StepName],
 ) -> Result<(), Refusal>
     ensures { MatchResult result
-        (λ _. order_refusal (absent_in settled.now.items) (map (λ r. r.fact) records.now) steps.now ≡ None)
-        (λ e. (e ≡ Refusal.Memory) ⊎ (order_refusal (absent_in settled.now.items) (map (λ r. r.fact) records.now) steps.now ≡ Some e)) }
+        (λ _. order_refusal (absent_in settled.now.items) (map (λ r. r.fact) records.now.items) steps.now ≡ None)
+        (λ e. (e ≡ Refusal.Memory) ⊎ (order_refusal (absent_in settled.now.items) (map (λ r. r.fact) records.now.items) steps.now ≡ Some e)) }
 {
-    let mut left = references(alloc, records)?;
+    let mut left = outline(alloc, records)?;
+    let answer = take_out_each(settled, &mut left, steps);
+    drop(left);
+    answer
+}
+
+/// Takes the steps of these names out of those that are left, as far as each may be undone among them.
+fn take_out_each(
+    settled: &SettledNames,
+    left: &mut StepRecords,
+    steps: &[StepName],
+) -> Result<(), Refusal>
+    ensures { MatchResult result
+        (λ _. order_refusal (absent_in settled.now.items) (map (λ r. r.fact) left.old.items) steps.now ≡ None)
+        (λ e. (e ≡ Refusal.Memory) ⊎ (order_refusal (absent_in settled.now.items) (map (λ r. r.fact) left.old.items) steps.now ≡ Some e)) }
+{
     for name in steps {
-        take_out(settled, &mut left, name)?;
+        take_out(settled, left, name)?;
     }
     Ok(())
 }
 
-/// A reference to each record.
-fn references(alloc: Global, records: &[StepRecord]) -> Result<Vec<&StepRecord>, AllocError>
-    ensures { IfOk result (λ left. facts_left left.items ≡ map (λ r. r.fact) records.now) }
+/// Records of the same facts, without what undoing them would give back.
+fn outline(alloc: Global, records: &StepRecords) -> Result<StepRecords, AllocError>
+    ensures { IfOk result (λ left. map (λ r. r.fact) left.items ≡ map (λ r. r.fact) records.now.items) }
 {
-    let mut left = Vec::new(alloc);
-    left.reserve(records.len())?;
-    for taken in records {
-        left.push(taken)?;
+    let mut left = StepRecords::new(alloc);
+    for place in 0..records.len() {
+        let fact = copy_of(&records.get(place).fact)?;
+        add_outline(&mut left, fact)?;
     }
     Ok(left)
 }
 
-/// Takes the step of a name out of those that are left, where it may be undone among them.
-fn take_out(
-    settled: &SettledNames,
-    left: &mut Vec<&StepRecord>,
-    name: &StepName,
-) -> Result<(), Refusal>
-    ensures { MatchResult result
-        (λ _. (found_answer (absent_in settled.now.items name.now) name.now (from_step name.now (facts_left left.old.items)) ≡ Ok name.now) × (facts_left left.new.items ≡ left_by name.now (facts_left left.old.items)))
-        (λ e. (e ≡ Refusal.Memory) ⊎ (found_answer (absent_in settled.now.items name.now) name.now (from_step name.now (facts_left left.old.items)) ≡ Err e)) }
+/// Makes room for the record of a fact, and adds it at the end.
+fn add_outline(left: &mut StepRecords, fact: Fact) -> Result<(), AllocError>
+    ensures { OnOk result (left.new.items ≡ left.old.items ++ record { fact = fact; saved = Saved.Started } ∷ []) }
 {
-    let Some(at) = place_in(left.as_slice(), name) else {
-        return Err(absent_in(settled, name));
-    };
-    let step = left.remove(at);
-    if let Some(dependent) = first_needing(step, &left[at..]) {
-        return Err(Refusal::HasDependents(dependent.fact.name.copy()?));
+    if left.reserve().is_err() {
+        drop(fact);
+        return Err(AllocError);
     }
+    left.push(StepRecord {
+        fact,
+        saved: Saved::Started,
+    });
     Ok(())
 }
 
-/// The place of the step of a name.
-fn place_in(left: &[&StepRecord], name: &StepName) -> Option<usize>
-    ensures { result ≡ position (λ r. is_same_step name.now r.now.fact.name) left.now }
+fn copy_of(fact: &Fact) -> Result<Fact, AllocError>
+    ensures { IfOk result (λ f. f ≡ fact.now) }
 {
-    left.iter().position(|taken| is_of_name(taken, name))
+    let access = copy_of_access(&fact.access)?;
+    let Ok(name) = fact.name.copy() else {
+        drop(access);
+        return Err(AllocError);
+    };
+    Ok(Fact {
+        name,
+        kind: fact.kind,
+        access,
+        bound: fact.bound,
+    })
 }
 
-/// The first of some later steps that depends directly on a step.
-fn first_needing<'a>(step: &StepRecord, later: &[&'a StepRecord]) -> Option<&'a StepRecord>
-    ensures { result ≡ find (λ r. depends_directly step.now.fact r.now.fact) later.now }
+fn copy_of_access(access: &Option<Access>) -> Result<Option<Access>, AllocError>
+    ensures { IfOk result (λ a. a ≡ access.now) }
 {
-    for taken in later {
-        if depends(&step.fact, &taken.fact) {
-            return Some(taken);
-        }
+    match access {
+        Some(access) => Ok(Some(Access {
+            key: access.key.copy()?,
+            mode: access.mode,
+        })),
+        None => Ok(None),
     }
-    None
 }
 
-/// Whether a record is that of the step of a name.
-fn is_of_name(taken: &StepRecord, name: &StepName) -> bool
-    ensures { result ≡ is_same_step name.now taken.now.fact.name }
+/// Takes the step of a name out of those that are left, where it may be undone among them.
+fn take_out(settled: &SettledNames, left: &mut StepRecords, name: &StepName) -> Result<(), Refusal>
+    ensures { MatchResult result
+        (λ _. (found_answer (absent_in settled.now.items name.now) name.now (from_step name.now (map (λ r. r.fact) left.old.items)) ≡ Ok name.now) × (map (λ r. r.fact) left.new.items ≡ left_by name.now (map (λ r. r.fact) left.old.items)))
+        (λ e. (e ≡ Refusal.Memory) ⊎ (found_answer (absent_in settled.now.items name.now) name.now (from_step name.now (map (λ r. r.fact) left.old.items)) ≡ Err e)) }
 {
-    name.thread == taken.fact.name.thread && name.no == taken.fact.name.no
+    let Some(at) = left.find(name) else {
+        return Err(absent_in(settled, name));
+    };
+    if let Some(dependent) = left.first_dependent(at) {
+        return Err(Refusal::HasDependents(left.get(dependent).fact.name.copy()?));
+    }
+    drop(left.remove(at));
+    Ok(())
 }

@@ -131,7 +131,8 @@ impl Book {
             return Ok(());
         };
         if let Some(place) = first_needed(hold, self.history.records(), step)? {
-            return Err(Refusal::Held(self.history.records()[place].fact.name.copy()?));
+            let needed = self.history.records().get(place);
+            return Err(Refusal::Held(needed.fact.name.copy()?));
         }
         if self.is_full() {
             return Err(Refusal::Full);

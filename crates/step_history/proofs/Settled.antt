@@ -1,10 +1,12 @@
 -- A history whose steps are settled: its world is the base of the steps to come.
-use Rattle.std.proofs.Common.{◌≡◌, List, [], ap, sym, subst, ◌∙◌, Some}
+use Rattle.std.proofs.Common.{◌≡◌, ◌==◌, ◌<◌, arith, ℕ, true, false, List, [], ◌∷◌, length, ap, refl, sym, subst, ◌∙◌, Some}
+use Rattle.std.proofs.lemmas.Bool.{eqb-true}
 use Rattle.trace_theory.proofs.Runs.{from_run, reached_by}
 use Rattle.saved_steps.specs.Held.{seen}
 use Rattle.saved_steps.specs.World.{Setting, World}
 use Rattle.saved_steps.specs.declared.record.StepRecord.{StepRecord}
 use Rattle.saved_steps.specs.declared.world.World.{World as Held}
+use Rattle.settled_names.specs.Names.{HasRoomFor, Names}
 use Rattle.depends.specs.Instance.{steps}
 use Rattle.step_history.specs.History.{Past, IsHistory, AreRecordsOf}
 use Rattle.step_history.specs.declared.history.History.{History}
@@ -17,3 +19,25 @@ settled_history s base ts h g is world none = record {
   runs = ap (λ (w : Held). Some (seen w, [])) (sym world);
   records = subst (λ (rs : List StepRecord). AreRecordsOf g.world.items rs []) (sym none) tt;
 }
+
+pub some_left : (rs : List StepRecord) → (length rs == 0) ≡ false → 0 < length rs
+some_left [] e = absurd (cc)
+some_left (r ∷ rs) e = omega arith
+
+pub none_left : (rs : List StepRecord) → (length rs == 0) ≡ true → rs ≡ []
+none_left [] e = refl
+none_left (r ∷ rs) e = let none = eqb-true (length (r ∷ rs)) 0 e in absurd (omega (arith, none))
+
+pub room_for_one : (v : Names) (more : ℕ) → 0 < more → HasRoomFor v more → HasRoomFor v 1
+room_for_one v more some h =
+    let listed = h.listed in
+    let numbered = h.numbered in
+    let linked = h.linked in
+    let few = h.few in
+    record {
+      listed = omega (arith, listed, some);
+      numbered = omega (arith, numbered, some);
+      linked = omega (arith, linked, some);
+      classed = h.classed;
+      few = omega (arith, few, some);
+    }

@@ -12,8 +12,8 @@ ghost use Rattle.step_history.specs.History.{IsHistory, IsSomeHistory, nothing_o
 
 use asl_forward::Frame;
 use item_store::ItemStore;
+use saved_steps::World;
 use saved_steps::branches::Readiness;
-use saved_steps::{StepRecord, World};
 use std::alloc::{AllocError, Global};
 use std::collections::BTreeSet;
 use step_index::StepRecords;
@@ -72,10 +72,10 @@ impl History {
     }
 
     /// What is kept of each step, in order.
-    pub fn records(&self) -> &[StepRecord]
-        ensures { result.now ≡ self.now.records.items }
+    pub fn records(&self) -> &StepRecords
+        ensures { result.now.items ≡ self.now.records.items }
     {
-        self.records.as_slice()
+        &self.records
     }
 
     /// How many steps remain.

@@ -1,5 +1,5 @@
 // Steps that can't be taken back any more.
-ghost use Rattle.std.specs.Prelude.{◌≡◌, [], ◌++◌, List, length, map, reverse};
+ghost use Rattle.std.specs.Prelude.{◌≡◌, [], ◌++◌, List, length, map};
 ghost use Rattle.saved_steps.specs.Held.{seen};
 ghost use Rattle.saved_steps.specs.World.{Setting, World};
 ghost use Rattle.settled_names.specs.Names.{HasRoomFor};
@@ -8,6 +8,7 @@ ghost use Rattle.step_history.specs.History.{Past, IsHistory};
 use crate::history::History;
 use saved_steps::{Fact, StepRecord};
 use settled_names::SettledNames;
+use step_index::StepRecords;
 use step_names::StepName;
 
 impl History {
@@ -20,20 +21,19 @@ impl History {
         ensures world { self.new.world ≡ self.old.world }
         ensures history { (s : Setting) (base : World) (ts : List Past) → IsHistory s base ts self.old → IsHistory s (seen self.old.world) [] self.new }
     {
-        let mut taken = self.records.take_all();
-        taken.reverse();
+        let taken = self.records.take_all();
         push_names(names, taken);
     }
 }
 
-/// Adds the names of steps, the last of them first.
-fn push_names(names: &mut SettledNames, taken: Vec<StepRecord>)
+/// Adds the names of steps in their order.
+fn push_names(names: &mut SettledNames, taken: StepRecords)
     requires { HasRoomFor names.old (length taken.items) }
-    ensures { names.new.items ≡ names.old.items ++ map (λ r. r.fact.name) (reverse taken.items) }
+    ensures { names.new.items ≡ names.old.items ++ map (λ r. r.fact.name) taken.items }
 {
     let mut left = taken;
-    while let Some(next) = left.pop() {
-        names.push(name_of(next));
+    while !left.is_empty() {
+        names.push(name_of(left.take_first()));
     }
 }
 

@@ -21,8 +21,8 @@ impl History {
         self.records.first_dependent(at)
     }
 
-    /// Undoes the step at a place, on which no other depends: the steps that are left stay in their order. Takes no memory;
-    /// the later records are moved as they lie, and none is looked at.
+    /// Undoes the step at a place, on which no other depends: the steps that are left stay in their order. Takes no memory, and
+    /// the time of `StepRecords::remove`; no other step is looked at.
     pub fn undo(&mut self, at: usize)
         requires there { at < length self.old.records.items }
         requires history { IsSomeHistory self.old }

@@ -15,6 +15,10 @@ there [] i h = absurd (omega (arith, h))
 there (r ∷ rs) zero h = (r, refl)
 there (r ∷ rs) (suc i) h = there rs i (omega (arith, h))
 
+pub first_out : (rs : List StepRecord) (r : StepRecord) → slice_get rs 0 ≡ Some r → rs ≡ r ∷ remove rs 0
+first_out [] r is = absurd (cc)
+first_out (x ∷ rs) r is = cc
+
 module _ (by : Fact → Option ℕ) where
   pub class_there : (v : Places) (rs : List StepRecord) → v.classes ≡ classes_by by rs → (k : ℕ) (r : StepRecord) → slice_get rs k ≡ Some r → place_class v k ≡ by r.fact
   class_there v rs e k r is =

@@ -28,5 +28,5 @@ is_open p = p.has_room && nat_le 2039 p.width
 abbrev pub all_open : Places → Places → Places → Places → Places → Places → Bool
 all_open a b c d e f = is_open a && (is_open b && (is_open c && (is_open d && (is_open e && is_open f))))
 
-abbrev pub has_room : ℕ → ℕ → Bool → Bool
-has_room count capacity ready = nat_lt count capacity && ready
+abbrev pub has_room : Bool → Bool → Bool
+has_room listed classed = listed && classed

@@ -2,6 +2,7 @@
 
 ghost use Rattle.std.specs.Prelude.{◌≡◌, ◌<◌, ◌==◌, ◌∷◌, ◌++◌, [], ℕ, Bool, true, false, List, length, All, IfOk, IfSome, OnOk, Some, position, slice_get};
 ghost use Rattle.std.specs.List.{list_any, remove};
+ghost use Rattle.linked_classes.specs.Places.{place_class};
 ghost use Rattle.saved_steps.specs.declared.record.StepRecord.{StepRecord as Kept};
 ghost use Rattle.depends.specs.Dependence.{conflicts};
 ghost use Rattle.step_index.specs.Buckets.{is_gate};
@@ -12,11 +13,12 @@ use crate::buckets::{
     BUCKETS, access_bucket, bucket_above, exec_bucket, home_bucket, is_gate, key_bucket,
     write_bucket,
 };
-use crate::walks::{earlier, first_needed_in};
+use crate::records::StepRecords;
+use crate::walks::earlier;
 use depends::Plan;
 use item_store::AccessMode;
 use linked_classes::ClassedPlaces;
-use saved_steps::{Fact, StepRecord};
+use saved_steps::Fact;
 use std::alloc::{AllocError, Global};
 use std::marker::Model;
 
@@ -27,7 +29,7 @@ const LEFT: u32 = 0;
 /// beside the records and goes with them, a place for each. Contracts see which places are left, and the classes of the steps there.
 ///
 /// The steps that are left are in classes: of their threads, their executions, the keys that they touched and those that they
-/// wrote, each by its hash. A place costs 40 bytes, one that is left 70 to 120 more, one that is gone 20, and all together 130,000 once.
+/// wrote, each by its hash. A place costs 40 bytes, one that is left 70 to 120 more, one that is gone 40, and all together 130,000 once.
 #[derive(Drop)]
 pub struct HeldSteps {
     left: ClassedPlaces,
@@ -61,17 +63,17 @@ impl HeldSteps {
     /// that are left cost; one pass over the plan and one over the records.
     pub fn of_plan(
         alloc: Global,
-        records: &[StepRecord],
+        records: &StepRecords,
         plan: &Plan,
     ) -> Result<HeldSteps, AllocError>
-        requires { All (λ p. p < length records.now) plan.now }
-        ensures left { IfOk result (λ h. AreLeft records.now h) }
+        requires { All (λ p. p < length records.now.items) plan.now }
+        ensures left { IfOk result (λ h. AreLeft records.now.items h) }
         ensures marks { IfOk result (λ h. (k : ℕ) (m : Bool) → slice_get h.marks k ≡ Some m → m ≡ list_any (λ p. p == k) plan.now) }
     {
         let marks = marks_of(alloc, records.len(), plan.places())?;
         let mut held = HeldSteps::new(alloc);
         for place in 0..records.len() {
-            held.add(&records[place].fact, marks[place])?;
+            held.add(&records.get(place).fact, marks[place])?;
         }
         Ok(held)
     }
@@ -151,8 +153,8 @@ impl HeldSteps {
         Ok(())
     }
 
-    /// Takes a place out: those behind it come one forward. Takes no memory, a few steps in the classes, and a copy of 20 bytes
-    /// for each place behind it.
+    /// Takes a place out: those behind it come one forward. Takes no memory, a few steps in the classes, and five times the time
+    /// of `RisingNumbers::remove`.
     pub fn remove(&mut self, at: usize)
         requires { at < length self.old.marks }
         ensures marks { self.new.marks ≡ remove self.old.marks at }
@@ -190,9 +192,9 @@ impl HeldSteps {
     /// steps that are left of the later step's thread and of those above it up to that one, or at those of its execution where it
     /// closes a fork or waited for branches; and at those of the key that it accesses up to that one: of a read at the writes
     /// alone, so that the first is mostly that one. Steps whose threads or keys have the same hash are looked at beside these.
-    pub fn first_needed(&self, records: &[StepRecord], fact: &Fact) -> Option<usize>
-        requires { AreLeft records.now self.now }
-        ensures first { IsFirstFrom (IsLeftAt self.now) (needed_by fact.now) records.now 0 result }
+    pub fn first_needed(&self, records: &StepRecords, fact: &Fact) -> Option<usize>
+        requires { AreLeft records.now.items self.now }
+        ensures first { IsFirstFrom (IsLeftAt self.now) (needed_by fact.now) records.now.items 0 result }
         ensures left { IfSome result (IsLeftAt self.now) }
     {
         earlier(
@@ -202,9 +204,9 @@ impl HeldSteps {
     }
 
     /// The first that is left on which a later step would depend by their names.
-    fn first_by_name(&self, records: &[StepRecord], fact: &Fact) -> Option<usize>
-        requires { AreLeft records.now self.now }
-        ensures first { IsFirstFrom (LeftFor (λ f. names_need f fact.now) records.now self.now) (needed_by fact.now) records.now 0 result }
+    fn first_by_name(&self, records: &StepRecords, fact: &Fact) -> Option<usize>
+        requires { AreLeft records.now.items self.now }
+        ensures first { IsFirstFrom (LeftFor (λ f. names_need f fact.now) records.now.items self.now) (needed_by fact.now) records.now.items 0 result }
         ensures left { IfSome result (IsLeftAt self.now) }
     {
         if !is_gate(fact) {
@@ -215,10 +217,10 @@ impl HeldSteps {
     }
 
     /// The same for one that neither closes a fork nor waited for branches: among the steps of its thread and of those above it.
-    fn first_in_threads(&self, records: &[StepRecord], fact: &Fact) -> Option<usize>
-        requires beside { AreLeft records.now self.now }
+    fn first_in_threads(&self, records: &StepRecords, fact: &Fact) -> Option<usize>
+        requires beside { AreLeft records.now.items self.now }
         requires free { is_gate fact.now ≡ false }
-        ensures first { IsFirstFrom (LeftFor (λ f. names_need f fact.now) records.now self.now) (needed_by fact.now) records.now 0 result }
+        ensures first { IsFirstFrom (LeftFor (λ f. names_need f fact.now) records.now.items self.now) (needed_by fact.now) records.now.items 0 result }
         ensures left { IfSome result (IsLeftAt self.now) }
     {
         let thread = &fact.name.thread;
@@ -233,9 +235,9 @@ impl HeldSteps {
     }
 
     /// The first that is left and accesses the key of a later step, and not both read.
-    fn first_accessing(&self, records: &[StepRecord], fact: &Fact) -> Option<usize>
-        requires { AreLeft records.now self.now }
-        ensures first { IsFirstFrom (LeftFor (λ f. conflicts f.access fact.now.access) records.now self.now) (needed_by fact.now) records.now 0 result }
+    fn first_accessing(&self, records: &StepRecords, fact: &Fact) -> Option<usize>
+        requires { AreLeft records.now.items self.now }
+        ensures first { IsFirstFrom (LeftFor (λ f. conflicts f.access fact.now.access) records.now.items self.now) (needed_by fact.now) records.now.items 0 result }
         ensures left { IfSome result (IsLeftAt self.now) }
     {
         let Some(access) = &fact.access else {
@@ -275,6 +277,20 @@ impl HeldSteps {
     {
         self.left.last(LEFT)
     }
+}
+
+/// The first step in a class on which a later one would depend directly: a look at each step there before it.
+fn first_needed_in(
+    records: &StepRecords,
+    steps: &ClassedPlaces,
+    class: u32,
+    later: &Fact,
+) -> Option<usize>
+    requires { length steps.now.classes ≡ length records.now.items }
+    ensures first { IsFirstFrom (λ k. place_class steps.now k ≡ Some class) (needed_by later.now) records.now.items 0 result }
+    ensures member { IfSome result (λ k. place_class steps.now k ≡ Some class) }
+{
+    crate::walks::first_needed_in(records.listed(), steps, class, later)
 }
 
 /// Whether a class is that of the places that are left.

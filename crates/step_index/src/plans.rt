@@ -9,9 +9,9 @@ ghost use Rattle.step_index.specs.Marks.{marked, AreMarked};
 ghost use Rattle.step_index.specs.Records.{classes_by};
 
 use crate::buckets::BUCKETS;
-use depends::{Plan, depends_on_some};
-use linked_classes::ClassedPlaces;
-use saved_steps::StepRecord;
+use depends::{Plan, depends};
+use linked_classes::{ClassedPlaces, NumberedVec};
+use saved_steps::{Fact, StepRecord};
 use std::alloc::{AllocError, Global};
 
 /// The steps of a plan that were found, and marks of the classes in which they are: of their executions and of their keys.
@@ -26,18 +26,19 @@ struct Found {
 /// that were found before it only where one of these is in the class of its execution or of its key.
 pub(crate) fn plan_of(
     alloc: Global,
-    records: &[StepRecord],
+    records: &NumberedVec<StepRecord>,
     execs: &ClassedPlaces,
     keys: &ClassedPlaces,
     at: usize,
 ) -> Result<Plan, AllocError>
-    requires there { at < length records.now }
-    requires run { execs.now.classes ≡ classes_by by_exec records.now }
-    requires keyed { keys.now.classes ≡ classes_by by_key records.now }
-    ensures { IfOk result (λ p. p ≡ plans.plan (map (λ r. r.fact) records.now) at) }
+    requires there { at < length records.now.items }
+    requires run { execs.now.classes ≡ classes_by by_exec records.now.items }
+    requires keyed { keys.now.classes ≡ classes_by by_key records.now.items }
+    ensures { IfOk result (λ p. p ≡ plans.plan (map (λ r. r.fact) records.now.items) at) }
 {
     let mut found = begin(alloc, execs, keys, at)?;
-    for place in at + 1..records.len() {
+    let count = records.len();
+    for place in at + 1..count {
         add_if_follows(&mut found, records, execs, keys, place)?;
     }
     let mut places = found.places;
@@ -74,18 +75,18 @@ fn begin(
 /// Adds a place to those that were found, if its step depends directly on one there.
 fn add_if_follows(
     found: &mut Found,
-    records: &[StepRecord],
+    records: &NumberedVec<StepRecord>,
     execs: &ClassedPlaces,
     keys: &ClassedPlaces,
     place: usize,
 ) -> Result<(), AllocError>
-    requires there { place < length records.now }
-    requires within { All (λ p. p < length records.now) found.old.places.items }
-    requires run { execs.now.classes ≡ classes_by by_exec records.now }
-    requires keyed { keys.now.classes ≡ classes_by by_key records.now }
+    requires there { place < length records.now.items }
+    requires within { All (λ p. p < length records.now.items) found.old.places.items }
+    requires run { execs.now.classes ≡ classes_by by_exec records.now.items }
+    requires keyed { keys.now.classes ≡ classes_by by_key records.now.items }
     requires execs { AreMarked found.old.execs.items execs.now found.old.places.items }
     requires keys { AreMarked found.old.keys.items keys.now found.old.places.items }
-    ensures places { (g : Kept) → slice_get records.now place ≡ Some g → OnOk result (found.new.places.items ≡ (if plans.depends_on_some (map (λ r. r.fact) records.now) found.old.places.items g.fact then found.old.places.items ++ place ∷ [] else found.old.places.items)) }
+    ensures places { (g : Kept) → slice_get records.now.items place ≡ Some g → OnOk result (found.new.places.items ≡ (if plans.depends_on_some (map (λ r. r.fact) records.now.items) found.old.places.items g.fact then found.old.places.items ++ place ∷ [] else found.old.places.items)) }
     ensures execs { OnOk result (AreMarked found.new.execs.items execs.now found.new.places.items) }
     ensures keys { OnOk result (AreMarked found.new.keys.items keys.now found.new.places.items) }
 {
@@ -94,13 +95,26 @@ fn add_if_follows(
     if !is_marked(found.execs.as_slice(), exec) && !is_marked(found.keys.as_slice(), key) {
         return Ok(());
     }
-    if !depends_on_some(records, found.places.as_slice(), &records[place].fact) {
+    if !depends_on_some(records, found.places.as_slice(), &records.get(place).fact) {
         return Ok(());
     }
     found.places.push(place)?;
     mark(&mut found.execs, exec);
     mark(&mut found.keys, key);
     Ok(())
+}
+
+/// Whether a later step depends directly on one of those at some places: it is compared with each of them up to the first.
+fn depends_on_some(records: &NumberedVec<StepRecord>, places: &[usize], later: &Fact) -> bool
+    requires { All (λ p. p < length records.now.items) places.now }
+    ensures { result ≡ plans.depends_on_some (map (λ r. r.fact) records.now.items) places.now later.now }
+{
+    for place in places {
+        if depends(&records.get(*place).fact, later) {
+            return true;
+        }
+    }
+    false
 }
 
 /// Whether a class, if there is one, has a mark. A class for which there is no room is taken for one that has.

@@ -17,7 +17,7 @@ use crate::plans::plan_of;
 use crate::walks::{earlier, first_named, first_needing, first_needing_in};
 use depends::Plan;
 use item_store::AccessMode;
-use linked_classes::ClassedPlaces;
+use linked_classes::{ClassedPlaces, NumberedVec};
 use saved_steps::{Kind, StepRecord};
 use std::alloc::{AllocError, Global};
 use std::marker::Model;
@@ -28,10 +28,10 @@ use step_names::StepName;
 ///
 /// The steps are in classes: of their names, their threads, their executions and the keys that they touched, each by its hash.
 /// Those that close a fork or waited for branches are in one of their own as well, by their execution, and those that wrote by
-/// their key. A record costs 130 to 220 bytes for these, one that is gone 24, and all together 200,000 once.
+/// their key. A record costs 150 to 250 bytes for these, one that is gone 56, and all together 200,000 once.
 #[derive(Drop)]
 pub struct StepRecords {
-    records: Vec<StepRecord>,
+    records: NumberedVec<StepRecord>,
     names: ClassedPlaces,
     threads: ClassedPlaces,
     execs: ClassedPlaces,
@@ -41,7 +41,6 @@ pub struct StepRecords {
 }
 
 impl Model for StepRecords {
-    ghost use Rattle.std.specs.Prelude.{length, vec_capacity};
     ghost use Rattle.step_index.specs.Records.{Records, AreIndexed, has_room, all_open};
     ghost use Rattle.saved_steps.specs.contracts.record.StepRecord as record_row;
     ghost use Rattle.std.specs.Coded.{codes};
@@ -52,7 +51,7 @@ impl Model for StepRecords {
 
     ghost view = { λ a. record {
       items = a.records.items;
-      has_room = has_room (length a.records.items) (vec_capacity a.records) (all_open a.names a.threads a.execs a.gates a.keys a.writes);
+      has_room = has_room a.records.has_room (all_open a.names a.threads a.execs a.gates a.keys a.writes);
     } };
 
     ghost invariant = { λ a. AreIndexed a.records.items a.names a.threads a.execs a.gates a.keys a.writes };
@@ -64,7 +63,7 @@ impl StepRecords {
         ensures { result.items ≡ [] }
     {
         StepRecords {
-            records: Vec::new(alloc),
+            records: NumberedVec::new(alloc),
             names: ClassedPlaces::new(alloc),
             threads: ClassedPlaces::new(alloc),
             execs: ClassedPlaces::new(alloc),
@@ -75,10 +74,18 @@ impl StepRecords {
     }
 
     /// The records in their order.
-    pub fn as_slice(&self) -> &[StepRecord]
-        ensures { result.now ≡ self.now.items }
+    pub(crate) fn listed(&self) -> &NumberedVec<StepRecord>
+        ensures { result.now.items ≡ self.now.items }
     {
-        self.records.as_slice()
+        &self.records
+    }
+
+    /// The record at a place, in the time of `RisingNumbers::get`.
+    pub fn get(&self, at: usize) -> &StepRecord
+        requires { at < length self.now.items }
+        ensures { slice_get self.now.items at ≡ Some result.now }
+    {
+        self.records.get(at)
     }
 
     /// How many there are.
@@ -101,7 +108,7 @@ impl StepRecords {
         ensures room { OnOk result (self.new.has_room ≡ true) }
     {
         let classes = BUCKETS as usize;
-        self.records.reserve(1)?;
+        self.records.reserve()?;
         self.names.reserve(classes)?;
         self.threads.reserve(classes)?;
         self.execs.reserve(classes)?;
@@ -122,11 +129,11 @@ impl StepRecords {
         self.gates.push(gate_bucket(&kept.fact));
         self.keys.push(access_bucket(&kept.fact));
         self.writes.push(write_bucket(&kept.fact));
-        self.records.push_reserved(kept);
+        self.records.push(kept);
     }
 
-    /// Takes the record at a place out: the others stay in their order. Takes no memory; the later records are moved as they
-    /// lie, and none is looked at.
+    /// Takes the record at a place out: the others stay in their order. Takes no memory, and seven times the time of
+    /// `RisingNumbers::remove`; no record is moved or looked at.
     pub fn remove(&mut self, at: usize) -> StepRecord
         requires { at < length self.old.items }
         ensures taken { slice_get self.old.items at ≡ Some result }
@@ -141,26 +148,28 @@ impl StepRecords {
         self.records.remove(at)
     }
 
-    /// Takes all records out, in their order: none is left, and no room. Takes no memory; what was kept for the classes is given back.
-    pub fn take_all(&mut self) -> Vec<StepRecord>
+    /// Takes the first record out: the others stay in their order. Takes no memory, and the time of `remove`.
+    pub fn take_first(&mut self) -> StepRecord
+        requires { 0 < length self.old.items }
+        ensures { self.old.items ≡ result ∷ self.new.items }
+    {
+        self.remove(0)
+    }
+
+    /// Takes all records out, in their order: none is left, and no room. Takes no memory.
+    pub fn take_all(&mut self) -> StepRecords
         ensures taken { result.items ≡ self.old.items }
         ensures items { self.new.items ≡ [] }
     {
-        let alloc = *self.records.allocator();
-        let all = mem::replace(self, StepRecords::new(alloc));
-        all.records
+        let alloc = self.records.allocator();
+        mem::replace(self, StepRecords::new(alloc))
     }
 
     /// The place of the first step of a name. Takes no memory; looks at the steps whose names have its hash.
     pub fn find(&self, name: &StepName) -> Option<usize>
         ensures { result ≡ position (λ r. is_same_step r.fact.name name.now) self.now.items }
     {
-        first_named(
-            self.records.as_slice(),
-            &self.names,
-            name_bucket(name),
-            name,
-        )
+        first_named(&self.records, &self.names, name_bucket(name), name)
     }
 
     /// The place of the earliest step that depends directly on the one at a place. Takes no memory. Looks, behind it, at the
@@ -179,8 +188,8 @@ impl StepRecords {
         requires { at < length self.now.items }
         ensures { (f : Kept) → slice_get self.now.items at ≡ Some f → IsFirstFrom (ConflictsAt self.now.items f) (needs f) self.now.items (at + 1) result }
     {
-        let records = self.records.as_slice();
-        let Some(access) = &records[at].fact.access else {
+        let records = &self.records;
+        let Some(access) = &records.get(at).fact.access else {
             return None;
         };
         match access.mode {
@@ -198,7 +207,7 @@ impl StepRecords {
         requires { at < length self.now.items }
         ensures { IfOk result (λ p. p ≡ plans.plan (map (λ r. r.fact) self.now.items) at) }
     {
-        plan_of(alloc, self.records.as_slice(), &self.execs, &self.keys, at)
+        plan_of(alloc, &self.records, &self.execs, &self.keys, at)
     }
 
     /// The earliest step that depends directly on the one at a place, of those that do so by their names.
@@ -206,8 +215,8 @@ impl StepRecords {
         requires { at < length self.now.items }
         ensures { (f : Kept) → slice_get self.now.items at ≡ Some f → IsFirstFrom (NeedsByName self.now.items f) (needs f) self.now.items (at + 1) result }
     {
-        let records = self.records.as_slice();
-        let fact = &records[at].fact;
+        let records = &self.records;
+        let fact = &records.get(at).fact;
         if makes_threads(fact.kind) {
             return first_needing(records, &self.execs, at);
         }

@@ -13,24 +13,24 @@ returns-then-not-is_marked-2-clause-places c g is =
     let places = found.places.items in
     let no_exec = ap₂ marked (sym c.as_slice.ensures.value) (sym c.class-exec.ensures) ∙ sym c.is_marked.ensures ∙ c.if-not-is_marked.true in
     let no_key = ap₂ marked (sym c.as_slice-then-not-is_marked.ensures.value) (sym c.class-key.ensures) ∙ sym c.is_marked-then-not-is_marked.ensures ∙ c.if-not-is_marked-2.true in
-    let none = unmarked c.args.records.now c.args.execs.now c.args.keys.now c.requires.run c.requires.keyed found.execs.items found.keys.items places c.requires.execs c.requires.keys c.args.place g is no_exec no_key in
+    let none = unmarked c.args.records.now.items c.args.execs.now c.args.keys.now c.requires.run c.requires.keyed found.execs.items found.keys.items places c.requires.execs c.requires.keys c.args.place g is no_exec no_key in
     sym (ap (λ b. cond b (places ++ c.args.place ∷ []) places) none)
 
 pub returns-then-not-depends_on_some-clause-places : goal.returns-then-not-depends_on_some-clause-places
 returns-then-not-depends_on_some-clause-places c g is =
-    let rs = c.args.records.now in
+    let rs = c.args.records.now.items in
     let places = c.args.found.now.places.items in
-    let own = get_or rs c.args.place c.index-records-place.result in
-    let same = same_Some own g (sym (slice_get-get_or rs c.args.place c.index-records-place.result c.requires.there) ∙ is) in
+    let own = c.get.result.now in
+    let same = same_Some own g (sym (c.get.ensures) ∙ is) in
     let told = ap₂ (λ (l : List ℕ) (r : StepRecord). depends_on_some (facts rs) l r.fact) (sym c.as_slice-2.ensures.value) (sym same) ∙ sym c.depends_on_some.ensures ∙ c.if-not-depends_on_some.true in
     sym (ap (λ b. cond b (places ++ c.args.place ∷ []) places) told)
 
 pub returns-clause-places : goal.returns-clause-places
 returns-clause-places c g is =
-    let rs = c.args.records.now in
+    let rs = c.args.records.now.items in
     let places = c.args.found.now.places.items in
-    let own = get_or rs c.args.place c.index-records-place.result in
-    let same = same_Some own g (sym (slice_get-get_or rs c.args.place c.index-records-place.result c.requires.there) ∙ is) in
+    let own = c.get.result.now in
+    let same = same_Some own g (sym (c.get.ensures) ∙ is) in
     let told = ap₂ (λ (l : List ℕ) (r : StepRecord). depends_on_some (facts rs) l r.fact) (sym c.as_slice-2.ensures.value) (sym same) ∙ sym c.depends_on_some.ensures ∙ c.if-not-depends_on_some.false in
     c.in_ok-push.ensures.items ∙ sym (ap (λ b. cond b (places ++ c.args.place ∷ []) places) told)
 

@@ -1,13 +1,17 @@
+use Rattle.std.proofs.Common.{◌<◌, arith, length}
 use Rattle.step_index.proofs.Listed.{there}
 use Rattle.step_index.proofs.Marked.{passed_on}
 use Rattle.step_index.proofs.plans.plan_of.Goals as goal
 
 pub loop-place-preserved : goal.loop-place-preserved
 loop-place-preserved c =
-    let rs = c.args.records.now in
+    let rs = c.args.records.now.items in
     let i = c.loop-place.place in
-    let g = there rs i c.loop-place-test.true in
-    let p = passed_on rs c.args.at i g.0 c.loop-place.found.places.items c.add_if_follows.new.found.places.items c.loop-place-test.true g.1 c.loop-place.invariant.within c.loop-place.invariant.all (c.in_ok-add_if_follows.ensures.places g.0 g.1) in
+    let test = c.loop-place-test.true in
+    let many = c.len-count.ensures in
+    let low : i < length rs = omega (arith, test, many) in
+    let g = there rs i low in
+    let p = passed_on rs c.args.at i g.0 c.loop-place.found.places.items c.add_if_follows.new.found.places.items low g.1 c.loop-place.invariant.within c.loop-place.invariant.all (c.in_ok-add_if_follows.ensures.places g.0 g.1) in
     record {
       all = p.all;
       within = p.within;

@@ -9,13 +9,13 @@ use Rattle.step_index.proofs.walks.first_named.Goals as goal
 
 pub loop-next-preserved : goal.loop-next-preserved
 loop-next-preserved c =
-    let rs = c.args.records.now in
+    let rs = c.args.records.now.items in
     let g = place_class c.args.names.now in
     let named = λ (r : StepRecord). is_same_step r.fact.name c.args.name.now in
     let within = subst (λ o. IfSome o (λ k. k < length rs)) c.in-Some.is c.loop-next.invariant.within in
-    let here = slice_get_read rs (length rs) c.in-Some.place c.index-records-place.result refl within c.index-records-place.is in
+    let here = c.get.ensures in
     let old = subst (λ o. IsPassed g c.args.class named rs 0 o) c.in-Some.is c.loop-next.invariant.passed in
     record {
       within = subst (λ n. IfSome c.next-next.result (λ k. k < n)) c.requires c.next-next.ensures.within;
-      passed = went_on g c.args.class named rs 0 c.in-Some.place old c.index-records-place.result here (sym c.is_of_name.ensures ∙ c.if-is_of_name.false) c.next-next.result (c.next-next.ensures.member c.args.class old.here.0);
+      passed = went_on g c.args.class named rs 0 c.in-Some.place old c.get.result.now here (sym c.is_of_name.ensures ∙ c.if-is_of_name.false) c.next-next.result (c.next-next.ensures.member c.args.class old.here.0);
     }

@@ -10,25 +10,25 @@ use Rattle.step_index.proofs.walks.first_needing.Goals as goal
 
 pub returns-then-depends-clause-member : goal.returns-then-depends-clause-member
 returns-then-depends-clause-member c class f is h =
-    let rs = c.args.records.now in
+    let rs = c.args.records.now.items in
     let g = place_class c.args.steps.now in
-    let own = get_or rs c.args.at c.index-records-at.result in
-    let x = get_or rs c.in-Some.place c.index-records-place.result in
-    let same = same_Some own f (sym (slice_get-get_or rs c.args.at c.index-records-at.result c.requires.there) ∙ h) in
+    let own = c.get.result.now in
+    let x = c.get-in-Some.result.now in
+    let same = same_Some own f (sym (c.get.ensures) ∙ h) in
     let within = subst (λ o. IfSome o (λ k. k < length rs)) c.in-Some.is c.loop-next.invariant.within in
-    let here = slice_get-get_or rs c.in-Some.place c.index-records-place.result within in
+    let here = c.get-in-Some.ensures in
     let old = subst (λ o. IsPassed g class (needs f) rs (c.args.at + 1) o) c.in-Some.is (c.loop-next.invariant.member class f is h) in
     stopped g class (needs f) rs (c.args.at + 1) c.in-Some.place old x here (ap (λ (y : StepRecord). depends_directly y.fact x.fact) (sym same) ∙ sym c.depends.ensures ∙ c.if-depends.true)
 
 pub loop-next-preserved : goal.loop-next-preserved
 loop-next-preserved c =
-    let rs = c.args.records.now in
+    let rs = c.args.records.now.items in
     let g = place_class c.args.steps.now in
-    let own = get_or rs c.args.at c.index-records-at.result in
-    let x = get_or rs c.in-Some.place c.index-records-place.result in
-    let here_own = slice_get-get_or rs c.args.at c.index-records-at.result c.requires.there in
+    let own = c.get.result.now in
+    let x = c.get-in-Some.result.now in
+    let here_own = c.get.ensures in
     let within = subst (λ o. IfSome o (λ k. k < length rs)) c.in-Some.is c.loop-next.invariant.within in
-    let here = slice_get-get_or rs c.in-Some.place c.index-records-place.result within in
+    let here = c.get-in-Some.ensures in
     record {
       within = subst (λ n. IfSome c.next-next-in-Some.result (λ k. k < n)) c.requires.alike c.next-next-in-Some.ensures.within;
       member = λ class f is h.
@@ -41,6 +41,6 @@ loop-next-preserved c =
 
 pub returns-clause-member : goal.returns-clause-member
 returns-clause-member c class f is h =
-    let rs = c.args.records.now in
+    let rs = c.args.records.now.items in
     let g = place_class c.args.steps.now in
     ended g class (needs f) rs (c.args.at + 1) (subst (λ o. IsPassed g class (needs f) rs (c.args.at + 1) o) c.in_default.is (c.loop-next.invariant.member class f is h))

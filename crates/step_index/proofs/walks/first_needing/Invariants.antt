@@ -8,10 +8,10 @@ use Rattle.step_index.proofs.walks.first_needing.Given as goal
 
 abbrev pub invariant-loop-next : goal.invariant-loop-next
 invariant-loop-next l = record {
-  within : IfSome l.next (λ k. k < length l.records);
-  member : (c : ℕ) (f : StepRecord) → place_class l.steps l.at ≡ Some c → slice_get l.records l.at ≡ Some f → IsPassed (place_class l.steps) c (needs f) l.records (l.at + 1) l.next;
+  within : IfSome l.next (λ k. k < length l.records.items);
+  member : (c : ℕ) (f : StepRecord) → place_class l.steps l.at ≡ Some c → slice_get l.records.items l.at ≡ Some f → IsPassed (place_class l.steps) c (needs f) l.records.items (l.at + 1) l.next;
   none : place_class l.steps l.at ≡ None → l.next ≡ None;
 }
 
 abbrev pub decreases-loop-next : goal.decreases-loop-next
-decreases-loop-next l = ahead (length l.records) l.next
+decreases-loop-next l = ahead (length l.records.items) l.next

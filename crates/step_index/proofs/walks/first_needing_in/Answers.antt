@@ -9,7 +9,7 @@ use Rattle.step_index.proofs.walks.first_needing_in.Goals as goal
 
 pub returns-then-place-at : goal.returns-then-place-at
 returns-then-place-at c f h =
-    let rs = c.args.records.now in
+    let rs = c.args.records.now.items in
     let g = place_class c.args.steps.now in
     let low = c.args.at + 1 in
     let old = subst (λ o. IsSought g c.args.class (needs f) rs low c.loop-last.found o) c.in-Some.is (c.loop-last.invariant.sought f h) in
@@ -18,7 +18,7 @@ returns-then-place-at c f h =
 
 pub loop-last-preserved : goal.loop-last-preserved
 loop-last-preserved c =
-    let rs = c.args.records.now in
+    let rs = c.args.records.now.items in
     let g = place_class c.args.steps.now in
     let low = c.args.at + 1 in
     let within = subst (λ o. IfSome o (λ k. k < length rs)) c.in-Some.is c.loop-last.invariant.within in
@@ -34,7 +34,7 @@ loop-last-preserved c =
 
 pub returns : goal.returns
 returns c f h =
-    let rs = c.args.records.now in
+    let rs = c.args.records.now.items in
     let g = place_class c.args.steps.now in
     let low = c.args.at + 1 in
     came_back g c.args.class (needs f) rs low c.loop-last.found (subst (λ o. IsSought g c.args.class (needs f) rs low c.loop-last.found o) c.in_default.is (c.loop-last.invariant.sought f h))

@@ -8,8 +8,8 @@ use Rattle.step_index.proofs.walks.first_needing_in.Given as goal
 
 abbrev pub invariant-loop-last : goal.invariant-loop-last
 invariant-loop-last l = record {
-  within : IfSome l.last (λ k. k < length l.records);
-  sought : (f : StepRecord) → slice_get l.records l.at ≡ Some f → IsSought (place_class l.steps) l.class (needs f) l.records (l.at + 1) l.found l.last;
+  within : IfSome l.last (λ k. k < length l.records.items);
+  sought : (f : StepRecord) → slice_get l.records.items l.at ≡ Some f → IsSought (place_class l.steps) l.class (needs f) l.records.items (l.at + 1) l.found l.last;
 }
 
 abbrev pub decreases-loop-last : goal.decreases-loop-last

@@ -3,7 +3,7 @@ use Rattle.sqlite.specs.Held.{state}
 use Rattle.book_journal.specs.Entries.{texts}
 use Rattle.journaled_book.specs.Changes.{AppendsAll}
 use Rattle.journaled_book.specs.Journaled.{GoesOnBy, Journaled, story_of}
-use Rattle.journaled_book.proofs.Kept.{all_added}
+use Rattle.journaled_book.proofs.Kept.{all_added, all_refused}
 use Rattle.journaled_book.proofs.away.AwayBook.append.Goals as goal
 
 pub invariant_of-result : goal.invariant_of-result
@@ -18,6 +18,18 @@ invariant_of-result g c =
       crash = c.in-Ok.ensures.crash;
       survives = c.in-Ok.ensures.survives;
       at_rest = c.in-Ok.ensures.at_rest;
+    })
+
+pub invariant_of-result-in-Err : goal.invariant_of-result-in-Err
+invariant_of-result-in-Err g c =
+    let old = state g.S.Store c.self.inside.journal in
+    let new = state g.S.Store c.append.new.self in
+    all_refused {T = Unit {0}} {E = Unit {0}} old new (texts c.args.lines.now) tt (Some c.self.inside.was.value.story) c.self.invariant (record {
+      ok = λ clean. tt;
+      err = λ clean. c.in-Err.ensures.err clean;
+      crash = c.in-Err.ensures.crash;
+      survives = c.in-Err.ensures.survives;
+      at_rest = c.in-Err.ensures.at_rest;
     })
 
 pub returns-in-Ok-clause-journal : goal.returns-in-Ok-clause-journal

@@ -1,5 +1,5 @@
 use Rattle.std.proofs.Common.{◌≡◌, ◌∙◌, arith, length, refl, ap, sym, subst, true, false, Some, None}
-use Rattle.std.proofs.lemmas.Option.{slice_get_read, slice_get_within}
+use Rattle.std.proofs.lemmas.Option.{slice_get_within}
 use Rattle.saved_steps.specs.Made.{fact_made}
 use Rattle.saved_steps.specs.declared.record.StepRecord.{StepRecord}
 use Rattle.book_log.specs.Answers.{needed_left}
@@ -15,18 +15,8 @@ returns-in_default c =
     let free = subst (λ (b : Volume). HasRoomUnlessHeld b.story) (sym c.self.view_is) c.requires in
     subst (λ (b : Volume). MayEnter b.story (fact_made c.args.step.now)) c.self.view_is (unheld_may b c.self.invariant (fact_made c.args.step.now) c.in_default.is free)
 
-pub offset_bounds-records-place : goal.offset_bounds-records-place
-offset_bounds-records-place c =
-    let b = volume c.self.inside.begin c.self.inside.machines c.self.inside.history c.self.inside.log c.self.inside.settled c.self.inside.held in
-    let is = subst (λ o. IsHoldOf b.story b.history.records.items o) c.in-Some.is c.self.invariant.held in
-    let found = rw c.records.ensures at c.in_ok-place.ensures in
-    let r = needed_there b c.self.invariant c.in-Some.hold (fact_made c.args.step.now) is c.in_ok-place.field-0 c.in-Some-2.place found c.in-Some-2.is in
-    let within = slice_get_within b.history.records.items c.in-Some-2.place r.0 r.1 in
-    let few = c.self.invariant.few in
-    omega (arith, within, few)
-
-pub bounds-records-place : goal.bounds-records-place
-bounds-records-place c =
+pub get-needed-requires : goal.get-needed-requires
+get-needed-requires c =
     let b = volume c.self.inside.begin c.self.inside.machines c.self.inside.history c.self.inside.log c.self.inside.settled c.self.inside.held in
     let is = subst (λ o. IsHoldOf b.story b.history.records.items o) c.in-Some.is c.self.invariant.held in
     let found = rw c.records.ensures at c.in_ok-place.ensures in
@@ -41,15 +31,11 @@ returns-in-Some-2 c =
     let f = fact_made c.args.step.now in
     let is = subst (λ o. IsHoldOf b.story b.history.records.items o) c.in-Some.is c.self.invariant.held in
     let found = rw c.records.ensures at c.in_ok-place.ensures in
-    let at = c.in-Some-2.place in
-    let there = needed_there b c.self.invariant c.in-Some.hold f is c.in_ok-place.field-0 at found c.in-Some-2.is in
-    let within = slice_get_within b.history.records.items at there.0 there.1 in
-    let r = c.index-records-place.result in
-    let rs = c.self.inside.history.records.items in
-    let here = slice_get_read rs (length rs) at r refl within (rw c.records-in-Some-2.ensures at c.index-records-place.is) in (
+    let r = c.get-needed.result.now in
+    let here = rw c.records-in-Some-2.ensures at c.get-needed.ensures in (
       r.fact,
-      subst (λ (b : Volume). needed_left b.story f ≡ Some r.fact) c.self.view_is (one_needed b c.self.invariant c.in-Some.hold f is c.in_ok-place.field-0 at r found c.in-Some-2.is here),
-      c.in_ok-copy.ensures ∙ ap (λ (x : StepRecord). x.fact.name) (sym c.index-records-place.is),
+      subst (λ (b : Volume). needed_left b.story f ≡ Some r.fact) c.self.view_is (one_needed b c.self.invariant c.in-Some.hold f is c.in_ok-place.field-0 c.in-Some-2.place r found c.in-Some-2.is here),
+      c.in_ok-copy.ensures,
     )
 
 pub returns-then-is_full : goal.returns-then-is_full

@@ -1,5 +1,4 @@
 use Rattle.std.proofs.Common.{◌≡◌, arith, refl, ◌∙◌, ap, sym, subst, length, Err}
-use Rattle.std.proofs.lemmas.Option.{slice_get_read}
 use Rattle.step_names.specs.declared.step.StepName.{StepName}
 use Rattle.book_log.specs.Answers.{absent, undo_answer}
 use Rattle.book_log.specs.declared.refusal.Refusal.TheVariants.{HasDependents}
@@ -19,25 +18,16 @@ returns-in_default-first_dependent c = (
       (free_place _ c.self.invariant c.args.room.step c.in-Some.at (sym c.in-Some.ensures) (sym c.in_default-first_dependent.ensures)),
 )
 
-pub offset_bounds-records-dependent : goal.offset_bounds-records-dependent
-offset_bounds-records-dependent c =
-    let w = dependent_within _ c.self.invariant c.args.room.step c.in-Some.at (sym c.in-Some.ensures) c.in-Some-first_dependent.dependent (sym c.in-Some-first_dependent.ensures) in
-    let few = c.self.invariant.few in
-    omega (arith, w, few)
-
-pub bounds-records-dependent : goal.bounds-records-dependent
-bounds-records-dependent c =
+pub get-needing-requires : goal.get-needing-requires
+get-needing-requires c =
     let w = dependent_within _ c.self.invariant c.args.room.step c.in-Some.at (sym c.in-Some.ensures) c.in-Some-first_dependent.dependent (sym c.in-Some-first_dependent.ensures) in
     let n = ap length c.records.ensures in
     omega (arith, w, n)
 
 pub returns : goal.returns
 returns c =
-    let rs = c.self.inside.history.records.items in
     let at = c.in-Some-first_dependent.dependent in
-    let r = c.index-records-dependent.result in
-    let w = dependent_within _ c.self.invariant c.args.room.step c.in-Some.at (sym c.in-Some.ensures) at (sym c.in-Some-first_dependent.ensures) in
-    let here = rw c.records.ensures at c.index-records-dependent.is in
+    let here = rw c.records.ensures at c.get-needing.ensures in
     subst (λ (b : Volume). undo_answer b.story c.args.room.step ≡ Err (HasDependents c.step.result)) c.self.view_is
-    (dependent_answer _ c.self.invariant c.args.room.step c.in-Some.at (sym c.in-Some.ensures) at r (sym c.in-Some-first_dependent.ensures) (slice_get_read rs (length rs) at r refl w here)
+    (dependent_answer _ c.self.invariant c.args.room.step c.in-Some.at (sym c.in-Some.ensures) at c.get-needing.result.now (sym c.in-Some-first_dependent.ensures) here
     ∙ ap (λ (n : StepName). Err (HasDependents n)) (sym c.step.ensures))

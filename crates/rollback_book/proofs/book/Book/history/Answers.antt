@@ -8,5 +8,5 @@ use Rattle.rollback_book.proofs.book.Book.history.Goals as goal
 
 pub returns-clause-names : goal.returns-clause-names
 returns-clause-names c =
-    subst (λ (b : Volume). map (λ (r : StepRecord). r.fact.name) c.records.result.now ≡ map name_of (remaining b.story)) c.self.view_is
+    subst (λ (b : Volume). map (λ (r : StepRecord). r.fact.name) c.records.result.now.items ≡ map name_of (remaining b.story)) c.self.view_is
     (ap (map (λ (r : StepRecord). r.fact.name)) c.records.ensures ∙ names_are _ c.self.invariant)

@@ -1,6 +1,4 @@
-use Rattle.std.proofs.Common.{◌≡◌, ◌∙◌, arith, length, refl, ap, subst, sym, None, Some}
-use Rattle.std.proofs.lemmas.Option.{slice_get_read}
-use Rattle.saved_steps.specs.declared.record.StepRecord.{StepRecord}
+use Rattle.std.proofs.Common.{arith, length, ap, subst, None, Some}
 use Rattle.book_log.proofs.HoldSaid.{nothing_left}
 use Rattle.rollback_book.specs.Book.{Volume, volume}
 use Rattle.rollback_book.specs.Calls.{IsLatestLeft}
@@ -14,16 +12,8 @@ returns-in_default c =
     let is = subst (λ o. IsHoldOf b.story b.history.records.items o) c.in_default.is c.self.invariant.held in
     subst (λ (b : Volume). IsLatestLeft b.story None) c.self.view_is (nothing_left b.story is)
 
-pub offset_bounds-records-place : goal.offset_bounds-records-place
-offset_bounds-records-place c =
-    let b = volume c.self.inside.begin c.self.inside.machines c.self.inside.history c.self.inside.log c.self.inside.settled c.self.inside.held in
-    let is = subst (λ o. IsHoldOf b.story b.history.records.items o) c.in-Some.is c.self.invariant.held in
-    let within = last_within b c.self.invariant c.in-Some.hold is c.last.result c.in-Some-last.place c.last.ensures c.in-Some-last.is in
-    let few = c.self.invariant.few in
-    omega (arith, within, few)
-
-pub bounds-records-place : goal.bounds-records-place
-bounds-records-place c =
+pub get-requires : goal.get-requires
+get-requires c =
     let b = volume c.self.inside.begin c.self.inside.machines c.self.inside.history c.self.inside.log c.self.inside.settled c.self.inside.held in
     let is = subst (λ o. IsHoldOf b.story b.history.records.items o) c.in-Some.is c.self.invariant.held in
     let within = last_within b c.self.invariant c.in-Some.hold is c.last.result c.in-Some-last.place c.last.ensures c.in-Some-last.is in
@@ -34,13 +24,9 @@ pub returns-in-Some-last : goal.returns-in-Some-last
 returns-in-Some-last c =
     let b = volume c.self.inside.begin c.self.inside.machines c.self.inside.history c.self.inside.log c.self.inside.settled c.self.inside.held in
     let is = subst (λ o. IsHoldOf b.story b.history.records.items o) c.in-Some.is c.self.invariant.held in
-    let at = c.in-Some-last.place in
-    let within = last_within b c.self.invariant c.in-Some.hold is c.last.result at c.last.ensures c.in-Some-last.is in
-    let r = c.index-records-place.result in
-    let rs = c.self.inside.history.records.items in
-    let here = slice_get_read rs (length rs) at r refl within (rw c.records.ensures at c.index-records-place.is) in
-    subst (λ (x : StepRecord). IsLatestLeft c.args.self.now.story (Some x.fact.name)) c.index-records-place.is
-    (subst (λ (b : Volume). IsLatestLeft b.story (Some r.fact.name)) c.self.view_is (last_is b c.self.invariant c.in-Some.hold is c.last.result at r c.last.ensures c.in-Some-last.is here))
+    let r = c.get.result.now in
+    let here = rw c.records.ensures at c.get.ensures in
+    subst (λ (b : Volume). IsLatestLeft b.story (Some r.fact.name)) c.self.view_is (last_is b c.self.invariant c.in-Some.hold is c.last.result c.in-Some-last.place r c.last.ensures c.in-Some-last.is here)
 
 pub returns-in-None : goal.returns-in-None
 returns-in-None c =

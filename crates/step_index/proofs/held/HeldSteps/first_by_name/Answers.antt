@@ -7,15 +7,15 @@ use Rattle.step_index.proofs.held.HeldSteps.first_by_name.Goals as goal
 pub first_needed_in-requires : goal.first_needed_in-requires
 first_needed_in-requires c =
     let l = rw (← c.self.view_is) at c.requires in
-    ap length l.run ∙ as_many_classes by_exec _ c.args.records.now l.many
+    ap length l.run ∙ as_many_classes by_exec _ c.args.records.now.items l.many
 
 pub returns-clause-first : goal.returns-clause-first
 returns-clause-first c =
     let l = rw (← c.self.view_is) at c.requires in
     rw (← c.self.view_is)
-    (first_by_name c.args.records.now _ l c.args.fact.now c.exec_bucket-class.result c.first_needed_in.result (c.exec_bucket-class.ensures.bucket ∙ ap exec_bucket c.exec.ensures.exec) c.first_needed_in.ensures.first)
+    (first_by_name c.args.records.now.items _ l c.args.fact.now c.exec_bucket-class.result c.first_needed_in.result (c.exec_bucket-class.ensures.bucket ∙ ap exec_bucket c.exec.ensures.exec) c.first_needed_in.ensures.first)
 
 pub returns-clause-left : goal.returns-clause-left
 returns-clause-left c =
     let l = rw (← c.self.view_is) at c.requires in
-    rw (← c.self.view_is) (is_left c.args.records.now _ l by_exec c.self.inside.execs.classes l.run c.exec_bucket-class.result c.first_needed_in.result c.first_needed_in.ensures.member)
+    rw (← c.self.view_is) (is_left c.args.records.now.items _ l by_exec c.self.inside.execs.classes l.run c.exec_bucket-class.result c.first_needed_in.result c.first_needed_in.ensures.member)

@@ -9,18 +9,18 @@ use Rattle.step_index.proofs.held.HeldSteps.first_in_threads.Goals as goal
 
 pub loop-depth-init : goal.loop-depth-init
 loop-depth-init c = record {
-  first = none_along c.args.records.now c.args.self.now c.args.fact.now;
+  first = none_along c.args.records.now.items c.args.self.now c.args.fact.now;
   left = tt;
 }
 
 pub first_needed_in-here-requires : goal.first_needed_in-here-requires
 first_needed_in-here-requires c =
     let l = rw (← c.self.view_is) at c.requires.beside in
-    ap length l.homed ∙ as_many_classes by_home _ c.args.records.now l.many
+    ap length l.homed ∙ as_many_classes by_home _ c.args.records.now.items l.many
 
 pub loop-depth-preserved : goal.loop-depth-preserved
 loop-depth-preserved c =
-    let rs = c.args.records.now in
+    let rs = c.args.records.now.items in
     let h = c.args.self.now in
     let later = c.args.fact.now in
     let class = c.bucket_above-class.result in
@@ -36,7 +36,7 @@ loop-depth-preserved c =
 
 pub returns-clause-first : goal.returns-clause-first
 returns-clause-first c =
-    let rs = c.args.records.now in
+    let rs = c.args.records.now.items in
     let h = c.args.self.now in
     let later = c.args.fact.now in
     let path = ap length c.path.ensures.path in

@@ -7,6 +7,6 @@ use Rattle.step_index.proofs.held.HeldSteps.first_in_threads.Given as goal
 -- the first in the classes of the threads above that were passed
 abbrev pub invariant-loop-depth : goal.invariant-loop-depth
 invariant-loop-depth l = record {
-  first : IsFirstFrom (Along l.self l.fact l.depth) (needed_by l.fact) l.records 0 l.found;
+  first : IsFirstFrom (Along l.self l.fact l.depth) (needed_by l.fact) l.records.items 0 l.found;
   left : IfSome l.found (IsLeftAt l.self);
 }

@@ -7,7 +7,7 @@ use Rattle.step_index.proofs.held.HeldSteps.first_needed.Goals as goal
 
 pub returns-clause-first : goal.returns-clause-first
 returns-clause-first c =
-    let rs = c.args.records.now in
+    let rs = c.args.records.now.items in
     let h = c.args.self.now in
     let later = c.args.fact.now in
     subst (λ r. IsFirstFrom (IsLeftAt h) (needed_by later) rs 0 r) (sym c.earlier.ensures)

@@ -6,5 +6,5 @@ use Rattle.step_index.proofs.held.HeldSteps.of_plan.Given as goal
 abbrev pub invariant-loop-place : goal.invariant-loop-place
 invariant-loop-place l = record {
   marks : l.held.marks ≡ take l.place l.marks.items;
-  left : AreLeft (take l.place l.records) l.held;
+  left : AreLeft (take l.place l.records.items) l.held;
 }

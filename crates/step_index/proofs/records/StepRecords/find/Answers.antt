@@ -7,5 +7,5 @@ use Rattle.step_index.proofs.records.StepRecords.find.Goals as goal
 pub returns : goal.returns
 returns c =
     let i = c.self.inside in
-    let found = subst (λ l. IsFirstFrom (InClass i.names c.name_bucket.result) (λ r. is_same_step r.fact.name c.args.name.now) l 0 c.first_named.result) c.as_slice.ensures.value c.first_named.ensures in
+    let found = c.first_named.ensures in
     rw (← c.self.view_is) (found_by_name i.records.items i.names i.threads i.execs i.gates i.keys i.writes c.self.invariant c.args.name.now c.name_bucket.result c.first_named.result c.name_bucket.ensures.bucket found)

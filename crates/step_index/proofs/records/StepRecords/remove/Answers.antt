@@ -20,6 +20,4 @@ invariant_of-self c =
 
 pub returns-clause-taken : goal.returns-clause-taken
 returns-clause-taken c =
-    let rs = c.self.inside.records.items in
-    let low : c.args.at < length rs = rw (← c.self.view_is) at c.requires in
-    rw (← c.self.view_is) (slice_get_read rs (length rs) c.args.at c.remove-7.result refl low c.remove-7.ensures.value)
+    rw (← c.self.view_is) c.remove-7.ensures.value
