@@ -29,7 +29,7 @@ use Rattle.rollback_book.proofs.Ticketed.{memory_alone}
 use Rattle.shared_book.specs.Numbers.{IsForeign, IsKnown, last_of}
 use Rattle.shared_book.specs.Away.{Away, is_among}
 use Rattle.shared_book.specs.Views.{PassView, Extends, IsCounted}
-use Rattle.shared_book.specs.Calls.{GivesReceipt, IsCause, IsNotAdmitted, IsRefusedFor, MaySee}
+use Rattle.shared_book.specs.Calls.{GivesAfter, GivesReceipt, IsCause, IsNotAdmitted, IsRefusedFor, MaySee}
 use Rattle.shared_book.specs.Claims.{IsClaim, IsFree, thread_of}
 use Rattle.shared_book.specs.Commits.{GivesTurn}
 use Rattle.shared_book.specs.declared.receipt.Receipt.{Receipt}
@@ -53,6 +53,16 @@ given begun before entries had e kept told n items goes is legal may known numbe
       number = number ∙ ap (λ (l : List Entry). length l + 1) is;
       now = ap (λ (l : List Receipt). record { seen = n; receipts = l; parts = had.parts }) (now ∙ ap (λ (x : Entry). had.receipts ++ record { number = n; entry = x } ∷ []) (kept_is ∙ sym told_is));
     }
+
+-- and the log before it is this one
+pub given_after : (begun before : Story) (entries : List Entry) (had : PassView) (e kept told : Entry) (n : ℕ) (items : List Receipt)
+    → Extends begun before → entries ≡ before.log → IsLegal before → IsAccepted before e
+    → IsKnown entries had.seen (last_of had.receipts) → n ≡ length entries + 1
+    → kept ≡ e → told ≡ e → items ≡ had.receipts ++ record { number = n; entry = kept } ∷ []
+    → GivesAfter begun before had (record { seen = n; receipts = items; parts = had.parts }) (record { number = n; entry = told })
+unfolding given
+given_after begun before entries had e kept told n items goes is legal may known number kept_is told_is now =
+    (given begun before entries had e kept told n items goes is legal may known number kept_is told_is now, refl)
 
 -- the same of a turn that was still its thread's
 pub given_turn : (begun before : Story) (entries : List Entry) (had : PassView) (e kept told : Entry) (n : ℕ) (items : List Receipt) (t : Thread) (p : Prepared)

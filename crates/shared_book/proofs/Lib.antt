@@ -3,3 +3,4 @@ pub mod Marking
 pub mod Answering
 pub mod Passing
 pub mod HeldBack
+pub mod Latest

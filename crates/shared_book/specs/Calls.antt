@@ -5,11 +5,13 @@ use Rattle.step_names.specs.Thread.{Thread}
 use Rattle.step_names.specs.declared.step.StepName.{StepName}
 use Rattle.rollback_book.specs.Frame.{Frame}
 use Rattle.book_log.specs.Legal.{IsLegal}
-use Rattle.book_log.specs.Story.{Story, accepted, world_of}
+use Rattle.rollback_book.specs.Calls.{IsLatestLeft}
+use Rattle.book_log.specs.Answers.{undo_answer}
+use Rattle.book_log.specs.Story.{Story, accepted, left_of, world_of}
 use Rattle.book_log.specs.declared.entry.Entry.{Entry}
-use Rattle.book_log.specs.declared.entry.Entry.TheVariants.{Step as Stepped, Rollback, Hold}
+use Rattle.book_log.specs.declared.entry.Entry.TheVariants.{Step as Stepped, Undo, Rollback, Hold}
 use Rattle.book_log.specs.declared.refusal.Refusal.{Refusal}
-use Rattle.book_log.specs.declared.refusal.Refusal.TheVariants.{Held, Memory, NoThread}
+use Rattle.book_log.specs.declared.refusal.Refusal.TheVariants.{Held, Memory, NoStep, NoThread}
 use Rattle.shared_book.specs.Numbers.{IsForeign, IsKnown, last_of}
 use Rattle.shared_book.specs.Away.{passed_by}
 use Rattle.shared_book.specs.Views.{DeskView, PassView, Extends, with_claims}
@@ -26,6 +28,10 @@ pub record GivesReceipt (begun : Story) (had has : PassView) (r : Receipt) : Typ
   pub known : IsKnown before.log had.seen (last_of had.receipts)
   pub number : r.number ≡ length before.log + 1
   pub now : has ≡ record { seen = r.number; receipts = had.receipts ++ r ∷ []; parts = had.parts }
+
+-- so, and the log before the receipt's entry is this one
+abbrev pub GivesAfter : Story → Story → PassView → PassView → Receipt → Type 0
+GivesAfter begun at had has r = (given : GivesReceipt begun had has r) × (given.before ≡ at)
 
 -- a legal log that the pass can have seen
 pub record MaySee (begun : Story) (had : PassView) (at : Story) : Type 0 where
@@ -98,6 +104,25 @@ IsHoldOf step _ = ⊥
 abbrev pub IsRollbackOf : StepName → Entry → Type 0
 IsRollbackOf step (Rollback name undone) = name ≡ step
 IsRollbackOf step _ = ⊥
+
+-- ---- what is left of a hold
+
+-- the undoing of the latest step that is left
+abbrev pub IsLatestUndone : Story → Entry → Type 0
+IsLatestUndone at (Undo name) = IsLatestLeft at (Some name)
+IsLatestUndone at _ = ⊥
+
+-- a receipt as of every call, whose entry takes back the latest step that was left before it
+abbrev pub GivesLatest : Story → PassView → PassView → Receipt → Type 0
+GivesLatest begun had has r = (given : GivesReceipt begun had has r) × IsLatestUndone given.before r.entry
+
+-- for memory, or since nothing is left at a log that the pass can have seen
+abbrev pub IsLatestCause : Story → PassView → Refusal → Type 0
+IsLatestCause begun had e = (e ≡ Memory) ⊎ ((e ≡ NoStep) × ((at : Story) × MaySee begun had at × (left_of at ≡ [])))
+
+-- an undoing is refused for memory, or as the log has it at this log
+abbrev pub IsUndoCause : Story → StepName → Refusal → Type 0
+IsUndoCause at step e = (e ≡ Memory) ⊎ (undo_answer at step ≡ Err e)
 
 -- ---- frames
 

@@ -5,10 +5,10 @@ ghost use Rattle.json_tree.specs.Data.{depth, most_levels};
 ghost use Rattle.json_tree.specs.View.{data_of};
 ghost use Rattle.book_log.specs.Answers.{hold_answer, plan_answer, start_answer, step_answer, undo_answer};
 ghost use Rattle.shared_book.specs.Away.{WasRefused};
-ghost use Rattle.shared_book.specs.Calls.{GivesReceipt, IsHoldOf, IsRefused, IsRollbackOf, IsStepOf, after_refusal, is_held};
+ghost use Rattle.shared_book.specs.Calls.{GivesAfter, GivesLatest, GivesReceipt, IsHoldOf, IsLatestCause, IsRefused, IsRefusedFor, IsRollbackOf, IsStepOf, IsUndoCause, after_refusal, is_held};
 ghost use Rattle.shared_book.specs.Views.{with_entry, with_undoing};
 
-use crate::admitting::admit;
+use crate::admitting::{admit, known, turned_away};
 use crate::copies::copy_names;
 use crate::desk::Desk;
 use crate::pass::Pass;
@@ -129,9 +129,11 @@ impl<B: Events, L: Sharing> Desk<B, L> {
         step: &StepName,
     ) -> Result<Receipt, SharedRefusal>
         ensures receipt { IfOk result (GivesReceipt L.begun pass.old pass.new) }
+        ensures after { IfOk result (GivesAfter L.begun self.old.story pass.old pass.new) }
         ensures entry { IfOk result (λ r. r.entry ≡ Entry.Undo step.now) }
         ensures log { IfOk result (λ r. self.new ≡ with_undoing self.old r.entry) }
         ensures err { IfErr result (λ e. IsRefused L.begun (λ at. undo_answer at step.now) pass.old e × (pass.new ≡ pass.old) × (self.new ≡ self.old)) }
+        ensures cause { IfErr result (IsRefusedFor L.begun pass.old (IsUndoCause self.old.story step.now)) }
     {
         let (_, entries) = self.book.entries();
         let number = admit(entries, pass.seen, &mut pass.receipts)?;
@@ -159,6 +161,30 @@ impl<B: Events, L: Sharing> Desk<B, L> {
             number,
             entry: told,
         })
+    }
+
+    pub(crate) fn undo_held(
+        &mut self,
+        alloc: Global,
+        pass: &mut Pass<L>,
+    ) -> Result<Receipt, SharedRefusal>
+        ensures receipt { IfOk result (GivesLatest L.begun pass.old pass.new) }
+        ensures log { IfOk result (λ r. self.new ≡ with_undoing self.old r.entry) }
+        ensures err { IfErr result (λ e. IsRefusedFor L.begun pass.old (IsLatestCause L.begun pass.old) e × (pass.new ≡ pass.old) × (self.new ≡ self.old)) }
+    {
+        let (_, entries) = self.book.entries();
+        if let Err(foreign) = known(entries, pass.seen, pass.receipts.last()) {
+            return Err(turned_away(foreign));
+        }
+        let Some(last) = self.book.last_left() else {
+            return Err(SharedRefusal::Refused(Refusal::NoStep));
+        };
+        let Ok(step) = last.copy() else {
+            return Err(SharedRefusal::Refused(Refusal::Memory));
+        };
+        let answer = self.undo(alloc, pass, &step);
+        drop(step);
+        answer
     }
 
     pub(crate) fn rollback(

@@ -7,7 +7,7 @@ ghost use Rattle.book_log.specs.Legal.{IsLegal};
 ghost use Rattle.book_log.specs.Story.{left_of};
 ghost use Rattle.book_log.specs.declared.refusal.Refusal.TheVariants.{Memory};
 ghost use Rattle.shared_book.specs.Away.{AreAway, Away};
-ghost use Rattle.shared_book.specs.Calls.{GivesReceipt, IsHoldOf, IsRefused, IsRefusedFor, IsRollbackOf, IsShown, IsStepOf, frame_answer};
+ghost use Rattle.shared_book.specs.Calls.{GivesLatest, GivesReceipt, IsHoldOf, IsLatestCause, IsRefused, IsRefusedFor, IsRollbackOf, IsShown, IsStepOf, frame_answer};
 ghost use Rattle.shared_book.specs.Claims.{IsClaim, IsOffer};
 ghost use Rattle.shared_book.specs.Commits.{GivesTurn, IsNotTaken};
 ghost use Rattle.shared_book.specs.Views.{Extends};
@@ -173,6 +173,24 @@ impl<B: Events, L: Sharing> Shared<B, L> {
         ensures err { IfErr result (λ e. IsRefused L.begun (λ at. hold_answer at step.now) pass.old e × (pass.new ≡ pass.old)) }
     {
         self.desk.lock(rt).hold(alloc, pass, step)
+    }
+
+    /// Takes back the latest step that is left of a hold, on which none that remains depends. So callers share a long rollback: each
+    /// undoing is one caller's, and the hold is over when none is left. Takes what the book's calls take, and memory for three names.
+    ///
+    /// # Errors
+    ///
+    /// `ForeignPass`; `NoStep`, where nothing is left; and `Memory`.
+    pub fn undo_held(
+        &self,
+        rt: &impl Wait,
+        alloc: Global,
+        pass: &mut Pass<L>,
+    ) -> Result<Receipt, SharedRefusal>
+        ensures receipt { IfOk result (GivesLatest L.begun pass.old pass.new) }
+        ensures err { IfErr result (λ e. IsRefusedFor L.begun pass.old (IsLatestCause L.begun pass.old) e × (pass.new ≡ pass.old)) }
+    {
+        self.desk.lock(rt).undo_held(alloc, pass)
     }
 
     /// How many steps are left of a hold, and how many entries there were, at least as many as the pass had seen.

@@ -8,4 +8,6 @@ mod passes;
 #[cfg(test)]
 mod turns;
 #[cfg(test)]
+mod undoings;
+#[cfg(test)]
 mod workers;

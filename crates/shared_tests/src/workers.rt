@@ -18,7 +18,8 @@ use step_names::{StepName, ThreadName};
 use step_workers::{Gate, OpenGate, Outcome, Stopped, work};
 
 /// A fork of two branches of two steps each.
-const FORK: &str = r#"{"StartAt":"F","States":{"F":{"Type":"Parallel","End":true,"Branches":[
+pub(crate) const FORK: &str =
+    r#"{"StartAt":"F","States":{"F":{"Type":"Parallel","End":true,"Branches":[
     {"StartAt":"A","States":{"A":{"Type":"Pass","Next":"B"},"B":{"Type":"Pass","End":true}}},
     {"StartAt":"C","States":{"C":{"Type":"Pass","Next":"D"},"D":{"Type":"Pass","End":true}}}]}}}"#;
 
@@ -44,7 +45,7 @@ fn start_all(alloc: Global, book: &mut Book, count: u32) -> Result<(), Fail> {
     Ok(())
 }
 
-fn book_of(alloc: Global, machine: &str, count: u32) -> Result<Book, Fail> {
+pub(crate) fn book_of(alloc: Global, machine: &str, count: u32) -> Result<Book, Fail> {
     let mut book = book_with(alloc, machine)?;
     match start_all(alloc, &mut book, count) {
         Ok(()) => Ok(book),
@@ -78,7 +79,7 @@ struct Round {
     taken: usize,
 }
 
-fn seats_of<L: Sharing>(
+pub(crate) fn seats_of<L: Sharing>(
     alloc: Global,
     first: Pass<L>,
     workers: usize,
@@ -99,7 +100,7 @@ fn seats_of<L: Sharing>(
 }
 
 /// Whether a round may have these passes.
-fn can_work<L: Sharing>(passes: &Vec<Pass<L>>) -> bool
+pub(crate) fn can_work<L: Sharing>(passes: &Vec<Pass<L>>) -> bool
     ensures some { IsTrue result → (0 < vec_len passes.now) × (vec_len passes.now ≤ 8) }
     ensures seat { IsTrue result → IfSome (slice_get passes.now.items 0) (λ p. 2 ≤ p.parts) }
 {
@@ -176,10 +177,10 @@ fn told(alloc: Global, round: Round, count: u32) -> Result<(usize, bool, usize, 
 
 /// Holds one seat before its commit until the other one has committed, for so many turns at most.
 #[derive(Drop)]
-struct Overlap {
-    held: u32,
-    has_committed: AtomicBool,
-    is_missed: AtomicBool,
+pub(crate) struct Overlap {
+    pub(crate) held: u32,
+    pub(crate) has_committed: AtomicBool,
+    pub(crate) is_missed: AtomicBool,
 }
 
 const MOST_TURNS: u32 = 1_000_000;
@@ -252,12 +253,18 @@ fn workers_on_a_fork(rt: HostRuntime) -> Result<(), Fail> {
 /// The threads of the steps of a fork and its branches.
 const TAKEN: &[&str] = &["x0", "x0/1.0", "x0/1.0", "x0/1.1", "x0/1.1"];
 
-/// Takes the steps of a fork and its branches, holds them all, and starts another execution.
-fn hold_fork(alloc: Global, book: &mut Book) -> Result<bool, Fail> {
+/// Takes the steps of a fork and its branches.
+pub(crate) fn step_fork(alloc: Global, book: &mut Book) -> Result<(), Fail> {
     for &thread in TAKEN {
         let thread = ThreadName::read(alloc, thread)?;
         drop(book.step(alloc, &thread)?);
     }
+    Ok(())
+}
+
+/// Takes the steps of a fork and its branches, holds them all, and starts another execution.
+fn hold_fork(alloc: Global, book: &mut Book) -> Result<bool, Fail> {
+    step_fork(alloc, book)?;
     let step = StepName::read(alloc, "x0#1")?;
     let count = book.hold(alloc, &step)?;
     start(alloc, book, "x1")?;

@@ -80,6 +80,8 @@ use Rattle.step_names.proofs.thread.ThreadName.TheSendSync as s_step_names_Threa
 use Rattle.step_workers.specs.contracts.board.Board as board
 use Rattle.step_workers.specs.contracts.seat.Seat as seat
 use Rattle.step_workers.specs.contracts.seat.Served as served
+use Rattle.step_workers.specs.contracts.undoing.Undoer as undoer
+use Rattle.step_workers.specs.contracts.undoing.Undone as undone
 use Rattle.step_workers.proofs.Sending.{entry_field_send, entry_field_sync, entry_send, entry_sync, receipt_field_send, receipt_field_sync, receipt_send, receipt_sync, refusal_field_send, refusal_field_sync, refusal_send, refusal_sync, ticket_field_send, ticket_field_sync, ticket_send, ticket_sync}
 
 pub ruleset within = (ticket_send, ticket_sync, ticket_field_send, ticket_field_sync, receipt_send, receipt_sync, receipt_field_send, receipt_field_sync, refusal_send, refusal_sync, refusal_field_send, refusal_field_sync, s_asl_choice_Comparison.the_field_send, s_asl_choice_Comparison.the_send, s_asl_choice_Comparison.the_field_sync, s_asl_choice_Comparison.the_sync, s_asl_choice_Relation.the_field_send, s_asl_choice_Relation.the_send, s_asl_choice_Relation.the_field_sync, s_asl_choice_Relation.the_sync, s_asl_errors_Catcher.the_field_send, s_asl_errors_Catcher.the_send, s_asl_errors_Catcher.the_field_sync, s_asl_errors_Catcher.the_sync, s_asl_errors_Catchers.the_send, s_asl_errors_Catchers.the_sync, s_asl_errors_ErrorHandling.the_field_send, s_asl_errors_ErrorHandling.the_send, s_asl_errors_ErrorHandling.the_field_sync, s_asl_errors_ErrorHandling.the_sync, s_asl_errors_ErrorNames.the_send, s_asl_errors_ErrorNames.the_sync, s_asl_errors_Retrier.the_field_send, s_asl_errors_Retrier.the_send, s_asl_errors_Retrier.the_field_sync, s_asl_errors_Retrier.the_sync, s_asl_errors_Retriers.the_send, s_asl_errors_Retriers.the_sync, s_asl_choice_MachineFault.the_field_send, s_asl_choice_MachineFault.the_send, s_asl_choice_MachineFault.the_field_sync, s_asl_choice_MachineFault.the_sync, s_asl_frames_Fault.the_field_send, s_asl_frames_Fault.the_send, s_asl_frames_Fault.the_field_sync, s_asl_frames_Fault.the_sync, s_asl_frames_Origin.the_field_send, s_asl_frames_Origin.the_send, s_asl_frames_Origin.the_field_sync, s_asl_frames_Origin.the_sync, s_asl_frames_Retries.the_send, s_asl_frames_Retries.the_sync, s_asl_states_Fail.the_field_send, s_asl_states_Fail.the_send, s_asl_states_Fail.the_field_sync, s_asl_states_Fail.the_sync, s_asl_states_Resource.the_field_send, s_asl_states_Resource.the_send, s_asl_states_Resource.the_field_sync, s_asl_states_Resource.the_sync, s_asl_states_Transition.the_field_send, s_asl_states_Transition.the_send, s_asl_states_Transition.the_field_sync, s_asl_states_Transition.the_sync, s_asl_tree_Level.the_field_send, s_asl_tree_Level.the_send, s_asl_tree_Level.the_field_sync, s_asl_tree_Level.the_sync, s_asl_tree_LevelPath.the_send, s_asl_tree_LevelPath.the_sync, s_asl_tree_LevelStep.the_field_send, s_asl_tree_LevelStep.the_send, s_asl_tree_LevelStep.the_field_sync, s_asl_tree_LevelStep.the_sync, s_slip_queue_Seat_atomic_table.the_send, s_slip_queue_Shared_atomic_table.the_send, s_slip_queue_Shared_atomic_table.the_sync, s_book_log_Refusal.the_field_send, s_book_log_Refusal.the_send, s_book_log_Refusal.the_field_sync, s_book_log_Refusal.the_sync, s_book_log_StepNames.the_send, s_book_log_StepNames.the_sync, s_branch_tree_Readiness.the_field_send, s_branch_tree_Readiness.the_send, s_branch_tree_Readiness.the_field_sync, s_branch_tree_Readiness.the_sync, s_std_AtomicU64.the_send, s_std_AtomicU64.the_sync, s_std_Ordering.the_field_send, s_std_Ordering.the_send, s_std_Ordering.the_field_sync, s_std_Ordering.the_sync, s_std_Book.the_send, s_std_Share.the_send, s_std_PhantomData.the_field_send, s_std_PhantomData.the_send, s_std_PhantomData.the_field_sync, s_std_PhantomData.the_sync, s_std_Memory.the_field_send, s_std_Memory.the_send, s_std_Memory.the_field_sync, s_std_Memory.the_sync, s_std_Scope.the_sync, s_std_Mutex.the_send, s_std_Mutex.the_sync, s_slip_queue_Stage_crossbeam_queue.the_field_send, s_slip_queue_Stage_crossbeam_queue.the_send, s_slip_queue_Stage_crossbeam_queue.the_field_sync, s_slip_queue_Stage_crossbeam_queue.the_sync, s_slip_queue_Turns_crossbeam_queue.the_field_send, s_slip_queue_Turns_crossbeam_queue.the_send, s_slip_queue_Turns_crossbeam_queue.the_field_sync, s_slip_queue_Turns_crossbeam_queue.the_sync, s_json_tree_Short.the_send, s_json_tree_Short.the_sync, s_json_tree_Text.the_send, s_json_tree_Text.the_sync, s_json_tree_TextBytes.the_field_send, s_json_tree_TextBytes.the_send, s_json_tree_TextBytes.the_field_sync, s_json_tree_TextBytes.the_sync, s_json_tree_Told.the_field_send, s_json_tree_Told.the_send, s_json_tree_Told.the_field_sync, s_json_tree_Told.the_sync, s_ref_paths_PathStep.the_field_send, s_ref_paths_PathStep.the_send, s_ref_paths_PathStep.the_field_sync, s_ref_paths_PathStep.the_sync, s_ref_paths_RefPath.the_send, s_ref_paths_RefPath.the_sync, s_saved_steps_Kind.the_field_send, s_saved_steps_Kind.the_send, s_saved_steps_Kind.the_field_sync, s_saved_steps_Kind.the_sync, s_slip_queue_Balance.the_field_send, s_slip_queue_Balance.the_send, s_slip_queue_Balance.the_field_sync, s_slip_queue_Balance.the_sync, s_slip_queue_Hand.the_field_send, s_slip_queue_Hand.the_send, s_slip_queue_Hand.the_field_sync, s_slip_queue_Hand.the_sync, s_std_Box.the_sync, s_std_Vec.the_sync, s_std_Node_std_collections.the_sync, s_std_Nodes_std_collections.the_sync, s_std_Global.the_field_send, s_std_Global.the_send, s_std_Global.the_field_sync, s_std_Global.the_sync, s_step_names_ExecBytes.the_field_send, s_step_names_ExecBytes.the_send, s_step_names_ExecBytes.the_field_sync, s_step_names_ExecBytes.the_sync, s_step_names_ExecName.the_send, s_step_names_ExecName.the_sync, s_step_names_StepName.the_field_send, s_step_names_StepName.the_send, s_step_names_StepName.the_field_sync, s_step_names_StepName.the_sync, s_step_names_ThreadName.the_send, s_step_names_ThreadName.the_sync, s_slip_queue_Table_atomic_table.the_field_send, s_slip_queue_Table_atomic_table.the_send, s_slip_queue_Table_atomic_table.the_field_sync, s_slip_queue_Table_atomic_table.the_sync, s_slip_queue_SendLease_atomic_table.the_send, s_slip_queue_SendLease_atomic_table.the_sync, s_std_UnsafeCell.the_send, s_std_Option.the_field_send, s_std_Option.the_send, s_std_Option.the_field_sync, s_std_Option.the_sync, s_std_Result.the_field_send, s_std_Result.the_send, s_std_Result.the_field_sync, s_std_Result.the_sync, s_std_SpawnError.the_field_send, s_std_SpawnError.the_send, s_std_SpawnError.the_field_sync, s_std_SpawnError.the_sync, s_slip_queue_Doing_crossbeam_queue.the_field_send, s_slip_queue_Doing_crossbeam_queue.the_send, s_slip_queue_Doing_crossbeam_queue.the_field_sync, s_slip_queue_Doing_crossbeam_queue.the_sync, s_slip_queue_Slotted_crossbeam_queue.the_field_send, s_slip_queue_Slotted_crossbeam_queue.the_send, s_slip_queue_Slotted_crossbeam_queue.the_field_sync, s_slip_queue_Slotted_crossbeam_queue.the_sync, s_shared_book_Desk.the_send, s_shared_book_Shared.the_field_send, s_shared_book_Shared.the_send, s_shared_book_Shared.the_field_sync, s_shared_book_Shared.the_sync, s_slip_queue_Slip.the_field_send, s_slip_queue_Slip.the_send, s_slip_queue_Slip.the_field_sync, s_slip_queue_Slip.the_sync, s_slip_queue_Slips.the_field_send, s_slip_queue_Slips.the_send, s_slip_queue_Slips.the_field_sync, s_slip_queue_Slips.the_sync, s_slip_queue_Taker.the_field_send, s_slip_queue_Taker.the_send, s_std_Arc.the_send, s_std_Arc.the_sync, s_std_Box.the_send, s_std_String.the_field_send, s_std_String.the_send, s_std_String.the_field_sync, s_std_String.the_sync, s_std_Vec.the_send, s_std_Node_std_collections.the_send, s_std_Root_std_collections.the_field_send, s_std_Root_std_collections.the_send, s_std_Root_std_collections.the_field_sync, s_std_Root_std_collections.the_sync, s_std_Tree_std_collections.the_field_send, s_std_Tree_std_collections.the_send, s_std_Tree_std_collections.the_field_sync, s_std_Tree_std_collections.the_sync, s_std_BTreeMap.the_send, s_std_BTreeMap.the_sync, s_std_BTreeSet.the_send, s_std_BTreeSet.the_sync, s_std_LinkedList.the_send, s_std_LinkedList.the_sync, s_std_Nodes_std_collections.the_send, MapsCrossing.crosses, Crossing.crosses, sendable)
@@ -98,3 +100,9 @@ pub six_send : (name : List ℕ) (A B C D E F : RattleType) → IsSend A → IsS
 six_send name A B C D E F a b c d e f =
     let fields = A ∷ B ∷ C ∷ D ∷ E ∷ F ∷ [] in
     recorded_send (field_at name fields).row _ _ (type_at name fields).to_one (struct_send (shape (type_at name fields)) (a, (b, (c, (d, (e, (f, tt)))))))
+
+pub undoer_send : (L : RattleType) (ledger : _) → IsSend L → IsSend (undoer.the_row L ledger)
+undoer_send L ledger it = search within depth 60 fits 20000
+
+pub undone_send : (L : RattleType) (ledger : _) → IsSend L → IsSend (undone.the_row L ledger)
+undone_send L ledger it = search within depth 60 fits 20000

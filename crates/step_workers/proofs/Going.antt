@@ -17,15 +17,15 @@ is_step t (Rollback _ _) s = s
 is_step t Settle s = s
 is_step t (Hold _ _) s = s
 
-append_none : (xs : List Receipt) → xs ≡ xs ++ []
+pub append_none : (xs : List Receipt) → xs ≡ xs ++ []
 append_none [] = refl
 append_none (x ∷ xs) = ap (λ (t : List Receipt). x ∷ t) (append_none xs)
 
-append_twice : (xs ys zs : List Receipt) → (xs ++ ys) ++ zs ≡ xs ++ (ys ++ zs)
+pub append_twice : (xs ys zs : List Receipt) → (xs ++ ys) ++ zs ≡ xs ++ (ys ++ zs)
 append_twice [] ys zs = refl
 append_twice (x ∷ xs) ys zs = ap (λ (t : List Receipt). x ∷ t) (append_twice xs ys zs)
 
-length_both : (xs ys : List Receipt) → length (xs ++ ys) ≡ length xs + length ys
+pub length_both : (xs ys : List Receipt) → length (xs ++ ys) ≡ length xs + length ys
 length_both [] ys = omega arith
 length_both (x ∷ xs) ys = let h = length_both xs ys in omega (arith, h)
 

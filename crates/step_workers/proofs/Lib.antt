@@ -3,3 +3,4 @@ pub mod Going
 pub mod Seated
 pub mod Sending
 pub mod Sums
+pub mod TakenBack

@@ -1,3 +1,4 @@
 pub mod Work
 pub mod Seats
 pub mod Rooms
+pub mod Undoings

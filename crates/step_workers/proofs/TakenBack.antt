@@ -1,0 +1,57 @@
+-- How receipts of undoings go on, call by call, and pass by pass.
+use Rattle.std.proofs.Common.{◌≡◌, ℕ, ◌+◌, ◌≤◌, List, [], ◌∷◌, ◌++◌, ap, ◌∙◌, arith}
+use Rattle.std.specs.declared.vec.Vec.{Vec}
+use Rattle.book_log.specs.Story.{Story}
+use Rattle.book_log.specs.declared.entry.Entry.{Entry}
+use Rattle.book_log.specs.declared.entry.Entry.TheVariants.{Define, Start, Step as Stepped, Undo, Rollback, Settle, Hold}
+use Rattle.shared_book.specs.Calls.{GivesLatest, IsLatestUndone}
+use Rattle.shared_book.specs.Views.{PassView}
+use Rattle.shared_book.specs.declared.receipt.Receipt.{Receipt}
+use Rattle.step_workers.specs.Undoings.{AllTakeBack, AllTookNone, AllUndoings, IsUndoing, TakesBack}
+use Rattle.step_workers.proofs.Going.{append_none, append_twice, length_both}
+
+is_undoing : (at : Story) (e : Entry) → IsLatestUndone at e → IsUndoing e
+is_undoing at (Undo _) s = tt
+is_undoing at (Stepped _ _) s = s
+is_undoing at (Define _ _) s = s
+is_undoing at (Start _ _ _) s = s
+is_undoing at (Rollback _ _) s = s
+is_undoing at Settle s = s
+is_undoing at (Hold _ _) s = s
+
+undoings_both : (xs ys : List Receipt) → AllUndoings xs → AllUndoings ys → AllUndoings (xs ++ ys)
+undoings_both [] ys a b = b
+undoings_both (x ∷ xs) ys a b = (a.0, undoings_both xs ys a.1 b)
+
+pub takes_none : (n : ℕ) (xs : List Receipt) → TakesBack n xs xs
+takes_none n xs = record { more = []; receipts = append_none xs; few = omega arith; undoings = tt }
+
+-- one undoing more
+pub takes_more : (n : ℕ) (begun : Story) (a : List Receipt) (had has : PassView) (r : Receipt) → TakesBack n a had.receipts → GivesLatest begun had has r → TakesBack (n + 1) a has.receipts
+takes_more n begun a had has r first then =
+    let one = r ∷ [] in
+    record {
+      more = first.more ++ one;
+      receipts = ap (λ (p : PassView). p.receipts) then.0.now ∙ ap (λ (t : List Receipt). t ++ one) first.receipts ∙ append_twice a first.more one;
+      few = let l = length_both first.more one in let f = first.few in omega (arith, l, f);
+      undoings = undoings_both first.more one first.undoings (is_undoing then.0.before r.entry then.1, tt);
+    }
+
+pub takes_within : (n m : ℕ) (a b : List Receipt) → n ≤ m → TakesBack n a b → TakesBack m a b
+takes_within n m a b less takes = record { more = takes.more; receipts = takes.receipts; few = let f = takes.few in omega (arith, less, f); undoings = takes.undoings }
+
+take_back_more : (n : ℕ) (ps qs : List PassView) (p q : PassView) → AllTakeBack n ps qs → TakesBack n p.receipts q.receipts → AllTakeBack n (ps ++ p ∷ []) (qs ++ q ∷ [])
+take_back_more n [] [] p q a b = (b, tt)
+take_back_more n [] (e ∷ qs) p q a b = absurd a
+take_back_more n (r ∷ ps) [] p q a b = absurd a
+take_back_more n (r ∷ ps) (e ∷ qs) p q a b = (a.0, take_back_more n ps qs p q a.1 b)
+
+pub takes_back_last : (n : ℕ) (ss ts es ds : List PassView) (s d : PassView) → ss ≡ ts ++ s ∷ [] → es ≡ ds ++ d ∷ [] → AllTakeBack n ts ds → TakesBack n s.receipts d.receipts → AllTakeBack n ss es
+takes_back_last n ss ts es ds s d gave took all one = rw gave (rw took (take_back_more n ts ds s d all one))
+
+took_none_more : {A : Type 0} (vs : List (Vec ℕ A)) (v : Vec ℕ A) → AllTookNone vs → v.items ≡ [] → AllTookNone (vs ++ v ∷ [])
+took_none_more [] v a b = (b, tt)
+took_none_more (w ∷ vs) v a b = (a.0, took_none_more vs v a.1 b)
+
+pub took_none_last : {A : Type 0} (ws vs : List (Vec ℕ A)) (v : Vec ℕ A) → ws ≡ vs ++ v ∷ [] → AllTookNone vs → v.items ≡ [] → AllTookNone ws
+took_none_last ws vs v took all none = rw took (took_none_more vs v all none)
