@@ -1,7 +1,7 @@
 #!/usr/bin/env python3
 """Says what lines cost, of the program that is there. A maintainer's tool: no test runs it.
 
-usage: bench.py [--program PATH] [--scale F] [--instructions | --clock] [--jobs N] [--runs N] [--folder F] [NAME ..]
+usage: bench.py [--program PATH] [--scale F] [--instructions | --clock | --life] [--jobs N] [--runs N] [--folder F] [NAME ..]
 
 Prints rows `name<TAB>value<TAB>unit`, of each NAME or of all. Without --instructions or --clock both kinds are printed.
 
@@ -13,6 +13,8 @@ large the workloads are (0.1 where nothing is said), --jobs how many are counted
 --clock takes the best of --runs runs (3): lines a second of the same workloads, in memory, and of kinds of lines alone; rounds of workers
 (`workers`); and a journal on a file in the folder --folder (the system's for temporary files), beside as many inserts by Python's sqlite3 in the same folder.
 Nothing else should run meanwhile.
+
+--life counts the memory of rounds of settlements, until a book is full, and the time of a settlement beside that of the steps.
 """
 import argparse
 import concurrent.futures
@@ -131,7 +133,7 @@ def filled(count, size):
 
 def single_calls():
     """Each call as its name, its unit, the lines before it, the lines that are it, and how many they are."""
-    for remain in (600, 6_000):
+    for remain in (600, 6_000, 60_000):
         base, middle = f"among {remain:,} steps", remain // 4
         some = range(middle, middle + 50)
 
@@ -140,6 +142,8 @@ def single_calls():
 
         yield f"undo of a middle step {base}", "instructions", first, [f"undo run-{at}#1" for at in some], 50
         yield f"undo of the latest steps {base}", "instructions", first, [f"undo run-{remain // 2 - 1 - at}#1" for at in range(50)], 50
+        yield (f"undo of a middle read of one item {base}", "instructions", lambda remain=remain: one_item_read(remain // 2, False),
+               [f"undo reader-{remain // 4 + at}#1" for at in range(50)], 50)
         yield f"undo refused for its dependent {base}", "instructions", first, [f"undo run-{at}#0" for at in some], 50
         yield f"step of a Pass {base}", "instructions", first, [f"step run-{at}" for at in some], 50
         yield f"start {base}", "instructions", first, [f'start new-{at} two {{"key":"key-7"}}' for at in some], 50
@@ -147,6 +151,22 @@ def single_calls():
         yield f"plan of a middle step {base}", "instructions", first, [f"plan run-{at}#1" for at in some], 50
         yield f"rollback of a step and ten dependents {base}", "instructions", lambda remain=remain: with_dependents(remain), ["rollback first#1"], 1
         yield f"plan of a step and ten dependents {base}", "instructions", lambda remain=remain: with_dependents(remain), ["plan first#1"] * 20, 20
+    for count in (100, 10_000):
+        def ended(count=count):
+            yield TABLE
+            yield define("one", workloads.ONE_PASS)
+            for at in range(count):
+                yield f"start run-{at:05} one {{}}"
+            yield f"drive {count}"
+            yield "start zz one {}"
+
+        turns = ["undo run-00000#1", "drive 2", "undo zz#1"] * 20
+        yield f"undo, drive and undo in turn beside {count:,} executions that ended", "instructions", ended, turns, 60
+    for count in (600, 6_000):
+        def stepped(count=count):
+            return many_threads(count)
+
+        yield f"settle of {count:,} steps, a step", "instructions", stepped, ["settle"], count
     for count in (60, 600, 6_000):
         def waiting(count=count):
             yield TABLE
@@ -211,6 +231,54 @@ def list_of(before):
     for line in before():
         count, last = count + 1, line
     return count, last
+
+
+# ---- The life of a book ----
+
+
+def rounds(count):
+    """So many rounds of a thousand executions that are started, driven to their end and settled."""
+    yield TABLE
+    yield define("one", workloads.ONE_PASS)
+    for at in range(count):
+        for run in range(1_000):
+            yield f"start run-{at}-{run} one {{}}"
+        yield "drive 1000"
+        yield "settle"
+
+
+def peak(program, file):
+    """The most memory that the program holds while it answers a file's lines, in bytes, and its last reply."""
+    with open(file, "rb") as stdin, tempfile.TemporaryFile() as said:
+        child = subprocess.Popen([program], stdin=stdin, stdout=said)
+        _, status, used = os.wait4(child.pid, 0)
+        child.returncode = os.waitstatus_to_exitcode(status)
+        if child.returncode != 0:
+            sys.exit(f"bench: {os.path.basename(file)} ended with status {child.returncode}")
+        said.seek(max(0, said.seek(0, os.SEEK_END) - 200))
+        return used.ru_maxrss * 1024, said.read().decode().splitlines()[-1]
+
+
+def life(program, runs, folder):
+    """Rounds of settlements until the book is full, and a settlement of all the steps that may remain beside what taking them cost."""
+    with tempfile.TemporaryDirectory(dir=folder) as room:
+        file = os.path.join(room, "lines.txt")
+        held = {}
+        for count in (100, 400, 520):
+            workloads.write(file, rounds(count))
+            held[count], last = peak(program, file)
+            row(f"memory after {count} rounds", held[count] / 1_000_000, "MB")
+            if count == 520 and not last.startswith("no 10"):
+                sys.exit(f"bench: the last round was answered {last}")
+        row("memory for a settled execution", (held[400] - held[100]) / 300_000, "bytes")
+
+        def best(lines):
+            workloads.write(file, lines)
+            return min(taken(program, file) for _ in range(runs))
+
+        lines = list(many_threads(workloads.MOST))
+        nothing, begun = best(lines[:2]), best(lines)
+        row(f"settle of {workloads.MOST:,} steps beside taking them", (best([*lines, "settle"]) - begun) / (begun - nothing), "times")
 
 
 # ---- The clock ----
@@ -337,6 +405,7 @@ def main():
     parser.add_argument("--scale", type=float)
     parser.add_argument("--instructions", action="store_true")
     parser.add_argument("--clock", action="store_true")
+    parser.add_argument("--life", action="store_true")
     parser.add_argument("--jobs", type=int, default=os.cpu_count() or 1)
     parser.add_argument("--runs", type=int, default=3)
     parser.add_argument("--folder")
@@ -344,9 +413,11 @@ def main():
     if not os.access(asked.program, os.X_OK):
         sys.exit(f"bench: no program {os.path.relpath(asked.program)}: run rt run in crates/rollback_program first")
     program = os.path.abspath(asked.program)
-    if asked.instructions or not asked.clock:
+    if asked.instructions or not (asked.clock or asked.life):
         instructions(program, asked.names, asked.scale or 0.1, asked.jobs)
-    if asked.clock or not asked.instructions:
+    if asked.life:
+        life(program, asked.runs, asked.folder)
+    elif asked.clock or not asked.instructions:
         clock(program, asked.names, asked.scale or 1.0, asked.runs, asked.folder)
 
 
