@@ -4,6 +4,7 @@ pub mod Firsts
 pub mod Meeting
 pub mod Listed
 pub mod Dependents
-pub mod Marked
+pub mod Following
 pub mod Left
 pub mod Needed
+pub mod Found

@@ -29,7 +29,7 @@ use Rattle.step_index.proofs.Left.{class_where_left, left_where_class}
 use Rattle.step_index.proofs.Meeting.{awaits_alike, begins_alike, by_name_or_item, closes_alike, meet_in_exec, meet_in_key, thread_alike}
 
 -- where the later one reads, the earlier one wrote
-written_before : (a b : Fact) (x : Access) → b.access ≡ Some x → is_write x.mode ≡ false → conflicts a.access b.access ≡ true → by_write a ≡ Some (key_bucket x.key)
+pub written_before : (a b : Fact) (x : Access) → b.access ≡ Some x → is_write x.mode ≡ false → conflicts a.access b.access ≡ true → by_write a ≡ Some (key_bucket x.key)
 written_before a b x has reads h = met a.access (sym (ap (conflicts a.access) has) ∙ h)
   where
     first_part : (u v : Bool) → v ≡ false → (u || v) ≡ true → u ≡ true
@@ -43,7 +43,7 @@ written_before a b x has reads h = met a.access (sym (ap (conflicts a.access) ha
         let w : is_write y.mode ≡ true = first_part (is_write y.mode) (is_write x.mode) reads p.1 in
         rw w (ap (λ q. Some (key_bucket q)) (same_key y.key x.key p.0))
 
-no_access : (o : Option Access) → conflicts o None ≡ false
+pub no_access : (o : Option Access) → conflicts o None ≡ false
 no_access None = refl
 no_access (Some x) = refl
 
@@ -63,7 +63,7 @@ no_start Join h = refl
 no_start Terminate h = refl
 
 -- a step that is no gate depends by its name on one at home in its thread or in one above it
-meet_above : (a b : Fact) → names_need a b ≡ true → is_gate b ≡ false → (depth : ℕ) × (depth ≤ length b.name.thread.path) × (by_home a ≡ Some (thread_bucket (above b.name.thread depth)))
+pub meet_above : (a b : Fact) → names_need a b ≡ true → is_gate b ≡ false → (depth : ℕ) × (depth ≤ length b.name.thread.path) × (by_home a ≡ Some (thread_bucket (above b.name.thread depth)))
 meet_above a b h free =
     elim (either (is_same_thread a.name.thread b.name.thread) (begins a b.name.thread || (makes a b.name.thread || (closes b a.name.thread || awaits b a.name.thread))) h) [
       | inl x ↦ own (thread_alike a b x) (is_start a.kind) refl

@@ -1,5 +1,5 @@
 pub mod Buckets
 pub mod Walks
 pub mod Records
-pub mod Marks
 pub mod Held
+pub mod Found

@@ -3,6 +3,7 @@
 //! Records of steps in their order. A step is found by its name, and the first that depends directly on it by the classes in
 //! which the steps are: not by a look at each of them.
 mod buckets;
+mod found;
 mod held;
 mod plans;
 mod records;

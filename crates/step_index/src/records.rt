@@ -200,9 +200,9 @@ impl StepRecords {
         }
     }
 
-    /// The step at a place and all its consequences, the latest first. Takes memory for each of them and 4,000 bytes. One pass over
-    /// the later steps: each is compared with those that were found before it only where one of these is in the class of its
-    /// execution or of its key.
+    /// The step at a place and all its consequences, the latest first. Takes some 130 bytes for each of them and 37,000 more. One
+    /// pass over the later steps: where one that was found is in the class of the execution or of the key of one of these, it looks
+    /// at the ones found of its thread and above it, and of its key, up to the first on which it depends.
     pub fn plan(&self, alloc: Global, at: usize) -> Result<Plan, AllocError>
         requires { at < length self.now.items }
         ensures { IfOk result (λ p. p ≡ plans.plan (map (λ r. r.fact) self.now.items) at) }

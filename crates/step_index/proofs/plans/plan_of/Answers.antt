@@ -1,6 +1,6 @@
 use Rattle.std.proofs.Common.{◌<◌, arith, length}
 use Rattle.step_index.proofs.Listed.{there}
-use Rattle.step_index.proofs.Marked.{passed_on}
+use Rattle.step_index.proofs.Following.{passed_on}
 use Rattle.step_index.proofs.plans.plan_of.Goals as goal
 
 pub loop-place-preserved : goal.loop-place-preserved
@@ -11,10 +11,8 @@ loop-place-preserved c =
     let many = c.len-count.ensures in
     let low : i < length rs = omega (arith, test, many) in
     let g = there rs i low in
-    let p = passed_on rs c.args.at i g.0 c.loop-place.found.places.items c.add_if_follows.new.found.places.items low g.1 c.loop-place.invariant.within c.loop-place.invariant.all (c.in_ok-add_if_follows.ensures.places g.0 g.1) in
+    let p = passed_on rs c.args.at i g.0 c.loop-place.found.places.items c.add_if_follows.new.found.places.items low g.1 c.loop-place.invariant.found.within c.loop-place.invariant.all (c.in_ok-add_if_follows.ensures.places g.0 g.1) in
     record {
       all = p.all;
-      within = p.within;
-      execs = c.in_ok-add_if_follows.ensures.execs;
-      keys = c.in_ok-add_if_follows.ensures.keys;
+      found = c.in_ok-add_if_follows.ensures.found;
     }

@@ -1,0 +1,1 @@
+use Rattle.step_index.proofs.found.has_one.Goals as goal
