@@ -200,7 +200,7 @@ impl StepRecords {
         }
     }
 
-    /// The step at a place and all its consequences, the latest first. Takes some 130 bytes for each of them and 37,000 more. One
+    /// The step at a place and all its consequences, the latest first. Takes some 130 bytes for each of them and 33,000 more. One
     /// pass over the later steps: where one that was found is in the class of the execution or of the key of one of these, it looks
     /// at the ones found of its thread and above it, and of its key, up to the first on which it depends.
     pub fn plan(&self, alloc: Global, at: usize) -> Result<Plan, AllocError>
