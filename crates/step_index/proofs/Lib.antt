@@ -7,4 +7,4 @@ pub mod Dependents
 pub mod Following
 pub mod Left
 pub mod Needed
-pub mod Found
+pub mod Finding

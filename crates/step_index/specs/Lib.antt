@@ -2,4 +2,4 @@ pub mod Buckets
 pub mod Walks
 pub mod Records
 pub mod Held
-pub mod Found
+pub mod Finding

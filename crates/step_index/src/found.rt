@@ -1,11 +1,11 @@
 //! The steps that were found for a plan, in the classes where later steps meet them.
 
-ghost use Rattle.std.specs.Prelude.{◌≡◌, ◌<◌, ◌≤◌, ◌%◌, ◌∷◌, ◌++◌, [], false, List, length, map, All, OnOk, Some, slice_get};
+ghost use Rattle.std.specs.Prelude.{◌≡◌, ◌<◌, ◌≤◌, ◌%◌, ◌∷◌, ◌++◌, [], false, List, length, map, All, OnOk, Some};
 ghost use Rattle.linked_classes.specs.Classes.{class_of};
 ghost use Rattle.depends.specs.Plans as plans;
 ghost use Rattle.saved_steps.specs.declared.record.StepRecord.{StepRecord as Kept};
 ghost use Rattle.step_index.specs.Buckets.{by_exec, by_key, is_gate};
-ghost use Rattle.step_index.specs.Found.{AreFound, ByAccess, ByName, HasNone, IsNeeded, IsPut, picked};
+ghost use Rattle.step_index.specs.Finding.{AreFound, ByAccess, ByName, HasNone, IsNeeded, IsPut, picked};
 
 use crate::buckets::{
     access_bucket, bucket_above, exec_bucket, home_bucket, is_gate, key_bucket, write_bucket,
@@ -47,10 +47,17 @@ impl FoundSteps {
     }
 
     /// Adds the step at a place behind the others.
-    pub(crate) fn add(&mut self, fact: &Fact, place: usize) -> Result<(), AllocError>
+    pub(crate) fn add(
+        &mut self,
+        records: &NumberedVec<StepRecord>,
+        place: usize,
+    ) -> Result<(), AllocError>
+        requires there { place < length records.now.items }
+        requires found { AreFound records.now.items self.old }
         ensures places { OnOk result (self.new.places.items ≡ self.old.places.items ++ place ∷ []) }
-        ensures found { (rs : List Kept) (r : Kept) → slice_get rs place ≡ Some r → r.fact ≡ fact.now → AreFound rs self.old → OnOk result (AreFound rs self.new) }
+        ensures found { OnOk result (AreFound records.now.items self.new) }
     {
+        let fact = &records.get(place).fact;
         if u32::MAX as usize <= self.places.len() {
             return Err(AllocError);
         }
@@ -105,7 +112,7 @@ impl FoundSteps {
             return self.is_needed_above(records, later);
         }
         let class = exec_bucket(later.name.thread.exec());
-        is_needed_in(records, self.places.as_slice(), &self.execs, class, later)
+        self.is_needed_in(records, &self.execs, class, later)
     }
 
     /// The same of one that neither closes a fork nor waited for branches: among the steps of its thread and of those above it.
@@ -118,7 +125,7 @@ impl FoundSteps {
         let end = thread.path().len() + 1;
         for depth in 0..end {
             let class = bucket_above(thread, depth);
-            if is_needed_in(records, self.places.as_slice(), &self.threads, class, later) {
+            if self.is_needed_in(records, &self.threads, class, later) {
                 return true;
             }
         }
@@ -134,17 +141,39 @@ impl FoundSteps {
             return false;
         };
         let class = key_bucket(&access.key);
-        let places = self.places.as_slice();
         match access.mode {
-            AccessMode::Write => is_needed_in(records, places, &self.keys, class, later),
-            AccessMode::Read => is_needed_in(records, places, &self.writes, class, later),
+            AccessMode::Write => self.is_needed_in(records, &self.keys, class, later),
+            AccessMode::Read => self.is_needed_in(records, &self.writes, class, later),
         }
+    }
+
+    /// Whether a later step depends directly on one of those in a class: a look at each there up to the first.
+    fn is_needed_in(
+        &self,
+        records: &NumberedVec<StepRecord>,
+        steps: &LinkedClasses,
+        class: u32,
+        later: &Fact,
+    ) -> bool
+        requires within { All (λ p. p < length records.now.items) self.now.places.items }
+        requires few { length steps.now.classes ≤ length self.now.places.items }
+        ensures { IsNeeded (λ k. class_of steps.now k ≡ Some (class % 509)) (picked records.now.items self.now.places.items) later.now result }
+    {
+        let mut next = steps.first(class % WIDTH);
+        while let Some(number) = next {
+            let place = self.places[number as usize];
+            if depends(&records.get(place).fact, later) {
+                return true;
+            }
+            next = steps.next(number);
+        }
+        false
     }
 }
 
 /// Puts the next number into a class, if there is one.
 fn put(steps: &mut LinkedClasses, number: u32, class: Option<u32>) -> Result<(), AllocError>
-    requires next { length steps.old.classes ≤ number }
+    requires { length steps.old.classes ≤ number }
     ensures { OnOk result (IsPut number class steps.old steps.new) }
 {
     let Some(class) = class else {
@@ -163,26 +192,4 @@ fn has_one(steps: &LinkedClasses, class: Option<u32>) -> bool
         Some(class) => steps.first(class % WIDTH).is_some(),
         None => false,
     }
-}
-
-/// Whether a later step depends directly on one of those in a class: a look at each there up to the first.
-fn is_needed_in(
-    records: &NumberedVec<StepRecord>,
-    places: &[usize],
-    steps: &LinkedClasses,
-    class: u32,
-    later: &Fact,
-) -> bool
-    requires within { All (λ p. p < length records.now.items) places.now }
-    requires few { length steps.now.classes ≤ length places.now }
-    ensures { IsNeeded (λ k. class_of steps.now k ≡ Some (class % 509)) (picked records.now.items places.now) later.now result }
-{
-    let mut next = steps.first(class % WIDTH);
-    while let Some(number) = next {
-        if depends(&records.get(places[number as usize]).fact, later) {
-            return true;
-        }
-        next = steps.next(number);
-    }
-    false
 }

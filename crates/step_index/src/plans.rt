@@ -4,7 +4,7 @@ ghost use Rattle.std.specs.Prelude.{◌≡◌, ◌<◌, ◌∷◌, ◌++◌, [],
 ghost use Rattle.depends.specs.Plans as plans;
 ghost use Rattle.saved_steps.specs.declared.record.StepRecord.{StepRecord as Kept};
 ghost use Rattle.step_index.specs.Buckets.{by_exec, by_key};
-ghost use Rattle.step_index.specs.Found.{AreFound};
+ghost use Rattle.step_index.specs.Finding.{AreFound};
 ghost use Rattle.step_index.specs.Records.{classes_by};
 
 use crate::found::FoundSteps;
@@ -48,7 +48,7 @@ fn begin(
     ensures found { IfOk result (λ found. AreFound records.now.items found) }
 {
     let mut found = FoundSteps::new(alloc);
-    found.add(&records.get(at).fact, at)?;
+    found.add(records, at)?;
     Ok(found)
 }
 
@@ -70,10 +70,9 @@ fn add_if_follows(
     if !found.meets(execs.class(place), keys.class(place)) {
         return Ok(());
     }
-    let fact = &records.get(place).fact;
-    if !found.is_needed(records, fact) {
+    if !found.is_needed(records, &records.get(place).fact) {
         return Ok(());
     }
-    found.add(fact, place)?;
+    found.add(records, place)?;
     Ok(())
 }

@@ -19,7 +19,7 @@ pub returns-then-not-is_needed-clause-places : goal.returns-then-not-is_needed-c
 returns-then-not-is_needed-clause-places c g is =
     let rs = c.args.records.now.items in
     let places = c.args.found.now.places.items in
-    let same = same_Some c.get-fact.result.now g (sym (c.get-fact.ensures) ∙ is) in
+    let same = same_Some c.get.result.now g (sym (c.get.ensures) ∙ is) in
     let told = ap (λ (r : StepRecord). depends_on_some (facts rs) places r.fact) (sym same) ∙ sym c.is_needed.ensures ∙ c.if-not-is_needed.true in
     sym (ap (λ b. cond b (places ++ c.args.place ∷ []) places) told)
 
@@ -27,9 +27,6 @@ pub returns-clause-places : goal.returns-clause-places
 returns-clause-places c g is =
     let rs = c.args.records.now.items in
     let places = c.args.found.now.places.items in
-    let same = same_Some c.get-fact.result.now g (sym (c.get-fact.ensures) ∙ is) in
+    let same = same_Some c.get.result.now g (sym (c.get.ensures) ∙ is) in
     let told = ap (λ (r : StepRecord). depends_on_some (facts rs) places r.fact) (sym same) ∙ sym c.is_needed.ensures ∙ c.if-not-is_needed.false in
     c.in_ok-add.ensures.places ∙ sym (ap (λ b. cond b (places ++ c.args.place ∷ []) places) told)
-
-pub returns-clause-found : goal.returns-clause-found
-returns-clause-found c = c.in_ok-add.ensures.found c.args.records.now.items c.get-fact.result.now c.get-fact.ensures refl c.requires.found

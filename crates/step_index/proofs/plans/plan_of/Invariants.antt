@@ -1,6 +1,6 @@
 use Rattle.std.proofs.Common.{◌≡◌, ◌++◌, drop}
 use Rattle.depends.specs.Plans as plans
-use Rattle.step_index.specs.Found.{AreFound}
+use Rattle.step_index.specs.Finding.{AreFound}
 use Rattle.step_index.proofs.Following.{facts}
 use Rattle.step_index.proofs.plans.plan_of.Given as goal
 

@@ -1,17 +1,17 @@
 use Rattle.std.proofs.Common.{ap}
 use Rattle.saved_steps.specs.Steps.{is_write}
-use Rattle.step_index.specs.Found.{picked}
-use Rattle.step_index.proofs.Found.{few_in, in_key, in_none, in_writes}
+use Rattle.step_index.specs.Finding.{picked}
+use Rattle.step_index.proofs.Finding.{few_in, in_key, in_none, in_writes}
 use Rattle.step_index.proofs.found.FoundSteps.is_accessed.Goals as goal
 
 pub returns-in_default : goal.returns-in_default
 returns-in_default c = in_none (picked c.args.records.now.items c.args.self.now.places.items) c.args.later.now c.in_default.is
 
 pub is_needed_in-requires-clause-few : goal.is_needed_in-requires-clause-few
-is_needed_in-requires-clause-few c = few_in c.args.records.now.items c.args.self.now.places.items c.requires.within c.requires.keyed.few
+is_needed_in-requires-clause-few c = few_in c.args.self.now.keys.classes c.args.records.now.items c.args.self.now.places.items c.requires.within c.requires.keyed.few
 
-pub is_needed_in-in-Read-requires-clause-few : goal.is_needed_in-in-Read-requires-clause-few
-is_needed_in-in-Read-requires-clause-few c = few_in c.args.records.now.items c.args.self.now.places.items c.requires.within c.requires.wrote.few
+pub is_needed_in-requires-in-Read-clause-few : goal.is_needed_in-requires-in-Read-clause-few
+is_needed_in-requires-in-Read-clause-few c = few_in c.args.self.now.writes.classes c.args.records.now.items c.args.self.now.places.items c.requires.within c.requires.wrote.few
 
 pub returns-in-Write : goal.returns-in-Write
 returns-in-Write c =

@@ -1,6 +1,6 @@
 use Rattle.std.proofs.Common.{true, false, subst}
-use Rattle.step_index.specs.Found.{ByName, IsNeeded, picked}
-use Rattle.step_index.proofs.Found.{decided, then_both}
+use Rattle.step_index.specs.Finding.{ByName, IsNeeded, picked}
+use Rattle.step_index.proofs.Finding.{decided, then_both}
 use Rattle.step_index.proofs.found.FoundSteps.is_needed.Goals as goal
 
 pub returns-then-is_needed_by_name : goal.returns-then-is_needed_by_name

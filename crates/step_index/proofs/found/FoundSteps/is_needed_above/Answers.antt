@@ -1,13 +1,13 @@
 use Rattle.std.proofs.Common.{◌≡◌, ◌+◌, arith, true, false, length, ap, subst}
-use Rattle.step_index.specs.Found.{ByName, IsNeeded, picked}
-use Rattle.step_index.proofs.Found.{Along, Among, all_along, few_in, more_along, none_along}
+use Rattle.step_index.specs.Finding.{ByName, IsNeeded, picked}
+use Rattle.step_index.proofs.Finding.{Along, Among, all_along, few_in, more_along, none_along}
 use Rattle.step_index.proofs.found.FoundSteps.is_needed_above.Goals as goal
 
 pub loop-depth-init : goal.loop-depth-init
 loop-depth-init c = none_along (picked c.args.records.now.items c.args.self.now.places.items) c.args.later.now c.args.self.now.threads
 
 pub is_needed_in-requires-clause-few : goal.is_needed_in-requires-clause-few
-is_needed_in-requires-clause-few c = few_in c.args.records.now.items c.args.self.now.places.items c.requires.found.within c.requires.found.homed.few
+is_needed_in-requires-clause-few c = few_in c.args.self.now.threads.classes c.args.records.now.items c.args.self.now.places.items c.requires.found.within c.requires.found.homed.few
 
 pub returns-then-is_needed_in : goal.returns-then-is_needed_in
 returns-then-is_needed_in c =

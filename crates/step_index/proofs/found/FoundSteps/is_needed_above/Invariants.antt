@@ -1,6 +1,6 @@
 use Rattle.std.proofs.Common.{false}
-use Rattle.step_index.specs.Found.{IsNeeded, picked}
-use Rattle.step_index.proofs.Found.{Along}
+use Rattle.step_index.specs.Finding.{IsNeeded, picked}
+use Rattle.step_index.proofs.Finding.{Along}
 use Rattle.step_index.proofs.found.FoundSteps.is_needed_above.Given as goal
 
 -- none in the classes of the threads above that were passed

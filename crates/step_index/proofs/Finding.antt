@@ -16,7 +16,7 @@ use Rattle.saved_steps.specs.declared.record.StepRecord.{StepRecord}
 use Rattle.depends.specs.Dependence.{conflicts}
 use Rattle.depends.specs.Plans.{depends_on, depends_on_some}
 use Rattle.step_index.specs.Buckets.{above, by_home, by_exec, by_key, by_write, is_gate, exec_bucket, key_bucket, thread_bucket}
-use Rattle.step_index.specs.Found.{AreClassed, AreFound, ByAccess, ByName, HasNone, IsNeeded, IsPut, folded, pick, picked}
+use Rattle.step_index.specs.Finding.{AreClassed, AreFound, ByAccess, ByName, HasNone, IsNeeded, IsPut, folded, pick, picked}
 use Rattle.step_index.specs.Walks.{IsFirstFrom, needed_by}
 use Rattle.step_index.specs.declared.found.FoundSteps.{FoundSteps}
 use Rattle.step_index.proofs.Listed.{there}
@@ -186,8 +186,8 @@ put_kept number k f o l = by (k == number) refl
 
 -- ---- what was found, and one more
 
-pub few_in : {cs : List (Option ℕ)} (rs : List StepRecord) (places : List ℕ) → All (λ p. p < length rs) places → length cs ≤ length (picked rs places) → length cs ≤ length places
-few_in rs places within few = let e = as_many rs places within in omega (arith, few, e)
+pub few_in : (cs : List (Option ℕ)) (rs : List StepRecord) (places : List ℕ) → All (λ p. p < length rs) places → length cs ≤ length (picked rs places) → length cs ≤ length places
+few_in cs rs places within few = let e = as_many rs places within in omega (arith, few, e)
 
 none_classed : (by : Fact → Option ℕ) (rs : List StepRecord) (places : List ℕ) (v : Classes) → places ≡ [] → v.classes ≡ [] → AreClassed by (picked rs places) v
 none_classed by rs places v e none = record {
@@ -236,3 +236,6 @@ unmet rs s g exec key found run keyed no_exec no_key = sym (decided rs s.places.
           let none = subst (HasNone s.keys) (sym keyed ∙ m.2) no_key in
           absurd (none k (found.keyed.classed k f at ∙ ap folded m.1))
     ]
+
+pub put_as : (number : ℕ) (o p : Option ℕ) (v w : Classes) → o ≡ p → IsPut number o v w → IsPut number p v w
+put_as number o p v w e put = subst (λ x. IsPut number x v w) e put

@@ -1,1 +1,0 @@
-use Rattle.step_index.proofs.found.has_one.Goals as goal
