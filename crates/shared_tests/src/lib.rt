@@ -4,7 +4,13 @@
 #[cfg(test)]
 mod calls;
 #[cfg(test)]
+mod hot;
+#[cfg(test)]
+mod operator;
+#[cfg(test)]
 mod passes;
+#[cfg(test)]
+mod rounds;
 #[cfg(test)]
 mod turns;
 #[cfg(test)]

@@ -73,7 +73,7 @@ fn are_done(alloc: Global, book: &Book, count: u32) -> Result<bool, Fail> {
 /// What is left of a round once its book is closed: the book, how many entries the log has, how many seats stopped for their budget,
 /// and how many tickets were taken.
 #[derive(Drop)]
-struct Round {
+pub(crate) struct Round {
     book: Book,
     budgets: usize,
     taken: usize,
@@ -110,7 +110,7 @@ pub(crate) fn can_work<L: Sharing>(passes: &Vec<Pass<L>>) -> bool
     }
 }
 
-fn run<L: Sharing + Send + Sync, G: Gate + Sync, R: Threads + Wait + Sync>(
+pub(crate) fn run<L: Sharing + Send + Sync, G: Gate + Sync, R: Threads + Wait + Sync>(
     rt: &R,
     alloc: Global,
     blank: Blank,
@@ -161,7 +161,11 @@ fn run<L: Sharing + Send + Sync, G: Gate + Sync, R: Threads + Wait + Sync>(
 
 /// How many entries the log has then, whether all executions are done, how many seats stopped for their budget, and how many tickets
 /// were taken.
-fn told(alloc: Global, round: Round, count: u32) -> Result<(usize, bool, usize, usize), Fail> {
+pub(crate) fn told(
+    alloc: Global,
+    round: Round,
+    count: u32,
+) -> Result<(usize, bool, usize, usize), Fail> {
     let Round {
         book,
         budgets,
