@@ -2,7 +2,7 @@
 ghost use Rattle.std.specs.Prelude.{◌≡◌, ◌<◌, ◌≤◌, ◌^◌, IfErr, IfOk, None, vec_capacity, vec_len};
 ghost use denote.Param.Send.{IsSend, IsSync};
 ghost use Rattle.step_workers.specs.Rooms.{IsTray};
-ghost use Rattle.step_workers.specs.Undoings.{AllTakeBack, AllTookNone, HasUndone};
+ghost use Rattle.step_workers.specs.Undoings.{AllStopped, AllTakeBack, AllTookNone, HasUndone};
 
 use crate::gate::Gate;
 use crate::gathering::Tray;
@@ -26,7 +26,7 @@ struct Undoes<L: Sharing> {
 impl<L: Sharing> Promise<Undone<L>> for Undoes<L> {
     ghost use Rattle.step_workers.specs.Undoings.{HasUndone};
 
-    ghost kept_by = { λ p undone. HasUndone p.undoer.value undone };
+    ghost kept_by = { λ p undone. HasUndone L.begun p.undoer.value undone };
 }
 
 /// Takes back what is left of a hold, with a thread for each pass, until nothing is left. Each calls `gate.before_commit`,
@@ -51,6 +51,7 @@ where
     R: Threads + Wait + Sync,
     requires { (0 < vec_len passes) × (vec_len passes ≤ 8) }
     ensures passes { IfOk result (λ o. AllTakeBack 65536 passes.items o.passes.items) }
+    ensures stopped { IfOk result (λ o. AllStopped L.begun passes.items o.passes.items o.stopped.items) }
     ensures lens { IfOk result (λ o. (vec_len o.stopped ≡ vec_len passes) × (vec_len o.taken ≡ vec_len passes)) }
     ensures none { IfOk result (λ o. AllTookNone o.taken.items × (o.refused ≡ None)) }
     ensures err { IfErr result (λ back. back.items ≡ passes.items) }
@@ -90,6 +91,7 @@ where
     requires tray { IsTray (vec_len passes) tray }
     requires few { vec_len passes < 2 ^ 32 }
     ensures passes { AllTakeBack 65536 passes.items result.passes.items }
+    ensures stopped { AllStopped L.begun passes.items result.passes.items result.stopped.items }
     ensures lens { (vec_len result.stopped ≡ vec_len passes) × (vec_len result.taken ≡ vec_len passes) }
     ensures none { AllTookNone result.taken.items }
 {
@@ -99,6 +101,7 @@ where
         move |scope| -> Tray<L>
             requires { IsSend B.row × IsSend L.row × IsSync L.row × IsSync G.row × IsSync R.row × IsTray (vec_len passes) tray × (vec_len passes < 2 ^ 32) }
             ensures passes { AllTakeBack 65536 passes.items result.passes.items }
+            ensures stopped { AllStopped L.begun passes.items result.passes.items result.stopped.items }
             ensures lens { (vec_len result.stopped ≡ vec_len passes) × (vec_len result.taken ≡ vec_len passes) }
             ensures none { AllTookNone result.taken.items }
         { run_undoers(rt, alloc, scope, shared, unstarted, gate, passes, tray) },
@@ -106,7 +109,7 @@ where
 }
 
 /// Starts a thread for each pass, and waits for all.
-#[tactic(auto, using(crate::proofs::Seated::tray_less, crate::proofs::TakenBack::takes_back_last, crate::proofs::TakenBack::took_none_last))]
+#[tactic(auto, using(crate::proofs::Seated::tray_less, crate::proofs::TakenBack::takes_back_last, crate::proofs::TakenBack::stopped_last, crate::proofs::TakenBack::took_none_last))]
 fn run_undoers<'s, E, B, L, G, R>(
     rt: &'s R,
     alloc: Global,
@@ -126,6 +129,7 @@ where
     requires tray { IsTray (vec_len passes) tray }
     requires few { vec_len passes < 2 ^ 32 }
     ensures passes { AllTakeBack 65536 passes.items result.passes.items }
+    ensures stopped { AllStopped L.begun passes.items result.passes.items result.stopped.items }
     ensures lens { (vec_len result.passes ≡ vec_len passes) × (vec_len result.stopped ≡ vec_len passes) × (vec_len result.taken ≡ vec_len passes) }
     ensures none { AllTookNone result.taken.items }
     ensures room { (vec_capacity result.passes ≡ vec_capacity tray.passes) × (vec_capacity result.stopped ≡ vec_capacity tray.stopped) × (vec_capacity result.taken ≡ vec_capacity tray.taken) }
@@ -165,7 +169,7 @@ where
     G: Gate + Sync,
     R: Threads + Wait + Sync,
     ensures ok { IfOk result (λ h. h.promise.undoer.value ≡ undoer) }
-    ensures err { IfErr result (HasUndone undoer) }
+    ensures err { IfErr result (HasUndone L.begun undoer) }
 {
     let promise = Undoes {
         undoer: Snapshot::of(&undoer),

@@ -1,5 +1,6 @@
 // One worker of those that take back what is left of a hold.
-ghost use Rattle.step_workers.specs.Undoings.{HasUndone, TakesBack};
+ghost use Rattle.std.specs.Prelude.{◌≡◌};
+ghost use Rattle.step_workers.specs.Undoings.{HasUndone, IsStopped, TakesBack, stopped_for};
 
 use crate::gate::Gate;
 use crate::outcome::Stopped;
@@ -36,7 +37,7 @@ pub(crate) fn undo<B: Events, L: Sharing, G: Gate, R: Wait>(
     gate: &G,
     undoer: Undoer<L>,
 ) -> Undone<L>
-    ensures { HasUndone undoer result }
+    ensures { HasUndone L.begun undoer result }
 {
     let Undoer { number, mut pass } = undoer;
     let stopped = if unstarted.load(Ordering::SeqCst) == number as u64 {
@@ -56,7 +57,8 @@ fn undo_each<B: Events, L: Sharing, G: Gate>(
     seat: u32,
     pass: &mut Pass<L>,
 ) -> Stopped
-    ensures { TakesBack 65536 pass.old.receipts pass.new.receipts }
+    ensures receipts { TakesBack 65536 pass.old.receipts pass.new.receipts }
+    ensures stopped { IsStopped L.begun pass.old pass.new result }
 {
     for _done in 0..65_536u32 {
         gate.before_commit(seat);
@@ -71,7 +73,9 @@ fn undo_each<B: Events, L: Sharing, G: Gate>(
 }
 
 /// That nothing is left is no refusal of the worker.
-fn stopped_by(refusal: SharedRefusal) -> Stopped {
+fn stopped_by(refusal: SharedRefusal) -> Stopped
+    ensures { result ≡ stopped_for refusal }
+{
     match refusal {
         SharedRefusal::Refused(Refusal::NoStep) => Stopped::Idle,
         refusal => Stopped::Refused(refusal),
