@@ -225,7 +225,7 @@ const NO_DEEDS: Deeds = Deeds {
 #[test]
 fn eight_workers_beside_an_operator(rt: HostRuntime) -> Result<(), Fail> {
     let mut all = NO_DEEDS;
-    for seed in 1..=4u32 {
+    for seed in 1..=100u32 {
         let plan = Plan {
             seed,
             executions: 64,
