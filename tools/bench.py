@@ -97,6 +97,20 @@ def with_dependents(count):
         yield f"step run-{at}"
 
 
+def readers_that_went_on(count):
+    """A write of an item, and so many steps that need it: half are reads of it, and half the next steps of the readers."""
+    machine = workloads.states("Read", Read={**workloads.call("getItem", Key={"id": {"S": "hot"}}), "ResultPath": None, "Next": "Then"},
+                               Then={"Type": "Pass", "End": True})
+    yield TABLE
+    yield define("write", workloads.WRITE)
+    yield define("two", machine)
+    yield 'start first write {"key":"hot","value":"v"}'
+    for at in range(count // 2):
+        yield f"start reader-{at} two {{}}"
+    yield "step first"
+    yield f"drive {count}"
+
+
 def one_map(branches, bound):
     """An execution of a Map over so many elements, of which so many branches may run at a time, each with one Pass."""
     over = {"Type": "Map", "ItemsPath": "$.all", "ItemProcessor": workloads.chain(1), "End": True}
@@ -162,6 +176,12 @@ def single_calls():
 
         turns = ["undo run-00000#1", "drive 2", "undo zz#1"] * 20
         yield f"undo, drive and undo in turn beside {count:,} executions that ended", "instructions", ended, turns, 60
+    for count in (600, 6_000, 40_000):
+        def needing(count=count):
+            return readers_that_went_on(count)
+
+        yield f"plan of {count:,} consequences, a consequence", "instructions", needing, ["plan first#1"], count
+        yield f"rollback of {count:,} consequences, a consequence", "instructions", needing, ["rollback first#1"], count
     for count in (600, 6_000):
         def stepped(count=count):
             return many_threads(count)
