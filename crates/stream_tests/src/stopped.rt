@@ -153,12 +153,25 @@ fn holds_rows(alloc: Global, journal: &mut Journal<Stopping>, count: usize) -> b
     }
 }
 
+/// Whether a journal gives its book.
+fn gives_book(alloc: Global, journal: Journal<Stopping>) -> bool {
+    match Session::open(alloc, journal) {
+        Ok(session) => {
+            drop(session);
+            true
+        }
+        Err(refused) => {
+            drop(refused);
+            false
+        }
+    }
+}
+
 /// Whether a journal has the lines of so many rows, perhaps with the one after them, and gives its book.
 fn is_found(alloc: Global, mut journal: Journal<Stopping>, count: usize) -> bool {
     let is_kept = holds_rows(alloc, &mut journal, count)
         || holds_rows(alloc, &mut journal, count.saturating_add(1));
-    let is_book = Session::open(alloc, journal).is_ok();
-    is_kept && is_book
+    gives_book(alloc, journal) && is_kept
 }
 
 fn is_found_on(alloc: Global, left: StoppingFiles, count: usize) -> bool {
