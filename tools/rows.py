@@ -1,13 +1,14 @@
 #!/usr/bin/env python3
 """Runs the sessions of rows/*.txt against the program, and compares each reply with the one that stands there.
 
-    tools/rows.py [--program PATH] [--only TITLE].. [--no-files] [--no-streams] [FILE..]
+    tools/rows.py [--program PATH] [--only TITLE].. [--no-files] [--no-streams] [--cuts N] [FILE..]
 
 Without files all of rows/*.txt are run. Each session is served in memory, as one input; and on a journal's file, where the
 program ends and is started again on the same file after each line, or at 60 places where a session has more lines: the replies
-have to be the same. Each run has to end with status 0 and nothing on standard error, but where a row says otherwise. Two short
+have to be the same. Each run has to end with status 0 and nothing on standard error, but where a row says otherwise. Three short
 sessions are also served as input that is cut after each byte, that comes byte by byte and that fails after each byte, and to an
-output that fails after each byte. Each failure is told; the last line is `N passed, M failed`, of sessions. The status is 1
+output that fails after each byte. With --cuts each session of one run is cut so, after each byte, or after N evenly spaced ones of
+a longer input; that takes minutes. Each failure is told; the last line is `N passed, M failed`, of sessions. The status is 1
 where one failed or none was run. rows/README.md says how rows are written.
 """
 import argparse
@@ -29,7 +30,7 @@ TOP = pathlib.Path(__file__).resolve().parent.parent
 PROGRAM = TOP / "crates/rollback_program/out/rollback_program"
 LISTS = (b"items", b"history", b"plan", b"rollback", b"drive", b"work", b"held")
 PLACES = 60
-CUT = ("first-path", "terminate")
+CUT = ("first-path", "rollback-of-a-put", "terminate")
 
 
 class Command:
@@ -412,15 +413,27 @@ def whole_replies(commands, data):
     return wanted, not data.endswith(b"\n") and data != b""
 
 
-def run_cut(program, session):
-    """The input cut after each byte: each whole line is answered, and what is left of one has one reply."""
+def cut_after(commands, size):
+    """The commands whose lines stand whole in so many bytes of the input, and what stands there of the next line."""
+    for at, command in enumerate(commands):
+        line = command.input()
+        if size < len(line):
+            return commands[:at], Command(command.file, command.at, line[:size], False)
+        size -= len(line)
+    return commands, Command("", 0, b"", False)
+
+
+def run_cut(program, session, most=None):
+    """The input cut after each byte, or so many: each whole line is answered, and what is left of one has one reply."""
     told, data = [], b"".join(command.input() for command in session.commands)
-    for cut in range(len(data) + 1):
+    count = len(data) + 1 if most is None else min(most, len(data) + 1)
+    for cut in (at * len(data) // max(1, count - 1) for at in range(count)):
+        before, left = cut_after(session.commands, cut)
         found = ran(program, [], data[:cut])
-        wanted, is_cut = whole_replies(session.commands, data[:cut])
-        left = found.stdout[len(wanted) :]
-        is_met = found.stdout.startswith(wanted) and (left != b"" if is_cut else left == b"") and left.count(b"ok ") < 2
-        if not is_met or found.returncode or found.stderr:
+        replies, more = replies_of([*before, left], found.stdout)
+        are_met = all(is_wanted(command, reply) for command, reply in zip(before, replies))
+        is_told = replies[-1] == [] if left.is_empty() else re.fullmatch(rb"ok( .*)?|no \d+( .*)?", b"".join(replies[-1][:1]))
+        if not are_met or not is_told or more or found.returncode or found.stderr:
             told.append(f"{session.file}:{session.at}: input cut after {cut} bytes: {short(found.stdout)}")
     return told
 
@@ -486,8 +499,8 @@ def run_failing_output(program, session):
     return told
 
 
-def run_session(program, session, on_files, on_streams):
-    """What is told of a session, and how many lines it has."""
+def run_session(program, session, on_files, on_streams, cuts):
+    """What is told of a session."""
     try:
         if session.parts:
             return run_parts(program, session)
@@ -497,6 +510,8 @@ def run_session(program, session, on_files, on_streams):
         if on_streams and not told and session.title in CUT:
             for way in (run_cut, run_slow, run_failing_input, run_failing_output):
                 told += way(program, session)
+        if cuts and not told:
+            told += run_cut(program, session, cuts)
         return told
     except (OSError, subprocess.SubprocessError, sqlite3.Error) as error:
         return [f"{session.file}:{session.at}: {session.title}: {error}"]
@@ -508,6 +523,7 @@ def main():
     words.add_argument("--only", action="append", default=[], metavar="TITLE", help="only this session")
     words.add_argument("--no-files", action="store_true", help="in memory alone")
     words.add_argument("--no-streams", action="store_true", help="no inputs and outputs that fail")
+    words.add_argument("--cuts", type=int, default=0, metavar="N", help="each session's input cut after each byte, or after N of them")
     words.add_argument("files", nargs="*", metavar="FILE", help="files of rows; all of rows/*.txt where there is none")
     asked = words.parse_args()
     program = shutil.which(asked.program)
@@ -525,7 +541,7 @@ def main():
     failed = 0
     with concurrent.futures.ThreadPoolExecutor(os.cpu_count()) as workers:
         jobs = [
-            workers.submit(run_session, program, session, not asked.no_files, not asked.no_streams) for session in sessions
+            workers.submit(run_session, program, session, not asked.no_files, not asked.no_streams, asked.cuts) for session in sessions
         ]
         for session, job in zip(sessions, jobs):
             told = job.result()
