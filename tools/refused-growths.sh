@@ -77,7 +77,8 @@ case ${1:-} in
         ;;
 esac
 part python3 tools/refused_sessions.py "$@"
-part python3 tools/refused_sessions.py "$@" --files --only first-path --only rollback-of-a-put --only parallel-retried
+part python3 tools/refused_sessions.py "$@" --files --only first-path --only rollback-of-a-put --only parallel-retried \
+    --only a-round-of-workers --only settled-between-fork-and-join --only hold-with-workers
 part refuse_in_tests
 part python3 tools/value_rows.py --refuse
 echo "$passed passed, $failed failed"

@@ -6,7 +6,8 @@
 Without files all of rows/*.txt are served. A session's lines are given to the program one by one, each once the one before it is
 answered. Where the refusal falls may be told once in a run, in one of these ways:
 
-- the reply is `no 11`, or `no 24` where it was the store's. The line is given again, and is answered as the row says;
+- the reply is `no 11`, or `no 24` where it was the store's. What the book shows is as before the line: `history`, `items`, `held`. The
+  line is given again, and is answered as the row says;
 - a `drive` or a `work` takes fewer steps. It is given again with the number of those that are left, and the steps together are those of
   the row;
 - a `work` is told `no 24`, and the program ends with status 3 and `rollback: store`: the steps of its round are lost;
@@ -14,7 +15,7 @@ answered. Where the refusal falls may be told once in a run, in one of these way
 
 Each other reply has to be the one that stands in the row, so a line that was refused has changed nothing. With --files the first half
 of a session is served on a journal's file, which is opened then, and refused memory from there on. Where the program ends, it is
-started again on the same file, which has to give the rest of the replies.
+started again on the same file, which has to give the rest of the replies. In the end the file has one line for each entry of the row.
 
 Of a session with more than --most requests (1000), or which would take more than --seconds (30), only so many are refused, evenly
 spaced: long tables of definitions ask for memory as short ones do, each time behind all the lines before. Left out are sessions of more
@@ -44,6 +45,8 @@ import rows  # noqa: E402: beside this file
 COUNT = 3
 CHUNK = 50
 SECONDS = 300
+PICTURE = (b"history", b"items", b"held")
+QUESTIONS = (b"show", b"items", b"history", b"plan", b"held")
 ENDS = ((4, b"rollback: memory\n"),)
 ENDS_WHERE_LOST = ((3, b"rollback: store\n"),)
 ENDS_AT_OPENING = (*ENDS, *ENDS_WHERE_LOST)
@@ -132,11 +135,28 @@ def joined(front, rest):
     return [b"ok %d" % (len(front) + len(rest) - 2), *front[1:], *rest[1:]]
 
 
-def asked_again(served, command, found):
+def shown(served):
+    """What a book shows. Rounds of workers take steps in several orders, so it is in none."""
+    return [sorted(served.ask(line) or []) for line in PICTURE]
+
+
+def entries_of(command, reply):
+    """How many entries a line makes that is answered so."""
+    word = command.text.split(b" ")[0]
+    if word in QUESTIONS or not reply[0].startswith(b"ok"):
+        return 0
+    return len(reply) - 1 if word in (b"drive", b"work") else 1
+
+
+def asked_again(served, command, found, before):
     """How the refusal is told by a reply that isn't the row's, and the reply to what is given again then."""
     if found in ([b"no 11"], [b"no 24"]):
-        # behind a last line without its end nothing can be given
-        return "told", served.ask(command.text) if command.ended else command.wanted
+        if not command.ended:
+            # behind a last line without its end nothing can be given
+            return "told", command.wanted
+        if shown(served) != before():
+            raise Wrong(f"{command.place()}: {rows.short(command.text, 120)}\n    answered {found[0].decode()}, and something has changed")
+        return "told", served.ask(command.text)
     several = re.fullmatch(rb"(drive|work \d+) (\d+)", command.text)
     if several and re.fullmatch(rb"ok \d+", found[0]) and is_beginning(command, found[1:]):
         return "early", joined(found, served.ask(b"%s %d" % (several.group(1), int(several.group(2)) - len(found) + 1)))
@@ -153,18 +173,23 @@ def is_round(command):
     return command.text.split(b" ")[0] == b"work"
 
 
-def run(program, library, commands, words, number):
-    """Serves these lines with the request of this number refused: how many there were, and how that one was told."""
+def forget_counts():
     os.ftruncate(COUNT, 0)
     os.lseek(COUNT, 0, os.SEEK_SET)
+
+
+def run(program, library, commands, words, number, before=None):
+    """Serves these lines with the request of this number refused: how many there were, and how that one was told. What the book shows
+    before the line at a place is asked of `before`."""
+    forget_counts()
     served, told = Served(program, words, library, number), ""
     try:
-        for command in commands:
+        for at, command in enumerate(commands):
             found = served.ask(command.text, command.ended)
             if number and not told and (found is None or not rows.is_wanted(command, found)):
                 is_lost = is_round(command) and found == [b"no 24"]
                 if found is not None and not is_lost:
-                    told, found = asked_again(served, command, found)
+                    told, found = asked_again(served, command, found, lambda at=at: before(at))
                 else:
                     told = "ended"
                     served.end_for_memory(command, is_lost)
@@ -187,6 +212,12 @@ def run(program, library, commands, words, number):
         served.drop()
 
 
+def lines_in(program, journal):
+    """How many lines a journal has, none where it is refused."""
+    found = re.fullmatch(rb"ok (\d+) \d+\n", rows.ran(program, ["--check", journal], b"").stdout)
+    return int(found.group(1)) if found else None
+
+
 def counted():
     """How many requests the programs of a run have told, the first of them."""
     os.lseek(COUNT, 0, os.SEEK_SET)
@@ -201,15 +232,33 @@ class Work:
 
     def __init__(self, program, library, sessions, halves):
         self.program, self.library, self.sessions, self.halves = program, library, sessions, halves
+        self.pictures = {}
+
+    def picture(self, index, at):
+        """What the book shows before the line at a place of a session, where nothing is refused."""
+        if (index, at) not in self.pictures:
+            served = Served(self.program, [], self.library, 0)
+            try:
+                for command in self.sessions[index].commands[:at]:
+                    served.ask(command.text, command.ended)
+                self.pictures[index, at] = shown(served)
+            finally:
+                served.drop()
+        return self.pictures[index, at]
 
     def refuse(self, index, number):
         commands = self.sessions[index].commands
         if self.halves is None:
-            return run(self.program, self.library, commands, [], number)
+            return run(self.program, self.library, commands, [], number, lambda at: self.picture(index, at))
+        half = len(commands) // 2
         with tempfile.TemporaryDirectory() as folder:
             shutil.copytree(os.path.join(self.halves, str(index)), folder, dirs_exist_ok=True)
-            words = ["--journal", os.path.join(folder, "journal.db")]
-            return run(self.program, self.library, commands[len(commands) // 2 :], words, number)
+            journal = os.path.join(folder, "journal.db")
+            found = run(self.program, self.library, commands[half:], ["--journal", journal], number, lambda at: self.picture(index, half + at))
+            lines = sum(entries_of(command, command.wanted) for command in commands if not command.is_empty())
+            if lines_in(self.program, journal) != lines:
+                raise Wrong(f"{commands[-1].place()}: the journal has not the {lines} lines of the row")
+            return found
 
     def count(self, index):
         """How many requests a session has, after its first half; how many seconds that took; and what is wrong."""
@@ -237,6 +286,12 @@ class Work:
                     break
         return ways, wrongs
 
+    def said(self, ways, count):
+        return (
+            f"{sum(ways.values())} of {count} requests refused: {ways['told']} times told, {ways['early']} times a drive or a round stopped, "
+            f"{ways['ended']} times the program ended, {ways['']} times all was answered"
+        )
+
 
 WORK = None
 
@@ -261,10 +316,9 @@ def spaced(count, most):
     return [1 + at * count // most for at in range(most)] if count else []
 
 
-def compiled(room):
+def compiled(room, source):
     library = os.path.join(room, "refusing.so")
-    source = rows.TOP / "tools/refusing_malloc.c"
-    subprocess.run([os.environ.get("CC", "cc"), "-O2", "-shared", "-fPIC", "-o", library, source], check=True)
+    subprocess.run([os.environ.get("CC", "cc"), "-O2", "-shared", "-fPIC", "-o", library, rows.TOP / "tools" / source], check=True)
     return library
 
 
@@ -283,10 +337,7 @@ def serve_all(asked):
                 more, wrong = chunk.result()
                 ways += more
                 wrongs += wrong
-            print(
-                f"{session.title}: {sum(ways.values())} of {count} requests refused: {ways['told']} times told, {ways['early']} times a "
-                f"drive or a round stopped, {ways['ended']} times the program ended, {ways['']} times all was answered"
-            )
+            print(f"{session.title}: {WORK.said(ways, count)}")
             for wrong in wrongs[:3]:
                 print(wrong)
             sys.stdout.flush()
@@ -294,20 +345,24 @@ def serve_all(asked):
     return failed
 
 
-def main():
-    global WORK
-    # taken before anything else is opened, and the workers have it too
-    os.dup2(os.open(os.devnull, os.O_RDWR), COUNT)
-    words = argparse.ArgumentParser(description="Serves the sessions of rows/*.txt while requests for memory are refused.")
+def words_of(description):
+    words = argparse.ArgumentParser(description=description)
     words.add_argument("--program", default=str(rows.PROGRAM), help="the program; that of rollback_program where it is left out")
-    words.add_argument("--files", action="store_true", help="on a file, opened after the first half of the session")
     words.add_argument("--only", action="append", default=[], metavar="TITLE", help="only this session")
     words.add_argument("--lines", type=int, default=200, help="no session of more lines")
-    words.add_argument("--most", type=int, default=1000, help="how many requests of one session are refused")
+    words.add_argument("--most", type=int, default=1000, help="how often one session is served")
     words.add_argument("--seconds", type=float, default=30, help="how long one session is served, by one process")
     words.add_argument("--jobs", type=int, default=os.cpu_count(), help="how many processes serve at a time")
     words.add_argument("rows", nargs="*", metavar="FILE", help="files of rows; all of rows/*.txt where there is none")
-    asked = words.parse_args()
+    return words
+
+
+def serve(asked, source, work_of):
+    """Serves the sessions that are asked for, by the work that is made of the program, of what is compiled from the source, of the
+    sessions, and of a folder. The status."""
+    global WORK
+    # taken before anything else is opened, and the workers have it too
+    os.dup2(os.open(os.devnull, os.O_RDWR), COUNT)
     program = shutil.which(asked.program)
     if program is None:
         print(f"no program: {asked.program}", file=sys.stderr)
@@ -323,10 +378,21 @@ def main():
         if session not in served:
             print(f"{session.title}: left out, for its {len(session.commands)} lines")
     with tempfile.TemporaryDirectory() as room:
-        WORK = Work(os.path.abspath(program), compiled(room), served, room if asked.files else None)
+        WORK = work_of(os.path.abspath(program), compiled(room, source), served, room)
         failed = serve_all(asked)
     print(f"{len(served) - failed} passed, {failed} failed")
     return 1 if failed or not served else 0
+
+
+def main():
+    words = words_of("Serves the sessions of rows/*.txt while requests for memory are refused.")
+    words.add_argument("--files", action="store_true", help="on a file, opened after the first half of the session")
+    asked = words.parse_args()
+    return serve(
+        asked,
+        "refusing_malloc.c",
+        lambda program, library, sessions, room: Work(program, library, sessions, room if asked.files else None),
+    )
 
 
 if __name__ == "__main__":
