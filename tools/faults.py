@@ -3,7 +3,8 @@
 
 usage: faults.py [PART..] [--program PATH] [--kills N] [--damages N] [--disks N] [--rounds N] [--seed S] [--jobs N] [--limit SECONDS]
 
-A session is drawn (tools/drawn.py): some 200 lines, of starts, steps, drives, rounds of workers, undoings and rollbacks. PART is
+A session is drawn (tools/drawn.py): some 200 lines, of starts, steps, drives, rounds of workers, undoings and rollbacks, and in some
+sessions of holds or settlements. PART is
 
 - `kills`: it is served on a file, each line once the one before was answered or several at once, and its process is killed at a drawn
   moment, by SIGKILL or SIGTERM. Opened again, the journal has to hold the lines of a beginning of what was given, with all that was
@@ -47,7 +48,7 @@ class Recorded(drawn.Drawer):
     """Draws lines, and for a part of them rounds of workers."""
 
     def __init__(self, chance, count, rounds):
-        super().__init__(chance, count)
+        super().__init__(chance, count, random.Random(chance.random()))
         self.before, self.rounds = 0, rounds
 
     def drawn(self, session):
@@ -65,11 +66,14 @@ class Followed(drawn.Checked):
     def check_plans(self):
         pass
 
+    def left(self):
+        return self.live.ask(["held"])[0][1:]
+
     def take(self, line):
         reply = self.live.ask([line])[0]
         self.lines.append(line)
-        if reply and reply[0].startswith("ok"):
-            word = line.split(" ", 1)[0]
+        word = line.split(" ", 1)[0]
+        if word != "hold" and reply and reply[0].startswith("ok"):
             self.keep(word, line, reply)
             if word in ("undo", "rollback"):
                 self.look()
@@ -297,9 +301,9 @@ def try_damage(program, chance, room):
     if checked.returncode == 3:
         if checked.stdout or not checked.stderr.startswith(TEXTS):
             raise Difference(f"{kind}: refused by {checked.stderr!r} after {checked.stdout!r}")
-        served = subprocess.run([program, "--journal", copy], input=b"history\n", stdout=subprocess.PIPE, stderr=subprocess.PIPE, timeout=50, check=False)
-        if (served.returncode, served.stdout, served.stderr) != (3, b"", checked.stderr):
-            raise Difference(f"{kind}: checked it is {checked.stderr!r}, served it ends with {served.returncode}, {served.stdout[:100]!r}, {served.stderr!r}")
+        opened = status_of(program, ("--journal", copy))
+        if opened != (3, b"", checked.stderr):
+            raise Difference(f"{kind}: checked it is {checked.stderr!r}, and served it ends with {opened}")
         return f"{kind}, refused"
     if checked.returncode != 0:
         raise Difference(f"{kind}: --check ends with {checked.returncode}, {checked.stderr!r}")
