@@ -14,7 +14,7 @@ in half of them holds, in some settlements, and lines of all kinds that are refu
   end, where the steps are also taken in another order that dependence allows;
 - each step's plan has to be the least set that dependence closes, and each step with a dependent has to be refused to `undo` by
   its first one. Dependence is worked out here, from its definition: the machines are made so that the name of a state says
-  which item it calls for;
+  which item it calls for, and a Map's its bound;
 - a hold has to count the plan of its step, and what is left is that plan without the steps that were taken back since. Each move under
   a hold is tried in a fresh process without it: one that depends on what is left has to be refused for the earliest step on which it
   does, and any other has to be answered as there. A drive has to pass by the first kind, and a round of workers takes none of it;
@@ -113,7 +113,8 @@ def drawn_kind(chance, depth, last):
 
 
 def drawn_machine(chance, table, depth):
-    """A machine whose states' names say what they do: a call's has the number of its key, or `own` for the input's, and its condition."""
+    """A machine whose states' names say what they do: a call's has the number of its key, or `own` for the input's, and its condition, and
+    a Map's its bound."""
     count = chance.choice((1, 2, 2, 3, 3, 4))
     kinds = [drawn_kind(chance, depth, at == count - 1) for at in range(count)]
     if depth > 1 and not {"parallel", "map"} & set(kinds):
@@ -127,6 +128,8 @@ def drawn_machine(chance, table, depth):
             name += " " + chance.choice(("0", "0", "1", "2", "own", "own"))
             if kind != "get" and chance.random() < 0.35:
                 name += chance.choice((" if id", " unless id", " if v", " unless v"))
+        elif kind == "map":
+            name += chance.choice((" 0", " 0", " 1", " 2"))
         names.append(name)
     states = {}
     for at, (kind, name) in enumerate(zip(kinds, names)):
@@ -173,6 +176,8 @@ def drawn_state(chance, table, depth, kind, name, names):
     else:
         state = {"Type": "Map", "ItemsPath": "$.list", "ItemProcessor": drawn_machine(chance, table, depth - 1)}
         state.update(chance.choice(({"ResultPath": None}, {"ResultPath": "$.found"}, {})))
+        if (bound := int(name.split(" ")[2])) or chance.random() < 0.1:
+            state["MaxConcurrency"] = bound
         if chance.random() < 0.6:
             state["ItemSelector"] = {"key.$": "$$.Map.Item.Value.key", "n.$": "$$.Map.Item.Index", "v.$": "$.v", "list.$": "$.list"}
     if kind in CALLS or kind in ("wrong", "parallel", "map"):
@@ -202,6 +207,22 @@ def drawn_call(chance, table, kind, name):
 
 
 # ---- A session and what is checked of it ----
+
+
+def fork_above(path, at):
+    """The name of the fork that made the branch at a place of a thread."""
+    upper = "/".join([path[0], *(f"{fork}.{branch}" for fork, branch in path[1:at])])
+    return f"{upper}#{path[at][0]}"
+
+
+def bound_of(name, forks):
+    """The bound for which a step waits: that of its branch's Map where it is the first move of its branch, else 0."""
+    thread, _, no = name.rpartition("#")
+    path = path_of(thread)
+    if len(path) == 1 or no != "1":
+        return 0
+    kind, *bound = forks[fork_above(path, len(path) - 1)]
+    return int(bound[0]) if kind == "map" else 0
 
 
 class Checked:
@@ -386,12 +407,12 @@ class Checked:
         if shown.startswith("ok ready "):
             state = json.loads(shown[9 : shown.rindex(" ")])
             if kind == "fork":
-                forks[name] = state.split(" ")[1]
+                forks[name] = state.split(" ")[1:]
             elif kind == "call":
                 access = self.access_of(name, state, forks, items)
         elif kind == "call":
             raise Difference(f"{name} is a call of a thread that was {shown}")
-        return Step(name, kind, access)
+        return Step(name, kind, access, bound_of(name, forks))
 
     def access_of(self, name, state, forks, items):
         """The key of a call, and whether it writes."""
@@ -403,8 +424,7 @@ class Checked:
             given = json.loads(self.starts[path[0]].split(" ", 3)[3])
             key = given["key"]
             for at in range(len(path) - 1, 0, -1):
-                upper = "/".join([path[0], *(f"{fork}.{branch}" for fork, branch in path[1:at])])
-                if forks[f"{upper}#{path[at][0]}"] == "map":
+                if forks[fork_above(path, at)][0] == "map":
                     key = given["list"][path[at][1]]["key"]
                     break
         else:

@@ -51,18 +51,23 @@ class Ahead(Session):
         while len(taken) < most:
             shown = self.checked.threads(self)
             ready = sorted((thread for thread in shown if thread not in passed and can_move(thread, shown)), key=path_of)
-            if not ready:
-                break
-            _, step = self.tried(ready[0])
-            if hold.first_needed(step) is None:
-                taken.append(step.name)
-            else:
-                passed.add(ready[0])
+            for thread in ready:
+                _, step = self.tried(thread)
+                if step is None:
+                    # a branch that waits until an earlier one is done
+                    continue
+                if hold.first_needed(step) is None:
+                    taken.append(step.name)
+                    break
+                passed.add(thread)
                 self.ask(["undo " + step.name])
+            else:
+                break
         return taken
 
 
 def can_move(thread, shown):
+    """Whether a thread has a move, but for a branch that waits until an earlier one is done."""
     state = shown[thread]
     if state.startswith("ok ready "):
         return True

@@ -83,12 +83,20 @@ def served(program, lines, words=()):
 
 
 class Step:
-    """A step as its name, its kind and its access say: a key, and whether it was written."""
+    """A step as its name, its kind and its access say: a key, and whether it was written. The first move of a branch has the bound of its Map."""
 
-    def __init__(self, name, kind, access):
+    def __init__(self, name, kind, access, bound=0):
         thread, no = name.rsplit("#", 1)
-        self.name, self.kind, self.access = name, kind, access
+        self.name, self.kind, self.access, self.bound = name, kind, access, bound
         self.path, self.no = path_of(thread), int(no)
+
+    def waited_for(self, path):
+        """Whether this is the first move of a branch that waits until the one with this thread in it is done."""
+        above = self.path[:-1]
+        if not self.bound or len(path) <= len(above) or path[: len(above)] != above:
+            return False
+        (fork, branch), (other, earlier) = self.path[-1], path[len(above)]
+        return other == fork and earlier + self.bound <= branch
 
 
 def path_of(thread):
@@ -109,6 +117,8 @@ def depends(later, earlier):
     if earlier.kind == "fork" and lies_under(later.path, earlier.path, earlier.no):
         return True
     if later.kind in ("join", "terminate") and lies_under(earlier.path, later.path, later.no - 1):
+        return True
+    if later.waited_for(earlier.path):
         return True
     if later.access and earlier.access and later.access[0] == earlier.access[0]:
         return later.access[1] or earlier.access[1]
