@@ -3,6 +3,7 @@
 #include <errno.h>
 #include <stdio.h>
 #include <stdlib.h>
+#include <sys/syscall.h>
 #include <unistd.h>
 
 extern void *__libc_malloc(size_t size);
@@ -19,10 +20,20 @@ __attribute__((constructor)) static void begin(void) {
     requests = 0;
 }
 
-__attribute__((destructor)) static void end(void) {
+static int is_told(void) {
     char text[32];
     int length = snprintf(text, sizeof text, "%lu\n", requests);
-    if (write(3, text, (size_t)length) != length) _exit(125);
+    return write(3, text, (size_t)length) == length;
+}
+
+__attribute__((destructor)) static void end(void) {
+    if (!is_told()) syscall(SYS_exit_group, 125);
+}
+
+// A program may end by this, behind which no destructor runs.
+void _exit(int status) {
+    syscall(SYS_exit_group, is_told() ? status : 125);
+    __builtin_unreachable();
 }
 
 static int is_refused(void) {
