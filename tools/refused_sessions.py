@@ -142,8 +142,8 @@ def shown(served):
 
 def entries_of(command, reply):
     """How many entries a line makes that is answered so."""
-    word = command.text.split(b" ")[0]
-    if word in QUESTIONS or not reply[0].startswith(b"ok"):
+    word = command.text.removesuffix(b"\r").split(b" ")[0]
+    if word in QUESTIONS or not reply or not reply[0].startswith(b"ok"):
         return 0
     return len(reply) - 1 if word in (b"drive", b"work") else 1
 
@@ -255,7 +255,7 @@ class Work:
             shutil.copytree(os.path.join(self.halves, str(index)), folder, dirs_exist_ok=True)
             journal = os.path.join(folder, "journal.db")
             found = run(self.program, self.library, commands[half:], ["--journal", journal], number, lambda at: self.picture(index, half + at))
-            lines = sum(entries_of(command, command.wanted) for command in commands if not command.is_empty())
+            lines = sum(entries_of(command, command.wanted) for command in commands)
             if lines_in(self.program, journal) != lines:
                 raise Wrong(f"{commands[-1].place()}: the journal has not the {lines} lines of the row")
             return found

@@ -88,9 +88,9 @@ class Stops(Work):
 
     def go_on(self, index, journal, place, took):
         """Opens the file again and serves what is left of the session."""
-        commands = [command for command in self.sessions[index].commands[:place] if not command.is_empty()]
-        rest = self.sessions[index].commands[place:]
-        before = sum(entries_of(command, command.wanted) for command in commands)
+        commands = self.sessions[index].commands
+        rest = commands[place:]
+        before = sum(entries_of(command, command.wanted) for command in commands[:place])
         opened = rows.ran(self.program, ["--journal", journal], b"")
         lines = lines_in(self.program, journal)
         if (opened.returncode, opened.stdout, opened.stderr) != (0, b"", b"") or lines is None:
@@ -106,7 +106,7 @@ class Stops(Work):
         told = rows.differences(rest, found.stdout, "opened again") + rows.ended(journal, "opened again", found)
         if told:
             raise Wrong("\n".join(told[:3]))
-        wanted = before + kept + sum(entries_of(command, command.wanted) for command in rest if not command.is_empty())
+        wanted = before + kept + sum(entries_of(command, command.wanted) for command in rest)
         if lines_in(self.program, journal) != wanted:
             raise Wrong(f"the journal has not the {wanted} lines of the row")
 
