@@ -90,6 +90,12 @@ const DAMAGED: &[(&[&str], usize)] = &[
     (&[TABLE, MACHINE_P, "start a p {}", "step a", "step a"], 4),
     (&[TABLE, MACHINE_P, "start a p {}", "plan a#0"], 3),
     (&[TABLE, MACHINE_P, "start a p {}", "show a"], 3),
+    (&[TABLE, MACHINE_P, TABLE], 2),
+    (&[TABLE, MACHINE_P, "start a p {}", "start a p {}"], 3),
+    (&[TABLE, MACHINE_P, "start a p {}", "step a", "drive 3"], 4),
+    (&[TABLE, MACHINE_P, "start a p {}", "hold a#1"], 3),
+    (&[TABLE, MACHINE_P, "start a p {}", "hold a#0", "step a"], 4),
+    (&[TABLE, MACHINE_P, "start a p {}", "settle", "undo a#0"], 4),
 ];
 
 #[test]

@@ -64,6 +64,24 @@ const ROWS: &[Row] = &[
         history: "ok 1\na#0\n",
         kept: "rollback a#1",
     },
+    Row {
+        line: "hold a#0",
+        reply: "ok 1\n",
+        history: "ok 1\na#0\n",
+        kept: "hold a#0",
+    },
+    Row {
+        line: "undo a#0",
+        reply: "ok\n",
+        history: "ok 0\n",
+        kept: "undo a#0",
+    },
+    Row {
+        line: "settle",
+        reply: "ok\n",
+        history: "ok 0\n",
+        kept: "settle",
+    },
 ];
 
 const NO_BOOK: &str = "no 21\n";
