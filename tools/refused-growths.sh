@@ -51,6 +51,7 @@ refuse_in_tests() {
         if refuse_each "$crate" "$test"; then good=$((good + 1)); else bad=$((bad + 1)); fi
     done <<'TESTS'
 book_tests acts::refused_growths_change_nothing
+book_tests acts::undoings_want_no_memory
 book_tests plans::histories_by_hand
 shared_tests passes::calls_of_two_passes
 shared_tests turns::stale_turns

@@ -556,6 +556,51 @@ fn refused_growths_change_nothing(rt: HostRuntime) -> Result<(), Fail> {
     expect_over(&rt, rt.alloc(), "[]", GROWING)
 }
 
+const TAKEN_BACK: &[Row] = &[
+    (Act::Define("w", PUT), "ok"),
+    (Act::Start("a", "w", r#"{"v":"1"}"#), "ok"),
+    (Act::Start("b", "w", r#"{"v":"2"}"#), "ok"),
+    (Act::Step("a"), "ok"),
+    (Act::Step("b"), "ok"),
+];
+
+/// Whether a step is undone, and a start rolled back with its step, once there is room for it.
+fn takes_back(alloc: Global, book: &mut Book) -> Result<bool, Fail> {
+    let last = step_of(alloc, "b#1")?;
+    let first = step_of(alloc, "a#0")?;
+    let room = book.room(alloc, &last)?;
+    let Ok(_) = book.undo(room) else {
+        return Ok(false);
+    };
+    let plan = book.plan_room(alloc, &first)?;
+    match book.rollback(plan) {
+        Ok(undone) => Ok(undone.names().len() == 2),
+        Err(_) => Ok(false),
+    }
+}
+
+fn takes_back_what_was_taken(rt: &impl Abort, alloc: Global) -> Result<bool, Fail> {
+    let mut book = book_over(alloc, "[]")?;
+    match expect(rt, alloc, &mut book, TAKEN_BACK) {
+        Ok(()) => {
+            let is_so = takes_back(alloc, &mut book);
+            drop(book);
+            is_so
+        }
+        Err(fail) => {
+            drop(book);
+            Err(fail)
+        }
+    }
+}
+
+/// For tools/refused-growths.sh: a growth that is refused is the test's own or a room's, and never one of an undoing or a rollback.
+#[test]
+fn undoings_want_no_memory(rt: HostRuntime) -> Result<(), Fail> {
+    assert!(rt; takes_back_what_was_taken(&rt, rt.alloc())?);
+    Ok(())
+}
+
 // ---- the first thread that can move
 
 /// The first thread that can move, of those that are not passed by.
