@@ -58,26 +58,86 @@ fn inputs_cut_anywhere(rt: HostRuntime) {
 
 /// Whether a writer that takes a byte a call, and only so many, takes them all; and serving ends well only where they are the whole of the
 /// replies.
-fn fills<T: Threads + Wait + Sync>(rt: &T, alloc: Global, room: usize) -> bool {
-    let mut source = Source::new(FIRST_PATH);
+fn fills<T: Threads + Wait + Sync>(
+    rt: &T,
+    alloc: Global,
+    input: &[u8],
+    replies: &[u8],
+    room: usize,
+) -> bool {
+    let mut source = Source::new(input);
     let mut sink = Sink::new(alloc);
     sink.at_once = 1;
     sink.room = room;
     let ended = served_new(rt, alloc, &mut source, &mut sink);
-    let end = if room == FIRST_REPLIES.len() {
+    let end = if room == replies.len() {
         OK
     } else {
         Err(ServeFault::Write)
     };
-    is_ended(ended, end)
-        && sink.taken.len() == room
-        && FIRST_REPLIES.starts_with(sink.taken.as_slice())
+    is_ended(ended, end) && sink.taken.len() == room && replies.starts_with(sink.taken.as_slice())
 }
 
 #[test]
 fn failing_writers(rt: HostRuntime) {
     for room in 0..FIRST_REPLIES.len() + 1 {
-        assert!(rt; fills(&rt, rt.alloc(), room), "at {room}");
+        assert!(rt;
+            fills(&rt, rt.alloc(), FIRST_PATH, FIRST_REPLIES, room),
+            "at {room}"
+        );
+    }
+}
+
+// ---- a rollback, over readers and writers that fail
+
+const PUTS: &[u8] =
+    b"table items id:S []\ndefine w {\"StartAt\":\"W\",\"States\":{\"W\":{\"Type\":\"Task\",\"Resource\":\"arn:aws:states:::dynamodb:putItem\",\"Parameters\":{\"TableName\":\"items\",\"Item\":{\"id\":{\"S\":\"k\"},\"v\":{\"S.$\":\"$.v\"}}},\"End\":true}}}\nstart a w {\"v\":\"1\"}\nstart b w {\"v\":\"2\"}\nstep a\nstep b\nitems\nrollback a#1\nitems\nhistory\n";
+
+const PUT_REPLIES: &[u8] =
+    b"ok\nok\nok a#0\nok b#0\nok a#1 call\nok b#1 call\nok 1\n{\"id\":{\"S\":\"k\"},\"v\":{\"S\":\"2\"}}\nok 2\nb#1\na#1\nok 0\nok 2\na#0\nb#0\n";
+
+/// How many lines the reply to each line has.
+const PUT_COUNTS: &[usize] = &[1, 1, 1, 1, 1, 1, 2, 3, 1, 3];
+
+/// How many lines reply to so many.
+fn lines_for(lines: usize) -> usize {
+    let mut count = 0usize;
+    for more in PUT_COUNTS.iter().take(lines) {
+        count = count.saturating_add(*more);
+    }
+    count
+}
+
+/// Whether each whole line is answered, and nothing else, before a reader fails that gives a byte a call, to a writer that takes one.
+fn answers_puts<T: Threads + Wait + Sync>(rt: &T, alloc: Global, rest: &[u8]) -> bool {
+    let mut source = Source::new(rest);
+    source.at_once = 1;
+    source.fails = true;
+    let mut sink = Sink::new(alloc);
+    sink.at_once = 1;
+    let ended = served_new(rt, alloc, &mut source, &mut sink);
+    is_ended(ended, Err(ServeFault::Read))
+        && PUT_REPLIES.starts_with(sink.taken.as_slice())
+        && sink.lines() == lines_for(line_count(rest))
+}
+
+#[test]
+fn failing_readers_of_a_rollback(rt: HostRuntime) {
+    for cut in 0..PUTS.len() + 1 {
+        assert!(rt;
+            answers_puts(&rt, rt.alloc(), PUTS.get(..cut).unwrap_or(&[])),
+            "at {cut}"
+        );
+    }
+}
+
+#[test]
+fn failing_writers_of_a_rollback(rt: HostRuntime) {
+    for room in 0..PUT_REPLIES.len() + 1 {
+        assert!(rt;
+            fills(&rt, rt.alloc(), PUTS, PUT_REPLIES, room),
+            "at {room}"
+        );
     }
 }
 
