@@ -1,5 +1,5 @@
 -- Which threads of a book have a move, and what their next step does.
-use Rattle.std.proofs.Common.{◌≡◌, ◌≤◌, ◌<◌, ◌+◌, arith, length, ◌==◌, eq-eqb, Bool, true, false, cond, List, refl, ap, ap₂, sym, subst, ◌∙◌, Option, None, Some, Result, Ok, Err, inl, inr}
+use Rattle.std.proofs.Common.{◌≡◌, ℕ, ◌≤◌, ◌<◌, ◌+◌, arith, length, ◌==◌, eq-eqb, Bool, true, false, cond, List, refl, ap, ap₂, sym, subst, ◌∙◌, Option, None, Some, Result, Ok, Err, inl, inr}
 use Rattle.std.specs.Prelude.{◌&&◌, ◌⊎◌, IsSome, not, is_some, option_and_then, ◌^◌}
 use Rattle.std.proofs.lemmas.Option.{same_Some}
 use Rattle.step_history.specs.Frame.{Frame}
@@ -11,7 +11,7 @@ use Rattle.branch_tree.specs.declared.readiness.Readiness.{Readiness}
 use Rattle.step_names.specs.Thread.{Thread}
 use Rattle.step_names.specs.declared.step.StepName.{StepName}
 use Rattle.saved_steps.specs.Deeds.{Deed, deed, frame_deed, if_numbered, move_deed, next_step, waits}
-use Rattle.saved_steps.specs.First.{IsFirstReady, free}
+use Rattle.saved_steps.specs.First.{IsFirstReady, NoneFreeBefore, free}
 use Rattle.saved_steps.specs.Held.{frames_of, paths_of, seen}
 use Rattle.saved_steps.specs.Made.{Suits, deed_of_next, fact_made}
 use Rattle.saved_steps.specs.Steps.{moved}
@@ -288,3 +288,9 @@ module _ (b : Volume) (tied : IsTied b) (passed : Thread → Bool) where
   pub first_to_move : (found : Option Thread) → IsFirstReady (frames_of b.history.world) passed found → IsFirstToMove b.story passed found
   first_to_move None h = λ t i. freely t ∙ h t i
   first_to_move (Some t) h = (h.0, freely t ∙ h.1, λ u i less. freely u ∙ h.2 u i less)
+
+  pub ready_there : (found : Option Thread) → IsFirstReady (frames_of b.history.world) passed found → IsFirstReady (world_of b.story).frames passed found
+  ready_there found h = subst (λ (w : World). IsFirstReady w.frames passed found) (sym (world_is b tied)) h
+
+  pub none_there_before : (name : List ℕ) → NoneFreeBefore (world_of b.story).frames passed name → NoneFreeBefore (frames_of b.history.world) passed name
+  none_there_before name h = subst (λ (w : World). NoneFreeBefore w.frames passed name) (world_is b tied) h

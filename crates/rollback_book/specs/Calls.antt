@@ -5,6 +5,7 @@ use Rattle.std.specs.Borrow.{Bor}
 use Rattle.json_tree.specs.declared.tree.Json.{Json}
 use Rattle.step_history.specs.Frame.{Frame}
 use Rattle.step_history.specs.History.{Past}
+use Rattle.saved_steps.specs.First.{IsFirstReady}
 use Rattle.step_names.specs.Thread.{Thread}
 use Rattle.step_names.specs.declared.step.StepName.{StepName}
 use Rattle.book_log.specs.Answers.{Gives, GivesOr, HoldLacks, SettleLacks, StepLacks, hold_answer, plan_answer, settle_answer, start_answer, step_answer, undo_answer}
@@ -77,9 +78,10 @@ pub record RollsBack (before after : Story) (room : PlanRoom) (result : Result (
   pub stale : IfErr result (λ e. (e ≡ Stale (length before.log)) × (room.entries < length before.log))
   pub err : OnErr result (after ≡ before)
 
--- the least thread that has a move and is not passed by, refused for memory alone
+-- the least thread that has a move and is not passed by, also as the frames of threads tell it; refused for memory alone
 pub record FindsFirst (story : Story) (passed : Thread → Bool) (result : Result (Option Thread) Refusal) : Type 0 where
   pub first : IfOk result (IsFirstToMove story passed)
+  pub ready : IfOk result (IsFirstReady (world_of story).frames passed)
   pub memory : IfErr result (λ e. e ≡ Memory)
 
 -- a thread's frame in the world that the remaining steps give

@@ -19,3 +19,4 @@ pub use Rattle.saved_steps.specs.Steps
 pub use Rattle.saved_steps.specs.declared.fact.Fact
 pub use Rattle.saved_steps.specs.declared.fact.Kind
 pub use Rattle.saved_steps.specs.declared.record.StepRecord
+pub use Rattle.saved_steps.specs.First

@@ -1,10 +1,12 @@
 // The calls of a book that many callers may share.
 ghost use Rattle.std.specs.Prelude.{◌≡◌, ◌≤◌, [], length, option_copied};
 ghost use Rattle.std.specs.BTreeSet.{contains};
+ghost use Rattle.std.specs.String.{string_bytes};
 ghost use Rattle.json_tree.specs.Data.{depth, most_levels};
 ghost use Rattle.json_tree.specs.View.{data_of};
 ghost use Rattle.step_names.specs.Order.{thread_cmp};
-ghost use Rattle.book_log.specs.Story.{Story, held, left_of};
+ghost use Rattle.saved_steps.specs.First.{NoneFreeBefore};
+ghost use Rattle.book_log.specs.Story.{Story, held, left_of, world_of};
 ghost use Rattle.rollback_book.specs.Calls.{FindsFirst, Holds, IsLatestLeft, IsLogOf, MakesRoom, PlansRollback, RollsBack, Shows, Starts, Steps, Undoes};
 ghost use Rattle.rollback_book.specs.Commits.{AnswersCommit, Commits};
 ghost use Rattle.rollback_book.specs.Making.{WasPlanned};
@@ -95,6 +97,16 @@ pub trait Events {
     ) -> Result<Option<ThreadName>, Refusal>
         ensures { FindsFirst (story self.now) (contains thread_cmp outside.now) result };
 
+    /// As `Book::first_ready_from`.
+    fn first_ready_from(
+        &self,
+        alloc: Global,
+        from: &String,
+        outside: &BTreeSet<ThreadName>,
+    ) -> Result<Option<ThreadName>, Refusal>
+        requires { NoneFreeBefore (world_of (story self.now)).frames (contains thread_cmp outside.now) (string_bytes from.now) }
+        ensures { FindsFirst (story self.now) (contains thread_cmp outside.now) result };
+
     /// As `Book::ticket`.
     fn ticket(&self, thread: &ThreadName) -> Result<Ticket, Refusal>
         ensures { AnswersTicket (story self.now) thread.now result };
@@ -172,6 +184,15 @@ impl Events for Book {
         outside: &BTreeSet<ThreadName>,
     ) -> Result<Option<ThreadName>, Refusal> {
         Book::first_ready(self, alloc, outside)
+    }
+
+    fn first_ready_from(
+        &self,
+        alloc: Global,
+        from: &String,
+        outside: &BTreeSet<ThreadName>,
+    ) -> Result<Option<ThreadName>, Refusal> {
+        Book::first_ready_from(self, alloc, from, outside)
     }
 
     fn ticket(&self, thread: &ThreadName) -> Result<Ticket, Refusal> {

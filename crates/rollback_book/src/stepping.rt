@@ -1,11 +1,14 @@
 // Steps of threads: what is next is worked out and made, and then it is entered.
 ghost use Rattle.std.specs.Prelude.{◌≡◌, ◌+◌, ◌<◌, ◌^◌, IfOk, MatchResult, Err};
 ghost use Rattle.std.specs.BTreeSet.{contains};
+ghost use Rattle.std.specs.String.{string_bytes};
 ghost use Rattle.branch_tree.specs.First.{has_move};
 ghost use Rattle.step_names.specs.Order.{thread_cmp};
 ghost use Rattle.saved_steps.specs.Deeds.{next_step};
+ghost use Rattle.saved_steps.specs.First.{NoneFreeBefore};
 ghost use Rattle.saved_steps.specs.Made.{fact_made};
 ghost use Rattle.book_log.specs.Answers.{step_answer};
+ghost use Rattle.book_log.specs.Story.{world_of};
 ghost use Rattle.rollback_book.specs.Calls.{FindsFirst, Steps};
 ghost use Rattle.rollback_book.specs.Making.{AnswersMove, CanEnter, IsMoveRefusal};
 ghost use Rattle.rollback_book.specs.Ready.{HasRoomUnlessHeld, IsHeldBack, IsNextOf, IsReadyTo, MayEnter};
@@ -153,7 +156,25 @@ impl Book {
     ) -> Result<Option<ThreadName>, Refusal>
         ensures { FindsFirst self.now.story (contains thread_cmp outside.now) result }
     {
-        match self.history.first_ready(alloc, outside) {
+        self.first_ready_from(alloc, &String::new(alloc), outside)
+    }
+
+    /// The same, where no thread of an execution before the name `from` has a move and is outside the set: none of these is looked
+    /// at.
+    ///
+    /// # Errors
+    ///
+    /// `Memory`.
+    pub fn first_ready_from(
+        &self,
+        alloc: Global,
+        from: &String,
+        outside: &BTreeSet<ThreadName>,
+    ) -> Result<Option<ThreadName>, Refusal>
+        requires { NoneFreeBefore (world_of self.now.story).frames (contains thread_cmp outside.now) (string_bytes from.now) }
+        ensures { FindsFirst self.now.story (contains thread_cmp outside.now) result }
+    {
+        match self.history.first_ready(alloc, from, outside) {
             Ok(found) => Ok(found),
             Err(AllocError) => Err(Refusal::Memory),
         }

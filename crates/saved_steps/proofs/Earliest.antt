@@ -1,6 +1,7 @@
 -- The executions gone through in the order of their names.
 use Rattle.std.proofs.Common.{◌≡◌, ℕ, arith, Bool, true, false, ◌&&◌, not, cond, Ordering, Less, Equal, Greater, is_eq, List, [], ◌∷◌, ◌++◌, refl, ap, sym, subst, ◌∙◌, Option, None, Some, Global, inl, inr}
 use Rattle.std.specs.Prelude.{◌⊎◌, IsTrue, IfOk, Result, filter}
+use Rattle.std.specs.Bool.{OnTrue}
 use Rattle.std.specs.Ordering.{is_le, ordering_reverse}
 use Rattle.std.specs.BTreeMap.{BTreeMap, is_at, get_by_text}
 use Rattle.std.specs.Cmp.Lexicographic.{slice_cmp}
@@ -27,12 +28,16 @@ use Rattle.branch_tree.specs.Ready.{readiness_of, readiness_at, begins_under}
 use Rattle.branch_tree.specs.Tree.{Rows, frame_at}
 use Rattle.step_names.specs.Order.{thread_cmp}
 use Rattle.step_names.specs.Thread.{Thread, IsThread, execution, is_name}
-use Rattle.saved_steps.specs.First.{free, AreQuiet, IsFirstReady}
+use Rattle.saved_steps.specs.First.{free, AreQuiet, IsFirstReady, IsGoneBy, NoneFreeBefore}
 use Rattle.saved_steps.specs.Held.{placed, tree_in, rows_at, frames_in}
 
 by_bool : (b : Bool) (P : Type 0) → (b ≡ true → P) → (b ≡ false → P) → P
 by_bool true P = λ yes no. yes refl
 by_bool false P = λ yes no. no refl
+
+pub when_so : (b : Bool) (P Q : Type 0) → (P → Q) → OnTrue b P → OnTrue b Q
+when_so true P Q f h = f h
+when_so false P Q f h = h
 
 -- ---- executions that have ended
 
@@ -91,7 +96,7 @@ all_after exec k (y ∷ ks) h all = (by (slice_cmp nat_cmp exec (string_bytes k)
     by Equal e = nat_list_cmp_total.congr exec (string_bytes k) (string_bytes y) e ∙ all.0
     by Greater e = absurd (h e)
 
-same_exec : (a b : List ℕ) → is_eq (slice_cmp nat_cmp a b) ≡ true → a ≡ b
+pub same_exec : (a b : List ℕ) → is_eq (slice_cmp nat_cmp a b) ≡ true → a ≡ b
 same_exec a b h = (bytes_eq-Decides a b).0 (sym (is_eq-slice_cmp a b) ∙ h)
 
 -- ---- those from a name on
@@ -162,8 +167,8 @@ module _ (m : BTreeMap (String Global) (Option Rows)) (passed : Thread → Bool)
     pub held : (exec : List ℕ) (place : Option Rows) → among rest exec ≡ Some place → get_by_text m exec ≡ Some place
     pub gone : (t : Thread) → IsThread t → among rest t.exec ≡ None → free (frames_in m) passed t ≡ false
 
-  -- those before a name that is quiet
-  pub gone_before : (q : List ℕ) (es : Entries) → es ≡ from q m.entries → IsStrictlySortedBy string_cmp (keys_of m.entries) → AreQuiet m q → IsGone es
+  -- those before a name, none of them being free
+  pub gone_before : (q : List ℕ) (es : Entries) → es ≡ from q m.entries → IsStrictlySortedBy string_cmp (keys_of m.entries) → NoneFreeBefore (frames_in m) passed q → IsGone es
   gone_before q es e ordered quiet = subst IsGone (sym e) (record {
     ordered = ordered_from q m.entries ordered;
     held = λ exec place h. there exec place (is_from q exec) refl (sym (among_from q exec m.entries) ∙ h);
@@ -178,7 +183,7 @@ module _ (m : BTreeMap (String Global) (Option Rows)) (passed : Thread → Bool)
       at t l h = let none : get_by_text m t.exec ≡ None = rw l at h in rw none refl
 
       by : (t : Thread) → IsThread t → (o : Ordering) → slice_cmp nat_cmp t.exec q ≡ o → cond (is_from q t.exec) (among m.entries t.exec) None ≡ None → free (frames_in m) passed t ≡ false
-      by t named Less e h = quiet passed t named e
+      by t named Less e h = quiet t named e
       by t named Equal e h = at t (not_less t.exec q (λ l. let clash = sym l ∙ e in cc)) h
       by t named Greater e h = at t (not_less t.exec q (λ l. let clash = sym l ∙ e in cc)) h
 
@@ -252,41 +257,7 @@ module _ (m : BTreeMap (String Global) (Option Rows)) (passed : Thread → Bool)
   pub all_gone : IsGone [] → IsFirstReady (frames_in m) passed None
   all_gone i t named = i.gone t named refl
 
--- ---- up to which name none has a move
-
-less_not_greater : Less ≡ Greater → ⊥
-less_not_greater e = cc
-
--- a thread that is not free where none is passed by has no move
-still : (m : BTreeMap (String Global) (Option Rows)) (passed : Thread → Bool) (t : Thread) → free (frames_in m) (λ u. false) t ≡ false → free (frames_in m) passed t ≡ false
-still m passed t h = by (has_move (readiness_at (λ p. frames_in m (record { exec = t.exec; path = p })) t.path)) h
-  where
-    by : (b : Bool) → (b && true) ≡ false → (b && not (passed t)) ≡ false
-    by true e = cc
-    by false e = refl
-
-pub quiet_up_to : (m : BTreeMap (String Global) (Option Rows)) (k : String Global) (v : Option Rows) (rest : Entries) → IsGone m (λ u. false) ((k, v) ∷ rest) → AreQuiet m (string_bytes k)
-quiet_up_to m k v rest gone passed t named less = still m passed t (gone.gone t named (before gone))
-  where
-    before : IsGone m (λ u. false) ((k, v) ∷ rest) → among ((k, v) ∷ rest) t.exec ≡ None
-    before i =
-        let after = after_it m (λ u. false) k v rest i in
-        let clash : slice_cmp nat_cmp t.exec (string_bytes k) ≡ Greater → ⊥ = λ g. less_not_greater (sym less ∙ g) in
-        rw less (after_all t.exec rest (all_after t.exec k (keys_of rest) clash after.0))
-
-pub quiet_all : (m : BTreeMap (String Global) (Option Rows)) → IsGone m (λ u. false) [] → (name : List ℕ) → AreQuiet m name
-quiet_all m gone name passed t named less = still m passed t (gone.gone t named refl)
-
--- what is quiet before a name stays so, but for what has changed
-pub kept_quiet : (m n : BTreeMap (String Global) (Option Rows)) (was is : List ℕ) → AreQuiet m was
-    → ((e : List ℕ) → slice_cmp nat_cmp e is ≡ Less → (slice_cmp nat_cmp e was ≡ Less) × (tree_in n e ≡ tree_in m e)) → AreQuiet n is
-kept_quiet m n was is quiet h passed t named less =
-    let same = h t.exec less in
-    ap (λ (o : Option Rows). has_move (readiness_at (rows_at o) t.path) && not (passed t)) same.1 ∙ quiet passed t named same.0
-
-pub nothing_before : (e : List ℕ) → slice_cmp nat_cmp e [] ≡ Less → ⊥
-nothing_before [] h = cc
-nothing_before (x ∷ xs) h = cc
+-- ---- the execution that is awake
 
 apart : (exec e : List ℕ) → slice_cmp nat_cmp e exec ≡ Less → bytes_eq exec e ≡ false
 apart exec e less = by (bytes_eq exec e) refl
@@ -299,21 +270,154 @@ apart exec e less = by (bytes_eq exec e) refl
         cc
     by false h = refl
 
--- the name of what changed is not before it
-pub lowered : (exec was is : List ℕ) → slice_cmp nat_cmp exec was ≡ Less → (is ≡ exec) ⊎ (is ≡ []) → (e : List ℕ) → slice_cmp nat_cmp e is ≡ Less
-    → (slice_cmp nat_cmp e was ≡ Less) × (bytes_eq exec e ≡ false)
-lowered exec was is before (inl same) e less =
-    let at : slice_cmp nat_cmp e exec ≡ Less = subst (λ (x : List ℕ). slice_cmp nat_cmp e x ≡ Less) same less in
-    (nat_list_cmp_total.trans e exec was at before, apart exec e at)
-lowered exec was is before (inr none) e less = absurd (nothing_before e (subst (λ (x : List ℕ). slice_cmp nat_cmp e x ≡ Less) none less))
+-- an execution has a name
+named_so : (exec : List ℕ) → IsTrue (is_name exec) → bytes_eq [] exec ≡ false
+named_so [] h = cc
+named_so (c ∷ cs) h = refl
 
-pub raised : (exec was : List ℕ) → (slice_cmp nat_cmp exec was ≡ Less → ⊥) → (e : List ℕ) → slice_cmp nat_cmp e was ≡ Less → (slice_cmp nat_cmp e was ≡ Less) × (bytes_eq exec e ≡ false)
-raised exec was not_before e less = (less, by (bytes_eq exec e) refl)
+module _ (m : BTreeMap (String Global) (Option Rows)) (name awake : List ℕ) where
+  -- where the threads of that execution aren't free, none before the name is
+  none_before : (passed : Thread → Bool) → AreQuiet m name awake
+      → ((t : Thread) → IsThread t → slice_cmp nat_cmp t.exec name ≡ Less → t.exec ≡ awake → free (frames_in m) passed t ≡ false) → NoneFreeBefore (frames_in m) passed name
+  none_before passed quiet there t named less =
+      by_bool (bytes_eq awake t.exec) (free (frames_in m) passed t ≡ false)
+      (λ e. there t named less (sym ((bytes_eq-Decides awake t.exec).0 e)))
+      (λ e. quiet passed t named (record { before = less; sleeps = e }))
+
+  pub none_as_late : (passed : Thread → Bool) → AreQuiet m name awake → (slice_cmp nat_cmp awake name ≡ Less → ⊥) → NoneFreeBefore (frames_in m) passed name
+  none_as_late passed quiet late =
+      none_before passed quiet (λ t named less same. absurd (late (subst (λ (x : List ℕ). slice_cmp nat_cmp x name ≡ Less) same less)))
+
+  free_there : (passed : Thread → Bool) (v : Option Rows) → tree_in m awake ≡ v → (t : Thread) → t.exec ≡ awake
+      → free (frames_in m) passed t ≡ is_free true (rows_at v) (execution awake) passed t.path
+  free_there passed v tree t same =
+      ap (λ (o : Option Rows). has_move (readiness_at (rows_at o) t.path) && not (passed t)) (ap (tree_in m) same ∙ tree)
+      ∙ ap (λ (exec : List ℕ). has_move (readiness_at (rows_at v) t.path) && not (passed (record { exec = exec; path = t.path }))) same
+
+  named_there : (t : Thread) → t.exec ≡ awake → IsThread t → IsThread (thread_under (execution awake) t.path)
+  named_there t same named = subst (λ (exec : List ℕ). IsThread (record { exec = exec; path = t.path })) same named
+
+  pub none_there : (passed : Thread → Bool) → AreQuiet m name awake → (v : Option Rows) → tree_in m awake ≡ v → IsFirst true (rows_at v) (execution awake) passed None → NoneFreeBefore (frames_in m) passed name
+  none_there passed quiet v tree none =
+      none_before passed quiet (λ t named less same. free_there passed v tree t same ∙ none t.path (named_there t same named))
+
+  pub none_placed : (passed : Thread → Bool) → AreQuiet m name awake → get_by_text m awake ≡ None → NoneFreeBefore (frames_in m) passed name
+  none_placed passed quiet none = none_there passed quiet None (ap placed none) (treeless (execution awake) passed)
+
+  pub awake_found : (passed : Thread → Bool) → AreQuiet m name awake → slice_cmp nat_cmp awake name ≡ Less → (v : Option Rows) → tree_in m awake ≡ v
+      → (t : Thread) → IsThread t → IsFirst true (rows_at v) (execution awake) passed (Some t) → IsFirstReady (frames_in m) passed (Some t)
+  awake_found passed quiet below v tree t named found = (named, free_there passed v tree t exec ∙ ap (is_free true (rows_at v) (execution awake) passed) path ∙ found.2, before)
+    where
+      exec : t.exec ≡ awake
+      exec = ap (λ (x : Thread). x.exec) found.1
+
+      path : t.path ≡ found.0
+      path = ap (λ (x : Thread). x.path) found.1
+
+      by : (u : Thread) → IsThread u → (o : Ordering) → slice_cmp nat_cmp u.exec t.exec ≡ o → thread_cmp u t ≡ Less → free (frames_in m) passed u ≡ false
+      by u is Less e h =
+          let less : slice_cmp nat_cmp u.exec awake ≡ Less = subst (λ (x : List ℕ). slice_cmp nat_cmp u.exec x ≡ Less) exec e in
+          quiet passed u is (record { before = nat_list_cmp_total.trans u.exec awake name less below; sleeps = apart awake u.exec less })
+      by u is Equal e h =
+          let here : u.exec ≡ awake = same_exec u.exec t.exec (ap is_eq e) ∙ exec in
+          let less : path_cmp u.path t.path ≡ Less = rw e at h in
+          free_there passed v tree u here ∙ found.3 u.path (named_there u here is) (subst (λ (p : Path). path_cmp u.path p ≡ Less) path less)
+      by u is Greater e h = let clash : Greater ≡ Less = rw e at h in cc
+
+      before : (u : Thread) → IsThread u → thread_cmp u t ≡ Less → free (frames_in m) passed u ≡ false
+      before u is h = by u is (slice_cmp nat_cmp u.exec t.exec) refl h
+
+-- none is awake
+pub all_sleep : (m : BTreeMap (String Global) (Option Rows)) (name : List ℕ) → ((passed : Thread → Bool) → NoneFreeBefore (frames_in m) passed name) → AreQuiet m name []
+all_sleep m name none passed t named gone = none passed t named gone.before
+
+-- ---- up to which name none has a move
+
+less_not_greater : Less ≡ Greater → ⊥
+less_not_greater e = cc
+
+-- the threads of the one that is awake
+abbrev pub of : List ℕ → Thread → Bool
+of awake t = bytes_eq awake t.exec
+
+-- a thread of another that is not free where these are passed by has no move
+still : (m : BTreeMap (String Global) (Option Rows)) (awake : List ℕ) (passed : Thread → Bool) (t : Thread) → of awake t ≡ false → free (frames_in m) (of awake) t ≡ false → free (frames_in m) passed t ≡ false
+still m awake passed t sleeps h = by (has_move (readiness_at (λ p. frames_in m (record { exec = t.exec; path = p })) t.path)) (rw sleeps at h)
+  where
+    by : (b : Bool) → (b && true) ≡ false → (b && not (passed t)) ≡ false
+    by true e = cc
+    by false e = refl
+
+pub none_but : (m : BTreeMap (String Global) (Option Rows)) (name awake : List ℕ) → AreQuiet m name awake → NoneFreeBefore (frames_in m) (of awake) name
+none_but m name awake quiet = none_before m name awake (of awake) quiet there
+  where
+    there : (t : Thread) → IsThread t → slice_cmp nat_cmp t.exec name ≡ Less → t.exec ≡ awake → free (frames_in m) (of awake) t ≡ false
+    there t named less same = passed_by (has_move (readiness_at (λ p. frames_in m (record { exec = t.exec; path = p })) t.path)) (of awake t) ((bytes_eq-Decides awake t.exec).1 (sym same))
+      where
+        passed_by : (b c : Bool) → c ≡ true → (b && not c) ≡ false
+        passed_by true true e = refl
+        passed_by false true e = refl
+        passed_by b false e = cc
+
+pub quiet_up_to : (m : BTreeMap (String Global) (Option Rows)) (awake : List ℕ) (k : String Global) (v : Option Rows) (rest : Entries) → IsGone m (of awake) ((k, v) ∷ rest) → AreQuiet m (string_bytes k) awake
+quiet_up_to m awake k v rest gone passed t named by = still m awake passed t by.sleeps (gone.gone t named (before gone))
+  where
+    before : IsGone m (of awake) ((k, v) ∷ rest) → among ((k, v) ∷ rest) t.exec ≡ None
+    before i =
+        let after = after_it m (of awake) k v rest i in
+        let less = by.before in
+        let clash : slice_cmp nat_cmp t.exec (string_bytes k) ≡ Greater → ⊥ = λ g. less_not_greater (sym less ∙ g) in
+        rw less (after_all t.exec rest (all_after t.exec k (keys_of rest) clash after.0))
+
+pub quiet_all : (m : BTreeMap (String Global) (Option Rows)) (awake : List ℕ) → IsGone m (of awake) [] → (name : List ℕ) → AreQuiet m name awake
+quiet_all m awake gone name passed t named by = still m awake passed t by.sleeps (gone.gone t named refl)
+
+-- what is quiet stays so, but for what has changed
+pub kept_quiet : (m n : BTreeMap (String Global) (Option Rows)) (was was_awake is is_awake : List ℕ) → AreQuiet m was was_awake
+    → ((e : List ℕ) → bytes_eq [] e ≡ false → IsGoneBy is is_awake e → IsGoneBy was was_awake e × (tree_in n e ≡ tree_in m e)) → AreQuiet n is is_awake
+kept_quiet m n was was_awake is is_awake quiet h passed t named gone =
+    let same = h t.exec (named_so t.exec named.named) gone in
+    ap (λ (o : Option Rows). has_move (readiness_at (rows_at o) t.path) && not (passed t)) same.1 ∙ quiet passed t named same.0
+
+pub nothing_before : (e : List ℕ) → slice_cmp nat_cmp e [] ≡ Less → ⊥
+nothing_before [] h = cc
+nothing_before (x ∷ xs) h = cc
+
+-- before an empty name there is nothing
+pub none_quiet : (m : BTreeMap (String Global) (Option Rows)) (name awake : List ℕ) → name ≡ [] → AreQuiet m name awake
+none_quiet m name awake none passed t named gone = absurd (nothing_before t.exec (subst (λ (x : List ℕ). slice_cmp nat_cmp t.exec x ≡ Less) none gone.before))
+
+pub rewritten : (m : BTreeMap (String Global) (Option Rows)) (name awake is : List ℕ) → AreQuiet m name awake → (is ≡ name) ⊎ (is ≡ []) → AreQuiet m is awake
+rewritten m name awake is quiet (inl same) = subst (λ (x : List ℕ). AreQuiet m x awake) (sym same) quiet
+rewritten m name awake is quiet (inr none) = none_quiet m is awake none
+
+-- ---- an execution that isn't gone by any more
+
+-- the one that was awake, with what it has become
+slept : (awake mid exec e : List ℕ) → (mid ≡ awake) ⊎ ((awake ≡ []) × (mid ≡ exec)) → bytes_eq [] e ≡ false → bytes_eq mid e ≡ false → bytes_eq awake e ≡ false
+slept awake mid exec e (inl same) named h = subst (λ (x : List ℕ). bytes_eq x e ≡ false) same h
+slept awake mid exec e (inr first) named h = subst (λ (x : List ℕ). bytes_eq x e ≡ false) (sym first.0) named
+
+pub woken : (name awake mid exec : List ℕ) → (mid ≡ awake) ⊎ ((awake ≡ []) × (mid ≡ exec)) → exec ≡ mid
+    → (e : List ℕ) → bytes_eq [] e ≡ false → IsGoneBy name mid e → IsGoneBy name awake e × (bytes_eq exec e ≡ false)
+woken name awake mid exec was same e named gone =
+    (record { before = gone.before; sleeps = slept awake mid exec e was named gone.sleeps }, subst (λ (x : List ℕ). bytes_eq x e ≡ false) (sym same) gone.sleeps)
+
+-- the name is brought back to one that isn't after it
+pub lowered : (name awake mid exec at is : List ℕ) → (mid ≡ awake) ⊎ ((awake ≡ []) × (mid ≡ exec)) → slice_cmp nat_cmp exec name ≡ Less → (is ≡ at) ⊎ (is ≡ [])
+    → ((e : List ℕ) → slice_cmp nat_cmp e at ≡ Less → slice_cmp nat_cmp e exec ≡ Less)
+    → (e : List ℕ) → bytes_eq [] e ≡ false → IsGoneBy is mid e → IsGoneBy name awake e × (bytes_eq exec e ≡ false)
+lowered name awake mid exec at is was before (inl same) under e named gone =
+    let less : slice_cmp nat_cmp e exec ≡ Less = under e (subst (λ (x : List ℕ). slice_cmp nat_cmp e x ≡ Less) same gone.before) in
+    (record { before = nat_list_cmp_total.trans e exec name less before; sleeps = slept awake mid exec e was named gone.sleeps }, apart exec e less)
+lowered name awake mid exec at is was before (inr none) under e named gone = absurd (nothing_before e (subst (λ (x : List ℕ). slice_cmp nat_cmp e x ≡ Less) none gone.before))
+
+pub not_after : (exec at e : List ℕ) → slice_cmp nat_cmp exec at ≡ Greater → slice_cmp nat_cmp e at ≡ Less → slice_cmp nat_cmp e exec ≡ Less
+not_after exec at e h less = nat_list_cmp_total.trans e at exec less (nat_list_cmp_total.antisymm at exec ∙ ap ordering_reverse h)
+
+pub raised : (name awake exec : List ℕ) → (slice_cmp nat_cmp exec name ≡ Less → ⊥) → (e : List ℕ) → IsGoneBy name awake e → IsGoneBy name awake e × (bytes_eq exec e ≡ false)
+raised name awake exec not_before e gone = (gone, by (bytes_eq exec e) refl)
   where
     by : (b : Bool) → bytes_eq exec e ≡ b → b ≡ false
-    by true h = absurd (not_before (subst (λ (x : List ℕ). slice_cmp nat_cmp x was ≡ Less) (sym ((bytes_eq-Decides exec e).0 h)) less))
+    by true h = absurd (not_before (subst (λ (x : List ℕ). slice_cmp nat_cmp x name ≡ Less) (sym ((bytes_eq-Decides exec e).0 h)) gone.before))
     by false h = refl
-
-pub rewritten : (m : BTreeMap (String Global) (Option Rows)) (name is : List ℕ) → AreQuiet m name → (is ≡ name) ⊎ (is ≡ []) → AreQuiet m is
-rewritten m name is quiet (inl same) = subst (AreQuiet m) (sym same) quiet
-rewritten m name is quiet (inr none) = λ passed t named less. absurd (nothing_before t.exec (subst (λ (x : List ℕ). slice_cmp nat_cmp t.exec x ≡ Less) none less))

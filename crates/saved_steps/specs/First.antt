@@ -3,6 +3,7 @@ use Rattle.std.specs.Prelude.{◌≡◌, ℕ, List, Bool, true, false, ◌&&◌,
 use Rattle.std.specs.BTreeMap.{BTreeMap}
 use Rattle.std.specs.Cmp.Lexicographic.{slice_cmp}
 use Rattle.std.specs.Ordering.{nat_cmp}
+use Rattle.std.specs.Str.{bytes_eq}
 use Rattle.std.specs.declared.string.String.{String}
 use Rattle.std.specs.declared.cmp.Ordering.TheVariants.{Less}
 use Rattle.branch_tree.specs.Frame.{Frame}
@@ -22,6 +23,17 @@ IsFirstReady frames passed None = (t : Thread) → IsThread t → free frames pa
 IsFirstReady frames passed (Some t) =
     IsThread t × (free frames passed t ≡ true) × ((u : Thread) → IsThread u → thread_cmp u t ≡ Less → free frames passed u ≡ false)
 
--- no thread of an execution before this name is free, whichever are passed by
-abbrev pub AreQuiet : {Y : Type 0} → BTreeMap (String Y) (Option Rows) → List ℕ → Type 0
-AreQuiet trees name = (passed : Thread → Bool) (t : Thread) → IsThread t → slice_cmp nat_cmp t.exec name ≡ Less → free (frames_in trees) passed t ≡ false
+-- no thread of an execution before this name is free
+abbrev pub NoneFreeBefore : (Thread → Option Frame) → (Thread → Bool) → List ℕ → Type 0
+NoneFreeBefore frames passed name = (t : Thread) → IsThread t → slice_cmp nat_cmp t.exec name ≡ Less → free frames passed t ≡ false
+
+-- ---- executions that are gone by
+
+-- an execution whose name is before this one, and is not that of the one that is awake
+pub record IsGoneBy (name awake exec : List ℕ) : Type 0 where
+  pub before : slice_cmp nat_cmp exec name ≡ Less
+  pub sleeps : bytes_eq awake exec ≡ false
+
+-- no thread of these is free, whichever are passed by
+abbrev pub AreQuiet : {Y : Type 0} → BTreeMap (String Y) (Option Rows) → List ℕ → List ℕ → Type 0
+AreQuiet trees name awake = (passed : Thread → Bool) (t : Thread) → IsThread t → IsGoneBy name awake t.exec → free (frames_in trees) passed t ≡ false

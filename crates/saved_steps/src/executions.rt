@@ -2,42 +2,35 @@
 ghost use Rattle.std.specs.Prelude.{◌≡◌, ◌⊎◌, ℕ, List, [], ◌++◌, None, Some, true, false, IfOk, IsSomeAnd, OnOk, if◌then◌else◌};
 ghost use Rattle.std.specs.BTreeMap.{get_by_text};
 ghost use Rattle.std.specs.BTreeSet.{contains};
-ghost use Rattle.std.specs.Cmp.Lexicographic.{slice_cmp};
-ghost use Rattle.std.specs.Ordering.{nat_cmp};
 ghost use Rattle.std.specs.Str.{bytes_eq};
 ghost use Rattle.std.specs.String.{string_bytes};
-ghost use Rattle.std.specs.declared.cmp.Ordering.TheVariants.{Less};
 ghost use Rattle.branch_tree.specs.FlatMap.{IsTree, is_parked, alone};
 ghost use Rattle.branch_tree.specs.Paths.{Path};
 ghost use Rattle.branch_tree.specs.Tree.{node_at, IsNode};
 ghost use Rattle.step_names.specs.Order.{thread_cmp};
 ghost use Rattle.step_names.specs.Thread.{Thread};
-ghost use Rattle.saved_steps.specs.First.{AreQuiet, IsFirstReady};
+ghost use Rattle.saved_steps.specs.First.{IsFirstReady, NoneFreeBefore};
 ghost use Rattle.saved_steps.specs.Places.{tree_in, rows_at, frames_in, paths_of, put_at, with_thread};
 
-use crate::first::{first_among, first_with_a_move};
+use crate::first::{first_among, go_on};
 use crate::places;
 use crate::places::{Places, Trees};
+use crate::quiet::Quiet;
 use asl_forward::Frame;
 use branch_tree::{Branch, Tree};
 use std::alloc::{AllocError, Global};
-use std::cmp::Ordering;
 use std::collections::{BTreeMap, BTreeSet};
 use std::marker::Model;
 use step_names::ThreadName;
 
-/// The most bytes of an execution's name.
-const LONGEST_NAME: usize = 64;
-
 /// A place for each execution that has one, with its tree, or empty. Contracts see these.
 ///
-/// No execution whose name is before `quiet` has a thread with a move, so that the first such thread is looked for from there on.
-/// What has ended is gone by once, however often a thread is looked for. An undoing or a start brings the name back to its
-/// execution's; its memory was taken before.
+/// What has ended is gone by once, however often a thread with a move is looked for. An undoing or a start wakes its execution; the
+/// memory for that was taken before.
 #[derive(Drop)]
 pub(crate) struct Executions {
     places: Places,
-    quiet: String,
+    quiet: Quiet,
 }
 
 impl Model for Executions {
@@ -52,27 +45,7 @@ impl Model for Executions {
 
     ghost view = { λ e. e.places };
 
-    ghost invariant = { λ e. AreQuiet e.places.trees (string_bytes e.quiet) };
-}
-
-/// Writes a name in place of another. Takes no memory: where the text has no room for it, it is empty.
-fn rewrite(quiet: &mut String, name: &str)
-    ensures { (string_bytes quiet.new ≡ name.now) ⊎ (string_bytes quiet.new ≡ []) }
-{
-    quiet.clear();
-    if name.len() <= quiet.capacity() {
-        let _ = quiet.push_str(name);
-    }
-}
-
-/// Brings the name back to one that is before it.
-fn lower(quiet: &mut String, exec: &str)
-    ensures { (e : List ℕ) → slice_cmp nat_cmp e (string_bytes quiet.new) ≡ Less → (slice_cmp nat_cmp e (string_bytes quiet.old) ≡ Less) × (bytes_eq exec.now e ≡ false) }
-{
-    match exec.cmp(quiet.as_str()) {
-        Ordering::Less => rewrite(quiet, exec),
-        _ => {}
-    }
+    ghost invariant = { λ e. AreQuiet e.places.trees (string_bytes e.quiet.name) (string_bytes e.quiet.awake) };
 }
 
 impl Executions {
@@ -83,7 +56,7 @@ impl Executions {
             places: Places {
                 trees: BTreeMap::new(alloc),
             },
-            quiet: String::new(alloc),
+            quiet: Quiet::new(alloc),
         }
     }
 
@@ -108,7 +81,7 @@ impl Executions {
         requires { get_by_text self.old.trees exec.now ≡ Some None }
         ensures { (e : List ℕ) → tree_in self.new.trees e ≡ (if bytes_eq exec.now e then Some tree else tree_in self.old.trees e) }
     {
-        lower(&mut self.quiet, exec);
+        self.quiet.wake(exec);
         places::put_tree(&mut self.places.trees, exec, tree);
     }
 
@@ -116,7 +89,7 @@ impl Executions {
     pub(crate) fn remove_tree(&mut self, exec: &str)
         ensures { (e : List ℕ) → tree_in self.new.trees e ≡ (if bytes_eq exec.now e then None else tree_in self.old.trees e) }
     {
-        lower(&mut self.quiet, exec);
+        self.quiet.wake(exec);
         places::remove_tree(&mut self.places.trees, exec);
     }
 
@@ -127,7 +100,7 @@ impl Executions {
         ensures was { frames_in self.old.trees thread.now ≡ Some result }
         ensures frames { (t : Thread) → frames_in self.new.trees t ≡ with_thread (frames_in self.old.trees) thread.now frame t }
     {
-        lower(&mut self.quiet, thread.exec());
+        self.quiet.wake(thread.exec());
         places::replace(&mut self.places.trees, thread, frame)
     }
 
@@ -139,7 +112,7 @@ impl Executions {
         ensures frames { (t : Thread) → frames_in self.new.trees t ≡ put_at (frames_in self.old.trees) thread.now (node_at frame kids.items) t }
         ensures tree { IsTree (paths_of (frames_in self.old.trees) thread.now.exec) }
     {
-        lower(&mut self.quiet, thread.exec());
+        self.quiet.wake(thread.exec());
         places::give(&mut self.places.trees, thread, frame, kids)
     }
 
@@ -152,33 +125,28 @@ impl Executions {
         ensures frames { (t : Thread) → frames_in self.new.trees t ≡ put_at (frames_in self.old.trees) thread.now (alone frame) t }
         ensures tree { IsTree (paths_of (frames_in self.old.trees) thread.now.exec) }
     {
-        lower(&mut self.quiet, thread.exec());
+        self.quiet.wake(thread.exec());
         places::take(&mut self.places.trees, thread, frame)
     }
 
     /// Notes up to which execution none has a move, going by those that have ended since it was noted last. Takes the memory of
-    /// a name once; where that is refused nothing is noted.
+    /// two names once; where that is refused nothing is noted.
     pub(crate) fn go_by(&mut self)
         ensures { self.new ≡ self.old }
     {
-        if self.quiet.capacity() < LONGEST_NAME && self.quiet.reserve(LONGEST_NAME).is_err() {
-            return;
-        }
-        if let Some(name) = first_with_a_move(&self.places.trees, &self.quiet) {
-            if name.as_str() != self.quiet.as_str() {
-                rewrite(&mut self.quiet, name.as_str());
-            }
-        }
+        go_on(&self.places.trees, &mut self.quiet);
     }
 
-    /// The least name of a thread that moves and is not passed by.
+    /// The least name of a thread that moves and is not passed by, none being free in executions before a name.
     pub(crate) fn first_ready(
         &self,
         alloc: Global,
+        from: &String,
         passed: &BTreeSet<ThreadName>,
     ) -> Result<Option<ThreadName>, AllocError>
+        requires { NoneFreeBefore (frames_in self.now.trees) (contains thread_cmp passed.now) (string_bytes from.now) }
         ensures { IfOk result (λ found. IsFirstReady (frames_in self.now.trees) (contains thread_cmp passed.now) found) }
     {
-        first_among(alloc, &self.places.trees, &self.quiet, passed)
+        first_among(alloc, &self.places.trees, &self.quiet, from, passed)
     }
 }

@@ -1,5 +1,5 @@
 // The first thread that has a move.
-ghost use Rattle.std.specs.Prelude.{◌≡◌, Bool, true, None, Some, IfOk, IfSome};
+ghost use Rattle.std.specs.Prelude.{◌≡◌, ◌⊎◌, [], Bool, true, None, Some, IfOk, IfSome, MatchOption};
 ghost use Rattle.std.specs.Bool.{OnTrue};
 ghost use Rattle.std.specs.BTreeSet.{contains};
 ghost use Rattle.std.specs.String.{string_bytes};
@@ -7,14 +7,16 @@ ghost use Rattle.branch_tree.specs.First.{IsFirst};
 ghost use Rattle.branch_tree.specs.Tree.{frame_at};
 ghost use Rattle.step_names.specs.Order.{thread_cmp};
 ghost use Rattle.step_names.specs.Thread.{Thread, execution};
-ghost use Rattle.saved_steps.specs.First.{AreQuiet, IsFirstReady};
+ghost use Rattle.saved_steps.specs.First.{AreQuiet, IsFirstReady, NoneFreeBefore};
 ghost use Rattle.saved_steps.specs.Held.{rows_at, frames_in};
 
 use crate::places::Trees;
+use crate::quiet::{Quiet, rewrite};
 use asl_forward::Phase;
 use branch_tree::{Tree, below_is_parked};
 use json_tree::Text;
 use std::alloc::{AllocError, Global};
+use std::cmp::Ordering;
 use std::collections::BTreeSet;
 use step_names::ThreadName;
 
@@ -60,17 +62,48 @@ fn first_in(
     tree.first_ready(alloc, &name, passed)
 }
 
-/// The first thread of all executions, of which none before a name has a move.
-pub(crate) fn first_among(
+/// The same of the execution that is awake, where its name is before the other. Nothing, where no thread of an execution before the
+/// other name is free.
+fn first_awake(
     alloc: Global,
     trees: &Trees,
-    quiet: &String,
+    quiet: &Quiet,
     passed: &BTreeSet<ThreadName>,
 ) -> Result<Option<ThreadName>, AllocError>
-    requires { AreQuiet trees.now (string_bytes quiet.now) }
+    requires { AreQuiet trees.now (string_bytes quiet.now.name) (string_bytes quiet.now.awake) }
+    ensures { IfOk result (λ found. MatchOption found
+        (NoneFreeBefore (frames_in trees.now) (contains thread_cmp passed.now) (string_bytes quiet.now.name))
+        (λ t. IsFirstReady (frames_in trees.now) (contains thread_cmp passed.now) (Some t))) }
+{
+    let awake = quiet.awake.as_str();
+    match awake.cmp(quiet.name.as_str()) {
+        Ordering::Less => {}
+        _ => return Ok(None),
+    }
+    let place = match trees.get(awake) {
+        Some(place) => place,
+        None => return Ok(None),
+    };
+    match first_in(alloc, awake, place, passed)? {
+        Some(found) => {
+            let _ = found.path();
+            Ok(Some(found))
+        }
+        None => Ok(None),
+    }
+}
+
+/// The first thread of all executions, none being free in those before a name.
+fn first_from(
+    alloc: Global,
+    trees: &Trees,
+    from: &String,
+    passed: &BTreeSet<ThreadName>,
+) -> Result<Option<ThreadName>, AllocError>
+    requires { NoneFreeBefore (frames_in trees.now) (contains thread_cmp passed.now) (string_bytes from.now) }
     ensures { IfOk result (λ found. IsFirstReady (frames_in trees.now) (contains thread_cmp passed.now) found) }
 {
-    for (exec, place) in trees.range(quiet..) {
+    for (exec, place) in trees.range(from..) {
         if let Some(found) = first_in(alloc, exec.as_str(), place, passed)? {
             let _ = found.path();
             return Ok(Some(found));
@@ -79,12 +112,59 @@ pub(crate) fn first_among(
     Ok(None)
 }
 
-/// The name of the first execution that hasn't ended, of which none before a name has a move; the last one's where all have.
-pub(crate) fn first_with_a_move<'a>(trees: &'a Trees, quiet: &String) -> Option<&'a String>
-    requires { AreQuiet trees.now (string_bytes quiet.now) }
-    ensures { IfSome result (λ name. AreQuiet trees.now (string_bytes name.now)) }
+/// The later of two names.
+fn later<'a>(one: &'a String, other: &'a String) -> &'a String
+    ensures { (result.now ≡ one.now) ⊎ (result.now ≡ other.now) }
 {
-    for (exec, place) in trees.range(quiet..) {
+    match one.as_str().cmp(other.as_str()) {
+        Ordering::Less => other,
+        _ => one,
+    }
+}
+
+/// The first thread of all executions, some of which are gone by, and none being free in those before a name.
+pub(crate) fn first_among(
+    alloc: Global,
+    trees: &Trees,
+    quiet: &Quiet,
+    from: &String,
+    passed: &BTreeSet<ThreadName>,
+) -> Result<Option<ThreadName>, AllocError>
+    requires quiet { AreQuiet trees.now (string_bytes quiet.now.name) (string_bytes quiet.now.awake) }
+    requires from { NoneFreeBefore (frames_in trees.now) (contains thread_cmp passed.now) (string_bytes from.now) }
+    ensures { IfOk result (λ found. IsFirstReady (frames_in trees.now) (contains thread_cmp passed.now) found) }
+{
+    let found = first_awake(alloc, trees, quiet, passed)?;
+    if found.is_some() {
+        return Ok(found);
+    }
+    first_from(alloc, trees, later(&quiet.name, from), passed)
+}
+
+// ---- up to which name none has a move
+
+/// Whether the execution that is awake has no thread with a move, or isn't before the name.
+fn sleeps_again(trees: &Trees, quiet: &Quiet) -> bool
+    requires { AreQuiet trees.now (string_bytes quiet.now.name) (string_bytes quiet.now.awake) }
+    ensures { OnTrue result (AreQuiet trees.now (string_bytes quiet.now.name) []) }
+{
+    let awake = quiet.awake.as_str();
+    match awake.cmp(quiet.name.as_str()) {
+        Ordering::Less => {}
+        _ => return true,
+    }
+    match trees.get(awake) {
+        Some(place) => is_quiet(place),
+        None => true,
+    }
+}
+
+/// The name of the first execution that hasn't ended, from a name on; the last one's where all have.
+fn first_with_a_move<'a>(trees: &'a Trees, quiet: &Quiet) -> Option<&'a String>
+    requires { AreQuiet trees.now (string_bytes quiet.now.name) (string_bytes quiet.now.awake) }
+    ensures { IfSome result (λ name. AreQuiet trees.now (string_bytes name.now) (string_bytes quiet.now.awake)) }
+{
+    for (exec, place) in trees.range(&quiet.name..) {
         if !is_quiet(place) {
             return Some(exec);
         }
@@ -93,4 +173,30 @@ pub(crate) fn first_with_a_move<'a>(trees: &'a Trees, quiet: &String) -> Option<
         Some((exec, _)) => Some(exec),
         None => None,
     }
+}
+
+/// Goes on to the first execution that hasn't ended.
+fn raise(trees: &Trees, quiet: &mut Quiet)
+    requires { AreQuiet trees.now (string_bytes quiet.old.name) (string_bytes quiet.old.awake) }
+    ensures { AreQuiet trees.now (string_bytes quiet.new.name) (string_bytes quiet.new.awake) }
+{
+    if let Some(name) = first_with_a_move(trees, quiet) {
+        if name.as_str() != quiet.name.as_str() {
+            rewrite(&mut quiet.name, name.as_str());
+        }
+    }
+}
+
+/// Goes by what has ended, the one that was awake too.
+pub(crate) fn go_on(trees: &Trees, quiet: &mut Quiet)
+    requires { AreQuiet trees.now (string_bytes quiet.old.name) (string_bytes quiet.old.awake) }
+    ensures { AreQuiet trees.now (string_bytes quiet.new.name) (string_bytes quiet.new.awake) }
+{
+    if !quiet.make_room() {
+        return;
+    }
+    if !quiet.awake.is_empty() && sleeps_again(trees, quiet) {
+        quiet.awake.clear();
+    }
+    raise(trees, quiet);
 }

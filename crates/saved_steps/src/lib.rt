@@ -11,6 +11,7 @@ mod made;
 mod making;
 mod next;
 mod places;
+mod quiet;
 mod record;
 mod undoing;
 mod world;

@@ -1,13 +1,5 @@
-use Rattle.std.proofs.Common.{subst}
-use Rattle.std.specs.BTreeSet.{contains}
-use Rattle.step_names.specs.Order.{thread_cmp}
-use Rattle.rollback_book.specs.Book.{Volume}
-use Rattle.rollback_book.specs.Ready.{IsFirstToMove}
-use Rattle.rollback_book.proofs.Moving.{first_to_move}
+use Rattle.saved_steps.proofs.Earliest.{nothing_before}
 use Rattle.rollback_book.proofs.book.Book.first_ready.Goals as goal
 
-pub returns-in-Ok : goal.returns-in-Ok
-returns-in-Ok c =
-    let first = subst (λ (b : Volume). IsFirstToMove b.story (contains thread_cmp c.args.outside.now) c.in-Ok.found) c.self.view_is
-    (first_to_move _ c.self.invariant (contains thread_cmp c.args.outside.now) c.in-Ok.found c.in-Ok.ensures) in
-    record { first = first; memory = tt }
+pub first_ready_from-requires : goal.first_ready_from-requires
+first_ready_from-requires c = λ t named less. absurd (nothing_before t.exec (rw c.new.ensures.bytes at less))

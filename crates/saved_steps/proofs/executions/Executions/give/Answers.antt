@@ -6,5 +6,5 @@ use Rattle.saved_steps.proofs.executions.Executions.give.Goals as goal
 
 pub invariant_of-self : goal.invariant_of-self
 invariant_of-self c =
-    kept_quiet c.self.inside.places.trees c.give.new.trees (string_bytes c.self.inside.quiet) (string_bytes c.lower.new.quiet) c.self.invariant
-    (λ e l. let low = c.lower.ensures e l in (low.0, c.give.ensures.others e (subst (λ (x : List ℕ). bytes_eq x e ≡ false) c.exec.ensures.exec low.1)))
+    kept_quiet c.self.inside.places.trees c.give.new.trees (string_bytes c.self.inside.quiet.name) (string_bytes c.self.inside.quiet.awake) (string_bytes c.wake.new.self.name) (string_bytes c.wake.new.self.awake) c.self.invariant
+    (λ e named l. let low = c.wake.ensures e named l in (low.0, c.give.ensures.others e (subst (λ (x : List ℕ). bytes_eq x e ≡ false) c.exec.ensures.exec low.1)))

@@ -4,5 +4,6 @@ use Rattle.saved_steps.proofs.executions.Executions.make_place.Goals as goal
 
 pub invariant_of-self : goal.invariant_of-self
 invariant_of-self c =
-    let name = string_bytes c.self.inside.quiet in
-    kept_quiet c.self.inside.places.trees c.make_place.new.trees name name c.self.invariant (λ e l. (l, c.make_place.ensures.trees e))
+    let name = string_bytes c.self.inside.quiet.name in
+    let awake = string_bytes c.self.inside.quiet.awake in
+    kept_quiet c.self.inside.places.trees c.make_place.new.trees name awake name awake c.self.invariant (λ e named l. (l, c.make_place.ensures.trees e))

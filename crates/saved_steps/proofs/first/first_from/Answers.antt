@@ -6,7 +6,7 @@ use Rattle.step_names.specs.Order.{thread_cmp}
 use Rattle.step_names.specs.Thread.{execution}
 use Rattle.saved_steps.specs.Held.{rows_at}
 use Rattle.saved_steps.proofs.Earliest.{IsGone, gone_before, goes_by, is_found}
-use Rattle.saved_steps.proofs.first.first_among.Goals as goal
+use Rattle.saved_steps.proofs.first.first_from.Goals as goal
 
 pub returns-in-Some-2 : goal.returns-in-Some-2
 returns-in-Some-2 c =
@@ -28,5 +28,5 @@ loop-exec-preserved c =
 
 pub loop-exec-init : goal.loop-exec-init
 loop-exec-init c =
-    gone_before c.args.trees.now (contains thread_cmp c.args.passed.now) (string_bytes c.args.quiet.now) c.into_iter-exec-iterator.result
+    gone_before c.args.trees.now (contains thread_cmp c.args.passed.now) (string_bytes c.args.from.now) c.into_iter-exec-iterator.result
     (c.into_iter-exec-iterator.ensures.into_iter_gives ∙ c.range-exec-items.ensures.between tt) c.range-exec-items.ensures.ordered c.requires

@@ -1,0 +1,48 @@
+use Rattle.std.proofs.Common.{◌≡◌, ℕ, true, List, Less, Some, ap, ap₂, sym, subst, ◌∙◌}
+use Rattle.std.specs.BTreeMap.{get_by_text}
+use Rattle.std.specs.BTreeSet.{contains}
+use Rattle.std.specs.Cmp.Lexicographic.{slice_cmp}
+use Rattle.std.specs.Ordering.{nat_cmp}
+use Rattle.std.specs.String.{string_bytes}
+use Rattle.branch_tree.specs.First.{IsFirst}
+use Rattle.step_names.specs.Order.{thread_cmp}
+use Rattle.step_names.specs.Thread.{execution}
+use Rattle.saved_steps.specs.Held.{placed, rows_at}
+use Rattle.saved_steps.proofs.Earliest.{awake_found, none_as_late, none_placed, none_there}
+use Rattle.saved_steps.proofs.first.first_awake.Goals as goal
+
+pub returns-in_default : goal.returns-in_default
+returns-in_default c =
+    let told = c.cmp.ensures ∙ ap₂ (slice_cmp nat_cmp) c.as_str-awake.ensures.value c.as_str.ensures.value in
+    none_as_late c.args.trees.now (string_bytes c.args.quiet.now.name) (string_bytes c.args.quiet.now.awake) (contains thread_cmp c.args.passed.now) c.requires
+    (λ less. c.in_default.not-Less (told ∙ less))
+
+pub returns-in-None : goal.returns-in-None
+returns-in-None c =
+    let m = c.args.trees.now in
+    none_placed m (string_bytes c.args.quiet.now.name) (string_bytes c.args.quiet.now.awake) (contains thread_cmp c.args.passed.now) c.requires
+    (ap (get_by_text m) (sym c.as_str-awake.ensures.value) ∙ sym c.in-None.ensures.value)
+
+pub returns-in-Some-2 : goal.returns-in-Some-2
+returns-in-Some-2 c =
+    let m = c.args.trees.now in
+    let name = string_bytes c.args.quiet.now.name in
+    let awake = string_bytes c.args.quiet.now.awake in
+    let passed = contains thread_cmp c.args.passed.now in
+    let place = c.in-Some.place.now in
+    let there = ap (get_by_text m) (sym c.as_str-awake.ensures.value) ∙ sym c.in-Some.ensures.value in
+    let below : slice_cmp nat_cmp awake name ≡ Less = sym (ap₂ (slice_cmp nat_cmp) c.as_str-awake.ensures.value c.as_str.ensures.value) ∙ sym c.cmp.ensures ∙ c.in-Less.is in
+    let found = subst (λ (exec : List ℕ). IsFirst true (rows_at place) (execution exec) passed c.in_ok-found.field-0) c.as_str-awake.ensures.value c.in_ok-found.ensures in
+    awake_found m name awake passed c.requires below place (ap placed there) c.in-Some-2.found c.path.ensures.bounds
+    (subst (IsFirst true (rows_at place) (execution awake) passed) c.in-Some-2.is found)
+
+pub returns-in-None-2 : goal.returns-in-None-2
+returns-in-None-2 c =
+    let m = c.args.trees.now in
+    let awake = string_bytes c.args.quiet.now.awake in
+    let passed = contains thread_cmp c.args.passed.now in
+    let place = c.in-Some.place.now in
+    let there = ap (get_by_text m) (sym c.as_str-awake.ensures.value) ∙ sym c.in-Some.ensures.value in
+    let found = subst (λ (exec : List ℕ). IsFirst true (rows_at place) (execution exec) passed c.in_ok-found.field-0) c.as_str-awake.ensures.value c.in_ok-found.ensures in
+    none_there m (string_bytes c.args.quiet.now.name) awake passed c.requires place (ap placed there)
+    (subst (IsFirst true (rows_at place) (execution awake) passed) c.in-None-2.is found)
