@@ -1,5 +1,6 @@
 pub mod Answered
 pub mod Counts
+pub mod Elsewhere
 pub mod HoldSaid
 pub mod Holding
 pub mod LegalRuns

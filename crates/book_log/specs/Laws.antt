@@ -1,5 +1,6 @@
 -- Laws of logs, each the contract of a function of the crate.
 use Rattle.std.specs.Prelude.{◌≡◌, ◌↔◌, ◌≤◌, ℕ, ◌+◌, List, [], ◌∷◌, ◌++◌, length, filter, map, not, true, false, IsSome, None, Some, Ok, Err}
+use Rattle.std.specs.Str.{bytes_eq}
 use Rattle.json_tree.specs.declared.tree.Json.{Json}
 use Rattle.step_names.specs.Thread.{Thread}
 use Rattle.step_names.specs.declared.step.StepName.{StepName}
@@ -31,6 +32,20 @@ AcceptedIsLegal = (story : Story) (entry : Entry) → IsLegal story → IsAccept
 -- a legal log keeps to its limits: there is room for an entry that undoes each of the remaining steps
 abbrev pub LegalLogsHaveRoom : Type 0
 LegalLogsHaveRoom = (story : Story) → IsLegal story → (length (remaining story) ≤ most_steps) × (length story.log + length (remaining story) ≤ most_places)
+
+-- ---- where a command changes something
+
+-- the threads of other executions are as they were
+abbrev pub LeavesOthers : List ℕ → Story → Story → Type 0
+LeavesOthers exec before after = (t : Thread) → bytes_eq exec t.exec ≡ false → (world_of after).frames t ≡ (world_of before).frames t
+
+-- a start changes threads of its own execution alone
+abbrev pub StartsLeaveOthers : Type 0
+StartsLeaveOthers = (story : Story) (exec : Thread) (machine : List ℕ) (input : Json) → IsLegal story → IsAccepted story (Start exec machine input) → LeavesOthers exec.exec story (accepted story (Start exec machine input))
+
+-- so does a step
+abbrev pub StepsLeaveOthers : Type 0
+StepsLeaveOthers = (story : Story) (name : StepName) (kind : Kind) → IsLegal story → IsAccepted story (Stepped name kind) → LeavesOthers name.thread.exec story (accepted story (Stepped name kind))
 
 -- ---- what is undone
 

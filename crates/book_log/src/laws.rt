@@ -1,6 +1,6 @@
 //! Laws of logs: each function's contract is the law, and it does nothing.
 
-ghost use Rattle.book_log.specs.Laws.{EqualityIsOfEntries, LegalLogsRun, AcceptedIsLegal, LegalLogsHaveRoom, UndoTakesBack, UndoTakesBackStart, AgainGivesBack, UndoAnswersAreExact, AllowedOrdersAreAccepted, AcceptedOrdersAreWhole, OrdersAgree, SettlingKeepsTheWorld, SettledStaysSettled, LeftIsAfter, HoldsStand, NothingIsLeft, HoldsAreShared, RollbackIsExact, RerunsAreLegal, RerunsAreExact, ArrangementsAgree};
+ghost use Rattle.book_log.specs.Laws.{EqualityIsOfEntries, LegalLogsRun, AcceptedIsLegal, LegalLogsHaveRoom, StartsLeaveOthers, StepsLeaveOthers, UndoTakesBack, UndoTakesBackStart, AgainGivesBack, UndoAnswersAreExact, AllowedOrdersAreAccepted, AcceptedOrdersAreWhole, OrdersAgree, SettlingKeepsTheWorld, SettledStaysSettled, LeftIsAfter, HoldsStand, NothingIsLeft, HoldsAreShared, RollbackIsExact, RerunsAreLegal, RerunsAreExact, ArrangementsAgree};
 
 /// What remains of a legal log can be run from the start, a legal log with an entry that is accepted is one, and its limits leave
 /// room to undo each remaining step.
@@ -8,6 +8,12 @@ pub fn legal_logs_run()
     ensures runs { LegalLogsRun }
     ensures goes_on { AcceptedIsLegal }
     ensures room { LegalLogsHaveRoom }
+{}
+
+/// A start or a step changes threads of its own execution alone.
+pub fn moves_leave_others()
+    ensures starts { StartsLeaveOthers }
+    ensures steps { StepsLeaveOthers }
 {}
 
 /// A step followed by its undoing changes nothing, and the undoing of a step on which nothing depends, followed by that step, gives

@@ -47,3 +47,17 @@ fn laws_of_histories(_rt: HostRuntime) {
     more_machines_keep_histories();
     threads_move_where_ready();
 }
+
+#[test]
+fn laws_of_logs(_rt: HostRuntime) {
+    book_log::equality_is_of_entries();
+    book_log::holds_are_shared();
+    book_log::legal_logs_run();
+    book_log::moves_leave_others();
+    book_log::orders_undo();
+    book_log::reruns_agree();
+    book_log::rollback_is_exact();
+    book_log::settling_is_for_good();
+    book_log::undo_answers_are_exact();
+    book_log::undoing_is_exact();
+}
