@@ -4,3 +4,4 @@ pub mod Answering
 pub mod Passing
 pub mod HeldBack
 pub mod Latest
+pub mod Sought

@@ -1,9 +1,10 @@
 -- The threads that a claim leaves out: those that callers have claimed, and those that are passed by, since a hold kept their moves
 -- back.
-use Rattle.std.specs.Prelude.{◌≡◌, Bool, true, not, ◌&&◌, List, [], ◌∷◌, ◌++◌, Option, None, Some, Err, filter, if◌then◌else◌}
+use Rattle.std.specs.Prelude.{◌≡◌, ℕ, Bool, true, false, not, ◌&&◌, List, [], ◌∷◌, ◌++◌, Option, None, Some, Err, filter, if◌then◌else◌}
 use Rattle.std.specs.BTreeMap.{is_at}
 use Rattle.std.specs.BTreeSet.{contains, insert_key}
 use Rattle.std.specs.Set.{remove_key}
+use Rattle.std.specs.Str.{bytes_eq}
 use Rattle.step_names.specs.Order.{thread_cmp}
 use Rattle.step_names.specs.Thread.{Thread}
 use Rattle.step_names.specs.declared.step.StepName.{StepName}
@@ -59,6 +60,14 @@ AreOutside a = (t : Thread) → is_among a.claimed t ≡ true → is_among a.out
 -- no other is passed by
 abbrev pub PassesNoOther : Away → Away → Type 0
 PassesNoOther before after = (t : Thread) → is_passed after t ≡ true → is_passed before t ≡ true
+
+-- each that was outside still is
+abbrev pub LeavesOutMore : Away → Away → Type 0
+LeavesOutMore before after = (t : Thread) → is_among before.outside t ≡ true → is_among after.outside t ≡ true
+
+-- of other executions the same are outside
+abbrev pub LeavesOutOthers : List ℕ → Away → Away → Type 0
+LeavesOutOthers exec before after = (t : Thread) → bytes_eq exec t.exec ≡ false → is_among after.outside t ≡ is_among before.outside t
 
 -- starts and steps alone
 abbrev pub IsMove : Entry → Type 0

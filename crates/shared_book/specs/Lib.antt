@@ -5,3 +5,4 @@ pub mod Calls
 pub mod Claims
 pub mod Commits
 pub mod Closed
+pub mod Seeking

@@ -60,6 +60,7 @@ impl<B: Events, L: Sharing> Desk<B, L> {
         }
         let kept = Receipt { number, entry };
         hand_out(&mut self.calls, &mut pass.share, &mut pass.receipts, kept);
+        self.cursor.go_back(exec.exec());
         pass.seen = number;
         Ok(Receipt {
             number,
@@ -115,6 +116,7 @@ impl<B: Events, L: Sharing> Desk<B, L> {
         let entry = Entry::Step { name, kind };
         let kept = Receipt { number, entry };
         hand_out(&mut self.calls, &mut pass.share, &mut pass.receipts, kept);
+        self.cursor.go_back(thread.exec());
         pass.seen = number;
         Ok(Receipt {
             number,
@@ -156,6 +158,7 @@ impl<B: Events, L: Sharing> Desk<B, L> {
         let kept = Receipt { number, entry };
         hand_out(&mut self.calls, &mut pass.share, &mut pass.receipts, kept);
         self.claims.forget_passed();
+        self.cursor.reset();
         pass.seen = number;
         Ok(Receipt {
             number,
@@ -215,6 +218,7 @@ impl<B: Events, L: Sharing> Desk<B, L> {
         let kept = Receipt { number, entry };
         hand_out(&mut self.calls, &mut pass.share, &mut pass.receipts, kept);
         self.claims.forget_passed();
+        self.cursor.reset();
         pass.seen = number;
         Ok(Receipt {
             number,
@@ -250,6 +254,7 @@ impl<B: Events, L: Sharing> Desk<B, L> {
         let kept = Receipt { number, entry };
         hand_out(&mut self.calls, &mut pass.share, &mut pass.receipts, kept);
         self.claims.forget_passed();
+        self.cursor.reset();
         pass.seen = number;
         Ok(Receipt {
             number,

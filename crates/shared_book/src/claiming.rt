@@ -1,7 +1,9 @@
 // Which threads callers claim, as tickets, and how a claim ends.
 ghost use Rattle.std.specs.Prelude.{◌≡◌, length, IfOk, IfErr, MatchResult, OnErr, OnOk, true};
 ghost use Rattle.book_log.specs.declared.refusal.Refusal.TheVariants.{Memory};
-ghost use Rattle.shared_book.specs.Away.{AreAway, AreOutside, PassesNoOther, WasRefused, claim_ended, claimed_with, passed_by};
+ghost use Rattle.book_log.specs.Story.{world_of};
+ghost use Rattle.rollback_book.specs.First.{IsFirstReady};
+ghost use Rattle.shared_book.specs.Away.{AreAway, AreOutside, LeavesOutMore, PassesNoOther, WasRefused, claim_ended, claimed_with, is_among, passed_by};
 ghost use Rattle.shared_book.specs.Calls.{IsRefusedFor, Sees, after_refusal, is_held};
 ghost use Rattle.shared_book.specs.Claims.{IsClaim, IsFree, IsOffer, thread_of, thread_offered};
 ghost use Rattle.shared_book.specs.Commits.{after_turn, is_turn_held};
@@ -55,6 +57,7 @@ impl<B: Events, L: Sharing> Desk<B, L> {
             drop(found);
             return Err(SharedRefusal::Refused(Refusal::Memory));
         }
+        self.cursor.go_on(&found);
         pass.seen = seen;
         Ok(found)
     }
@@ -90,6 +93,7 @@ impl<B: Events, L: Sharing> Desk<B, L> {
         ensures { self.new ≡ with_claims self.old (claim_ended self.old.claims thread.now) }
     {
         self.claims.end(thread);
+        self.cursor.go_back(thread.exec());
     }
 
     /// Passes a claimed thread by, whose move is refused for a hold.
@@ -126,8 +130,13 @@ impl<B: Events, L: Sharing> Desk<B, L> {
     fn first_ticket(&self, alloc: Global) -> Result<Option<Ticket>, Refusal>
         ensures found { MatchResult result (IsClaim self.now.story self.now.claims) (λ e. e ≡ Memory) }
         ensures claimed { AreOutside self.now.claims }
+        ensures ready { IfOk result (λ found. IsFirstReady (world_of self.now.story).frames (is_among self.now.claims.outside) (thread_of found)) }
     {
-        let thread = match self.book.first_ready(alloc, self.claims.outside()) {
+        let outside = self.claims.outside();
+        let thread = match self
+            .book
+            .first_ready_from(alloc, &self.cursor.name, outside)
+        {
             Ok(Some(thread)) => thread,
             Ok(None) => return Ok(None),
             Err(refusal) => return Err(refusal),
@@ -151,6 +160,7 @@ fn note(claims: &mut Claims, found: &Option<Ticket>) -> Result<(), AllocError>
     requires { IsFree claims.old (thread_of found.now) }
     ensures ok { OnOk result (claims.new ≡ claimed_with claims.old (thread_of found.now)) }
     ensures passed { OnOk result (PassesNoOther claims.old claims.new) }
+    ensures more { OnOk result (LeavesOutMore claims.old claims.new) }
     ensures err { OnErr result (claims.new ≡ claims.old) }
 {
     match found {

@@ -1,7 +1,7 @@
 // Which threads a claim leaves out.
 ghost use Rattle.std.specs.Prelude.{◌≡◌, [], true, false, length, filter, OnErr, OnOk, Some, ◌⊎◌};
 ghost use Rattle.step_names.specs.Thread.{Thread};
-ghost use Rattle.shared_book.specs.Away.{AreOutside, PassesNoOther, claim_ended, claimed_alone, claimed_with, is_among, is_passed, passed_by};
+ghost use Rattle.shared_book.specs.Away.{AreOutside, LeavesOutMore, LeavesOutOthers, PassesNoOther, claim_ended, claimed_alone, claimed_with, is_among, is_passed, passed_by};
 
 use std::alloc::{AllocError, Global};
 use std::collections::BTreeSet;
@@ -55,6 +55,7 @@ impl Claims {
         requires { is_among self.old.outside thread.now ≡ false }
         ensures ok { OnOk result (self.new ≡ claimed_with self.old (Some thread.now)) }
         ensures passed { OnOk result (PassesNoOther self.old self.new) }
+        ensures more { OnOk result (LeavesOutMore self.old self.new) }
         ensures err { OnErr result (self.new ≡ self.old) }
     {
         let claimed = thread.copy()?;
@@ -74,6 +75,7 @@ impl Claims {
     pub(crate) fn end(&mut self, thread: &ThreadName)
         ensures ended { self.new ≡ claim_ended self.old thread.now }
         ensures passed { PassesNoOther self.old self.new }
+        ensures others { LeavesOutOthers thread.now.exec self.old self.new }
     {
         if self.claimed.remove(thread) {
             self.outside.remove(thread);

@@ -140,6 +140,7 @@ impl<B: Events, L: Sharing> Desk<B, L> {
             calls,
             spare,
             claims: _,
+            cursor: _,
         } = self;
         let mut calls = calls;
         gather(&mut calls, spare, passes);

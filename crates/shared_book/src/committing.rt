@@ -79,6 +79,7 @@ impl<B: Events, L: Sharing> Desk<B, L> {
         let entry = Entry::Step { name, kind };
         let kept = Receipt { number, entry };
         hand_out(&mut self.calls, &mut pass.share, &mut pass.receipts, kept);
+        self.cursor.go_back(thread.exec());
         pass.seen = number;
         Ok(Receipt {
             number,

@@ -3,6 +3,7 @@ ghost use Rattle.book_log.specs.Legal.{IsLegal};
 ghost use Rattle.shared_book.specs.Views.{Extends};
 
 use crate::claims::Claims;
+use crate::cursor::Cursor;
 use crate::sharing::Sharing;
 use rollback_book::Events;
 use std::marker::Model;
@@ -10,7 +11,7 @@ use std::sync::ledger::{Book, Share};
 
 /// The book, the number of its first entry since it was shared, the ledger of the receipts that were handed out, and the threads
 /// that callers have claimed or that are passed by. The move of each of the latter was refused for a hold, and since then only starts
-/// and steps came.
+/// and steps came. The cursor tells from where on a thread is looked for that can be claimed.
 #[derive(Drop)]
 pub(crate) struct Desk<B: Events, L: Sharing> {
     pub(crate) book: B,
@@ -18,14 +19,17 @@ pub(crate) struct Desk<B: Events, L: Sharing> {
     pub(crate) calls: Book<L>,
     pub(crate) spare: Share<L>,
     pub(crate) claims: Claims,
+    pub(crate) cursor: Cursor,
 }
 
 impl<B: Events, L: Sharing> Model for Desk<B, L> {
     ghost use Rattle.std.specs.Prelude.{◌≡◌};
+    ghost use Rattle.std.specs.String.{string_bytes};
     ghost use Rattle.std.specs.Coded.{codes};
     ghost use Rattle.book_log.specs.contracts.begin.Begin as begin_row;
     ghost use Rattle.book_log.specs.contracts.entry.Entry as entry_row;
     ghost use Rattle.shared_book.specs.Away.{WereRefused};
+    ghost use Rattle.shared_book.specs.Seeking.{NoneBefore};
     ghost use Rattle.shared_book.specs.Views.{DeskView, IsCounted};
 
     ghost Value = { DeskView };
@@ -34,7 +38,7 @@ impl<B: Events, L: Sharing> Model for Desk<B, L> {
 
     ghost view = { λ d. record { story = B.story d.book; first = d.first; claims = d.claims } };
 
-    ghost invariant = { λ d. IsCounted L.begun (B.story d.book) d.first d.calls.total × (d.spare.amount ≡ 0) × WereRefused (B.story d.book) d.claims };
+    ghost invariant = { λ d. IsCounted L.begun (B.story d.book) d.first d.calls.total × (d.spare.amount ≡ 0) × WereRefused (B.story d.book) d.claims × NoneBefore (B.story d.book) d.claims (string_bytes d.cursor.name) };
 }
 
 impl<B: Events, L: Sharing> Desk<B, L> {
@@ -49,6 +53,7 @@ impl<B: Events, L: Sharing> Desk<B, L> {
             calls: _,
             spare: _,
             claims: _,
+            cursor: _,
         } = self;
         let _ = book.entries();
         book

@@ -9,6 +9,7 @@ mod claims;
 mod closing;
 mod committing;
 mod copies;
+mod cursor;
 mod desk;
 mod looking;
 mod marks;

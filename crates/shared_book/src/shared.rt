@@ -14,6 +14,7 @@ ghost use Rattle.shared_book.specs.Views.{Extends};
 
 use crate::claiming::Offer;
 use crate::claims::Claims;
+use crate::cursor::Cursor;
 use crate::desk::Desk;
 use crate::looking::{HeldLeft, Shown};
 use crate::pass::Pass;
@@ -57,6 +58,7 @@ pub fn share<B: Events, L: Sharing>(alloc: Global, blank: Blank, book: B) -> (Sh
         calls,
         spare,
         claims: Claims::new(alloc),
+        cursor: Cursor::new(alloc),
     };
     let pass = Pass {
         seen,

@@ -10,6 +10,7 @@ use Rattle.shared_book.specs.Views.{DeskView, PassView}
 use Rattle.shared_book.specs.declared.receipt.Receipt.{Receipt}
 use Rattle.shared_book.proofs.Answering.{counted_more, given, hold_accepted, lacking_cause}
 use Rattle.shared_book.proofs.HeldBack.{were_none}
+use Rattle.shared_book.proofs.Sought.{none_before_first}
 use Rattle.shared_book.proofs.desk.Desk.hold.Goals as goal
 
 pub returns-clause-receipt : goal.returns-clause-receipt
@@ -24,6 +25,7 @@ invariant_of-self-2 g c = (
   counted_more _ _ _ _ _ _ _ c.self.invariant.0 c.in-Ok-hold.ensures.ok c.hand_out.ensures.total,
   c.self.invariant.1,
   were_none _ _ c.forget_passed.ensures.passed,
+  none_before_first _ c.forget_passed.new.self _ c.reset.ensures,
 )
 
 pub returns-in-Err-clause-err : goal.returns-in-Err-clause-err

@@ -3,6 +3,7 @@ use Rattle.step_names.specs.declared.step.StepName.{StepName}
 use Rattle.book_log.specs.Answers.{plan_answer}
 use Rattle.shared_book.proofs.Answering.{counted_more, given}
 use Rattle.shared_book.proofs.HeldBack.{were_none}
+use Rattle.shared_book.proofs.Sought.{none_before_first}
 use Rattle.shared_book.proofs.desk.Desk.rollback.Goals as goal
 
 pub returns-clause-receipt : goal.returns-clause-receipt
@@ -18,4 +19,5 @@ invariant_of-self g c = (
   counted_more _ _ _ _ _ _ _ c.self.invariant.0 c.in-Ok-rollback.ensures.ok.2 c.hand_out.ensures.total,
   c.self.invariant.1,
   were_none _ _ c.forget_passed.ensures.passed,
+  none_before_first _ c.forget_passed.new.self _ c.reset.ensures,
 )

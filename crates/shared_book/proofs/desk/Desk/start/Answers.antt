@@ -1,4 +1,6 @@
-use Rattle.std.proofs.Common.{ap, refl, subst, ◌∙◌, List}
+use Rattle.std.proofs.Common.{ℕ, ap, refl, subst, ◌∙◌, List}
+use Rattle.std.specs.String.{string_bytes}
+use Rattle.book_log.proofs.Elsewhere.{starts_leave_others}
 use Rattle.book_log.specs.Answers.{start_answer}
 use Rattle.book_log.specs.Story.{Story}
 use Rattle.book_log.specs.declared.entry.Entry.{Entry}
@@ -9,6 +11,8 @@ use Rattle.shared_book.specs.Views.{DeskView, PassView}
 use Rattle.shared_book.specs.declared.receipt.Receipt.{Receipt}
 use Rattle.shared_book.proofs.Answering.{cause, counted_more, given, start_accepted}
 use Rattle.shared_book.proofs.HeldBack.{were_more}
+use Rattle.shared_book.proofs.Sought.{none_elsewhere}
+use Rattle.shared_book.specs.Seeking.{GoesBack}
 use Rattle.shared_book.proofs.desk.Desk.start.Goals as goal
 
 pub returns-clause-receipt : goal.returns-clause-receipt
@@ -33,8 +37,14 @@ returns-in-Err-start-clause-err g c =
     )
 
 pub invariant_of-self-2 : goal.invariant_of-self-2
-invariant_of-self-2 g c = (
-  counted_more _ _ _ _ _ _ _ c.self.invariant.0 c.in-Ok-start.ensures.ok c.hand_out.ensures.total,
-  c.self.invariant.1,
-  were_more _ _ _ (Start c.args.exec.now c.args.machine.now c.args.input) tt c.in-Ok-start.ensures.ok c.self.invariant.2,
-)
+invariant_of-self-2 g c =
+    let from = string_bytes c.self.inside.cursor.name in
+    let to = string_bytes c.go_back.new.self.name in
+    let accepted = start_accepted _ c.args.exec.now c.args.machine.now c.args.input c.in-Ok-start.name c.in-Ok-start.ensures.answer c.requires.execution c.requires.shallow in
+    let leaves = starts_leave_others (g.B.Events.story c.self.inside.book) c.args.exec.now c.args.machine.now c.args.input c.entries.ensures.legal accepted in
+    let back = subst (λ (x : List ℕ). GoesBack x from to) c.exec.ensures.exec c.go_back.ensures in (
+      counted_more _ _ _ _ _ _ _ c.self.invariant.0 c.in-Ok-start.ensures.ok c.hand_out.ensures.total,
+      c.self.invariant.1,
+      were_more _ _ _ (Start c.args.exec.now c.args.machine.now c.args.input) tt c.in-Ok-start.ensures.ok c.self.invariant.2,
+      none_elsewhere _ _ _ c.self.inside.claims c.args.exec.now.exec from to leaves c.in-Ok-start.ensures.ok back c.self.invariant.3,
+    )

@@ -1,10 +1,15 @@
-use Rattle.std.proofs.Common.{refl, ap, subst, ◌∙◌}
+use Rattle.std.proofs.Common.{ℕ, List, refl, ap, subst, sym, ◌∙◌}
+use Rattle.std.specs.String.{string_bytes}
+use Rattle.step_names.specs.Thread.{Thread}
+use Rattle.book_log.proofs.Elsewhere.{steps_leave_others}
 use Rattle.step_names.specs.declared.step.StepName.{StepName}
 use Rattle.book_log.specs.declared.entry.Entry.TheVariants.{Step as Stepped}
 use Rattle.shared_book.proofs.Answering.{counted_more, given, step_accepted, step_of}
 use Rattle.shared_book.specs.Away.{WasRefused}
 use Rattle.shared_book.specs.Views.{DeskView}
 use Rattle.shared_book.proofs.HeldBack.{held_step, were_more}
+use Rattle.shared_book.proofs.Sought.{none_elsewhere}
+use Rattle.shared_book.specs.Seeking.{GoesBack}
 use Rattle.shared_book.proofs.desk.Desk.take_step.Goals as goal
 
 pub returns-clause-receipt : goal.returns-clause-receipt
@@ -24,8 +29,15 @@ returns-in-Err-clause-held g c = λ h.
 
 pub invariant_of-self-2 : goal.invariant_of-self-2
 invariant_of-self-2 g c =
-    let moved = c.in-Ok-step.moved in (
+    let moved = c.in-Ok-step.moved in
+    let from = string_bytes c.self.inside.cursor.name in
+    let to = string_bytes c.go_back.new.self.name in
+    let accepted = step_accepted _ c.args.thread.now moved c.in-Ok-step.ensures.answer in
+    let leaves = steps_leave_others (g.B.Events.story c.self.inside.book) moved.name moved.kind c.entries.ensures.legal accepted in
+    let own = ap (λ (t : Thread). t.exec) (step_of _ c.args.thread.now moved c.in-Ok-step.ensures.answer) in
+    let back = subst (λ (x : List ℕ). GoesBack x from to) (c.exec.ensures.exec ∙ sym own) c.go_back.ensures in (
       counted_more _ _ _ _ _ _ _ c.self.invariant.0 c.in-Ok-step.ensures.ok c.hand_out.ensures.total,
       c.self.invariant.1,
       were_more _ _ _ (Stepped moved.name moved.kind) tt c.in-Ok-step.ensures.ok c.self.invariant.2,
+      none_elsewhere _ _ _ c.self.inside.claims moved.name.thread.exec from to leaves c.in-Ok-step.ensures.ok back c.self.invariant.3,
     )

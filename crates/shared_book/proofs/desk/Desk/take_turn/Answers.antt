@@ -1,4 +1,7 @@
-use Rattle.std.proofs.Common.{◌≡◌, true, refl, ap, subst, ◌∙◌}
+use Rattle.std.proofs.Common.{◌≡◌, ℕ, List, true, refl, ap, subst, sym, ◌∙◌}
+use Rattle.std.specs.String.{string_bytes}
+use Rattle.step_names.specs.Thread.{Thread}
+use Rattle.book_log.proofs.Elsewhere.{steps_leave_others}
 use Rattle.step_names.specs.declared.step.StepName.{StepName}
 use Rattle.book_log.specs.declared.entry.Entry.TheVariants.{Step as Stepped}
 use Rattle.shared_book.proofs.Answering.{counted_more, given_turn, turn_accepted, turn_of}
@@ -7,6 +10,8 @@ use Rattle.shared_book.specs.Commits.{is_turn_held}
 use Rattle.shared_book.specs.Views.{DeskView}
 use Rattle.shared_book.specs.declared.refusal.SharedCommitRefusal.{SharedCommitRefusal}
 use Rattle.shared_book.proofs.HeldBack.{held_turn, were_more}
+use Rattle.shared_book.proofs.Sought.{none_elsewhere}
+use Rattle.shared_book.specs.Seeking.{GoesBack}
 use Rattle.shared_book.proofs.desk.Desk.take_turn.Goals as goal
 
 pub returns-clause-receipt : goal.returns-clause-receipt
@@ -20,7 +25,20 @@ pub returns-clause-entry : goal.returns-clause-entry
 returns-clause-entry g c = ap (λ (n : StepName). n.thread) c.step-told.ensures ∙ turn_of _ c.args.thread.now c.in-Ok-commit.moved c.in-Ok-commit.ensures.answer.1
 
 pub invariant_of-self-2 : goal.invariant_of-self-2
-invariant_of-self-2 g c = (counted_more _ _ _ _ _ _ _ c.self.invariant.0 c.in-Ok-commit.ensures.story c.hand_out.ensures.total, c.self.invariant.1, were_more _ _ _ (Stepped c.in-Ok-commit.moved.name c.in-Ok-commit.moved.kind) tt c.in-Ok-commit.ensures.story c.self.invariant.2)
+invariant_of-self-2 g c =
+    let moved = c.in-Ok-commit.moved in
+    let from = string_bytes c.self.inside.cursor.name in
+    let to = string_bytes c.go_back.new.self.name in
+    let answer = c.in-Ok-commit.ensures.answer.1 in
+    let accepted = turn_accepted _ c.args.thread.now moved answer in
+    let leaves = steps_leave_others (g.B.Events.story c.self.inside.book) moved.name moved.kind c.entries.ensures.legal accepted in
+    let own = ap (λ (t : Thread). t.exec) (turn_of _ c.args.thread.now moved answer) in
+    let back = subst (λ (x : List ℕ). GoesBack x from to) (c.exec.ensures.exec ∙ sym own) c.go_back.ensures in (
+      counted_more _ _ _ _ _ _ _ c.self.invariant.0 c.in-Ok-commit.ensures.story c.hand_out.ensures.total,
+      c.self.invariant.1,
+      were_more _ _ _ (Stepped moved.name moved.kind) tt c.in-Ok-commit.ensures.story c.self.invariant.2,
+      none_elsewhere _ _ _ c.self.inside.claims moved.name.thread.exec from to leaves c.in-Ok-commit.ensures.story back c.self.invariant.3,
+    )
 
 pub returns-in-Err-commit-clause-held : goal.returns-in-Err-commit-clause-held
 returns-in-Err-commit-clause-held g c = λ h.

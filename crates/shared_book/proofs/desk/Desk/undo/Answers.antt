@@ -3,6 +3,7 @@ use Rattle.step_names.specs.declared.step.StepName.{StepName}
 use Rattle.book_log.specs.Answers.{undo_answer}
 use Rattle.shared_book.proofs.Answering.{counted_more, given, given_after, undo_accepted}
 use Rattle.shared_book.proofs.HeldBack.{were_none}
+use Rattle.shared_book.proofs.Sought.{none_before_first}
 use Rattle.shared_book.proofs.desk.Desk.undo.Goals as goal
 
 pub returns-clause-receipt : goal.returns-clause-receipt
@@ -26,4 +27,5 @@ invariant_of-self-2 g c = (
   counted_more _ _ _ _ _ _ _ c.self.invariant.0 c.in-Ok-undo.ensures.ok c.hand_out.ensures.total,
   c.self.invariant.1,
   were_none _ _ c.forget_passed.ensures.passed,
+  none_before_first _ c.forget_passed.new.self _ c.reset.ensures,
 )

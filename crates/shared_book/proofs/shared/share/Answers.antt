@@ -1,0 +1,12 @@
+use Rattle.std.proofs.Common.{rules}
+use Rattle.std.specs.String.{string_bytes}
+use Rattle.shared_book.proofs.Sought.{none_before_first}
+use Rattle.shared_book.proofs.shared.share.Goals as goal
+
+pub invariant_of-desk : goal.invariant_of-desk
+invariant_of-desk g c = (
+  search rules,
+  search rules,
+  search rules,
+  none_before_first (g.B.Events.story c.args.book) c.new.result (string_bytes c.new-2.result.name) c.new-2.ensures,
+)
