@@ -72,18 +72,15 @@ pub(crate) fn undo<S: Alter>(
     ensures err { OnErr result (book.new ≡ book.old) }
     ensures journal { Appends (state S.Store journal.old) (state S.Store journal.new) line.now result }
 {
-    let room = match book.can_undo(room) {
-        Ok(room) => room,
+    let free = match book.can_undo(room) {
+        Ok(free) => free,
         Err(refusal) => return Err(ChangeFault::Book(refusal)),
     };
     if let Err(fault) = append(journal, line) {
-        drop(room);
+        drop(free);
         return Err(ChangeFault::Journal(fault));
     }
-    let Ok(name) = book.undo(room) else {
-        unreachable!()
-    };
-    Ok(name)
+    Ok(book.undo_found(free))
 }
 
 pub(crate) fn rollback<S: Alter>(

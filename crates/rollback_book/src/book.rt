@@ -13,7 +13,7 @@ ghost use Rattle.rollback_book.specs.Making.{IsPlanned, WasPlanned};
 use crate::hold::{Hold, take_out};
 use crate::lists::{absent_in, names_at, push_with_room};
 use crate::machines::Machines;
-use crate::room::{PlanRoom, Room};
+use crate::room::{FreeRoom, PlanRoom, Room};
 use attr_values::ItemFault;
 use book_log::{Begin, Entry, Refusal, StepNames, first_store};
 use item_store::Items;
@@ -95,25 +95,45 @@ impl Book {
         Ok(Room::new(alloc, step)?)
     }
 
-    /// Whether a step may be undone; the room comes back where it may. Takes no memory; looks at those remaining steps alone that
-    /// are near it by their names and keys.
-    pub fn can_undo(&self, room: Room) -> Result<Room, Refusal>
+    /// Whether a step may be undone; where it may, its room with the place at which it was found. Takes no memory; looks at those
+    /// remaining steps alone that are near it by their names and keys.
+    pub fn can_undo(&self, room: Room) -> Result<FreeRoom, Refusal>
         ensures { MatchResult result
-            (λ r. (r.step ≡ room.step) × (undo_answer self.now.story room.step ≡ Ok room.step))
+            (λ free. (free.room.step ≡ room.step) × IsFreePlace self.now free.room.step free.at)
             (λ e. undo_answer self.now.story room.step ≡ Err e) }
     {
-        let (_, room) = self.free_place(room)?;
-        Ok(room)
+        let Some(at) = self.history.find(&room.step) else {
+            let gone = self.absent(&room.step);
+            drop(room);
+            return Err(gone);
+        };
+        let Some(dependent) = self.history.first_dependent(at) else {
+            return Ok(FreeRoom { room, at });
+        };
+        let Room { step: _, spare } = room;
+        let needing = self.history.records().get(dependent);
+        Err(Refusal::HasDependents(spare.step(&needing.fact.name)))
+    }
+
+    /// Takes back a step that may be undone, as `can_undo` found, and answers its name: it isn't looked for again. Takes no memory.
+    pub fn undo_found(&mut self, free: FreeRoom) -> StepName
+        requires { IsFreePlace self.old free.room.step free.at }
+        ensures name { result ≡ free.room.step }
+        ensures story { self.new.story ≡ accepted self.old.story (Entry.Undo free.room.step) }
+    {
+        let FreeRoom { room, at } = free;
+        let Room { step, spare } = room;
+        let answer = spare.step(&step);
+        self.take_back(at, step);
+        answer
     }
 
     /// Takes a step back on which no remaining step depends directly, and answers its name. Takes no memory.
     pub fn undo(&mut self, room: Room) -> Result<StepName, Refusal>
         ensures { Undoes self.old.story self.new.story room.step result }
     {
-        let (at, Room { step, spare }) = self.free_place(room)?;
-        let answer = spare.step(&step);
-        self.take_back(at, step);
-        Ok(answer)
+        let free = self.can_undo(room)?;
+        Ok(self.undo_found(free))
     }
 
     /// Plans the rollback of a step: it and its consequences, the latest first. Takes memory for their names, twice, and places.
@@ -186,25 +206,6 @@ impl Book {
         ensures { IsLogOf self.now.story result.0.now result.1.now }
     {
         (&self.begin, self.log.as_slice())
-    }
-
-    /// The place of a step that may be undone, and its room.
-    fn free_place(&self, room: Room) -> Result<(usize, Room), Refusal>
-        ensures { MatchResult result
-            (λ p. (p.1.step ≡ room.step) × IsFreePlace self.now room.step p.0)
-            (λ e. undo_answer self.now.story room.step ≡ Err e) }
-    {
-        let Some(at) = self.history.find(&room.step) else {
-            let gone = self.absent(&room.step);
-            drop(room);
-            return Err(gone);
-        };
-        let Some(dependent) = self.history.first_dependent(at) else {
-            return Ok((at, room));
-        };
-        let Room { step: _, spare } = room;
-        let needing = self.history.records().get(dependent);
-        Err(Refusal::HasDependents(spare.step(&needing.fact.name)))
     }
 
     /// Why a step that doesn't remain can't be taken back.

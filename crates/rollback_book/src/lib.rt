@@ -25,7 +25,7 @@ pub use branch_tree::Readiness;
 pub use commits::{CommitRefusal, Staleness};
 pub use events::Events;
 pub use making::{Change, Entered, Made};
-pub use room::{PlanRoom, Room};
+pub use room::{FreeRoom, PlanRoom, Room};
 pub use saved_steps::{Access, Fact, Kind, Saved, StepRecord};
 pub use step_history::turns as turns;
 pub use step_index::StepRecords;

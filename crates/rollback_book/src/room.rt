@@ -25,6 +25,13 @@ impl Room {
     }
 }
 
+/// The room of a step that may be undone, and the place at which it stands, as `Book::can_undo` tells them for `Book::undo_found`.
+#[derive(Drop)]
+pub struct FreeRoom {
+    pub(crate) room: Room,
+    pub(crate) at: usize,
+}
+
 /// A step to be rolled back, with the names and the places of it and its consequences, the latest first, and the number of the log's
 /// entries at the time. It is spent by the rollback, which then takes no memory.
 #[derive(Drop)]

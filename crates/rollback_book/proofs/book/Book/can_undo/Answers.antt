@@ -4,7 +4,7 @@ use Rattle.book_log.specs.Answers.{absent, undo_answer}
 use Rattle.book_log.specs.declared.refusal.Refusal.TheVariants.{HasDependents}
 use Rattle.rollback_book.specs.Book.{Volume, IsFreePlace}
 use Rattle.rollback_book.proofs.Free.{no_step_answer, free_place, dependent_within, dependent_answer}
-use Rattle.rollback_book.proofs.book.Book.free_place.Goals as goal
+use Rattle.rollback_book.proofs.book.Book.can_undo.Goals as goal
 
 pub returns-in_default : goal.returns-in_default
 returns-in_default c =
