@@ -8,4 +8,6 @@ pub(crate) struct Board {
     pub(crate) slips: Slips<Ticket>,
     /// The number of the seat that can't be started, while it ends; else 0.
     pub(crate) unstarted: AtomicU64,
+    /// How many of the seats that were started take no more moves.
+    pub(crate) resting: AtomicU64,
 }

@@ -10,6 +10,7 @@ use shared_book::{Offer, Pass, Shared, SharedRefusal, Sharing};
 use slip_queue::Giver;
 use std::alloc::Global;
 use std::sync::Wait;
+use std::sync::atomic::Ordering;
 use std::sync::ledger::Ledger;
 use std::thread;
 
@@ -24,8 +25,8 @@ pub(crate) struct Dispatcher<L: Ledger> {
     pub(crate) refused: Option<SharedRefusal>,
 }
 
-/// Hands out the tickets, until no thread can move and nobody is at work; then a slip without work for each worker. A refusal ends it
-/// sooner, and is told.
+/// Hands out the tickets, until no thread can move and nobody is at work, or until no worker takes a move any more; then a slip without
+/// work for each worker. A refusal ends it sooner, and is told.
 pub(crate) fn dispatch<B: Events, L: Sharing>(
     rt: &impl Wait,
     alloc: Global,
@@ -47,7 +48,8 @@ pub(crate) fn dispatch<B: Events, L: Sharing>(
         refused,
     } = dispatcher;
     drop(refused);
-    let refused = hand_out(rt, alloc, shared, board, &mut giver, &mut pass, tickets);
+    let limits = Limits { tickets, workers };
+    let refused = hand_out(rt, alloc, shared, board, &mut giver, &mut pass, limits);
     end_all(rt, board, &mut giver, workers);
     Dispatcher {
         giver,
@@ -59,6 +61,13 @@ pub(crate) fn dispatch<B: Events, L: Sharing>(
     }
 }
 
+/// How many tickets are handed out at most, and to how many workers.
+#[derive(Drop)]
+struct Limits {
+    tickets: u32,
+    workers: u32,
+}
+
 /// The tickets.
 fn hand_out<B: Events, L: Sharing>(
     rt: &impl Wait,
@@ -67,15 +76,16 @@ fn hand_out<B: Events, L: Sharing>(
     board: &Board,
     giver: &mut Giver<Ticket>,
     pass: &mut Pass<L>,
-    tickets: u32,
+    limits: Limits,
 ) -> Option<SharedRefusal>
     requires { IsGiver board.now.slips giver.old }
     ensures giver { KeepsGiver board.now.slips giver.old giver.new }
     ensures pass { pass.new.receipts ≡ pass.old.receipts }
 {
-    let mut left = tickets;
+    let mut left = limits.tickets;
     for _ in rt.forever() {
-        if left == 0 {
+        let resting = board.resting.load(Ordering::SeqCst);
+        if left == 0 || resting >= limits.workers as u64 {
             return None;
         }
         match shared.offer(rt, alloc, pass) {

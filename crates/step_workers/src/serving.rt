@@ -37,6 +37,7 @@ pub(crate) fn serve<B: Events, L: Sharing, G: Gate, R: Wait>(
     }
     let mut seat = seat;
     let stopped = take_all(rt, alloc, shared, board, gate, &mut seat);
+    board.resting.fetch_add(1, Ordering::SeqCst);
     if matches!(stopped, Stopped::Refused(_)) {
         hand_back(rt, shared, board, &mut seat);
     }

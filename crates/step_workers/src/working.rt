@@ -48,6 +48,7 @@ impl<L: Ledger> Rooms<L> {
         let board = Board {
             slips,
             unstarted: AtomicU64::new(0),
+            resting: AtomicU64::new(0),
         };
         let allowances = allowances(alloc, seats, budget)?;
         Ok(Rooms {
