@@ -12,6 +12,8 @@ mod passes;
 #[cfg(test)]
 mod rounds;
 #[cfg(test)]
+mod taking_back;
+#[cfg(test)]
 mod turns;
 #[cfg(test)]
 mod undoings;

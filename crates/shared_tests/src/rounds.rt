@@ -3,6 +3,7 @@ ghost use Rattle.std.specs.Prelude.{◌≡◌};
 
 use crate::hot::{hot_book, is_entered_again, is_taken_again};
 use crate::operator::{Both, Operator, Pace, work_beside};
+use crate::taking_back::without_first;
 use crate::workers;
 use crate::workers::{can_work, seats_of, told};
 use rollback_book::{Book, Entry};
@@ -26,7 +27,7 @@ struct Plan {
 }
 
 /// How many steps the operator undid, alone and of holds, how many rollbacks and holds he made, how many refusals there were that
-/// nothing explains, and how many of his receipts are of before the workers' last.
+/// nothing explains, how many of his receipts are of before the workers' last, and how many steps of a hold the workers shared.
 #[derive(Clone, Copy, Debug)]
 struct Deeds {
     undoings: usize,
@@ -34,6 +35,7 @@ struct Deeds {
     holds: usize,
     faults: u32,
     between: usize,
+    shared: usize,
 }
 
 /// The book of a round that is over, and what the operator did.
@@ -171,25 +173,35 @@ fn finishes<R: Threads + Wait + Sync>(
     Ok(is_done)
 }
 
-/// What the operator did in a round whose book gives the same again, and is finished by workers alone.
-fn deeds_in<R: Threads + Wait + Sync>(rt: &R, alloc: Global, plan: Plan) -> Result<Deeds, Fail> {
-    let book = hot_book(alloc, plan.executions)?;
-    let Round { book, deeds } = run::<Brand, R>(rt, alloc, Blank::new(PARTS), book, plan)?;
-    match gives_again(alloc, &book, plan.executions) {
-        Ok((true, true)) => {}
+/// The book, where it gives the same again.
+fn checked(alloc: Global, book: Book, executions: u32) -> Result<Book, Fail> {
+    match gives_again(alloc, &book, executions) {
+        Ok((true, true)) => Ok(book),
         Ok(_) => {
             drop(book);
-            return Err("the book gives something else when it is taken or entered again".into());
+            Err("the book gives something else when it is taken or entered again".into())
         }
         Err(fail) => {
             drop(book);
-            return Err(fail);
+            Err(fail)
         }
     }
+}
+
+/// What the operator did in a round whose book gives the same again, also after one to eight workers took back what was held, and is
+/// finished by workers alone.
+fn deeds_in<R: Threads + Wait + Sync>(rt: &R, alloc: Global, plan: Plan) -> Result<Deeds, Fail> {
+    let book = hot_book(alloc, plan.executions)?;
+    let Round { book, deeds } = run::<Brand, R>(rt, alloc, Blank::new(PARTS), book, plan)?;
+    let book = checked(alloc, book, plan.executions)?;
+    let execution = plan.seed.wrapping_mul(7) % plan.executions.max(1);
+    let workers = (plan.seed % 8) as usize + 1;
+    let (book, shared) = without_first(rt, alloc, book, execution, workers)?;
+    let book = checked(alloc, book, plan.executions)?;
     if !finishes(rt, alloc, book, plan.executions)? {
         return Err("an execution isn't done".into());
     }
-    Ok(deeds)
+    Ok(Deeds { shared, ..deeds })
 }
 
 fn sum_of(one: Deeds, other: Deeds) -> Deeds {
@@ -199,6 +211,7 @@ fn sum_of(one: Deeds, other: Deeds) -> Deeds {
         holds: one.holds.saturating_add(other.holds),
         faults: one.faults.saturating_add(other.faults),
         between: one.between.saturating_add(other.between),
+        shared: one.shared.saturating_add(other.shared),
     }
 }
 
@@ -210,8 +223,10 @@ fn are_all_kinds(deeds: Deeds) -> bool {
         holds,
         faults,
         between,
+        shared,
     } = deeds;
-    undoings > 0 && rollbacks > 0 && holds > 0 && faults == 0 && between > 0
+    let is_beside = between > 0 && faults == 0;
+    undoings > 0 && rollbacks > 0 && holds > 0 && is_beside && shared > 0
 }
 
 const NO_DEEDS: Deeds = Deeds {
@@ -220,6 +235,7 @@ const NO_DEEDS: Deeds = Deeds {
     holds: 0,
     faults: 0,
     between: 0,
+    shared: 0,
 };
 
 #[test]

@@ -36,7 +36,7 @@ fn stepped_book(alloc: Global) -> Result<Book, Fail> {
     }
 }
 
-fn undoings_in<L: Sharing>(passes: &Vec<Pass<L>>) -> usize {
+pub(crate) fn undoings_in<L: Sharing>(passes: &Vec<Pass<L>>) -> usize {
     let mut count: usize = 0;
     for pass in passes {
         for receipt in pass.receipts() {
@@ -48,7 +48,7 @@ fn undoings_in<L: Sharing>(passes: &Vec<Pass<L>>) -> usize {
     count
 }
 
-fn idle_in(stopped: &Vec<Stopped>) -> usize {
+pub(crate) fn idle_in(stopped: &Vec<Stopped>) -> usize {
     let mut count: usize = 0;
     for why in stopped {
         if matches!(why, Stopped::Idle) {

@@ -5,7 +5,7 @@ use crate::calls::{PASS, book_with};
 use json_tree::{Text, depth, read};
 use rollback_book::turns::Phase;
 use rollback_book::{Book, Entry};
-use shared_book::{PARTS, Pass, Shared, Sharing, close, share};
+use shared_book::{CloseReason, PARTS, Pass, Shared, Sharing, close, share};
 use std::alloc::{AllocError, Global};
 use std::marker::Brand;
 use std::sync::Wait;
@@ -153,7 +153,11 @@ pub(crate) fn run<L: Sharing + Send + Sync, G: Gate + Sync, R: Threads + Wait + 
             taken: numbers,
         }),
         Err(refusal) => {
+            let is_short = matches!(&refusal.reason, CloseReason::Memory);
             drop(refusal);
+            if is_short {
+                return Err(AllocError.into());
+            }
             Err("the book isn't closed".into())
         }
     }
@@ -308,6 +312,38 @@ fn a_worker_passes_by_what_is_held(rt: HostRuntime) -> Result<(), Fail> {
     assert!(rt; !done);
     assert_eq!(rt; budgets, 0);
     assert_eq!(rt; taken, 7);
+    Ok(())
+}
+
+/// A round of two workers.
+fn round_of_two<R: Threads + Wait + Sync>(
+    rt: &R,
+    alloc: Global,
+    book: Book,
+) -> Result<Round, Fail> {
+    run::<Brand, OpenGate, R>(rt, alloc, Blank::new(PARTS), book, 2, 100, &OpenGate)
+}
+
+/// A further one.
+fn round_more<R: Threads + Wait + Sync>(
+    rt: &R,
+    alloc: Global,
+    round: Round,
+) -> Result<Round, Fail> {
+    let Round { book, .. } = round;
+    round_of_two(rt, alloc, book)
+}
+
+/// Whatever request for memory is refused to a worker of the first round, the second one makes the moves that are left. For
+/// refused-growths.sh.
+#[test]
+fn rounds_want_memory(rt: HostRuntime) -> Result<(), Fail> {
+    let book = book_of(rt.alloc(), FORK, 1)?;
+    let first = round_of_two(&rt, rt.alloc(), book)?;
+    let second = round_more(&rt, rt.alloc(), first)?;
+    let (entries, done, _, _) = told(rt.alloc(), second, 1)?;
+    assert_eq!(rt; entries, 8);
+    assert!(rt; done);
     Ok(())
 }
 

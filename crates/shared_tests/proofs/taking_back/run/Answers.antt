@@ -1,0 +1,6 @@
+use denote.Param.Send.{sendable}
+use Rattle.step_workers.proofs.Sending.{book_send}
+use Rattle.shared_tests.proofs.taking_back.run.Goals as goal
+
+pub take_back-requires-send-B : goal.take_back-requires-send-B
+take_back-requires-send-B g c = λ κs inside. search (book_send, sendable)
