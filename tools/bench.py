@@ -136,6 +136,20 @@ def one_item_read(count, held):
         yield "hold first#1"
 
 
+def passed_by(count):
+    """So many executions that wait before a read of an item whose write is held, and behind them, by name, others that can move."""
+    yield TABLE
+    yield define("write", workloads.WRITE)
+    yield define("read", workloads.READ)
+    yield define("three", workloads.chain(3))
+    yield from ('start first write {"key":"hot","value":"v"}', "step first")
+    for at in range(count):
+        yield f'start a-{at} read {{"key":"hot"}}'
+    for at in range(600):
+        yield f"start run-{at} three {{}}"
+    yield "hold first#1"
+
+
 def filled(count, size):
     """So many executions that stand before a Pass whose template fills so many bytes by paths."""
     fields = {f"field-{at}.$": "$.text" for at in range(size // 32)}
@@ -195,6 +209,10 @@ def single_calls():
                 yield f"start run-{at} three {{}}"
         yield f"step by drive, {count:,} executions", "instructions", waiting, ["drive 60"], 60
         yield f"step by one worker, {count:,} executions", "instructions", waiting, ["work 1 60"], 60
+    for count in (10, 1_000):
+        for moves, said in ((0, "a thread passed by"), (60, "these and 60 steps")):
+            lines = [f"work 1 {count + moves}"]
+            yield f"round of {count:,} threads passed by: {said}", "instructions", lambda count=count: passed_by(count), lines, count + moves
     for held, said in ((False, "beside 6,000 reads of an item"), (True, "beside a hold of 6,000 reads of an item")):
         def reads(held=held):
             return one_item_read(6_000, held)
