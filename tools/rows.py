@@ -111,8 +111,8 @@ def joined(data):
     return lines
 
 
-def read_sessions(path):
-    """The sessions of a file of rows."""
+def read_sessions(path, most=None):
+    """The sessions of a file of rows, with at most so many of the lines that are repeated."""
     file = os.path.relpath(path)
     sessions, machines, header = [], {}, Session("", file, 0)
     session, last = header, []
@@ -154,7 +154,8 @@ def read_sessions(path):
             last = []
         elif line.startswith(b">*"):
             count, _, text = rest[1:].lstrip(b" ").partition(b" ")
-            last = [Command(file, number, inserted(text, n)) for n in range(int(count))]
+            count = int(count) if most is None else min(int(count), most)
+            last = [Command(file, number, inserted(text, n)) for n in range(count)]
             for command in last:
                 add(command)
             inserts = True
@@ -192,11 +193,11 @@ def copied(command):
     return other
 
 
-def read_all(files):
-    """All sessions of these files; titles are said once."""
+def read_all(files, most=None):
+    """All sessions of these files; titles are said once. `most` is as that of read_sessions."""
     sessions, titles = [], {}
     for file in files:
-        for session in read_sessions(file):
+        for session in read_sessions(file, most):
             if session.title in titles:
                 raise Fault(f"{session.file}:{session.at}: the title {session.title} is {titles[session.title]}'s")
             titles[session.title] = f"{session.file}:{session.at}"

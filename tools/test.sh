@@ -28,6 +28,7 @@ part() {
 }
 
 part sh tools/docs.sh --names
+part python3 tools/refusals.py
 part rt ci
 part python3 tools/rows.py
 part python3 tools/value_rows.py
