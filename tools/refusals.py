@@ -230,7 +230,7 @@ class Rows:
         refusal = self.refusal_of(reply)
         call = command.text.decode(errors="replace").split(" ")[0].removesuffix("\r")
         call = UNREAD if refusal == "20" else call
-        if refusal not in reference.pairs.get(call, ()):
+        if (call, refusal) not in self.refused and refusal not in reference.pairs.get(call, ()):
             self.odd.append(f"{place}: {REFERENCE} has no `{reply}` of {call}")
         self.refused.setdefault((call, refusal), place)
 
