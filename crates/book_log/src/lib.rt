@@ -18,7 +18,8 @@ pub use depends::{branches as branches, steps as steps, turns as turns};
 pub use entry::Entry;
 pub use laws::{
     equality_is_of_entries, holds_are_shared, legal_logs_run, moves_leave_others, orders_undo,
-    reruns_agree, rollback_is_exact, settling_is_for_good, undo_answers_are_exact, undoing_is_exact,
+    reruns_agree, rollback_is_exact, settling_is_for_good, undo_answers_are_exact,
+    undoing_is_exact,
 };
 pub use moved::Moved;
 pub use opening::first_store;
