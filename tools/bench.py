@@ -119,13 +119,18 @@ def one_map(branches, bound):
     yield f'start run over {{"all":[{",".join(["{}"] * branches)}]}}'
 
 
-def one_item_read(count, held):
-    """A write of an item and so many reads of it, which are held or not; and executions that wait before a Pass, and before a write of it."""
+def one_item_written():
+    """A write of an item, and machines of a write, a read, and three Passes."""
     yield TABLE
     yield define("write", workloads.WRITE)
     yield define("read", workloads.READ)
     yield define("three", workloads.chain(3))
     yield from ('start first write {"key":"hot","value":"v"}', "step first")
+
+
+def one_item_read(count, held):
+    """A write of an item and so many reads of it, which are held or not; and executions that wait before a Pass, and before a write of it."""
+    yield from one_item_written()
     for at in range(count):
         yield f'start reader-{at} read {{"key":"hot"}}'
         yield f"step reader-{at}"
@@ -138,11 +143,7 @@ def one_item_read(count, held):
 
 def passed_by(count):
     """So many executions that wait before a read of an item whose write is held, and behind them, by name, others that can move."""
-    yield TABLE
-    yield define("write", workloads.WRITE)
-    yield define("read", workloads.READ)
-    yield define("three", workloads.chain(3))
-    yield from ('start first write {"key":"hot","value":"v"}', "step first")
+    yield from one_item_written()
     for at in range(count):
         yield f'start a-{at} read {{"key":"hot"}}'
     for at in range(600):
