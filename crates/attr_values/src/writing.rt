@@ -8,7 +8,7 @@ ghost use Rattle.attr_values.specs.Writing.{json_of, json_entries, number_json, 
 
 use crate::number::Number;
 use crate::value::{NumberSet, TextSet, Value, ValueList, ValueMap};
-use json_tree::{Json, JsonFields, JsonList, Text};
+use json_tree::{Field, Json, JsonFields, JsonList, Text};
 use std::alloc::{AllocError, Global};
 
 /// Writes a value: an object with one field, named for its type. Takes memory for each text, list, map and set.
@@ -57,12 +57,13 @@ fn write_list(alloc: Global, list: &ValueList) -> Result<JsonList, AllocError>
 pub(crate) fn write_map(alloc: Global, map: &ValueMap) -> Result<JsonFields, AllocError>
     ensures { IfOk result (λ fields. fields ≡ json_entries map.now) }
 {
-    let mut fields = JsonFields::new(alloc);
+    let mut fields = Vec::with_capacity(alloc, map.inner.len())?;
     for (name, value) in map.inner.iter() {
         let name = Text::new(alloc, name.as_str())?;
-        drop(fields.insert(name, write_value(alloc, value)?)?);
+        let value = write_value(alloc, value)?;
+        fields.push(Field { name, value })?;
     }
-    Ok(fields)
+    Ok(JsonFields::from_sorted(fields)?)
 }
 
 fn write_texts(alloc: Global, set: &TextSet) -> Result<JsonList, AllocError>

@@ -29,7 +29,7 @@ impl JsonFields {
     }
 
     /// The same fields, which are in order, in the memory that they have. Takes memory for a node, unless there is none.
-    pub(crate) fn from_sorted(fields: Vec<Field>) -> Result<JsonFields, AllocFailed<Vec<Field>>>
+    pub fn from_sorted(fields: Vec<Field>) -> Result<JsonFields, AllocFailed<Vec<Field>>>
         requires { IsInNameOrder (fields_of fields.items) }
         ensures ok { IfOk result (λ m. m ≡ fields_of fields.items) }
         ensures value_returned { IfErr result (λ e. e.value ≡ fields) }
