@@ -1,7 +1,7 @@
 -- Names in the order in which they came, with the room for more; and the class in which each is.
 use Rattle.std.specs.Prelude.{◌≡◌, ◌≤◌, ◌<◌, ◌+◌, ◌^◌, ◌%◌, ◌++◌, ℕ, Bool, List, option_map, length, slice_get}
 use Rattle.std.specs.Hash as fed
-use Rattle.std.specs.Hash.DefaultHasher as sip
+use Rattle.std.specs.Hash.FoldHasher as folding
 use Rattle.std.specs.List.{fold, list_any}
 use Rattle.std.specs.Ordering.{eq_by_cmp}
 use Rattle.linked_classes.specs.Classes.{Classes, class_of}
@@ -11,7 +11,7 @@ use Rattle.step_names.specs.declared.step.StepName.{StepName}
 -- of the hash only this is used, that it is a function
 unfoldable pub bucket : StepName → ℕ
 bucket name =
-    sip.finish (fold sip.write (fold sip.write (fold sip.write sip.initial (fed.str name.thread.exec)) (fed.slice (λ b. fed.u32 b.0 ++ fed.u32 b.1) name.thread.path)) (fed.u32 name.no)) % 8191
+    folding.finish (fold folding.write (fold folding.write (fold folding.write folding.initial (fed.str name.thread.exec)) (fed.slice (λ b. fed.u32 b.0 ++ fed.u32 b.1) name.thread.path)) (fed.u32 name.no)) % 8191
 
 -- the names; for how many there is room in their list, for which numbers and for how many more members there is room in the classes,
 -- and how many classes there are

@@ -1,9 +1,9 @@
 // In which class a name is, by its hash.
 ghost use Rattle.std.specs.Prelude.{◌≡◌, ◌<◌, ◌%◌};
-ghost use Rattle.std.specs.Hash.DefaultHasher.{finish};
+ghost use Rattle.std.specs.Hash.FoldHasher.{finish};
 ghost use Rattle.settled_names.specs.Names.{bucket};
 
-use std::hash::{DefaultHasher, Hash, Hasher};
+use std::hash::{FoldHasher, Hash, Hasher};
 use step_names::StepName;
 
 /// How many classes there are: a prime number.
@@ -15,14 +15,14 @@ pub(crate) fn bucket(name: &StepName) -> u32
     ensures bucket { result ≡ bucket name.now }
     ensures below { result < 8191 }
 {
-    let mut hasher = DefaultHasher::new();
+    let mut hasher = FoldHasher::default();
     name.thread.exec().hash(&mut hasher);
     name.thread.path().hash(&mut hasher);
     name.no.hash(&mut hasher);
     bucket_of(&hasher)
 }
 
-fn bucket_of(hasher: &DefaultHasher) -> u32
+fn bucket_of(hasher: &FoldHasher) -> u32
     ensures bucket { result ≡ finish hasher.now % 8191 }
     ensures below { result < 8191 }
 {

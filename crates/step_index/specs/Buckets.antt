@@ -1,7 +1,7 @@
 -- In which class a step is, by the hash of a part of its fact. Of the hash only this is used, that it is a function.
 use Rattle.std.specs.Prelude.{ℕ, ◌%◌, ◌++◌, ◌==◌, Bool, ◌||◌, not, List, Option, Some, None, option_map, take, if◌then◌else◌}
 use Rattle.std.specs.Hash as fed
-use Rattle.std.specs.Hash.DefaultHasher as sip
+use Rattle.std.specs.Hash.FoldHasher as folding
 use Rattle.std.specs.List.{fold}
 use Rattle.attr_values.specs.Key.{key_input}
 use Rattle.attr_values.specs.declared.key.Key.{Key}
@@ -13,17 +13,17 @@ use Rattle.saved_steps.specs.declared.fact.Access.{Access}
 use Rattle.saved_steps.specs.declared.fact.Fact.{Fact}
 
 unfoldable pub exec_bucket : List ℕ → ℕ
-exec_bucket exec = sip.finish (fold sip.write sip.initial (fed.str exec)) % 16381
+exec_bucket exec = folding.finish (fold folding.write folding.initial (fed.str exec)) % 16381
 
 unfoldable pub thread_bucket : Thread → ℕ
-thread_bucket t = sip.finish (fold sip.write (fold sip.write sip.initial (fed.str t.exec)) (fed.slice (λ b. fed.u32 b.0 ++ fed.u32 b.1) t.path)) % 16381
+thread_bucket t = folding.finish (fold folding.write (fold folding.write folding.initial (fed.str t.exec)) (fed.slice (λ b. fed.u32 b.0 ++ fed.u32 b.1) t.path)) % 16381
 
 unfoldable pub name_bucket : StepName → ℕ
 name_bucket name =
-    sip.finish (fold sip.write (fold sip.write (fold sip.write sip.initial (fed.str name.thread.exec)) (fed.slice (λ b. fed.u32 b.0 ++ fed.u32 b.1) name.thread.path)) (fed.u32 name.no)) % 16381
+    folding.finish (fold folding.write (fold folding.write (fold folding.write folding.initial (fed.str name.thread.exec)) (fed.slice (λ b. fed.u32 b.0 ++ fed.u32 b.1) name.thread.path)) (fed.u32 name.no)) % 16381
 
 unfoldable pub key_bucket : Key → ℕ
-key_bucket key = sip.finish (fold sip.write sip.initial (key_input key)) % 16381
+key_bucket key = folding.finish (fold folding.write folding.initial (key_input key)) % 16381
 
 -- ---- of a step
 

@@ -1,13 +1,13 @@
 //! In which class a step is, by the hash of a part of its fact.
 
 ghost use Rattle.std.specs.Prelude.{◌≡◌, ◌<◌, ◌≤◌, ◌%◌, IfSome, Some, length};
-ghost use Rattle.std.specs.Hash.DefaultHasher.{finish};
+ghost use Rattle.std.specs.Hash.FoldHasher.{finish};
 ghost use Rattle.step_index.specs.Buckets.{above, by_home, by_name, by_thread, by_exec, by_gate, by_key, by_write, name_bucket, thread_bucket, exec_bucket, key_bucket, is_gate};
 
 use attr_values::Key;
 use item_store::AccessMode;
 use saved_steps::{Fact, Kind};
-use std::hash::{DefaultHasher, Hash, Hasher};
+use std::hash::{FoldHasher, Hash, Hasher};
 use step_names::{StepName, ThreadName};
 
 /// How many classes there are: a prime number.
@@ -19,7 +19,7 @@ pub(crate) fn name_bucket(name: &StepName) -> u32
     ensures bucket { result ≡ name_bucket name.now }
     ensures below { result < 16381 }
 {
-    let mut hasher = DefaultHasher::new();
+    let mut hasher = FoldHasher::default();
     name.thread.exec().hash(&mut hasher);
     name.thread.path().hash(&mut hasher);
     name.no.hash(&mut hasher);
@@ -32,7 +32,7 @@ pub(crate) fn thread_bucket(thread: &ThreadName) -> u32
     ensures bucket { result ≡ thread_bucket thread.now }
     ensures below { result < 16381 }
 {
-    let mut hasher = DefaultHasher::new();
+    let mut hasher = FoldHasher::default();
     thread.exec().hash(&mut hasher);
     thread.path().hash(&mut hasher);
     bucket_of(&hasher)
@@ -45,7 +45,7 @@ pub(crate) fn bucket_above(thread: &ThreadName, depth: usize) -> u32
     ensures bucket { result ≡ thread_bucket (above thread.now depth) }
     ensures below { result < 16381 }
 {
-    let mut hasher = DefaultHasher::new();
+    let mut hasher = FoldHasher::default();
     thread.exec().hash(&mut hasher);
     thread.path()[..depth].hash(&mut hasher);
     bucket_of(&hasher)
@@ -68,7 +68,7 @@ pub(crate) fn exec_bucket(exec: &str) -> u32
     ensures bucket { result ≡ exec_bucket exec.now }
     ensures below { result < 16381 }
 {
-    let mut hasher = DefaultHasher::new();
+    let mut hasher = FoldHasher::default();
     exec.hash(&mut hasher);
     bucket_of(&hasher)
 }
@@ -125,12 +125,12 @@ pub(crate) fn key_bucket(key: &Key) -> u32
     ensures bucket { result ≡ key_bucket key.now }
     ensures below { result < 16381 }
 {
-    let mut hasher = DefaultHasher::new();
+    let mut hasher = FoldHasher::default();
     key.hash(&mut hasher);
     bucket_of(&hasher)
 }
 
-fn bucket_of(hasher: &DefaultHasher) -> u32
+fn bucket_of(hasher: &FoldHasher) -> u32
     ensures bucket { result ≡ finish hasher.now % 16381 }
     ensures below { result < 16381 }
 {
