@@ -29,6 +29,7 @@ part() {
 
 part sh tools/docs.sh --names
 part python3 tools/refusals.py
+part python3 tools/vocabulary.py
 part rt ci
 part python3 tools/rows.py
 part python3 tools/value_rows.py

@@ -5,15 +5,15 @@ use Rattle.serde_json.specs.Find.{get, as_str, as_object}
 use Rattle.json_tree.specs.Data.{Data}
 use Rattle.json_tree.specs.Reading.{whole_of}
 use Rattle.ref_paths.specs.Templates.{Payload}
-use Rattle.asl_fields.specs.FieldFaults.{fault_of_standing, NamesFault, text_fault, required_text_fault, optional_text_fault, language_fault, query_language_fault, MembersFault, FieldsFault, WholeTemplateFault, TemplateFieldFault}
+use Rattle.asl_fields.specs.FieldFaults.{fault_of_status, NamesFault, text_fault, required_text_fault, optional_text_fault, language_fault, query_language_fault, MembersFault, FieldsFault, WholeTemplateFault, TemplateFieldFault}
 use Rattle.asl_fields.specs.Fields.{is_text, is_known, is_left_out, all_known, known_in, names_json_path, is_json_path}
 use Rattle.asl_fields.specs.Values.{HasFields, IsWholeTemplate, IsTemplateField, text_or_empty}
 use Rattle.asl_fields.specs.declared.fault.MachineFault.{MachineFault}
 use Rattle.asl_fields.specs.declared.fields.Place.{Place}
-use Rattle.asl_fields.specs.declared.fields.Standing.{Standing}
-use Rattle.asl_fields.specs.declared.fields.Standing.TheVariants.{Known, Unsupported, Unknown}
+use Rattle.asl_fields.specs.declared.fields.FieldStatus.{FieldStatus}
+use Rattle.asl_fields.specs.declared.fields.FieldStatus.TheVariants.{Known, Unsupported, Unknown}
 
-not_known : (known left_out : Bool) (name : List ℕ) (e : MachineFault) → fault_of_standing (if known then Known else (if left_out then Unsupported else Unknown)) name ≡ Some e → known ≡ false
+not_known : (known left_out : Bool) (name : List ℕ) (e : MachineFault) → fault_of_status (if known then Known else (if left_out then Unsupported else Unknown)) name ≡ Some e → known ≡ false
 not_known true left_out name e h = cc h
 not_known false left_out name e h = refl
 

@@ -7,23 +7,23 @@ use Rattle.json_tree.specs.Reading.{whole_of}
 use Rattle.ref_paths.specs.TemplateFaults.{HasFault, IsNoTemplate}
 use Rattle.ref_paths.specs.declared.path.PathStep.{PathStep}
 use Rattle.ref_paths.specs.declared.template.TemplateFault.TheVariants.{BadTemplate, Unsupported as LeftOutThere}
-use Rattle.asl_fields.specs.Fields.{is_text, standing}
+use Rattle.asl_fields.specs.Fields.{is_text, field_status}
 use Rattle.asl_fields.specs.Values.{IsPathField}
 use Rattle.asl_fields.specs.declared.fault.MachineFault.{MachineFault}
 use Rattle.asl_fields.specs.declared.fault.MachineFault.TheVariants.{Missing, UnknownField, Unsupported, BadField}
 use Rattle.asl_fields.specs.declared.fields.Place.{Place}
-use Rattle.asl_fields.specs.declared.fields.Standing.{Standing}
-use Rattle.asl_fields.specs.declared.fields.Standing.TheVariants.{Known, Unsupported as LeftOut, Unknown}
+use Rattle.asl_fields.specs.declared.fields.FieldStatus.{FieldStatus}
+use Rattle.asl_fields.specs.declared.fields.FieldStatus.TheVariants.{Known, Unsupported as LeftOut, Unknown}
 
 -- ---- a field's name
 
-abbrev pub fault_of_standing : Standing → List ℕ → Option MachineFault
-fault_of_standing Known name = None
-fault_of_standing LeftOut name = Some (Unsupported name)
-fault_of_standing Unknown name = Some (UnknownField name)
+abbrev pub fault_of_status : FieldStatus → List ℕ → Option MachineFault
+fault_of_status Known name = None
+fault_of_status LeftOut name = Some (Unsupported name)
+fault_of_status Unknown name = Some (UnknownField name)
 
 abbrev pub name_fault : Place → List ℕ → Option MachineFault
-name_fault place name = fault_of_standing (standing place name) name
+name_fault place name = fault_of_status (field_status place name) name
 
 abbrev pub NamesFault : Place → Members → MachineFault → Type 0
 NamesFault place no_members e = ⊥

@@ -4,8 +4,8 @@ use Rattle.std.specs.Prelude.{ℕ, List, [], ◌∷◌, Bool, true, false, ◌&&
 pub use Rattle.json_tree.specs.Fields.{is_text}
 use Rattle.serde_json.specs.Data.{Data, Members, no_members, member}
 use Rattle.serde_json.specs.Find.{get, as_str, as_object}
-use Rattle.asl_fields.specs.declared.fields.Standing.{Standing}
-use Rattle.asl_fields.specs.declared.fields.Standing.TheVariants.{Known, Unsupported, Unknown}
+use Rattle.asl_fields.specs.declared.fields.FieldStatus.{FieldStatus}
+use Rattle.asl_fields.specs.declared.fields.FieldStatus.TheVariants.{Known, Unsupported, Unknown}
 use Rattle.asl_fields.specs.declared.fields.Place.{Place}
 use Rattle.asl_fields.specs.declared.fields.Place.TheVariants.{Top, Branch, Processor, Pass, Task, Choice, Wait, Succeed, Fail, Parallel, Map, Retrier, Catcher, Rule, Test}
 
@@ -57,8 +57,8 @@ abbrev pub is_left_out : List ℕ → Bool
 is_left_out name =
     list_any (λ left_out. is_text left_out name) names_left_out_anywhere || list_any (λ left_out. is_text left_out name) comparisons_left_out
 
-abbrev pub standing : Place → List ℕ → Standing
-standing place name = if is_known place name then Known else (if is_left_out name then Unsupported else Unknown)
+abbrev pub field_status : Place → List ℕ → FieldStatus
+field_status place name = if is_known place name then Known else (if is_left_out name then Unsupported else Unknown)
 
 -- each member has a name that may stand here
 abbrev pub all_known : Place → Members → Bool

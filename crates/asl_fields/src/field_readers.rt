@@ -13,7 +13,7 @@ ghost use Rattle.asl_fields.specs.Refusal.{Refuses};
 ghost use Rattle.asl_fields.specs.Values.{HasFields, IsPathText, IsPath, IsPathField, IsTemplateField, text_or_empty};
 
 use crate::fault::MachineFault;
-use crate::fields::{Place, Standing, standing_of};
+use crate::fields::{FieldStatus, Place, field_status_of};
 use json_tree::{Json, JsonFault, Text, from_value};
 use ref_paths::{PathFault, RefPath, Template, TemplateFault};
 use serde_json::{Map, Value};
@@ -89,12 +89,12 @@ fn check_names(alloc: Global, place: Place, fields: &Map<String, Value>) -> Resu
         (λ e. Refuses e (NamesFault place (members_view fields.now.entries) e)) }
 {
     for (name, _value) in fields {
-        match standing_of(place, name.as_str()) {
-            Standing::Known => {}
-            Standing::Unsupported => {
+        match field_status_of(place, name.as_str()) {
+            FieldStatus::Known => {}
+            FieldStatus::Unsupported => {
                 return Err(MachineFault::Unsupported(Text::new(alloc, name.as_str())?));
             }
-            Standing::Unknown => {
+            FieldStatus::Unknown => {
                 return Err(MachineFault::UnknownField(Text::new(alloc, name.as_str())?));
             }
         }

@@ -1,10 +1,10 @@
 // Which fields an object of a definition may have.
 ghost use Rattle.std.specs.Prelude.{◌≡◌};
-ghost use Rattle.asl_fields.specs.Fields.{standing, is_left_out};
+ghost use Rattle.asl_fields.specs.Fields.{field_status, is_left_out};
 
 /// What a field's name is, where it stands.
 #[derive(Clone, Copy, Debug, PartialEq, Eq)]
-pub enum Standing {
+pub enum FieldStatus {
     /// It is read, or stepped over unread.
     Known,
     /// The language has it, and this program leaves it out.
@@ -266,8 +266,8 @@ const COMPARISONS_LEFT_OUT: [&str; 23] = [
 ];
 
 /// What a field of this name is in an object at this place ("State Machine Structure", "State Types").
-pub fn standing_of(place: Place, name: &str) -> Standing
-    ensures { result ≡ standing place name.now }
+pub fn field_status_of(place: Place, name: &str) -> FieldStatus
+    ensures { result ≡ field_status place name.now }
 {
     let known = match place {
         Place::Top => TOP.as_slice(),
@@ -287,11 +287,11 @@ pub fn standing_of(place: Place, name: &str) -> Standing
         Place::Test => TEST.as_slice(),
     };
     if known.contains(&name) {
-        Standing::Known
+        FieldStatus::Known
     } else if is_left_out(name) {
-        Standing::Unsupported
+        FieldStatus::Unsupported
     } else {
-        Standing::Unknown
+        FieldStatus::Unknown
     }
 }
 

@@ -10,5 +10,5 @@ pub use fault::MachineFault;
 pub use field_readers::{
     bool_of, check_fields, integer_of, optional_text, read_path, read_template, required, text_of,
 };
-pub use fields::{Place, Standing, standing_of};
+pub use fields::{FieldStatus, Place, field_status_of};
 pub use ref_paths as paths;

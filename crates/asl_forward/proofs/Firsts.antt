@@ -17,7 +17,7 @@ use Rattle.item_store.specs.declared.call.Call.{Call}
 use Rattle.asl_forward.specs.Forks.{branch_frame, with_others, begins, frames_from, parallel_frames, elements, element_input, element_frames, counted_frames, map_frames}
 use Rattle.asl_forward.specs.Outcomes.{asks, task_turn, forks, fork_of, turn, turn_of, action_of}
 use Rattle.asl_processing.specs.Processing.{held, effective}
-use Rattle.asl_results.specs.Turn.{Standing, standing, counters_of, retriers_of}
+use Rattle.asl_results.specs.Turn.{Location, located, counters_of, retriers_of}
 use Rattle.asl_results.specs.Frame.{Frame}
 use Rattle.asl_results.specs.Phase.TheVariants.{Ready}
 use Rattle.asl_forward.specs.declared.prepared.Outcome.{Outcome}
@@ -26,16 +26,16 @@ use Rattle.asl_forward.specs.declared.prepared.Outcome.TheVariants as outcome
 -- ---- what stands
 
 -- a frame stands where its level's path leads, before the state of its name there
-pub standing_parts : (o : Option Definition) (name : List ℕ) (at : Standing) → option_and_then (λ level. option_map (λ s. (level, s)) (state_of name level.states)) o ≡ Some at
+pub located_parts : (o : Option Definition) (name : List ℕ) (at : Location) → option_and_then (λ level. option_map (λ s. (level, s)) (state_of name level.states)) o ≡ Some at
     → (o ≡ Some at.0) × (state_of name at.0.states ≡ Some at.1)
-standing_parts None name at h = cc h
-standing_parts (Some level) name at h = on_state (state_of name level.states) refl h
+located_parts None name at h = cc h
+located_parts (Some level) name at h = on_state (state_of name level.states) refl h
   where
     on_state : (o : Option State) → state_of name level.states ≡ o → option_map (λ s. (level, s)) o ≡ Some at → (Some level ≡ Some at.0) × (state_of name at.0.states ≡ Some at.1)
     on_state None is k = cc k
     on_state (Some s) is k =
-        let same : ◌≡◌ {A = Standing} (level, s) at = cc k in
-        subst (λ (a : Standing). (Some level ≡ Some a.0) × (state_of name a.0.states ≡ Some a.1)) same (refl, is)
+        let same : ◌≡◌ {A = Location} (level, s) at = cc k in
+        subst (λ (a : Location). (Some level ≡ Some a.0) × (state_of name a.0.states ≡ Some a.1)) same (refl, is)
 
 -- the machine that a path leads to with one more step
 pub one_step_further : (path : List LevelStep) (step : LevelStep) (machine m d : Definition) (s : State) → machine_at path machine ≡ Some m → state_of step.state m.states ≡ Some s
@@ -62,21 +62,21 @@ one_step_further (p ∷ path) step machine m d s h there is = on_state (state_of
 pub record IsFirst (machine : Definition) (g : Frame) : Type 0 where
   pub ready : g.phase ≡ Ready
   pub unmoved : g.count ≡ 0
-  pub at : Standing
-  pub stands : standing machine g ≡ Some at
+  pub at : Location
+  pub stands : located machine g ≡ Some at
   pub counters : g.retries ≡ replicate (length (retriers_of at.1)) 0
 
 -- each branch of a state starts at a state that it has
 abbrev pub BranchesStart : State → Type 0
 BranchesStart s = (branch : ℕ) (d : Definition) → branch_of branch s ≡ Some d → IsState d.states d.start
 
-pub first_of : (machine : Definition) (at : Standing) (f : Frame) (d : Definition) (branch : ℕ) (input : Data) → standing machine f ≡ Some at → branch_of branch at.1 ≡ Some d
+pub first_of : (machine : Definition) (at : Location) (f : Frame) (d : Definition) (branch : ℕ) (input : Data) → located machine f ≡ Some at → branch_of branch at.1 ≡ Some d
     → IsState d.states d.start → IsFirst machine (branch_frame f d branch input)
 first_of machine at f d branch input stands is starts = on_start (state_of d.start d.states) refl starts
   where
     there : machine_at (branch_frame f d branch input).level.path machine ≡ Some d
     there =
-        let parts = standing_parts (machine_at f.level.path machine) f.state at stands in
+        let parts = located_parts (machine_at f.level.path machine) f.state at stands in
         one_step_further f.level.path (record { state = f.state; branch = branch }) machine at.0 d at.1 parts.0 parts.1 is
 
     on_start : (o : Option State) → state_of d.start d.states ≡ o → IsSome o → IsFirst machine (branch_frame f d branch input)
@@ -183,5 +183,5 @@ branches_all P level (state.Map s) f all = on_frames (fork_of (map_frames s) f (
     on_frames (Err error) is = tt
     on_frames (Ok fs) is = map_all P s f (effective s.processing (data_of f.raw)) fs (λ j. all 0 s.processor j refl) is
 
-pub turn-branches : (machine : Definition) (at : Standing) (f : Frame) → standing machine f ≡ Some at → BranchesStart at.1 → OnBranches (IsFirst machine) (turn at f)
+pub turn-branches : (machine : Definition) (at : Location) (f : Frame) → located machine f ≡ Some at → BranchesStart at.1 → OnBranches (IsFirst machine) (turn at f)
 turn-branches machine at f stands start = branches_all (IsFirst machine) at.0 at.1 f (λ branch d j there. first_of machine at f d branch j stands there (start branch d there))

@@ -13,7 +13,7 @@ use Rattle.asl_forward.specs.Forks.{parallel_frames, map_frames}
 use Rattle.asl_forward.specs.Outcomes.{action_of, asks, task_turn, parks, forks, fork_of, turn, turn_of}
 use Rattle.asl_results.specs.Results.{handled, errors_of, call_fault}
 use Rattle.asl_processing.specs.Processing.{effective}
-use Rattle.asl_results.specs.Turn.{Standing, next_frame, own_fault}
+use Rattle.asl_results.specs.Turn.{Location, next_frame, own_fault}
 use Rattle.asl_results.specs.Fault.{Fault}
 use Rattle.asl_results.specs.Frame.{Frame}
 use Rattle.asl_forward.specs.declared.prepared.Outcome.{Outcome}
@@ -54,13 +54,13 @@ turn_frame P level (state.Map s) f err park next = on_frames (fork_of (map_frame
     on_frames (Ok fs) = park (length fs) s.max_concurrency
     on_frames (Err error) = err (own_fault error)
 
-pub turn-count : (at : Standing) (f : Frame) → OnFrame (λ g. g.count ≡ f.count + 1) (turn at f)
+pub turn-count : (at : Location) (f : Frame) → OnFrame (λ g. g.count ≡ f.count + 1) (turn at f)
 turn-count at f = turn_frame (λ g. g.count ≡ f.count + 1) at.0 at.1 f (handled-count at.0 (errors_of at.1) f) (λ n m. refl) (next_frame-count at.0 at.1 f)
 
-pub turn-level : (at : Standing) (f : Frame) → OnFrame (λ g. g.level ≡ f.level) (turn at f)
+pub turn-level : (at : Location) (f : Frame) → OnFrame (λ g. g.level ≡ f.level) (turn at f)
 turn-level at f = turn_frame (λ g. g.level ≡ f.level) at.0 at.1 f (handled-level at.0 (errors_of at.1) f) (λ n m. refl) (next_frame-level at.0 at.1 f)
 
-pub turn-state : (at : Standing) (f : Frame) → StaysInside at.0.states at.1 → IsState at.0.states f.state → OnFrame (λ g. IsState at.0.states g.state) (turn at f)
+pub turn-state : (at : Location) (f : Frame) → StaysInside at.0.states at.1 → IsState at.0.states f.state → OnFrame (λ g. IsState at.0.states g.state) (turn at f)
 turn-state at f stays here =
     turn_frame (λ g. IsState at.0.states g.state) at.0 at.1 f (λ fault. handled-state at.0 (errors_of at.1) f fault (catchers_stay at.0.states at.1 stays) here) (λ n m. here)
     (next_frame-state at.0 at.1 f stays here)

@@ -18,7 +18,7 @@ use Rattle.asl_processing.specs.Task.{Task}
 use Rattle.asl_forward.specs.Forks.{parallel_frames, map_frames}
 use Rattle.asl_results.specs.Results.{handled, call_fault}
 use Rattle.asl_processing.specs.Processing.{effective}
-use Rattle.asl_results.specs.Turn.{Standing, next_frame, own_fault}
+use Rattle.asl_results.specs.Turn.{Location, next_frame, own_fault}
 use Rattle.asl_results.specs.Fault.{Fault}
 use Rattle.asl_results.specs.Frame.{Frame}
 use Rattle.asl_results.specs.Phase.TheVariants.{Parked}
@@ -61,5 +61,5 @@ turn_of level (state.Map s) f = forks level s.errors f s.max_concurrency (fork_o
 turn_of level s f = outcome.Next (next_frame level s f)
 
 -- what the turn of a frame that is ready comes to
-abbrev pub turn : Standing → Frame → Outcome
+abbrev pub turn : Location → Frame → Outcome
 turn at f = turn_of at.0 at.1 f

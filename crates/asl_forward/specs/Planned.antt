@@ -2,7 +2,7 @@
 use Rattle.std.specs.Prelude.{Bool, true, false, Option, option_map}
 use Rattle.asl_results.specs.Definition.{Definition}
 use Rattle.asl_forward.specs.Outcomes.{turn}
-use Rattle.asl_results.specs.Turn.{standing}
+use Rattle.asl_results.specs.Turn.{located}
 use Rattle.asl_results.specs.Frame.{Frame}
 use Rattle.asl_forward.specs.declared.prepared.Outcome.{Outcome}
 use Rattle.asl_forward.specs.declared.prepared.Outcome.TheVariants as outcome
@@ -15,4 +15,4 @@ asks_table (outcome.Fork f fs) = false
 
 -- what the turn of a frame that stands in this machine comes to
 abbrev pub turn_at : Definition → Frame → Option Outcome
-turn_at machine f = option_map (λ at. turn at f) (standing machine f)
+turn_at machine f = option_map (λ at. turn at f) (located machine f)

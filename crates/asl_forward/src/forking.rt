@@ -2,7 +2,7 @@
 ghost use Rattle.std.specs.Prelude.{◌≡◌, ◌≤◌, ◌++◌, ◌∷◌, [], length, Ok, IfOk, IfErr, OnOk, Some, ok_or, option_copied, codes};
 ghost use Rattle.json_tree.specs.Data.{depth as nesting, most_levels};
 ghost use Rattle.json_tree.specs.View.{data_of};
-ghost use Rattle.asl_processing.specs.Errors.{Tells};
+ghost use Rattle.asl_processing.specs.Errors.{NamesError};
 ghost use Rattle.asl_forward.specs.Forks.{inward, branch_frame, frames_from, parallel_frames, elements, element_input, element_frames, map_frames};
 ghost use Rattle.asl_forward.specs.Outcomes.{fork_of};
 ghost use Rattle.asl_processing.specs.Processing.{held, effective};
@@ -11,7 +11,7 @@ ghost use Rattle.asl_results.specs.Turn.{counters_at};
 use crate::frames::Frames;
 use asl_processing::paths::{FillFault, RefPath, Template};
 use asl_results::frame_turns::{
-    Frame, LEVELS, Phase, Retries, StateError, TurnFault, counters_at, effective_input, held,
+    Frame, MOST_LEVELS, Phase, Retries, StateError, TurnFault, counters_at, effective_input, held,
 };
 use asl_results::machine_tree::{Branches, Level, Machine, Map, Parallel};
 use json_tree::{Json, JsonList, Text, depth};
@@ -122,12 +122,12 @@ fn parallel_frames(
     input: &Json,
 ) -> Result<Frames, TurnFault>
     ensures ok { IfOk result (λ fs. parallel_frames parallel.now frame.now (data_of input.now) ≡ Ok fs) }
-    ensures fault { IfErr result (λ e. Tells e (parallel_frames parallel.now frame.now (data_of input.now))) }
+    ensures fault { IfErr result (λ e. NamesError e (parallel_frames parallel.now frame.now (data_of input.now))) }
 {
     if parallel.branches.len() == 0 {
         return Ok(Frames::new(alloc));
     }
-    if depth(input) > LEVELS {
+    if depth(input) > MOST_LEVELS {
         return Err(TurnFault::Error(StateError::Runtime));
     }
     Ok(begin_branches(alloc, &parallel.branches, frame, input)?)
@@ -140,7 +140,7 @@ pub(crate) fn fork_parallel(
     frame: &Frame,
 ) -> Result<Frames, TurnFault>
     ensures ok { IfOk result (λ fs. fork_of (parallel_frames parallel.now) frame.now (effective parallel.now.processing (data_of frame.now.raw)) ≡ Ok fs) }
-    ensures fault { IfErr result (λ e. Tells e (fork_of (parallel_frames parallel.now) frame.now (effective parallel.now.processing (data_of frame.now.raw)))) }
+    ensures fault { IfErr result (λ e. NamesError e (fork_of (parallel_frames parallel.now) frame.now (effective parallel.now.processing (data_of frame.now.raw)))) }
 {
     let input = effective_input(alloc, &parallel.processing, &frame.raw)?;
     let frames = parallel_frames(alloc, parallel, frame, &input);
@@ -157,7 +157,7 @@ fn selected(
     element: &Json,
 ) -> Result<Json, TurnFault>
     ensures ok { IfOk result (λ j. element_input (Some selector.now) (data_of input.now) index (data_of element.now) ≡ Ok (data_of j)) }
-    ensures fault { IfErr result (λ e. Tells e (element_input (Some selector.now) (data_of input.now) index (data_of element.now))) }
+    ensures fault { IfErr result (λ e. NamesError e (element_input (Some selector.now) (data_of input.now) index (data_of element.now))) }
 {
     match selector.fill(alloc, input, Some((index, element))) {
         Ok(made) => held(made),
@@ -175,7 +175,7 @@ fn element_input(
     element: &Json,
 ) -> Result<Json, TurnFault>
     ensures ok { IfOk result (λ j. element_input selector.now (data_of input.now) index (data_of element.now) ≡ Ok (data_of j)) }
-    ensures fault { IfErr result (λ e. Tells e (element_input selector.now (data_of input.now) index (data_of element.now))) }
+    ensures fault { IfErr result (λ e. NamesError e (element_input selector.now (data_of input.now) index (data_of element.now))) }
 {
     match selector {
         Some(selector) => selected(alloc, selector, input, index, element),
@@ -192,7 +192,7 @@ fn element_frames(
     elements: &JsonList,
 ) -> Result<Frames, TurnFault>
     ensures ok { IfOk result (λ fs. element_frames map.now frame.now (data_of input.now) 0 elements.now ≡ Ok fs) }
-    ensures fault { IfErr result (λ e. Tells e (element_frames map.now frame.now (data_of input.now) 0 elements.now)) }
+    ensures fault { IfErr result (λ e. NamesError e (element_frames map.now frame.now (data_of input.now) 0 elements.now)) }
 {
     let mut frames = Frames::new(alloc);
     for element in elements.as_slice() {
@@ -217,7 +217,7 @@ fn elements<'a>(path: &RefPath, input: &'a Json) -> Option<&'a JsonList>
 /// The frames of a Map's elements, which are counted before any input is made.
 fn map_frames(alloc: Global, map: &Map, frame: &Frame, input: &Json) -> Result<Frames, TurnFault>
     ensures ok { IfOk result (λ fs. map_frames map.now frame.now (data_of input.now) ≡ Ok fs) }
-    ensures fault { IfErr result (λ e. Tells e (map_frames map.now frame.now (data_of input.now))) }
+    ensures fault { IfErr result (λ e. NamesError e (map_frames map.now frame.now (data_of input.now))) }
 {
     let Some(elements) = elements(&map.items_path, input) else {
         return Err(TurnFault::Error(StateError::Runtime));
@@ -231,7 +231,7 @@ fn map_frames(alloc: Global, map: &Map, frame: &Frame, input: &Json) -> Result<F
 /// The frames of a Map's elements, from the frame's raw input.
 pub(crate) fn fork_map(alloc: Global, map: &Map, frame: &Frame) -> Result<Frames, TurnFault>
     ensures ok { IfOk result (λ fs. fork_of (map_frames map.now) frame.now (effective map.now.processing (data_of frame.now.raw)) ≡ Ok fs) }
-    ensures fault { IfErr result (λ e. Tells e (fork_of (map_frames map.now) frame.now (effective map.now.processing (data_of frame.now.raw)))) }
+    ensures fault { IfErr result (λ e. NamesError e (fork_of (map_frames map.now) frame.now (effective map.now.processing (data_of frame.now.raw)))) }
 {
     let input = effective_input(alloc, &map.processing, &frame.raw)?;
     let frames = map_frames(alloc, map, frame, &input);

@@ -8,7 +8,7 @@ mod prepared;
 mod work;
 
 pub use asl_results::frame_turns::{
-    Fault, Frame, Origin, Phase, Retries, first_frame, next_frame, standing,
+    Fault, Frame, Origin, Phase, Retries, first_frame, located, next_frame,
 };
 pub use asl_results::{after_branch, after_error, joined, work_of};
 pub use frames::Frames;

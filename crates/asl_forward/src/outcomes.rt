@@ -3,7 +3,7 @@ ghost use Rattle.std.specs.Prelude.{◌≡◌, ◌+◌, ◌^◌, ◌<◌, List, 
 ghost use Rattle.json_tree.specs.View.{data_of};
 ghost use Rattle.item_store.specs.Calls.{call_of};
 ghost use Rattle.item_store.specs.Faults.{validation};
-ghost use Rattle.asl_processing.specs.Errors.{Tells};
+ghost use Rattle.asl_processing.specs.Errors.{NamesError};
 ghost use Rattle.asl_forward.specs.Outcomes.{action_of, asks, fails, forks, parks, task_turn, turn};
 ghost use Rattle.asl_processing.specs.Processing.{effective};
 ghost use Rattle.asl_results.specs.Frame.{Frame};
@@ -125,7 +125,7 @@ fn forks(
 ) -> Result<Outcome, AllocError>
     requires { frame.now.count + 1 < 2 ^ 32 }
     ensures ok { IfOk begun (λ fs. IfOk result (λ o. o ≡ Outcome.Fork (parks frame.now (length fs) bound) fs)) }
-    ensures fault { IfErr begun (λ e. (worked : Result (List Frame) (List ℕ)) → Tells e worked → IfOk result (λ o. o ≡ forks level.now errors.now frame.now bound worked)) }
+    ensures fault { IfErr begun (λ e. (worked : Result (List Frame) (List ℕ)) → NamesError e worked → IfOk result (λ o. o ≡ forks level.now errors.now frame.now bound worked)) }
 {
     match begun {
         Ok(frames) => parks(frame, bound, frames),

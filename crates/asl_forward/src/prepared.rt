@@ -3,14 +3,14 @@ ghost use Rattle.std.specs.Prelude.{◌≡◌, ◌+◌, ◌^◌, ◌<◌, Some, 
 ghost use Rattle.std.specs.Coded.{codes};
 ghost use Rattle.std.proofs.Props.{props};
 ghost use Rattle.asl_forward.specs.Planned.{turn_at};
-ghost use Rattle.asl_results.specs.Turn.{standing};
+ghost use Rattle.asl_results.specs.Turn.{located};
 ghost use Rattle.asl_results.specs.PhaseContract as phase_contract;
 ghost use Rattle.asl_forward.specs.contracts.prepared.Outcome as outcome_contract;
 ghost use Rattle.asl_results.specs.Phase.TheVariants.{Ready};
 
 use crate::frames::Frames;
 use crate::outcomes::turn;
-use asl_results::frame_turns::{Frame, Phase, standing};
+use asl_results::frame_turns::{Frame, Phase, located};
 use asl_results::machine_tree::SharedMachine;
 use item_store::Call;
 use std::alloc::{AllocError, Global};
@@ -80,13 +80,13 @@ pub fn prepare(
     frame: &Frame,
 ) -> Result<Prepared, AllocError>
     requires ready { frame.now.phase ≡ Phase.Ready }
-    requires stands { IsSome (standing machine.now frame.now) }
+    requires stands { IsSome (located machine.now frame.now) }
     requires count { frame.now.count + 1 < 2 ^ 32 }
     ensures frame { IfOk result (λ p. p.frame ≡ frame.now) }
     ensures machine { IfOk result (λ p. p.machine ≡ machine.now) }
     ensures outcome { IfOk result (λ p. turn_at machine.now frame.now ≡ Some p.outcome) }
 {
-    let Some((level, state)) = standing(machine.machine(), frame) else {
+    let Some((level, state)) = located(machine.machine(), frame) else {
         unreachable!()
     };
     let outcome = turn(alloc, level, state, frame)?;

@@ -108,12 +108,12 @@ next_frame level (state.Fail s) f = has_failed f (declared_fault s)
 next_frame level _ f = has_failed f (own_fault (codes "States.Runtime"))
 
 -- where a frame stands: the machine that is its level, and its state there
-abbrev pub Standing : Type 0
-Standing = Definition × State
+abbrev pub Location : Type 0
+Location = Definition × State
 
-abbrev pub standing : Definition → Frame → Option Standing
-standing d f = option_and_then (λ level. option_map (λ s. (level, s)) (state_of f.state level.states)) (machine_at f.level.path d)
+abbrev pub located : Definition → Frame → Option Location
+located d f = option_and_then (λ level. option_map (λ s. (level, s)) (state_of f.state level.states)) (machine_at f.level.path d)
 
 -- the frame after the state before which one stands
-abbrev pub after_state : Standing → Frame → Frame
+abbrev pub after_state : Location → Frame → Frame
 after_state at f = next_frame at.0 at.1 f

@@ -3,8 +3,8 @@ ghost use Rattle.std.specs.Prelude.{◌≡◌, ◌+◌, ◌^◌, ◌<◌, option
 ghost use Rattle.json_tree.specs.Data.{Data};
 ghost use Rattle.json_tree.specs.View.{data_of};
 ghost use Rattle.asl_tree.specs.Definition.{Definition};
-ghost use Rattle.asl_processing.specs.Errors.{Tells, error_name};
-ghost use Rattle.asl_frames.specs.Turn.{retriers_of, counters_at, enters, is_done, has_failed, own_fault, declared_fault, go_on, ends, first_frame, pass_result, pass_output, idle_output, after_state, standing, choice_frame, goes_where};
+ghost use Rattle.asl_processing.specs.Errors.{NamesError, error_name};
+ghost use Rattle.asl_frames.specs.Turn.{retriers_of, counters_at, enters, is_done, has_failed, own_fault, declared_fault, go_on, ends, first_frame, pass_result, pass_output, idle_output, after_state, located, choice_frame, goes_where};
 ghost use Rattle.asl_processing.specs.Choosing.{chosen};
 ghost use Rattle.asl_processing.specs.Processing.{effective};
 
@@ -18,8 +18,8 @@ use std::alloc::{AllocError, Global};
 
 /// Where a frame of this machine stands: the branch or the processor that its level is, and the state there. Takes, for
 /// each step of the level's path, time logarithmic in the number of states.
-pub fn standing<'a>(machine: &'a Machine, frame: &Frame) -> Option<(&'a Machine, &'a State)>
-    ensures { option_map (λ p. (p.0.now, p.1.now)) result ≡ standing machine.now frame.now }
+pub fn located<'a>(machine: &'a Machine, frame: &Frame) -> Option<(&'a Machine, &'a State)>
+    ensures { option_map (λ p. (p.0.now, p.1.now)) result ≡ located machine.now frame.now }
 {
     let Some(level) = machine.machine_at(&frame.level.path) else {
         return None;
@@ -65,7 +65,7 @@ pub fn next_frame(
 /// What a Pass state passes on.
 fn pass_output(alloc: Global, pass: &Pass, raw: &Json) -> Result<Json, TurnFault>
     ensures ok { IfOk result (λ j. pass_output pass.now (data_of raw.now) ≡ Ok (data_of j)) }
-    ensures fault { IfErr result (λ e. Tells e (pass_output pass.now (data_of raw.now))) }
+    ensures fault { IfErr result (λ e. NamesError e (pass_output pass.now (data_of raw.now))) }
 {
     let input = effective_input(alloc, &pass.processing, raw)?;
     let result = pass_result(&pass.result, input)?;
@@ -88,7 +88,7 @@ fn pass_result(fixed: &Option<Json>, input: Json) -> Result<Json, AllocError>
 /// What a state that does no work passes on.
 fn idle_output(alloc: Global, processing: &Processing, raw: &Json) -> Result<Json, TurnFault>
     ensures ok { IfOk result (λ j. idle_output processing.now (data_of raw.now) ≡ Ok (data_of j)) }
-    ensures fault { IfErr result (λ e. Tells e (idle_output processing.now (data_of raw.now))) }
+    ensures fault { IfErr result (λ e. NamesError e (idle_output processing.now (data_of raw.now))) }
 {
     let input = effective_input(alloc, processing, raw)?;
     output_of(alloc, processing, raw, input)
@@ -146,7 +146,7 @@ fn end(
 ) -> Result<Frame, AllocError>
     requires { frame.now.count + 1 < 2 ^ 32 }
     ensures ok { IfOk output (λ j. IfOk result (λ g. g ≡ go_on level.now transition.now frame.now (data_of j))) }
-    ensures fault { IfErr output (λ e. (worked : Result Data (List ℕ)) → Tells e worked → IfOk result (λ g. g ≡ ends level.now transition.now frame.now worked)) }
+    ensures fault { IfErr output (λ e. (worked : Result Data (List ℕ)) → NamesError e worked → IfOk result (λ g. g ≡ ends level.now transition.now frame.now worked)) }
 {
     match output {
         Ok(output) => go_on(alloc, level, transition, frame, output),

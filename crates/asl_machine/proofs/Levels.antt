@@ -11,10 +11,10 @@ use Rattle.serde_json.specs.Data.{Data as Source, Items, no_items, item, Members
 use Rattle.serde_json.specs.Find.{get, as_array}
 use Rattle.asl_fields.specs.declared.fields.Place.{Place}
 use Rattle.asl_fields.specs.declared.fields.Place.TheVariants as at
-use Rattle.asl_tree.specs.Complete.{state_of, IsComplete}
+use Rattle.asl_tree.specs.Complete.{state_of, IsWellFormed}
 use Rattle.asl_tree.specs.Definition.{StateTree, Definition}
 use Rattle.asl_tree.specs.Find.{branch_of, machine_at}
-use Rattle.asl_tree.specs.Levels.{IsWhole}
+use Rattle.asl_tree.specs.Levels.{IsWellFormedThroughout}
 use Rattle.asl_machine.specs.Profile.{BranchesAre, ListedBranches, IsProcessor, NamedProcessor, IsOfKind, kind_of, IsState, StatesAre, MembersAre, states_in, StatesWithin, IsMachine, Defines}
 use Rattle.asl_states.specs.Reading.{name_of_two}
 use Rattle.asl_tree.specs.TreeView.{tree_of, state_in}
@@ -126,15 +126,15 @@ no_levels : (ms : Option Members) (ss : List (List ℕ × StateTree)) → Member
 no_levels None ss h = h
 no_levels (Some ms) ss h = h
 
-whole_within : (levels : ℕ) (place : Place) (d : Source) (m : Definition) → IsMachine levels place d m → (path : List LevelStep) → IfSome (machine_at path m) (λ n. IsComplete n × (length path + 1 ≤ levels))
+whole_within : (levels : ℕ) (place : Place) (d : Source) (m : Definition) → IsMachine levels place d m → (path : List LevelStep) → IfSome (machine_at path m) (λ n. IsWellFormed n × (length path + 1 ≤ levels))
 whole_within zero place d m is path = absurd (no_levels (states_in d) m.states is.2)
 whole_within (suc levels) place d m is [] = (complete_over (StatesWithin (suc levels)) place d m is, omega arith)
 whole_within (suc levels) place d m is (step ∷ path) =
-    and_then_if (λ s. option_and_then (machine_at path) (branch_of step.branch s)) (state_of step.state m.states) (IsSomeState (IsMachine levels)) (λ n. IsComplete n × (length (step ∷ path) + 1 ≤ suc levels))
+    and_then_if (λ s. option_and_then (machine_at path) (branch_of step.branch s)) (state_of step.state m.states) (IsSomeState (IsMachine levels)) (λ n. IsWellFormed n × (length (step ∷ path) + 1 ≤ suc levels))
     (all_found (IsSomeState (IsMachine levels)) m.states step.state (within_are levels (states_in d) m.states is.2))
     (λ s k.
-    and_then_if (machine_at path) (branch_of step.branch s) (IsOne (IsMachine levels)) (λ n. IsComplete n × (length (step ∷ path) + 1 ≤ suc levels)) (branch_is (IsMachine levels) (kind_of k.0) k.0 s step.branch k.1)
+    and_then_if (machine_at path) (branch_of step.branch s) (IsOne (IsMachine levels)) (λ n. IsWellFormed n × (length (step ∷ path) + 1 ≤ suc levels)) (branch_is (IsMachine levels) (kind_of k.0) k.0 s step.branch k.1)
     (λ b one. IfSome_then (machine_at path b) (whole_within levels one.0 one.1 b one.2 path) (λ n w. let deep = w.1 in (w.0, omega (arith, deep)))))
 
-pub defined_whole : (source : Source) (d : Definition) → Defines source d → IsWhole d
+pub defined_whole : (source : Source) (d : Definition) → Defines source d → IsWellFormedThroughout d
 defined_whole source d is path = IfSome_then (machine_at path d) (whole_within 32 at.Top source d is path) (λ m w. let deep = w.1 in (w.0, omega (arith, deep)))

@@ -1,7 +1,7 @@
 -- Laws of definitions.
 use Rattle.std.specs.Prelude.{◌≡◌}
 use Rattle.serde_json.specs.Data.{Data}
-use Rattle.asl_tree.specs.Complete.{IsComplete}
+use Rattle.asl_tree.specs.Complete.{IsWellFormed}
 use Rattle.asl_tree.specs.Definition.{Definition}
 use Rattle.asl_machine.specs.Faults.{DefinitionFault}
 use Rattle.asl_machine.specs.Profile.{Defines, DefinesNone}
@@ -16,5 +16,5 @@ abbrev pub FaultyIsNone : Type 0
 FaultyIsNone = (d : Data) (e : MachineFault) → DefinitionFault d e → DefinesNone d
 
 -- a machine starts at a state that it has, and stays inside
-abbrev pub IsWhole : Type 0
-IsWhole = (d : Data) (m : Definition) → Defines d m → IsComplete m
+abbrev pub DefinedAreWellFormed : Type 0
+DefinedAreWellFormed = (d : Data) (m : Definition) → Defines d m → IsWellFormed m

@@ -1,8 +1,8 @@
 -- Each machine that stands in a definition's machine is complete, and they nest 32 deep at most.
 use Rattle.serde_json.specs.Data.{Data}
 use Rattle.asl_tree.specs.Definition.{Definition}
-use Rattle.asl_tree.specs.Levels.{IsWhole}
+use Rattle.asl_tree.specs.Levels.{IsWellFormedThroughout}
 use Rattle.asl_machine.specs.Profile.{Defines}
 
-abbrev pub DefinedMachinesAreWhole : Type 0
-DefinedMachinesAreWhole = (source : Data) (d : Definition) → Defines source d → IsWhole d
+abbrev pub DefinedAreWellFormedThroughout : Type 0
+DefinedAreWellFormedThroughout = (source : Data) (d : Definition) → Defines source d → IsWellFormedThroughout d

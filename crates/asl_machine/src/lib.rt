@@ -16,6 +16,7 @@ pub use asl_tree::{
     equality_is_of_machines,
 };
 pub use laws::{
-    definitions_are_one_machine, faulty_definitions_are_none, levels_are_whole, machines_are_whole,
+    definitions_are_one_machine, faulty_definitions_are_none, levels_are_well_formed,
+    machines_are_well_formed,
 };
 pub use read::ReadMachine;

@@ -12,6 +12,6 @@ error_name ResultPathMatchFailure = codes "States.ResultPathMatchFailure"
 error_name NoChoiceMatched = codes "States.NoChoiceMatched"
 
 -- a fault tells the error that stands; want of memory tells nothing of it
-abbrev pub Tells : {A : Type 0} → TurnFault → Result A (List ℕ) → Type 0
-Tells (Error error) worked = worked ≡ Err (error_name error)
-Tells Memory worked = Unit {0}
+abbrev pub NamesError : {A : Type 0} → TurnFault → Result A (List ℕ) → Type 0
+NamesError (Error error) worked = worked ≡ Err (error_name error)
+NamesError Memory worked = Unit {0}

@@ -2,7 +2,7 @@
 ghost use Rattle.std.specs.Prelude.{◌≡◌, Some, Ok, IfOk, IfErr};
 ghost use Rattle.json_tree.specs.Data.{Data};
 ghost use Rattle.json_tree.specs.View.{data_of};
-ghost use Rattle.asl_processing.specs.Errors.{Tells};
+ghost use Rattle.asl_processing.specs.Errors.{NamesError};
 ghost use Rattle.asl_processing.specs.Processing.{and_then, picked, filled_from, placed_in, held, effective, passed_on};
 
 use crate::error::{StateError, TurnFault};
@@ -12,7 +12,7 @@ use json_tree::{Json, JsonFields, depth};
 use std::alloc::Global;
 
 /// The levels that a value in a frame may have.
-pub const LEVELS: u32 = 127;
+pub const MOST_LEVELS: u32 = 127;
 
 /// What a state works on. A value that is picked is shared; a template takes memory for what it makes.
 pub fn effective_input(
@@ -21,7 +21,7 @@ pub fn effective_input(
     raw: &Json,
 ) -> Result<Json, TurnFault>
     ensures ok { IfOk result (λ j. effective processing.now (data_of raw.now) ≡ Ok (data_of j)) }
-    ensures fault { IfErr result (λ e. Tells e (effective processing.now (data_of raw.now))) }
+    ensures fault { IfErr result (λ e. NamesError e (effective processing.now (data_of raw.now))) }
 {
     let input = pick(alloc, &processing.input_path, raw)?;
     fill(alloc, &processing.parameters, input)
@@ -36,7 +36,7 @@ pub fn output_of(
     made: Json,
 ) -> Result<Json, TurnFault>
     ensures ok { IfOk result (λ j. passed_on processing.now (data_of raw.now) (data_of made) ≡ Ok (data_of j)) }
-    ensures fault { IfErr result (λ e. Tells e (passed_on processing.now (data_of raw.now) (data_of made))) }
+    ensures fault { IfErr result (λ e. NamesError e (passed_on processing.now (data_of raw.now) (data_of made))) }
 {
     let selected = fill(alloc, &processing.result_selector, made)?;
     pick_output(alloc, processing, raw, &selected)
@@ -49,7 +49,7 @@ fn pick_output(
     selected: &Json,
 ) -> Result<Json, TurnFault>
     ensures ok { IfOk result (λ j. and_then held (and_then (picked processing.now.output_path) (placed_in processing.now.result_path (data_of raw.now) (data_of selected.now))) ≡ Ok (data_of j)) }
-    ensures fault { IfErr result (λ e. Tells e (and_then held (and_then (picked processing.now.output_path) (placed_in processing.now.result_path (data_of raw.now) (data_of selected.now))))) }
+    ensures fault { IfErr result (λ e. NamesError e (and_then held (and_then (picked processing.now.output_path) (placed_in processing.now.result_path (data_of raw.now) (data_of selected.now))))) }
 {
     let Some(placing) = &processing.result_path else {
         return pick_held(alloc, &processing.output_path, raw);
@@ -69,9 +69,9 @@ fn pick_of_placed(
     picking: &RefPath,
 ) -> Result<Json, TurnFault>
     ensures ok { IfOk result (λ j. and_then held (and_then (picked (Some picking.now)) (placed_in (Some placing.now) (data_of raw.now) (data_of selected.now))) ≡ Ok (data_of j)) }
-    ensures fault { IfErr result (λ e. Tells e (and_then held (and_then (picked (Some picking.now)) (placed_in (Some placing.now) (data_of raw.now) (data_of selected.now))))) }
+    ensures fault { IfErr result (λ e. NamesError e (and_then held (and_then (picked (Some picking.now)) (placed_in (Some placing.now) (data_of raw.now) (data_of selected.now))))) }
 {
-    match pick_placed(alloc, raw, placing, selected, picking, LEVELS) {
+    match pick_placed(alloc, raw, placing, selected, picking, MOST_LEVELS) {
         Ok(Some(json)) => Ok(json),
         Ok(None) => Err(TurnFault::Error(StateError::Runtime)),
         Err(PickRefusal::TooDeep) => Err(TurnFault::Error(StateError::Runtime)),
@@ -85,7 +85,7 @@ fn pick_of_placed(
 /// An empty object, where a value can be placed.
 fn nothing_of(alloc: Global, placing: &RefPath, raw: &Json) -> Result<Json, TurnFault>
     ensures ok { IfOk result (λ j. (value : Data) → and_then held (and_then (picked None) (placed_in (Some placing.now) (data_of raw.now) value)) ≡ Ok (data_of j)) }
-    ensures fault { IfErr result (λ e. (value : Data) → Tells e (and_then held (and_then (picked None) (placed_in (Some placing.now) (data_of raw.now) value)))) }
+    ensures fault { IfErr result (λ e. (value : Data) → NamesError e (and_then held (and_then (picked None) (placed_in (Some placing.now) (data_of raw.now) value)))) }
 {
     if placing.can_place(raw) {
         Ok(Json::Fields(JsonFields::new(alloc)))
@@ -97,7 +97,7 @@ fn nothing_of(alloc: Global, placing: &RefPath, raw: &Json) -> Result<Json, Turn
 /// What a path picks, if a frame may hold it.
 fn pick_held(alloc: Global, path: &Option<RefPath>, json: &Json) -> Result<Json, TurnFault>
     ensures ok { IfOk result (λ j. and_then held (picked path.now (data_of json.now)) ≡ Ok (data_of j)) }
-    ensures fault { IfErr result (λ e. Tells e (and_then held (picked path.now (data_of json.now)))) }
+    ensures fault { IfErr result (λ e. NamesError e (and_then held (picked path.now (data_of json.now)))) }
 {
     let picked = pick(alloc, path, json)?;
     held(picked)
@@ -106,9 +106,9 @@ fn pick_held(alloc: Global, path: &Option<RefPath>, json: &Json) -> Result<Json,
 /// The value, if a frame may hold it. Takes the time of `json_tree::depth`.
 pub fn held(json: Json) -> Result<Json, TurnFault>
     ensures ok { IfOk result (λ j. held (data_of json) ≡ Ok (data_of j)) }
-    ensures fault { IfErr result (λ e. Tells e (held (data_of json))) }
+    ensures fault { IfErr result (λ e. NamesError e (held (data_of json))) }
 {
-    if depth(&json) > LEVELS {
+    if depth(&json) > MOST_LEVELS {
         drop(json);
         return Err(TurnFault::Error(StateError::Runtime));
     }
@@ -125,7 +125,7 @@ pub fn place_held(
     value: Json,
 ) -> Result<Json, TurnFault>
     ensures ok { IfOk result (λ j. and_then held (placed_in path.now (data_of raw.now) (data_of value)) ≡ Ok (data_of j)) }
-    ensures fault { IfErr result (λ e. Tells e (and_then held (placed_in path.now (data_of raw.now) (data_of value)))) }
+    ensures fault { IfErr result (λ e. NamesError e (and_then held (placed_in path.now (data_of raw.now) (data_of value)))) }
 {
     let Some(placing) = path else {
         drop(value);
@@ -141,7 +141,7 @@ pub fn place_held(
 /// What a path picks, shared; an empty object, where `null` stands for it.
 fn pick(alloc: Global, path: &Option<RefPath>, json: &Json) -> Result<Json, TurnFault>
     ensures ok { IfOk result (λ j. picked path.now (data_of json.now) ≡ Ok (data_of j)) }
-    ensures fault { IfErr result (λ e. Tells e (picked path.now (data_of json.now))) }
+    ensures fault { IfErr result (λ e. NamesError e (picked path.now (data_of json.now))) }
 {
     let Some(path) = path else {
         return Ok(Json::Fields(JsonFields::new(alloc)));
@@ -155,7 +155,7 @@ fn pick(alloc: Global, path: &Option<RefPath>, json: &Json) -> Result<Json, Turn
 /// What a template is filled to; the value itself, where there is none.
 fn fill(alloc: Global, template: &Option<Template>, input: Json) -> Result<Json, TurnFault>
     ensures ok { IfOk result (λ j. filled_from template.now (data_of input) ≡ Ok (data_of j)) }
-    ensures fault { IfErr result (λ e. Tells e (filled_from template.now (data_of input))) }
+    ensures fault { IfErr result (λ e. NamesError e (filled_from template.now (data_of input))) }
 {
     let Some(template) = template else {
         return Ok(input);

@@ -14,7 +14,7 @@ use Rattle.asl_frames.specs.Transition.TheVariants.{Next}
 use Rattle.asl_results.specs.Handling.{stand_for, retried, catcher_for, error_object}
 use Rattle.asl_results.specs.Results.{tries_again, on_catch, on_retry, handled, errors_of, after_error, taken_by, after_branch, call_fault, Work, work_of, comes_to, after_result, after_answer, after_join}
 use Rattle.asl_frames.specs.Processing.{and_then, held, passed_on, placed_in}
-use Rattle.asl_frames.specs.Turn.{Standing, ends, go_on, has_failed, own_fault}
+use Rattle.asl_frames.specs.Turn.{Location, ends, go_on, has_failed, own_fault}
 use Rattle.asl_frames.specs.declared.frame.Fault.{Fault}
 use Rattle.asl_frames.specs.declared.frame.Frame.{Frame}
 use Rattle.asl_frames.proofs.Turns.{on_count, end_count, on_level, end_level, on_state, end_state}
@@ -76,22 +76,22 @@ catchers_stay states (state.Fail s) stays = tt
 catchers_stay states (state.Parallel s) stays = stays.1
 catchers_stay states (state.Map s) stays = stays.1
 
-pub after_error-count : (at : Standing) (f : Frame) (fault : Fault) → (after_error at f fault).count ≡ f.count + 1
+pub after_error-count : (at : Location) (f : Frame) (fault : Fault) → (after_error at f fault).count ≡ f.count + 1
 after_error-count at f fault = handled-count at.0 (errors_of at.1) f fault
 
-pub after_error-level : (at : Standing) (f : Frame) (fault : Fault) → (after_error at f fault).level ≡ f.level
+pub after_error-level : (at : Location) (f : Frame) (fault : Fault) → (after_error at f fault).level ≡ f.level
 after_error-level at f fault = handled-level at.0 (errors_of at.1) f fault
 
-pub after_error-state : (at : Standing) (f : Frame) (fault : Fault) → StaysInside at.0.states at.1 → IsState at.0.states f.state → IsState at.0.states (after_error at f fault).state
+pub after_error-state : (at : Location) (f : Frame) (fault : Fault) → StaysInside at.0.states at.1 → IsState at.0.states f.state → IsState at.0.states (after_error at f fault).state
 after_error-state at f fault stays here = handled-state at.0 (errors_of at.1) f fault (catchers_stay at.0.states at.1 stays) here
 
-pub after_branch-count : (at : Standing) (f : Frame) (fault : Fault) → (after_branch at f fault).count ≡ f.count + 1
+pub after_branch-count : (at : Location) (f : Frame) (fault : Fault) → (after_branch at f fault).count ≡ f.count + 1
 after_branch-count at f fault = after_error-count at f (taken_by at.1 fault)
 
-pub after_branch-level : (at : Standing) (f : Frame) (fault : Fault) → (after_branch at f fault).level ≡ f.level
+pub after_branch-level : (at : Location) (f : Frame) (fault : Fault) → (after_branch at f fault).level ≡ f.level
 after_branch-level at f fault = after_error-level at f (taken_by at.1 fault)
 
-pub after_branch-state : (at : Standing) (f : Frame) (fault : Fault) → StaysInside at.0.states at.1 → IsState at.0.states f.state → IsState at.0.states (after_branch at f fault).state
+pub after_branch-state : (at : Location) (f : Frame) (fault : Fault) → StaysInside at.0.states at.1 → IsState at.0.states f.state → IsState at.0.states (after_branch at f fault).state
 after_branch-state at f fault stays here = after_error-state at f (taken_by at.1 fault) stays here
 
 -- ---- results

@@ -14,7 +14,7 @@ use Rattle.asl_frames.specs.Transition.{Transition}
 use Rattle.asl_frames.specs.Transition.TheVariants.{Next}
 use Rattle.asl_results.specs.Handling.{retried, catcher_for, error_object}
 use Rattle.asl_frames.specs.Processing.{and_then, held, passed_on, placed_in}
-use Rattle.asl_frames.specs.Turn.{Standing, standing, ends, go_on, has_failed, own_fault}
+use Rattle.asl_frames.specs.Turn.{Location, located, ends, go_on, has_failed, own_fault}
 use Rattle.asl_frames.specs.declared.frame.Fault.{Fault}
 use Rattle.asl_frames.specs.declared.frame.Frame.{Frame}
 use Rattle.asl_frames.specs.declared.frame.Origin.TheVariants as origin
@@ -45,7 +45,7 @@ errors_of (state.Parallel s) = s.errors
 errors_of (state.Map s) = s.errors
 errors_of _ = record { retriers = []; catchers = [] }
 
-abbrev pub after_error : Standing → Frame → Fault → Frame
+abbrev pub after_error : Location → Frame → Fault → Frame
 after_error at f fault = handled at.0 (errors_of at.1) f fault
 
 -- the error that a state takes from a branch of it
@@ -53,7 +53,7 @@ abbrev pub taken_by : State → Fault → Fault
 taken_by (state.Parallel s) fault = record { error = fault.error; cause = fault.cause; origin = origin.Branch }
 taken_by _ fault = record { error = fault.error; cause = fault.cause; origin = origin.Other }
 
-abbrev pub after_branch : Standing → Frame → Fault → Frame
+abbrev pub after_branch : Location → Frame → Fault → Frame
 after_branch at f fault = after_error at f (taken_by at.1 fault)
 
 -- an error that the state's own call of the table answers
@@ -74,7 +74,7 @@ work_of _ = None
 
 -- the work of the state before which a frame stands
 abbrev pub work_at : Definition → Frame → Option Work
-work_at d f = option_and_then (λ at. work_of at.1) (standing d f)
+work_at d f = option_and_then (λ at. work_of at.1) (located d f)
 
 abbrev pub comes_to : Definition → Work → Frame → Result Data (List ℕ) → Frame
 comes_to level w f (Ok output) = go_on level w.2 f output

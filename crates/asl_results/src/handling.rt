@@ -5,13 +5,13 @@ ghost use Rattle.asl_frames.specs.Retrier.{Retrier};
 ghost use Rattle.json_tree.specs.View.{data_of};
 ghost use Rattle.asl_results.specs.Handling.{is_call, is_branch, means, stand_for, may_try, retried, catcher_for, error_object};
 ghost use Rattle.asl_results.specs.Results.{tries_again, on_catch, handled, after_error, taken_by, after_branch};
-ghost use Rattle.asl_frames.specs.Turn.{Standing, standing};
+ghost use Rattle.asl_frames.specs.Turn.{Location, located};
 
 use asl_frames::error_handling::{Catcher, Catchers, ErrorHandling, ErrorNames, Retrier, Retriers};
 use asl_frames::machine_tree::{Machine, State};
 use asl_frames::{
-    Fault, Frame, Origin, Phase, Retries, TurnFault, enter, failed, own_fault, place_held,
-    same_place, standing,
+    Fault, Frame, Origin, Phase, Retries, TurnFault, enter, failed, located, own_fault, place_held,
+    same_place,
 };
 use json_tree::{Json, JsonFields, Text};
 use std::alloc::{AllocError, Global};
@@ -242,11 +242,11 @@ pub fn after_error(
     frame: &Frame,
     fault: Fault,
 ) -> Result<Frame, AllocError>
-    requires stands { IsSome (standing machine.now frame.now) }
+    requires stands { IsSome (located machine.now frame.now) }
     requires count { frame.now.count + 1 < 2 ^ 32 }
-    ensures { IfOk result (λ g. (at : Standing) × (standing machine.now frame.now ≡ Some at) × (g ≡ after_error at frame.now fault)) }
+    ensures { IfOk result (λ g. (at : Location) × (located machine.now frame.now ≡ Some at) × (g ≡ after_error at frame.now fault)) }
 {
-    let Some((level, state)) = standing(machine, frame) else {
+    let Some((level, state)) = located(machine, frame) else {
         unreachable!()
     };
     after_error_of(alloc, level, state, frame, fault)
@@ -277,11 +277,11 @@ pub fn after_branch(
     frame: &Frame,
     fault: &Fault,
 ) -> Result<Frame, AllocError>
-    requires stands { IsSome (standing machine.now frame.now) }
+    requires stands { IsSome (located machine.now frame.now) }
     requires count { frame.now.count + 1 < 2 ^ 32 }
-    ensures { IfOk result (λ g. (at : Standing) × (standing machine.now frame.now ≡ Some at) × (g ≡ after_branch at frame.now fault.now)) }
+    ensures { IfOk result (λ g. (at : Location) × (located machine.now frame.now ≡ Some at) × (g ≡ after_branch at frame.now fault.now)) }
 {
-    let Some((level, state)) = standing(machine, frame) else {
+    let Some((level, state)) = located(machine, frame) else {
         unreachable!()
     };
     let taken = taken_by(state, fault)?;

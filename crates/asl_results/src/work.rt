@@ -3,13 +3,13 @@ ghost use Rattle.std.specs.Prelude.{◌≡◌, ◌+◌, ◌^◌, ◌<◌, Some, 
 ghost use Rattle.json_tree.specs.View.{data_of};
 ghost use Rattle.item_store.specs.Deciding.{reply_of};
 ghost use Rattle.asl_results.specs.Results.{Work, work_of, work_at, handled, call_fault, after_result, after_answer, after_join};
-ghost use Rattle.asl_frames.specs.Turn.{Standing, standing};
+ghost use Rattle.asl_frames.specs.Turn.{Location, located};
 
 use crate::handling::handle;
 use asl_frames::error_handling::ErrorHandling;
 use asl_frames::machine_tree::{Machine, State};
 use asl_frames::state_parts::{Processing, Transition};
-use asl_frames::{Fault, Frame, Origin, TurnFault, go_on, output_of, own_fault, standing};
+use asl_frames::{Fault, Frame, Origin, TurnFault, go_on, located, output_of, own_fault};
 use item_store::Answer;
 use json_tree::{Json, JsonList, Text};
 use std::alloc::{AllocError, Global};
@@ -113,9 +113,9 @@ pub fn joined(
 ) -> Result<Frame, AllocError>
     requires works { IsSome (work_at machine.now frame.now) }
     requires count { frame.now.count + 1 < 2 ^ 32 }
-    ensures { IfOk result (λ g. (at : Standing) × (w : Work) × (standing machine.now frame.now ≡ Some at) × (work_of at.1 ≡ Some w) × (g ≡ after_join at.0 w frame.now outputs)) }
+    ensures { IfOk result (λ g. (at : Location) × (w : Work) × (located machine.now frame.now ≡ Some at) × (work_of at.1 ≡ Some w) × (g ≡ after_join at.0 w frame.now outputs)) }
 {
-    let Some((level, state)) = standing(machine, frame) else {
+    let Some((level, state)) = located(machine, frame) else {
         unreachable!()
     };
     after_result(alloc, level, state, frame, Json::List(outputs))

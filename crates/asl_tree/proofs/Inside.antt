@@ -6,7 +6,7 @@ use Rattle.std.specs.Cmp.Lexicographic.{slice_cmp}
 use Rattle.std.specs.List.{AllByRecursion}
 use Rattle.std.specs.Map.{lookup}
 use Rattle.std.specs.Ordering.{nat_cmp}
-use Rattle.asl_tree.specs.Complete.{state_of, IsState, LeadsInto, StaysInside, IsComplete}
+use Rattle.asl_tree.specs.Complete.{state_of, IsState, LeadsInto, StaysInside, IsWellFormed}
 use Rattle.asl_tree.specs.Definition.{StateTree, Definition}
 use Rattle.asl_tree.specs.Targets.{if_missing, or_else, missing_next, missing_catcher, missing_rule, missing_default, missing_target, first_missing}
 use Rattle.asl_tree.specs.TreeView.{state_in}
@@ -75,7 +75,7 @@ all_stay states (e ∷ ss) name h =
       | false ↦ all_stay states ss name p.1
     ]
 
-pub complete_by : (start : List ℕ) (states : States) → None ≡ or_else (if_missing states start) (first_missing states states) → IsComplete (record { start = start; states = states })
+pub complete_by : (start : List ℕ) (states : States) → None ≡ or_else (if_missing states start) (first_missing states states) → IsWellFormed (record { start = start; states = states })
 complete_by start states h =
     let p = neither (if_missing states start) (first_missing states states) (sym h) in
     record { starts = present states start p.0; stays = λ name. all_stay states states name p.1 }

@@ -39,6 +39,6 @@ StaysInside states (Parallel s) = LeadsInto states s.transition × AllByRecursio
 StaysInside states (Map s) = LeadsInto states s.transition × AllByRecursion (λ (c : Catcher). IsState states c.next) s.errors.catchers
 
 -- a machine starts at a state that it has, and stays inside
-pub record IsComplete (d : Definition) : Type 0 where
+pub record IsWellFormed (d : Definition) : Type 0 where
   pub starts : IsState d.states d.start
   pub stays : (name : List ℕ) → IfSome (state_of name d.states) (StaysInside d.states)

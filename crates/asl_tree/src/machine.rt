@@ -3,7 +3,7 @@ ghost use Rattle.std.specs.Prelude.{◌≡◌, option_copied, option_map, [], If
 ghost use Rattle.std.specs.BTreeMap.{insert_entry};
 ghost use Rattle.std.specs.Cmp.Lexicographic.{slice_cmp};
 ghost use Rattle.std.specs.Ordering.{nat_cmp};
-ghost use Rattle.asl_tree.specs.Complete.{state_of, IsComplete};
+ghost use Rattle.asl_tree.specs.Complete.{state_of, IsWellFormed};
 ghost use Rattle.asl_tree.specs.Find.{branch_of, machine_at, state_at};
 ghost use Rattle.asl_states.specs.Refusal.{Refuses};
 ghost use Rattle.asl_tree.specs.Targets.{if_missing, missing_next, missing_catcher, missing_rule, missing_default, missing_target, first_missing, or_else, target_fault};
@@ -84,7 +84,7 @@ impl Machine {
     /// The state in which an execution starts.
     pub fn start(&self) -> &Text
         ensures start { result.now ≡ self.now.start }
-        ensures complete { IsComplete self.now }
+        ensures complete { IsWellFormed self.now }
     {
         &self.start
     }

@@ -65,11 +65,11 @@ impl Model for Machine {
 
     ghost coded = { definition_code };
 
-    ghost use Rattle.asl_tree.specs.Complete.{IsComplete};
+    ghost use Rattle.asl_tree.specs.Complete.{IsWellFormed};
 
     ghost view = { λ a. record { start = a.start; states = a.states } };
 
-    ghost invariant = { λ a. IsComplete (record { start = a.start; states = a.states }) };
+    ghost invariant = { λ a. IsWellFormed (record { start = a.start; states = a.states }) };
 
     ghost size = { definition_depth };
 

@@ -92,7 +92,8 @@ impl<S: Alter> Journal<S> {
         ensures ok { HasCleanDisk (state S.Store self.new) → OnOk result (AddLines (lines_in (state S.Store self.old)) (texts lines.now) (lines_in (state S.Store self.new))) }
         ensures was_open { HasCleanDisk (state S.Store self.new) → OnOk result (IsTrue (state S.Store self.old).is_open) }
         ensures open { HasCleanDisk (state S.Store self.new) → OnOk result (IsTrue (state S.Store self.new).is_open) }
-        ensures lines { HasCleanDisk (state S.Store self.new) → (before : _) → HoldLines (lines_in (state S.Store self.old)) before → OnOk result (HoldLines (lines_in (state S.Store self.new)) (before ++ texts lines.now)) }
+        ensures lines { HasCleanDisk (state S.Store self.new) → (before : _) → HoldLines (lines_in (state S.Store self.old)) before
+            → OnOk result (HoldLines (lines_in (state S.Store self.new)) (before ++ texts lines.now)) }
         ensures err { HasCleanDisk (state S.Store self.new) → OnErr result (IsSame (state S.Store self.old) (state S.Store self.new)) }
         ensures named { IfErr result (λ e. (cause : Error) × (e ≡ fault_of cause)) }
         ensures crash { LeavesAllOrNone (state S.Store self.old) (texts lines.now) (state S.Store self.new) }

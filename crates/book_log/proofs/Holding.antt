@@ -5,22 +5,22 @@ use Rattle.std.specs.List.{list_any}
 use Rattle.std.proofs.lemmas.List.{append-nil}
 use Rattle.std.proofs.lemmas.Option.{same_Some}
 use Rattle.step_names.specs.declared.step.StepName.{StepName}
-use Rattle.trace_theory.specs.Traces.{In, names_of, after, following, without, is_among, IsFree, IsAllowed}
+use Rattle.trace_theory.specs.Traces.{In, names_of, consequences, consequences_from, without, is_among, IsMaximal, IsBackwardOrder}
 use Rattle.trace_theory.proofs.Arranged.{named_place, In-names}
-use Rattle.trace_theory.proofs.Least.{Once, Once-filter, after-in, after-more, after_at, one_step}
+use Rattle.trace_theory.proofs.Least.{Once, Once-filter, consequences-in, consequences-more, after_at, one_step}
 use Rattle.trace_theory.proofs.Lists.{by_bool, place, here, In-front, In-filter, In-kept, In-reverse, reverse-In, any_none, none_any, any_one, one_any, filter-same}
-use Rattle.trace_theory.proofs.Orders.{without_none, without_more, without_alike, orders_hold_after, after-without, last_is_free, only_itself, after_allowed}
+use Rattle.trace_theory.proofs.Orders.{without_none, without_more, without_alike, orders_hold_after, consequences-without, last_is_free, only_itself, after_allowed}
 use Rattle.depends.specs.Steps.{Step, started, moved, name_of, start_name}
 use Rattle.depends.specs.World.{Setting, World, is_same_step}
 use Rattle.depends.specs.Fact.{Fact}
 use Rattle.depends.specs.Dependence.{depends_directly}
-use Rattle.depends.specs.Instance.{Past, steps, taken_in}
+use Rattle.depends.specs.Instance.{TakenStep, steps, taken_in}
 use Rattle.depends.specs.Laws.{facts_of}
 use Rattle.depends.proofs.Named.{steps_have_names}
 use Rattle.book_log.specs.Answers.{from_step, remains, needed_left}
 use Rattle.book_log.specs.Laws.{LeftIsAfter, HoldsStand, lowered_by, lowered, IsHeldThroughout, HoldsAreShared}
 use Rattle.book_log.specs.Legal.{IsAccepted, GoesOnLegally, IsLegal}
-use Rattle.book_log.specs.Story.{Story, accepted, base_of, remaining, held, held_after, while_in, left_by, left_in, left_of, but, rolled_back, consequences_of, remainder, setting_of, world_of, past_of}
+use Rattle.book_log.specs.Log.{Log, appended, base_of, remaining, held, held_after, while_in, left_by, left_in, left_of, steps_but, rolled_back, consequences_of, remainder, setting_of, world_of, past_of}
 use Rattle.book_log.specs.declared.begin.Begin.{Begin}
 use Rattle.book_log.specs.declared.entry.Entry.{Entry}
 use Rattle.book_log.specs.declared.entry.Entry.TheVariants.{Define, Start, Step as Stepped, Undo, Rollback, Settle, Hold}
@@ -54,20 +54,20 @@ while_said ss (Some n) name h =
     let k = while_split (list_any (λ (s : Step). is_same_step n (name_of s)) ss) n name h in
     (ap Some k.1, subst (λ (x : StepName). HasName x ss) k.1 (has_name n ss k.0))
 
-abbrev pub HoldRemains : Story → Type 0
-HoldRemains story = (name : StepName) → held story ≡ Some name → HasName name (remaining story)
+abbrev pub HoldRemains : Log → Type 0
+HoldRemains log = (name : StepName) → held log ≡ Some name → HasName name (remaining log)
 
-still : (story : Story) (e : Entry) → held_after story.begin (remainder story) e ≡ held story → ((x : Step) → In x (remaining story) → In x (remaining (accepted story e))) → HoldRemains story → HoldRemains (accepted story e)
-still story e same kept p name h = let r = p name (sym same ∙ sym (held_next story e) ∙ h) in (r.0, kept r.0 r.1, r.2)
+still : (log : Log) (e : Entry) → held_after log.begin (remainder log) e ≡ held log → ((x : Step) → In x (remaining log) → In x (remaining (appended log e))) → HoldRemains log → HoldRemains (appended log e)
+still log e same kept p name h = let r = p name (sym same ∙ sym (held_next log e) ∙ h) in (r.0, kept r.0 r.1, r.2)
 
-same_steps : (story : Story) (e : Entry) → remaining (accepted story e) ≡ remaining story → (x : Step) → In x (remaining story) → In x (remaining (accepted story e))
-same_steps story e same x i = subst (In x) (sym same) i
+same_steps : (log : Log) (e : Entry) → remaining (appended log e) ≡ remaining log → (x : Step) → In x (remaining log) → In x (remaining (appended log e))
+same_steps log e same x i = subst (In x) (sym same) i
 
-one_step_more : (story : Story) (e : Entry) (step : Step) → remaining (accepted story e) ≡ remaining story ++ step ∷ [] → (x : Step) → In x (remaining story) → In x (remaining (accepted story e))
-one_step_more story e step same x i = subst (In x) (sym same) (In-front x (remaining story) (step ∷ []) i)
+one_step_more : (log : Log) (e : Entry) (step : Step) → remaining (appended log e) ≡ remaining log ++ step ∷ [] → (x : Step) → In x (remaining log) → In x (remaining (appended log e))
+one_step_more log e step same x i = subst (In x) (sym same) (In-front x (remaining log) (step ∷ []) i)
 
-fewer : (story : Story) (e : Entry) (ss : List Step) → held_after story.begin (remainder story) e ≡ while_in ss (held story) → remaining (accepted story e) ≡ ss → HoldRemains (accepted story e)
-fewer story e ss while same name h = subst (HasName name) (sym same) (while_said ss (held story) name (sym while ∙ sym (held_next story e) ∙ h)).1
+fewer : (log : Log) (e : Entry) (ss : List Step) → held_after log.begin (remainder log) e ≡ while_in ss (held log) → remaining (appended log e) ≡ ss → HoldRemains (appended log e)
+fewer log e ss while same name h = subst (HasName name) (sym same) (while_said ss (held log) name (sym while ∙ sym (held_next log e) ∙ h)).1
 
 -- ---- a step that remains
 
@@ -76,305 +76,305 @@ found_there None h = cc
 found_there (Some p) h = (p, refl)
 
 -- a step that remains under a name
-remains_named : (story : Story) (s : Setting) (w : World) (ts : List Past) (h : StandsAt story s w ts) (name : StepName) → remains story name ≡ true → (t : Past) × In t ts × (name_of t.step ≡ name)
-remains_named story s w ts h name r =
-    let p = found_there (from_step name (facts_of (past_of story))) r in
-    let g = found_by name ts p.0.0 p.0.1 (ap (λ (l : List Past). from_step name (facts_of l)) (sym (past_there story s w ts h)) ∙ p.1) in
+remains_named : (log : Log) (s : Setting) (w : World) (ts : List TakenStep) (h : StandsAt log s w ts) (name : StepName) → remains log name ≡ true → (t : TakenStep) × In t ts × (name_of t.step ≡ name)
+remains_named log s w ts h name r =
+    let p = found_there (from_step name (facts_of (past_of log))) r in
+    let g = found_by name ts p.0.0 p.0.1 (ap (λ (l : List TakenStep). from_step name (facts_of l)) (sym (past_there log s w ts h)) ∙ p.1) in
     let there : In g.step ts = subst (In g.step) (sym g.whole) (here g.step g.front g.back) in
-    (g.step, there, sym (fact_named story s w ts h g.step there) ∙ ap (λ (x : Fact). x.name) g.fact ∙ sym g.named)
+    (g.step, there, sym (fact_named log s w ts h g.step there) ∙ ap (λ (x : Fact). x.name) g.fact ∙ sym g.named)
 
-hold_next : (story : Story) (e : Entry) → IsLegal story → HoldRemains story → IsAccepted story e → HoldRemains (accepted story e)
-hold_next story (Define name machine) legal p a = still story (Define name machine) refl (same_steps story (Define name machine) (steps_next story (Define name machine))) p
-hold_next story (Start exec machine input) legal p a = still story (Start exec machine input) refl (one_step_more story (Start exec machine input) (started exec.exec machine input) (steps_next story (Start exec machine input))) p
-hold_next story (Stepped name kind) legal p a = still story (Stepped name kind) refl (one_step_more story (Stepped name kind) (moved name) (steps_next story (Stepped name kind))) p
-hold_next story (Undo name) legal p a = fewer story (Undo name) (but name (remaining story)) refl (steps_next story (Undo name))
-hold_next story (Rollback name undone) legal p a = fewer story (Rollback name undone) (rolled_back story.begin (remainder story) name) refl (steps_next story (Rollback name undone))
-hold_next story Settle legal p a = λ name h. let e : None ≡ Some name = sym (held_next story Settle) ∙ h in cc
-hold_next story (Hold name count) legal p a = λ n h.
-    let k = remains_named story (setting_of story) (world_of story) (past_of story) (legal_stands story legal) name (hold_said story name count a).0 in
-    let same : name ≡ n = same_Some name n (sym (held_next story (Hold name count)) ∙ h) in
-    let inside : In k.0.step (remaining story) = subst (In k.0.step) (names_there story (setting_of story) (world_of story) (past_of story) (legal_stands story legal))
-    (In-names (steps (setting_of story)) (base_of story) (steps_have_names (setting_of story) (base_of story) (from_start story (setting_of story) (world_of story) (past_of story) (legal_stands story legal))) k.0 (past_of story) k.1) in
-    (k.0.step, subst (In k.0.step) (sym (steps_next story (Hold name count))) inside, k.2 ∙ same)
+hold_next : (log : Log) (e : Entry) → IsLegal log → HoldRemains log → IsAccepted log e → HoldRemains (appended log e)
+hold_next log (Define name machine) legal p a = still log (Define name machine) refl (same_steps log (Define name machine) (steps_next log (Define name machine))) p
+hold_next log (Start exec machine input) legal p a = still log (Start exec machine input) refl (one_step_more log (Start exec machine input) (started exec.exec machine input) (steps_next log (Start exec machine input))) p
+hold_next log (Stepped name kind) legal p a = still log (Stepped name kind) refl (one_step_more log (Stepped name kind) (moved name) (steps_next log (Stepped name kind))) p
+hold_next log (Undo name) legal p a = fewer log (Undo name) (steps_but name (remaining log)) refl (steps_next log (Undo name))
+hold_next log (Rollback name undone) legal p a = fewer log (Rollback name undone) (rolled_back log.begin (remainder log) name) refl (steps_next log (Rollback name undone))
+hold_next log Settle legal p a = λ name h. let e : None ≡ Some name = sym (held_next log Settle) ∙ h in cc
+hold_next log (Hold name count) legal p a = λ n h.
+    let k = remains_named log (setting_of log) (world_of log) (past_of log) (legal_stands log legal) name (hold_said log name count a).0 in
+    let same : name ≡ n = same_Some name n (sym (held_next log (Hold name count)) ∙ h) in
+    let inside : In k.0.step (remaining log) = subst (In k.0.step) (names_there log (setting_of log) (world_of log) (past_of log) (legal_stands log legal))
+    (In-names (steps (setting_of log)) (base_of log) (steps_have_names (setting_of log) (base_of log) (from_start log (setting_of log) (world_of log) (past_of log) (legal_stands log legal))) k.0 (past_of log) k.1) in
+    (k.0.step, subst (In k.0.step) (sym (steps_next log (Hold name count))) inside, k.2 ∙ same)
 
 none_held : (begin : Begin) → HoldRemains (of_log begin [])
 unfolding remainder
 none_held begin name h = cc
 
-pub hold_remains : (story : Story) → IsLegal story → HoldRemains story
-hold_remains story legal = of_legal HoldRemains (λ begin fine. none_held begin) hold_next story legal
+pub hold_remains : (log : Log) → IsLegal log → HoldRemains log
+hold_remains log legal = of_legal HoldRemains (λ begin fine. none_held begin) hold_next log legal
 
--- ---- what is left, where a story stands
+-- ---- what is left, where a log stands
 
-pub left_there : (story : Story) (s : Setting) (w : World) (ts : List Past) → StandsAt story s w ts → left_of story ≡ left_by s ts (held story)
+pub left_there : (log : Log) (s : Setting) (w : World) (ts : List TakenStep) → StandsAt log s w ts → left_of log ≡ left_by s ts (held log)
 unfolding left_in
-left_there story s w ts h = ap₂ (λ (x : Setting) (l : List Past). left_by x l (held story)) h.setting (past_there story s w ts h)
+left_there log s w ts h = ap₂ (λ (x : Setting) (l : List TakenStep). left_by x l (held log)) h.setting (past_there log s w ts h)
 
 -- consequences don't hang on the machines
-following_set : (s u : Setting) (marked ts : List Past) → following (steps s) marked ts ≡ following (steps u) marked ts
+following_set : (s u : Setting) (marked ts : List TakenStep) → consequences_from (steps s) marked ts ≡ consequences_from (steps u) marked ts
 following_set s u marked [] = refl
 following_set s u marked (t ∷ ts) =
-    by_bool (list_any (λ (x : Past). depends_directly x.fact t.fact) marked) _
-    (λ k. rw k (ap (λ (l : List Past). t ∷ l) (following_set s u (marked ++ t ∷ []) ts)))
+    by_bool (list_any (λ (x : TakenStep). depends_directly x.fact t.fact) marked) _
+    (λ k. rw k (ap (λ (l : List TakenStep). t ∷ l) (following_set s u (marked ++ t ∷ []) ts)))
     (λ k. rw k (following_set s u marked ts))
 
-after_set : (s u : Setting) (ts : List Past) (n : Step) → after (steps s) ts n ≡ after (steps u) ts n
+after_set : (s u : Setting) (ts : List TakenStep) (n : Step) → consequences (steps s) ts n ≡ consequences (steps u) ts n
 after_set s u [] n = refl
 after_set s u (t ∷ ts) n =
     by_bool (is_same_step (name_of n) (name_of t.step)) _
-    (λ k. rw k (ap (λ (l : List Past). t ∷ l) (following_set s u (t ∷ []) ts)))
+    (λ k. rw k (ap (λ (l : List TakenStep). t ∷ l) (following_set s u (t ∷ []) ts)))
     (λ k. rw k (after_set s u ts n))
 
-left_set : (s u : Setting) (ts : List Past) (o : Option StepName) → left_by s ts o ≡ left_by u ts o
+left_set : (s u : Setting) (ts : List TakenStep) (o : Option StepName) → left_by s ts o ≡ left_by u ts o
 left_set s u ts None = refl
 left_set s u ts (Some name) = after_set s u ts (moved name)
 
 -- the steps of such a list that are of these names stand among them
-abbrev IsIn : List Past → Option StepName → Type 0
-IsIn ts o = (name : StepName) → o ≡ Some name → (t : Past) × In t ts × (name_of t.step ≡ name)
+abbrev IsIn : List TakenStep → Option StepName → Type 0
+IsIn ts o = (name : StepName) → o ≡ Some name → (t : TakenStep) × In t ts × (name_of t.step ≡ name)
 
-module _ (story : Story) (s : Setting) (w : World) (ts : List Past) (h : StandsAt story s w ts) where
+module _ (log : Log) (s : Setting) (w : World) (ts : List TakenStep) (h : StandsAt log s w ts) where
   -- the held step stands in the past
-  pub held_in : HoldRemains story → IsIn ts (held story)
+  pub held_in : HoldRemains log → IsIn ts (held log)
   held_in p name e =
       let r = p name e in
-      let have = steps_have_names s (base_of story) (from_start story s w ts h) in
-      let q = named_place (steps s) (base_of story) have r.0 ts (subst (In r.0) (sym (names_there story s w ts h)) r.1) in
+      let have = steps_have_names s (base_of log) (from_start log s w ts h) in
+      let q = named_place (steps s) (base_of log) have r.0 ts (subst (In r.0) (sym (names_there log s w ts h)) r.1) in
       (q.step, subst (In q.step) (sym q.whole) (here q.step q.front q.back), ap name_of q.named ∙ r.2)
 
-  one_more_left : (t : Past) (o : Option StepName) → IsIn ts o → ((x : Past) → In x (left_by s ts o) → depends_directly x.fact t.fact ≡ false) → left_by s (ts ++ t ∷ []) o ≡ left_by s ts o
+  one_more_left : (t : TakenStep) (o : Option StepName) → IsIn ts o → ((x : TakenStep) → In x (left_by s ts o) → depends_directly x.fact t.fact ≡ false) → left_by s (ts ++ t ∷ []) o ≡ left_by s ts o
   one_more_left t None p none = refl
   one_more_left t (Some name) p none =
       let r = p name refl in
-      let have = steps_have_names s (base_of story) (from_start story s w ts h) in
+      let have = steps_have_names s (base_of log) (from_start log s w ts h) in
       let own = after_same s (moved name) r.0.step ts (sym r.2) in
       after_same s (moved name) r.0.step (ts ++ t ∷ []) (sym r.2)
-      ∙ after-more (steps s) (base_of story) have ts r.0 t (once story s w ts h) r.1 (λ x i. none x (subst (In x) (sym own) i))
+      ∙ consequences-more (steps s) (base_of log) have ts r.0 t (once log s w ts h) r.1 (λ x i. none x (subst (In x) (sym own) i))
       ∙ sym own
 
   -- ---- a step is undone
 
-  not_itself : (t : Past) → without (steps s) (t ∷ []) (t ∷ []) ≡ []
+  not_itself : (t : TakenStep) → without (steps s) (t ∷ []) (t ∷ []) ≡ []
   not_itself t = let k = step_itself (name_of t.step) in rw k refl
 
-  while_gone : (name : StepName) (ss : List Step) → while_in (but name ss) (Some name) ≡ None
+  while_gone : (name : StepName) (ss : List Step) → while_in (steps_but name ss) (Some name) ≡ None
   while_gone name ss =
-      let k = none_any (λ (x : Step). is_same_step name (name_of x)) (but name ss) (λ x i. by_bool (is_same_step name (name_of x)) _ (λ j. let r = (In-filter (λ (y : Step). not (is_same_step name (name_of y))) ss x i).1 in let e = rw j at r in cc) (λ j. j)) in
+      let k = none_any (λ (x : Step). is_same_step name (name_of x)) (steps_but name ss) (λ x i. by_bool (is_same_step name (name_of x)) _ (λ j. let r = (In-filter (λ (y : Step). not (is_same_step name (name_of y))) ss x i).1 in let e = rw j at r in cc) (λ j. j)) in
       rw k refl
 
-  while_stays : (name n : StepName) (ss : List Step) → HasName n ss → is_same_step name n ≡ false → while_in (but name ss) (Some n) ≡ Some n
+  while_stays : (name n : StepName) (ss : List Step) → HasName n ss → is_same_step name n ≡ false → while_in (steps_but name ss) (Some n) ≡ Some n
   while_stays name n ss p other =
-      let k = name_there n (but name ss) (p.0, In-kept (λ (y : Step). not (is_same_step name (name_of y))) ss p.0 p.1 (ap not (ap (is_same_step name) p.2 ∙ other)), p.2) in
+      let k = name_there n (steps_but name ss) (p.0, In-kept (λ (y : Step). not (is_same_step name (name_of y))) ss p.0 p.1 (ap not (ap (is_same_step name) p.2 ∙ other)), p.2) in
       rw k refl
 
-  undone_left : (t : Past) (name : StepName) (o : Option StepName) → IsFree (steps s) ts t → name_of t.step ≡ name → IsIn ts o → ((n : StepName) → o ≡ Some n → HasName n (remaining story))
-      → left_by s (without (steps s) (t ∷ []) ts) (while_in (but name (remaining story)) o) ≡ without (steps s) (t ∷ []) (left_by s ts o)
+  undone_left : (t : TakenStep) (name : StepName) (o : Option StepName) → IsMaximal (steps s) ts t → name_of t.step ≡ name → IsIn ts o → ((n : StepName) → o ≡ Some n → HasName n (remaining log))
+      → left_by s (without (steps s) (t ∷ []) ts) (while_in (steps_but name (remaining log)) o) ≡ without (steps s) (t ∷ []) (left_by s ts o)
   undone_left t name None free named p q = refl
   undone_left t name (Some n) free named p q =
-      let have = steps_have_names s (base_of story) (from_start story s w ts h) in
+      let have = steps_have_names s (base_of log) (from_start log s w ts h) in
       by_bool (is_same_step name n) _
       (λ k.
       let same : name ≡ n = step_same name n k in
-      let gone : while_in (but name (remaining story)) (Some n) ≡ None = ap (λ (x : StepName). while_in (but name (remaining story)) (Some x)) (sym same) ∙ while_gone name (remaining story) in
-      let own : after (steps s) ts (moved n) ≡ t ∷ [] = after_same s (moved n) t.step ts (sym same ∙ sym named) ∙ only_itself (steps s) (base_of story) have ts t (once story s w ts h) free in
+      let gone : while_in (steps_but name (remaining log)) (Some n) ≡ None = ap (λ (x : StepName). while_in (steps_but name (remaining log)) (Some x)) (sym same) ∙ while_gone name (remaining log) in
+      let own : consequences (steps s) ts (moved n) ≡ t ∷ [] = after_same s (moved n) t.step ts (sym same ∙ sym named) ∙ only_itself (steps s) (base_of log) have ts t (once log s w ts h) free in
       ap (left_by s (without (steps s) (t ∷ []) ts)) gone ∙ sym (ap (without (steps s) (t ∷ [])) own ∙ not_itself t))
       (λ k.
-      let stay = while_stays name n (remaining story) (q n refl) k in
+      let stay = while_stays name n (remaining log) (q n refl) k in
       let other : is_same_step n (name_of t.step) ≡ false = by_bool (is_same_step n (name_of t.step)) _ (λ j. let e : n ≡ name = step_same n (name_of t.step) j ∙ named in let f = ap (is_same_step name) e ∙ step_itself name in let g = sym k ∙ f in cc) (λ j. j) in
-      ap (left_by s (without (steps s) (t ∷ []) ts)) stay ∙ after-without (steps s) (base_of story) have ts t (moved n) (once story s w ts h) free other)
+      ap (left_by s (without (steps s) (t ∷ []) ts)) stay ∙ consequences-without (steps s) (base_of log) have ts t (moved n) (once log s w ts h) free other)
 
   -- ---- a step is rolled back
 
-  after_order : (n : Step) (xs us : List Past) → Once (steps s) (base_of story) (steps_have_names s (base_of story) (from_start story s w ts h)) us → IsAllowed (steps s) us xs → ((x : Past) → In x xs → is_same_step (name_of n) (name_of x.step) ≡ false)
-      → after (steps s) (without (steps s) xs us) n ≡ without (steps s) xs (after (steps s) us n)
+  after_order : (n : Step) (xs us : List TakenStep) → Once (steps s) (base_of log) (steps_have_names s (base_of log) (from_start log s w ts h)) us → IsBackwardOrder (steps s) us xs → ((x : TakenStep) → In x xs → is_same_step (name_of n) (name_of x.step) ≡ false)
+      → consequences (steps s) (without (steps s) xs us) n ≡ without (steps s) xs (consequences (steps s) us n)
   after_order n [] us one a none =
-      let have = steps_have_names s (base_of story) (from_start story s w ts h) in
-      ap (λ (l : List Past). after (steps s) l n) (without_none (steps s) (base_of story) have us) ∙ sym (without_none (steps s) (base_of story) have (after (steps s) us n))
+      let have = steps_have_names s (base_of log) (from_start log s w ts h) in
+      ap (λ (l : List TakenStep). consequences (steps s) l n) (without_none (steps s) (base_of log) have us) ∙ sym (without_none (steps s) (base_of log) have (consequences (steps s) us n))
   after_order n (x ∷ xs) us one a none =
-      let have = steps_have_names s (base_of story) (from_start story s w ts h) in
-      ap (λ (l : List Past). after (steps s) l n) (sym (without_more (steps s) (base_of story) have x xs us))
-      ∙ after_order n xs (without (steps s) (x ∷ []) us) (Once-filter (steps s) (base_of story) have _ us one) a.1 (λ y i. none y (inr i))
-      ∙ ap (without (steps s) xs) (after-without (steps s) (base_of story) have us x n one a.0 (none x (inl refl)))
-      ∙ without_more (steps s) (base_of story) have x xs (after (steps s) us n)
+      let have = steps_have_names s (base_of log) (from_start log s w ts h) in
+      ap (λ (l : List TakenStep). consequences (steps s) l n) (sym (without_more (steps s) (base_of log) have x xs us))
+      ∙ after_order n xs (without (steps s) (x ∷ []) us) (Once-filter (steps s) (base_of log) have _ us one) a.1 (λ y i. none y (inr i))
+      ∙ ap (without (steps s) xs) (consequences-without (steps s) (base_of log) have us x n one a.0 (none x (inl refl)))
+      ∙ without_more (steps s) (base_of log) have x xs (consequences (steps s) us n)
 
-  none_without : (xs ys : List Past) → ((y : Past) → In y ys → In y xs) → without (steps s) xs ys ≡ []
+  none_without : (xs ys : List TakenStep) → ((y : TakenStep) → In y ys → In y xs) → without (steps s) xs ys ≡ []
   none_without xs [] inside = refl
   none_without xs (y ∷ ys) inside =
-      let k = any_one (λ (x : Past). is_same_step (name_of x.step) (name_of y.step)) xs y (inside y (inl refl)) (step_itself (name_of y.step)) in
+      let k = any_one (λ (x : TakenStep). is_same_step (name_of x.step) (name_of y.step)) xs y (inside y (inl refl)) (step_itself (name_of y.step)) in
       rw k (none_without xs ys (λ z i. inside z (inr i)))
 
   -- where the held step is not taken back, it stays
-  rolled_stays : (t x : Past) (n : StepName) → In t ts → In x ts → name_of x.step ≡ n → list_any (λ (y : Step). is_same_step n (name_of y)) (names_of (steps s) (without (steps s) (after (steps s) ts t.step) ts)) ≡ true
-      → left_by s (without (steps s) (after (steps s) ts t.step) ts) (Some n) ≡ without (steps s) (after (steps s) ts t.step) (after (steps s) ts (moved n))
+  rolled_stays : (t x : TakenStep) (n : StepName) → In t ts → In x ts → name_of x.step ≡ n → list_any (λ (y : Step). is_same_step n (name_of y)) (names_of (steps s) (without (steps s) (consequences (steps s) ts t.step) ts)) ≡ true
+      → left_by s (without (steps s) (consequences (steps s) ts t.step) ts) (Some n) ≡ without (steps s) (consequences (steps s) ts t.step) (consequences (steps s) ts (moved n))
   rolled_stays t x n i j named there =
-      let all = after (steps s) ts t.step in
-      let have = steps_have_names s (base_of story) (from_start story s w ts h) in
-      let one = once story s w ts h in
-      let allowed = after_allowed (steps s) (base_of story) have ts t one i in
-      let same = without_alike (steps s) (base_of story) have (reverse all) all in
-      let forth : (y : Past) → In y (reverse all) → In y all = λ y k. reverse-In y all k in
-      let back : (y : Past) → In y all → In y (reverse all) = λ y k. In-reverse y all k in
+      let all = consequences (steps s) ts t.step in
+      let have = steps_have_names s (base_of log) (from_start log s w ts h) in
+      let one = once log s w ts h in
+      let allowed = after_allowed (steps s) (base_of log) have ts t one i in
+      let same = without_alike (steps s) (base_of log) have (reverse all) all in
+      let forth : (y : TakenStep) → In y (reverse all) → In y all = λ y k. reverse-In y all k in
+      let back : (y : TakenStep) → In y all → In y (reverse all) = λ y k. In-reverse y all k in
       let r = has_name n (names_of (steps s) (without (steps s) all ts)) there in
-      let q = named_place (steps s) (base_of story) have r.0 (without (steps s) all ts) r.1 in
+      let q = named_place (steps s) (base_of log) have r.0 (without (steps s) all ts) r.1 in
       let inside : In q.step (without (steps s) all ts) = subst (In q.step) (sym q.whole) (here q.step q.front q.back) in
-      let kept = In-filter (λ (y : Past). not (is_among (steps s) all y)) ts q.step inside in
+      let kept = In-filter (λ (y : TakenStep). not (is_among (steps s) all y)) ts q.step inside in
       let own : name_of q.step.step ≡ n = ap name_of q.named ∙ r.2 in
-      let none : (y : Past) → In y (reverse all) → is_same_step n (name_of y.step) ≡ false = λ y k.
+      let none : (y : TakenStep) → In y (reverse all) → is_same_step n (name_of y.step) ≡ false = λ y k.
       by_bool (is_same_step n (name_of y.step)) _
       (λ e.
       let f : is_same_step (name_of y.step) (name_of q.step.step) ≡ true = ap₂ (λ (a b : StepName). is_same_step a b) (sym (step_same n (name_of y.step) e)) own ∙ step_itself n in
-      let g = any_one (λ (z : Past). is_same_step (name_of z.step) (name_of q.step.step)) all y (forth y k) f in
+      let g = any_one (λ (z : TakenStep). is_same_step (name_of z.step) (name_of q.step.step)) all y (forth y k) f in
       let m = kept.1 in
       let c = rw g at m in
       cc)
       (λ e. e) in
-      ap (λ (l : List Past). after (steps s) l (moved n)) (sym (same ts forth back))
+      ap (λ (l : List TakenStep). consequences (steps s) l (moved n)) (sym (same ts forth back))
       ∙ after_order (moved n) (reverse all) ts one allowed none
-      ∙ same (after (steps s) ts (moved n)) forth back
+      ∙ same (consequences (steps s) ts (moved n)) forth back
 
   -- and where it is taken back, so is all that is left
-  rolled_gone : (t x : Past) (n : StepName) → In t ts → In x ts → name_of x.step ≡ n → list_any (λ (y : Step). is_same_step n (name_of y)) (names_of (steps s) (without (steps s) (after (steps s) ts t.step) ts)) ≡ false
-      → [] ≡ without (steps s) (after (steps s) ts t.step) (after (steps s) ts (moved n))
+  rolled_gone : (t x : TakenStep) (n : StepName) → In t ts → In x ts → name_of x.step ≡ n → list_any (λ (y : Step). is_same_step n (name_of y)) (names_of (steps s) (without (steps s) (consequences (steps s) ts t.step) ts)) ≡ false
+      → [] ≡ without (steps s) (consequences (steps s) ts t.step) (consequences (steps s) ts (moved n))
   rolled_gone t x n i j named none =
-      let all = after (steps s) ts t.step in
-      let have = steps_have_names s (base_of story) (from_start story s w ts h) in
-      let one = once story s w ts h in
-      let allowed = after_allowed (steps s) (base_of story) have ts t one i in
+      let all = consequences (steps s) ts t.step in
+      let have = steps_have_names s (base_of log) (from_start log s w ts h) in
+      let one = once log s w ts h in
+      let allowed = after_allowed (steps s) (base_of log) have ts t one i in
       let among : is_among (steps s) all x ≡ true = by_bool (is_among (steps s) all x) _ (λ k. k) (λ k.
-      let kept = In-kept (λ (y : Past). not (is_among (steps s) all y)) ts x j (ap not k) in
-      let f = name_there n (names_of (steps s) (without (steps s) all ts)) (x.step, In-names (steps s) (base_of story) have x (without (steps s) all ts) kept, named) in
+      let kept = In-kept (λ (y : TakenStep). not (is_among (steps s) all y)) ts x j (ap not k) in
+      let f = name_there n (names_of (steps s) (without (steps s) all ts)) (x.step, In-names (steps s) (base_of log) have x (without (steps s) all ts) kept, named) in
       let g = sym none ∙ f in
       cc) in
-      let y = one_any (λ (z : Past). is_same_step (name_of z.step) (name_of x.step)) all among in
-      let there : In y.0 ts = after-in (steps s) (base_of story) have ts t.step y.0 y.1 in
-      let is : y.0 ≡ x = one_step (steps s) (base_of story) have ts one y.0 x there j y.2 in
-      let inside : In x all = subst (λ (z : Past). In z all) is y.1 in
+      let y = one_any (λ (z : TakenStep). is_same_step (name_of z.step) (name_of x.step)) all among in
+      let there : In y.0 ts = consequences-in (steps s) (base_of log) have ts t.step y.0 y.1 in
+      let is : y.0 ≡ x = one_step (steps s) (base_of log) have ts one y.0 x there j y.2 in
+      let inside : In x all = subst (λ (z : TakenStep). In z all) is y.1 in
       sym (ap (without (steps s) all) (after_same s (moved n) x.step ts (sym named))
-      ∙ none_without all (after (steps s) ts x.step) (λ z k. reverse-In z all (orders_hold_after (steps s) (base_of story) have w ts (reverse all) x z (is_run story s w ts h) allowed (In-reverse x all inside) k)))
+      ∙ none_without all (consequences (steps s) ts x.step) (λ z k. reverse-In z all (orders_hold_after (steps s) (base_of log) have w ts (reverse all) x z (is_run log s w ts h) allowed (In-reverse x all inside) k)))
 
-  rolled_left : (t : Past) (o : Option StepName) → In t ts → IsIn ts o
-      → left_by s (without (steps s) (after (steps s) ts t.step) ts) (while_in (names_of (steps s) (without (steps s) (after (steps s) ts t.step) ts)) o) ≡ without (steps s) (after (steps s) ts t.step) (left_by s ts o)
+  rolled_left : (t : TakenStep) (o : Option StepName) → In t ts → IsIn ts o
+      → left_by s (without (steps s) (consequences (steps s) ts t.step) ts) (while_in (names_of (steps s) (without (steps s) (consequences (steps s) ts t.step) ts)) o) ≡ without (steps s) (consequences (steps s) ts t.step) (left_by s ts o)
   rolled_left t None i p = refl
   rolled_left t (Some n) i p =
       let x = p n refl in
-      let all = after (steps s) ts t.step in
+      let all = consequences (steps s) ts t.step in
       by_bool (list_any (λ (y : Step). is_same_step n (name_of y)) (names_of (steps s) (without (steps s) all ts))) _
       (λ k. rw k (rolled_stays t x.0 n i x.1 x.2 k))
       (λ k. rw k (rolled_gone t x.0 n i x.1 x.2 k))
 
   -- ---- all that is left remains
 
-  pub left_inside : (o : Option StepName) (x : Past) → In x (left_by s ts o) → In x ts
+  pub left_inside : (o : Option StepName) (x : TakenStep) → In x (left_by s ts o) → In x ts
   left_inside None x i = absurd i
-  left_inside (Some name) x i = after-in (steps s) (base_of story) (steps_have_names s (base_of story) (from_start story s w ts h)) ts (moved name) x i
+  left_inside (Some name) x i = consequences-in (steps s) (base_of log) (steps_have_names s (base_of log) (from_start log s w ts h)) ts (moved name) x i
 
   -- a step that needs nothing that is left
-  unneeded : (f : Fact) → needed_left story f ≡ None → (x : Past) → In x (left_by s ts (held story)) → depends_directly x.fact f ≡ false
+  unneeded : (f : Fact) → needed_left log f ≡ None → (x : TakenStep) → In x (left_by s ts (held log)) → depends_directly x.fact f ≡ false
   unneeded f none x i =
-      let own = left_there story s w ts h in
-      any_none (λ (y : Past). depends_directly y.fact f) (left_of story) (none_found (λ (y : Fact). depends_directly y f) (left_of story) none) x (subst (In x) (sym own) i)
+      let own = left_there log s w ts h in
+      any_none (λ (y : TakenStep). depends_directly y.fact f) (left_of log) (none_found (λ (y : Fact). depends_directly y f) (left_of log) none) x (subst (In x) (sym own) i)
 
   -- the same as far as the name says it
   or_same : (b : Bool) → (b || false) ≡ b
   or_same true = refl
   or_same false = refl
 
-  pub without_named : (t : Past) (name : StepName) (xs : List Past) → name_of t.step ≡ name → without (steps s) (t ∷ []) xs ≡ filter (λ x. not (is_same_step name (name_of x.step))) xs
+  pub without_named : (t : TakenStep) (name : StepName) (xs : List TakenStep) → name_of t.step ≡ name → without (steps s) (t ∷ []) xs ≡ filter (λ x. not (is_same_step name (name_of x.step))) xs
   without_named t name xs e =
-      filter-same (λ (x : Past). not (is_same_step (name_of t.step) (name_of x.step) || false)) (λ (x : Past). not (is_same_step name (name_of x.step))) xs
+      filter-same (λ (x : TakenStep). not (is_same_step (name_of t.step) (name_of x.step) || false)) (λ (x : TakenStep). not (is_same_step name (name_of x.step))) xs
       (λ x i. ap not (or_same (is_same_step (name_of t.step) (name_of x.step)) ∙ ap (λ (n : StepName). is_same_step n (name_of x.step)) e))
 
 -- ---- after one more entry
 
 pub left_is_after : LeftIsAfter
-left_is_after story (Define name machine) legal a =
-    let s = setting_of story in
-    let w = world_of story in
-    let ts = past_of story in
-    let h = legal_stands story legal in
+left_is_after log (Define name machine) legal a =
+    let s = setting_of log in
+    let w = world_of log in
+    let ts = past_of log in
+    let h = legal_stands log legal in
     let u = knowing s name machine in
-    left_there (accepted story (Define name machine)) u w ts (stands_defined story s w ts name machine h a.0)
-    ∙ ap (left_by u ts) (held_next story (Define name machine)) ∙ left_set u s ts (held story) ∙ sym (left_there story s w ts h)
-left_is_after story (Start exec machine input) legal a =
-    let s = setting_of story in
-    let w = world_of story in
-    let ts = past_of story in
-    let h = legal_stands story legal in
-    let can = start_said story s w ts h exec machine input (start_name exec.exec) a.0 a.1 in
+    left_there (appended log (Define name machine)) u w ts (stands_defined log s w ts name machine h a.0)
+    ∙ ap (left_by u ts) (held_next log (Define name machine)) ∙ left_set u s ts (held log) ∙ sym (left_there log s w ts h)
+left_is_after log (Start exec machine input) legal a =
+    let s = setting_of log in
+    let w = world_of log in
+    let ts = past_of log in
+    let h = legal_stands log legal in
+    let can = start_said log s w ts h exec machine input (start_name exec.exec) a.0 a.1 in
     let t = taken_in w (started exec.exec machine input) can.fact in
-    left_there (accepted story (Start exec machine input)) s can.after (ts ++ t ∷ []) (stands_started story s w can.after ts exec machine input can.fact h can.takes)
-    ∙ ap (left_by s (ts ++ t ∷ [])) (held_next story (Start exec machine input))
-    ∙ one_more_left story s w ts h t (held story) (held_in story s w ts h (hold_remains story legal)) (λ x i. start_needs story s w can.after ts h exec.exec machine input can.fact can.takes x (left_inside story s w ts h (held story) x i))
-    ∙ sym (left_there story s w ts h)
-left_is_after story (Stepped name kind) legal a =
-    let s = setting_of story in
-    let w = world_of story in
-    let ts = past_of story in
-    let h = legal_stands story legal in
-    let said = step_said story s w ts h name.thread (record { name = name; kind = kind }) a refl in
+    left_there (appended log (Start exec machine input)) s can.after (ts ++ t ∷ []) (stands_started log s w can.after ts exec machine input can.fact h can.takes)
+    ∙ ap (left_by s (ts ++ t ∷ [])) (held_next log (Start exec machine input))
+    ∙ one_more_left log s w ts h t (held log) (held_in log s w ts h (hold_remains log legal)) (λ x i. start_needs log s w can.after ts h exec.exec machine input can.fact can.takes x (left_inside log s w ts h (held log) x i))
+    ∙ sym (left_there log s w ts h)
+left_is_after log (Stepped name kind) legal a =
+    let s = setting_of log in
+    let w = world_of log in
+    let ts = past_of log in
+    let h = legal_stands log legal in
+    let said = step_said log s w ts h name.thread (record { name = name; kind = kind }) a refl in
     let can = said.0 in
     let t = taken_in w (moved name) can.fact in
-    left_there (accepted story (Stepped name kind)) s can.after (ts ++ t ∷ []) (stands_moved story s w can.after ts name kind can.fact h can.takes)
-    ∙ ap (left_by s (ts ++ t ∷ [])) (held_next story (Stepped name kind))
-    ∙ one_more_left story s w ts h t (held story) (held_in story s w ts h (hold_remains story legal)) (unneeded story s w ts h can.fact said.2)
-    ∙ sym (left_there story s w ts h)
-left_is_after story (Undo name) legal a =
-    let s = setting_of story in
-    let w = world_of story in
-    let ts = past_of story in
-    let h = legal_stands story legal in
-    let k = (undo_said story s w ts h name name a).0 in
-    left_there (accepted story (Undo name)) s _ (without (steps s) (k.step ∷ []) ts) (stands_undone story s w ts name k.step h k.free k.named)
-    ∙ ap (left_by s (without (steps s) (k.step ∷ []) ts)) (held_next story (Undo name))
-    ∙ undone_left story s w ts h k.step name (held story) k.free k.named (held_in story s w ts h (hold_remains story legal)) (hold_remains story legal)
-    ∙ without_named story s w ts h k.step name (left_by s ts (held story)) k.named
-    ∙ ap (filter (λ (x : Past). not (is_same_step name (name_of x.step)))) (sym (left_there story s w ts h))
-left_is_after story (Rollback name undone) legal a =
-    let s = setting_of story in
-    let w = world_of story in
-    let ts = past_of story in
-    let h = legal_stands story legal in
-    let k = plan_said story s w ts h name undone a in
-    let all = after (steps s) ts k.step.step in
-    let own : after (steps s) ts (moved name) ≡ all = after_same s (moved name) k.step.step ts (sym k.named) in
-    let gone : rolled_back story.begin (remainder story) name ≡ names_of (steps s) (without (steps s) all ts) =
-    rolled_there story s w ts name h ∙ ap (λ (l : List Past). names_of (steps s) (without (steps s) l ts)) own in
-    left_there (accepted story (Rollback name undone)) s _ (without (steps s) all ts) (stands_rolled story s w ts name undone k.step h k.stood k.named)
-    ∙ ap (left_by s (without (steps s) all ts)) (held_next story (Rollback name undone) ∙ ap (λ (l : List Step). while_in l (held story)) gone)
-    ∙ rolled_left story s w ts h k.step (held story) k.stood (held_in story s w ts h (hold_remains story legal))
-    ∙ ap₂ (λ (x y : List Past). without (steps s) x y) (sym (consequences_there story s w ts h name ∙ own)) (sym (left_there story s w ts h))
-left_is_after story Settle legal a = nothing_left (accepted story Settle) (held_next story Settle)
-left_is_after story (Hold name count) legal a =
-    let s = setting_of story in
-    let w = world_of story in
-    let ts = past_of story in
-    let h = legal_stands story legal in
-    left_there (accepted story (Hold name count)) s w ts (stands_held story s w ts name count h) ∙ ap (left_by s ts) (held_next story (Hold name count)) ∙ sym (consequences_there story s w ts h name)
+    left_there (appended log (Stepped name kind)) s can.after (ts ++ t ∷ []) (stands_moved log s w can.after ts name kind can.fact h can.takes)
+    ∙ ap (left_by s (ts ++ t ∷ [])) (held_next log (Stepped name kind))
+    ∙ one_more_left log s w ts h t (held log) (held_in log s w ts h (hold_remains log legal)) (unneeded log s w ts h can.fact said.2)
+    ∙ sym (left_there log s w ts h)
+left_is_after log (Undo name) legal a =
+    let s = setting_of log in
+    let w = world_of log in
+    let ts = past_of log in
+    let h = legal_stands log legal in
+    let k = (undo_said log s w ts h name name a).0 in
+    left_there (appended log (Undo name)) s _ (without (steps s) (k.step ∷ []) ts) (stands_undone log s w ts name k.step h k.free k.named)
+    ∙ ap (left_by s (without (steps s) (k.step ∷ []) ts)) (held_next log (Undo name))
+    ∙ undone_left log s w ts h k.step name (held log) k.free k.named (held_in log s w ts h (hold_remains log legal)) (hold_remains log legal)
+    ∙ without_named log s w ts h k.step name (left_by s ts (held log)) k.named
+    ∙ ap (filter (λ (x : TakenStep). not (is_same_step name (name_of x.step)))) (sym (left_there log s w ts h))
+left_is_after log (Rollback name undone) legal a =
+    let s = setting_of log in
+    let w = world_of log in
+    let ts = past_of log in
+    let h = legal_stands log legal in
+    let k = plan_said log s w ts h name undone a in
+    let all = consequences (steps s) ts k.step.step in
+    let own : consequences (steps s) ts (moved name) ≡ all = after_same s (moved name) k.step.step ts (sym k.named) in
+    let gone : rolled_back log.begin (remainder log) name ≡ names_of (steps s) (without (steps s) all ts) =
+    rolled_there log s w ts name h ∙ ap (λ (l : List TakenStep). names_of (steps s) (without (steps s) l ts)) own in
+    left_there (appended log (Rollback name undone)) s _ (without (steps s) all ts) (stands_rolled log s w ts name undone k.step h k.stood k.named)
+    ∙ ap (left_by s (without (steps s) all ts)) (held_next log (Rollback name undone) ∙ ap (λ (l : List Step). while_in l (held log)) gone)
+    ∙ rolled_left log s w ts h k.step (held log) k.stood (held_in log s w ts h (hold_remains log legal))
+    ∙ ap₂ (λ (x y : List TakenStep). without (steps s) x y) (sym (consequences_there log s w ts h name ∙ own)) (sym (left_there log s w ts h))
+left_is_after log Settle legal a = nothing_left (appended log Settle) (held_next log Settle)
+left_is_after log (Hold name count) legal a =
+    let s = setting_of log in
+    let w = world_of log in
+    let ts = past_of log in
+    let h = legal_stands log legal in
+    left_there (appended log (Hold name count)) s w ts (stands_held log s w ts name count h) ∙ ap (left_by s ts) (held_next log (Hold name count)) ∙ sym (consequences_there log s w ts h name)
 
 -- ---- a hold that stands
 
 pub holds_stand : HoldsStand
-holds_stand story name legal e =
-    let s = setting_of story in
-    let w = world_of story in
-    let ts = past_of story in
-    let h = legal_stands story legal in
-    let have = steps_have_names s (base_of story) (from_start story s w ts h) in
-    let one = once story s w ts h in
-    let x = held_in story s w ts h (hold_remains story legal) name e in
+holds_stand log name legal e =
+    let s = setting_of log in
+    let w = world_of log in
+    let ts = past_of log in
+    let h = legal_stands log legal in
+    let have = steps_have_names s (base_of log) (from_start log s w ts h) in
+    let one = once log s w ts h in
+    let x = held_in log s w ts h (hold_remains log legal) name e in
     let t = x.0 in
     let p = place t ts x.1 in
-    let left : left_of story ≡ after (steps s) ts (moved name) = left_there story s w ts h ∙ ap (left_by s ts) e in
+    let left : left_of log ≡ consequences (steps s) ts (moved name) = left_there log s w ts h ∙ ap (left_by s ts) e in
     record {
       step = t;
-      named = fact_named story s w ts h t x.1 ∙ x.2;
-      later = following (steps s) (t ∷ []) p.back;
-      left = left ∙ after_same s (moved name) t.step ts (sym x.2) ∙ ap (λ (l : List Past). after (steps s) l t.step) p.whole
-          ∙ after_at (steps s) (base_of story) have p.front p.back t (subst (Once (steps s) (base_of story) have) p.whole one);
-      inside = λ y i. after-in (steps s) (base_of story) have ts (moved name) y (subst (In y) left i);
+      named = fact_named log s w ts h t x.1 ∙ x.2;
+      later = consequences_from (steps s) (t ∷ []) p.back;
+      left = left ∙ after_same s (moved name) t.step ts (sym x.2) ∙ ap (λ (l : List TakenStep). consequences (steps s) l t.step) p.whole
+          ∙ after_at (steps s) (base_of log) have p.front p.back t (subst (Once (steps s) (base_of log) have) p.whole one);
+      inside = λ y i. consequences-in (steps s) (base_of log) have ts (moved name) y (subst (In y) left i);
       latest = λ front y is.
-          let free = last_is_free (steps s) (base_of story) have ts front (moved name) y one (sym left ∙ is) in
-          free_undone story s w ts h y y.fact.name free (sym (fact_named story s w ts h y free.0));
+          let free = last_is_free (steps s) (base_of log) have ts front (moved name) y one (sym left ∙ is) in
+          free_undone log s w ts h y y.fact.name free (sym (fact_named log s w ts h y free.0));
     }
 
 -- ---- a hold is over after so many undoings
@@ -385,57 +385,57 @@ filter_parts p (x ∷ xs) =
     let rest = filter_parts p xs in
     by_bool (p x) _ (λ k. rw k (omega (arith, rest))) (λ k. rw k (omega (arith, rest)))
 
-abbrev Shrinks : Story → Entry → Type 0
-Shrinks story e = (length (left_of (accepted story e)) + lowered_by story e ≡ length (left_of story)) × ((x : Past) → In x (left_of (accepted story e)) → In x (left_of story))
+abbrev Shrinks : Log → Entry → Type 0
+Shrinks log e = (length (left_of (appended log e)) + lowered_by log e ≡ length (left_of log)) × ((x : TakenStep) → In x (left_of (appended log e)) → In x (left_of log))
 
-as_it_was : (story : Story) (e : Entry) → left_of (accepted story e) ≡ left_of story → lowered_by story e ≡ 0 → Shrinks story e
-as_it_was story e same zero =
+as_it_was : (log : Log) (e : Entry) → left_of (appended log e) ≡ left_of log → lowered_by log e ≡ 0 → Shrinks log e
+as_it_was log e same zero =
     let l = ap length same in
     (omega (arith, l, zero), λ x i. subst (In x) same i)
 
-but_these : (story : Story) (e : Entry) (p : Past → Bool) → left_of (accepted story e) ≡ filter (λ x. not (p x)) (left_of story) → lowered_by story e ≡ length (filter p (left_of story)) → Shrinks story e
-but_these story e p same many =
+but_these : (log : Log) (e : Entry) (p : TakenStep → Bool) → left_of (appended log e) ≡ filter (λ x. not (p x)) (left_of log) → lowered_by log e ≡ length (filter p (left_of log)) → Shrinks log e
+but_these log e p same many =
     let l = ap length same in
-    let k = filter_parts p (left_of story) in
-    (omega (arith, l, many, k), λ x i. (In-filter (λ (y : Past). not (p y)) (left_of story) x (subst (In x) same i)).0)
+    let k = filter_parts p (left_of log) in
+    (omega (arith, l, many, k), λ x i. (In-filter (λ (y : TakenStep). not (p y)) (left_of log) x (subst (In x) same i)).0)
 
 never : (o : Option StepName) → o ≡ None → IsSome o → ⊥
 never None e h = cc
 never (Some name) e h = cc
 
-shrinks : (story : Story) (e : Entry) → IsLegal story → IsAccepted story e → IsSome (held story) → Shrinks story e
-shrinks story (Define name machine) legal a h = as_it_was story (Define name machine) (left_is_after story (Define name machine) legal a) refl
-shrinks story (Start exec machine input) legal a h = as_it_was story (Start exec machine input) (left_is_after story (Start exec machine input) legal a) refl
-shrinks story (Stepped name kind) legal a h = as_it_was story (Stepped name kind) (left_is_after story (Stepped name kind) legal a) refl
-shrinks story (Undo name) legal a h = but_these story (Undo name) (λ x. is_same_step name (name_of x.step)) (left_is_after story (Undo name) legal a) refl
-shrinks story (Rollback name undone) legal a h =
-    but_these story (Rollback name undone) (is_among (steps (setting_of story)) (consequences_of story name)) (left_is_after story (Rollback name undone) legal a) refl
-shrinks story Settle legal a h = absurd (never (held story) (settle_free story a) h)
-shrinks story (Hold name count) legal a h = absurd (never (held story) (hold_said story name count a).1 h)
+shrinks : (log : Log) (e : Entry) → IsLegal log → IsAccepted log e → IsSome (held log) → Shrinks log e
+shrinks log (Define name machine) legal a h = as_it_was log (Define name machine) (left_is_after log (Define name machine) legal a) refl
+shrinks log (Start exec machine input) legal a h = as_it_was log (Start exec machine input) (left_is_after log (Start exec machine input) legal a) refl
+shrinks log (Stepped name kind) legal a h = as_it_was log (Stepped name kind) (left_is_after log (Stepped name kind) legal a) refl
+shrinks log (Undo name) legal a h = but_these log (Undo name) (λ x. is_same_step name (name_of x.step)) (left_is_after log (Undo name) legal a) refl
+shrinks log (Rollback name undone) legal a h =
+    but_these log (Rollback name undone) (is_among (steps (setting_of log)) (consequences_of log name)) (left_is_after log (Rollback name undone) legal a) refl
+shrinks log Settle legal a h = absurd (never (held log) (settle_free log a) h)
+shrinks log (Hold name count) legal a h = absurd (never (held log) (hold_said log name count a).1 h)
 
-abbrev more : Story → List Entry → Story
-more story log = record { begin = story.begin; log = story.log ++ log }
+abbrev more : Log → List Entry → Log
+more log entries = record { begin = log.begin; entries = log.entries ++ entries }
 
-shared_along : (log : List Entry) (story : Story) → IsLegal story → GoesOnLegally story log → IsHeldThroughout story log
-    → (length (left_of (more story log)) + lowered story log ≡ length (left_of story)) × ((x : Past) → In x (left_of (more story log)) → In x (left_of story))
-shared_along [] story legal goes holds =
-    let same = ap (λ (l : List Entry). left_of (record { begin = story.begin; log = l })) (append-nil story.log) in
+shared_along : (entries : List Entry) (log : Log) → IsLegal log → GoesOnLegally log entries → IsHeldThroughout log entries
+    → (length (left_of (more log entries)) + lowered log entries ≡ length (left_of log)) × ((x : TakenStep) → In x (left_of (more log entries)) → In x (left_of log))
+shared_along [] log legal goes holds =
+    let same = ap (λ (l : List Entry). left_of (record { begin = log.begin; entries = l })) (append-nil log.entries) in
     let l = ap length same in
     (omega (arith, l), λ x i. subst (In x) same i)
-shared_along (e ∷ log) story legal goes holds =
-    let one = shrinks story e legal goes.0 holds.0 in
-    let rest = shared_along log (accepted story e) (accepted_is_legal story e legal goes.0) goes.1 holds.1 in
-    let same = ap (λ (l : List Entry). left_of (record { begin = story.begin; log = l })) (append_assoc story.log (e ∷ []) log) in
+shared_along (e ∷ entries) log legal goes holds =
+    let one = shrinks log e legal goes.0 holds.0 in
+    let rest = shared_along entries (appended log e) (accepted_is_legal log e legal goes.0) goes.1 holds.1 in
+    let same = ap (λ (l : List Entry). left_of (record { begin = log.begin; entries = l })) (append_assoc log.entries (e ∷ []) entries) in
     let l = ap length same in
     let a = one.0 in
     let b = rest.0 in
     (omega (arith, l, a, b), λ x i. one.1 x (rest.1 x (subst (In x) (sym same) i)))
 
 pub holds_are_shared : HoldsAreShared
-holds_are_shared story name count log legal a goes holds =
-    let start = accepted story (Hold name count) in
-    let k = shared_along log start (accepted_is_legal story (Hold name count) legal a) goes holds in
-    let l = ap length (left_is_after story (Hold name count) legal a) in
-    let n = (hold_said story name count a).3 in
+holds_are_shared log name count entries legal a goes holds =
+    let start = appended log (Hold name count) in
+    let k = shared_along entries start (accepted_is_legal log (Hold name count) legal a) goes holds in
+    let l = ap length (left_is_after log (Hold name count) legal a) in
+    let n = (hold_said log name count a).3 in
     let b = k.0 in
     record { counted = omega (arith, l, n, b); inside = k.1 }

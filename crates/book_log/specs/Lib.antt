@@ -3,7 +3,7 @@ pub mod Beginning
 pub mod EntrySame
 pub mod Laws
 pub mod Legal
-pub mod Story
+pub mod Log
 -- what stands below and is named by the crates above
 pub use Rattle.depends.specs.Fault
 pub use Rattle.depends.specs.Frame

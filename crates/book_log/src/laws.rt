@@ -1,6 +1,6 @@
 //! Laws of logs: each function's contract is the law, and it does nothing.
 
-ghost use Rattle.book_log.specs.Laws.{EqualityIsOfEntries, LegalLogsRun, AcceptedIsLegal, LegalLogsHaveRoom, StartsLeaveOthers, StepsLeaveOthers, UndoTakesBack, UndoTakesBackStart, AgainGivesBack, UndoAnswersAreExact, AllowedOrdersAreAccepted, AcceptedOrdersAreWhole, OrdersAgree, SettlingKeepsTheWorld, SettledStaysSettled, LeftIsAfter, HoldsStand, NothingIsLeft, HoldsAreShared, RollbackIsExact, RerunsAreLegal, RerunsAreExact, ArrangementsAgree};
+ghost use Rattle.book_log.specs.Laws.{EqualityIsOfEntries, LegalLogsRun, AcceptedIsLegal, LegalLogsHaveRoom, StartsLeaveOthers, StepsLeaveOthers, UndoTakesBack, UndoTakesBackStart, AgainGivesBack, UndoAnswersAreExact, BackwardOrdersAreAccepted, AcceptedOrdersAreClosed, OrdersAgree, SettlingKeepsTheWorld, SettledStaysSettled, LeftIsAfter, HoldsStand, NothingIsLeft, HoldsAreShared, RollbackIsExact, RerunsAreLegal, RerunsAreExact, LinearizationsAgree};
 
 /// What remains of a legal log can be run from the start, a legal log with an entry that is accepted is one, and its limits leave
 /// room to undo each remaining step.
@@ -48,8 +48,8 @@ pub fn holds_are_shared()
 /// Every order in which each step is free at its turn is accepted, one result for the same steps; and one that is accepted holds
 /// with each step all its consequences.
 pub fn orders_undo()
-    ensures accepted { AllowedOrdersAreAccepted }
-    ensures whole { AcceptedOrdersAreWhole }
+    ensures taken { BackwardOrdersAreAccepted }
+    ensures whole { AcceptedOrdersAreClosed }
     ensures agree { OrdersAgree }
 {}
 
@@ -58,12 +58,12 @@ pub fn rollback_is_exact()
     ensures { RollbackIsExact }
 {}
 
-/// Every list of remaining steps that can be run is rerun, and every arrangement that keeps directly dependent steps in their order,
+/// Every list of remaining steps that can be run is rerun, and every linearization that keeps directly dependent steps in their order,
 /// to the same world.
 pub fn reruns_agree()
     ensures legal { RerunsAreLegal }
     ensures exact { RerunsAreExact }
-    ensures arranged { ArrangementsAgree }
+    ensures arranged { LinearizationsAgree }
 {}
 
 /// `==` says whether two entries are one: what they have room for is no part of it.

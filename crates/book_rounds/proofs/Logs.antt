@@ -2,27 +2,27 @@
 use Rattle.std.proofs.Common.{◌≡◌, ◌+◌, ◌<◌, ℕ, zero, suc, List, [], ◌∷◌, ◌++◌, length, append_assoc, append-nil, Option, None, Some, refl, sym, ap, subst, ◌∙◌, arith}
 use Rattle.std.specs.Prelude.{slice_get}
 use Rattle.book_log.specs.Legal.{GoesOnLegally, IsLegal}
-use Rattle.book_log.specs.Story.{Story, accepted}
+use Rattle.book_log.specs.Log.{Log, appended}
 use Rattle.book_log.specs.declared.entry.Entry.{Entry}
 use Rattle.step_workers.specs.Work.{IsStep}
 use Rattle.book_rounds.specs.Rounds.{AreSteps, with_entries}
 
-pub with_none : (story : Story) → with_entries story [] ≡ story
-with_none story = ap (λ (log : List Entry). let s : Story = record { begin = story.begin; log = log } in s) (append-nil story.log)
+pub with_none : (log : Log) → with_entries log [] ≡ log
+with_none log = ap (λ (entries : List Entry). let s : Log = record { begin = log.begin; entries = entries } in s) (append-nil log.entries)
 
-pub with_more : (story : Story) (e : Entry) (es : List Entry) → with_entries (accepted story e) es ≡ with_entries story (e ∷ es)
-with_more story e es = ap (λ (log : List Entry). let s : Story = record { begin = story.begin; log = log } in s) (append_assoc story.log (e ∷ []) es)
+pub with_more : (log : Log) (e : Entry) (es : List Entry) → with_entries (appended log e) es ≡ with_entries log (e ∷ es)
+with_more log e es = ap (λ (entries : List Entry). let s : Log = record { begin = log.begin; entries = entries } in s) (append_assoc log.entries (e ∷ []) es)
 
 -- what comes later in a log goes on from what came before
-pub goes_after : (story : Story) (es more : List Entry) → GoesOnLegally story (es ++ more) → GoesOnLegally (with_entries story es) more
-goes_after story [] more h = subst (λ (s : Story). GoesOnLegally s more) (sym (with_none story)) h
-goes_after story (e ∷ es) more h = subst (λ (s : Story). GoesOnLegally s more) (with_more story e es) (goes_after (accepted story e) es more h.1)
+pub goes_after : (log : Log) (es more : List Entry) → GoesOnLegally log (es ++ more) → GoesOnLegally (with_entries log es) more
+goes_after log [] more h = subst (λ (s : Log). GoesOnLegally s more) (sym (with_none log)) h
+goes_after log (e ∷ es) more h = subst (λ (s : Log). GoesOnLegally s more) (with_more log e es) (goes_after (appended log e) es more h.1)
 
-pub goes_from : (before after : Story) (more : List Entry) → after ≡ with_entries before more → IsLegal after → GoesOnLegally before more
+pub goes_from : (before after : Log) (more : List Entry) → after ≡ with_entries before more → IsLegal after → GoesOnLegally before more
 unfolding IsLegal
 goes_from before after more is legal =
     let all : IsLegal (with_entries before more) = subst IsLegal is legal in
-    goes_after (record { begin = before.begin; log = [] }) before.log more all.1
+    goes_after (record { begin = before.begin; entries = [] }) before.entries more all.1
 
 -- a place behind the front
 behind : (front more : List Entry) (i : ℕ) → slice_get (front ++ more) (length front + i) ≡ slice_get more i

@@ -3,9 +3,9 @@ use Rattle.std.proofs.Common.{◌≡◌, ◌+◌, ◌-◌, ◌<◌, ◌≤◌, �
 use Rattle.std.specs.Prelude.{slice_get, if◌then◌else◌}
 use Rattle.std.proofs.lemmas.Bool.Decides.{nat_tests}
 use Rattle.book_log.specs.Legal.{IsLegal}
-use Rattle.book_log.specs.Story.{Story}
+use Rattle.book_log.specs.Log.{Log}
 use Rattle.book_log.specs.declared.entry.Entry.{Entry}
-use Rattle.shared_book.specs.Closed.{all_receipts, times, once_within, AllStand, IsClosed}
+use Rattle.shared_book.specs.Closed.{all_receipts, times, once_within, AllAreLogged, IsClosed}
 use Rattle.shared_book.specs.Numbers.{entry_at}
 use Rattle.shared_book.specs.Views.{PassView}
 use Rattle.shared_book.specs.declared.receipt.Receipt.{Receipt}
@@ -37,64 +37,64 @@ none_fresh (p ∷ ps) fresh = ap (λ (rs : List Receipt). rs ++ all_receipts ps)
 
 -- ---- a receipt of a number
 
-by_number : (log : List Entry) (k : ℕ) (r : Receipt) (rs : List Receipt) (b : Bool) → (r.number == k) ≡ b → 0 < times k (r ∷ rs) → AllStand log (r ∷ rs) → AllSteps (r ∷ rs)
-    → (0 < times k rs → (e : Entry) × (entry_at log k ≡ Some e) × IsStep e) → (e : Entry) × (entry_at log k ≡ Some e) × IsStep e
-by_number log k r rs true is some stand steps rest = (r.entry, subst (λ (n : ℕ). entry_at log n ≡ Some r.entry) (eqb-true r.number k is) stand.0, steps.0)
-by_number log k r rs false is some stand steps rest =
+by_number : (entries : List Entry) (k : ℕ) (r : Receipt) (rs : List Receipt) (b : Bool) → (r.number == k) ≡ b → 0 < times k (r ∷ rs) → AllAreLogged entries (r ∷ rs) → AllSteps (r ∷ rs)
+    → (0 < times k rs → (e : Entry) × (entry_at entries k ≡ Some e) × IsStep e) → (e : Entry) × (entry_at entries k ≡ Some e) × IsStep e
+by_number entries k r rs true is some stand steps rest = (r.entry, subst (λ (n : ℕ). entry_at entries n ≡ Some r.entry) (eqb-true r.number k is) stand.0, steps.0)
+by_number entries k r rs false is some stand steps rest =
     let less : times k (r ∷ rs) ≡ 0 + times k rs = rw is refl in
     rest (omega (arith, less, some))
 
-found : (log : List Entry) (k : ℕ) (rs : List Receipt) → 0 < times k rs → AllStand log rs → AllSteps rs → (e : Entry) × (entry_at log k ≡ Some e) × IsStep e
-found log k [] some stand steps = absurd (omega (arith, some))
-found log k (r ∷ rs) some stand steps = by_number log k r rs (r.number == k) refl some stand steps (λ more. found log k rs more stand.1 steps.1)
+found : (entries : List Entry) (k : ℕ) (rs : List Receipt) → 0 < times k rs → AllAreLogged entries rs → AllSteps rs → (e : Entry) × (entry_at entries k ≡ Some e) × IsStep e
+found entries k [] some stand steps = absurd (omega (arith, some))
+found entries k (r ∷ rs) some stand steps = by_number entries k r rs (r.number == k) refl some stand steps (λ more. found entries k rs more stand.1 steps.1)
 
 -- the entry of a number that isn't 0
-placed : (log : List Entry) (k : ℕ) → entry_at log (k + 1) ≡ slice_get log k
-placed log k =
+placed : (entries : List Entry) (k : ℕ) → entry_at entries (k + 1) ≡ slice_get entries k
+placed entries k =
     let apart : (k + 1 == 0) ≡ false = grind (arith, nat_tests) in
     let back : k + 1 - 1 ≡ k = omega arith in
     rw (apart, back) refl
 
 -- ---- a round
 
-module _ (begun now : Story) (rs : List Receipt) (closed : IsClosed begun now rs) where
+module _ (begun now : Log) (rs : List Receipt) (closed : IsClosed begun now rs) where
   now_is : now ≡ with_entries begun closed.goes.more
-  now_is = rw (← closed.goes.begin, ← closed.goes.log) refl
+  now_is = rw (← closed.goes.begin, ← closed.goes.entries) refl
 
   as_many : length closed.goes.more ≡ length rs
-  as_many = omega (arith, length-append begun.log closed.goes.more, ap (λ (log : List Entry). length log) closed.goes.log, closed.as_many)
+  as_many = omega (arith, length-append begun.entries closed.goes.more, ap (λ (entries : List Entry). length entries) closed.goes.entries, closed.as_many)
 
-  one_there : (i : ℕ) → i < length closed.goes.more → AllSteps rs → (e : Entry) × (slice_get (begun.log ++ closed.goes.more) (length begun.log + i) ≡ Some e) × IsStep e
+  one_there : (i : ℕ) → i < length closed.goes.more → AllSteps rs → (e : Entry) × (slice_get (begun.entries ++ closed.goes.more) (length begun.entries + i) ≡ Some e) × IsStep e
   one_there i low steps =
-      let k = length begun.log + i in
+      let k = length begun.entries + i in
       let long = as_many in
-      let is : once_within (length begun.log + 1) (length now.log + 1) (k + 1) ≡ 1 =
+      let is : once_within (length begun.entries + 1) (length now.entries + 1) (k + 1) ≡ 1 =
       let many = closed.as_many in grind (arith, nat_tests, many, long, low) in
       let some : 0 < times (k + 1) rs = omega (arith, closed.once (k + 1), is) in
-      let one = found now.log (k + 1) rs some closed.stand steps in
-      (one.0, subst (λ (log : List Entry). slice_get log k ≡ Some one.0) closed.goes.log (sym (placed now.log k) ∙ one.1), one.2)
+      let one = found now.entries (k + 1) rs some closed.stand steps in
+      (one.0, subst (λ (entries : List Entry). slice_get entries k ≡ Some one.0) closed.goes.entries (sym (placed now.entries k) ∙ one.1), one.2)
 
   pub round_of : (moves : ℕ) → AllSteps rs → length rs ≤ moves → IsLegal now → IsRound moves begun now
   round_of moves steps few legal = record {
     more = closed.goes.more;
     after_is = now_is;
-    steps = steps_behind begun.log closed.goes.more (λ i low. one_there i low steps);
+    steps = steps_behind begun.entries closed.goes.more (λ i low. one_there i low steps);
     few = omega (arith, as_many, few);
     legal = goes_from begun now closed.goes.more now_is legal;
   }
 
 -- the passes went on, and the book was closed with them
-pub round_closed : (moves : ℕ) (begun now : Story) (ps qs : List PassView) → AreFresh ps → AllGoOn moves ps qs → IsLegal now → IsClosed begun now (all_receipts qs) → IsRound moves begun now
+pub round_closed : (moves : ℕ) (begun now : Log) (ps qs : List PassView) → AreFresh ps → AllGoOn moves ps qs → IsLegal now → IsClosed begun now (all_receipts qs) → IsRound moves begun now
 round_closed moves begun now ps qs fresh go legal closed =
     let all = all_few moves ps qs fresh go in
     round_of begun now (all_receipts qs) closed moves all.0 all.1 legal
 
--- without receipts, the story is the same
-same_more : (begun now : Story) (more : List Entry) → now ≡ with_entries begun more → length more ≡ 0 → now ≡ begun
+-- without receipts, the log is the same
+same_more : (begun now : Log) (more : List Entry) → now ≡ with_entries begun more → length more ≡ 0 → now ≡ begun
 same_more begun now [] is none = is ∙ with_none begun
 same_more begun now (e ∷ more) is none = absurd (omega (arith, none))
 
-pub same_closed : (begun now : Story) (ps : List PassView) → AreFresh ps → IsClosed begun now (all_receipts ps) → now ≡ begun
+pub same_closed : (begun now : Log) (ps : List PassView) → AreFresh ps → IsClosed begun now (all_receipts ps) → now ≡ begun
 same_closed begun now ps fresh closed =
     let none = none_fresh ps fresh in
     let long = as_many begun now (all_receipts ps) closed in

@@ -13,7 +13,7 @@ const MOST_BEFORE_A_STEP: usize = 999_998;
 /// Whether the book refuses each step as full. Takes no memory.
 #[tactic(auto, using(crate::proofs::Sums::full_by))]
 pub fn is_full_for_step(book: &Book) -> bool
-    ensures { result ≡ is_full_for_step book.now.story }
+    ensures { result ≡ is_full_for_step book.now.log }
 {
     is_full(book.entries().1.len(), book.history().len())
 }

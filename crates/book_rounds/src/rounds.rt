@@ -3,7 +3,7 @@ ghost use Rattle.std.specs.Prelude.{◌≡◌, ◌≤◌, ℕ, List, IfOk, IfErr
 ghost use Rattle.shared_book.specs.Closed.{all_receipts};
 ghost use Rattle.shared_book.specs.Views.{PassView};
 ghost use Rattle.step_workers.specs.Work.{AllGoOn};
-ghost use Rattle.book_log.specs.Story.{Story};
+ghost use Rattle.book_log.specs.Log.{Log};
 ghost use Rattle.book_rounds.specs.Rounds.{AreFresh, IsLeft, IsRound};
 
 use crate::seats::seats_of;
@@ -27,7 +27,7 @@ pub struct Round {
 /// Why a round gives no book, or the one that was given.
 #[derive(Drop)]
 pub enum RoundFault {
-    /// Memory for the round was refused before any step. The story is as it was.
+    /// Memory for the round was refused before any step. The log is as it was.
     NotBegun(Book),
     /// The book couldn't be taken out again, for want of memory. It is gone.
     Lost,
@@ -49,8 +49,8 @@ pub fn run_round<R: Threads + Wait + Sync>(
     moves: u32,
 ) -> Result<Round, RoundFault>
     requires { (1 ≤ workers) × (workers ≤ 8) }
-    ensures ok { IfOk result (λ r. IsRound moves book.story r.book.story) }
-    ensures err { IfErr result (IsLeft book.story) }
+    ensures ok { IfOk result (λ r. IsRound moves book.log r.book.log) }
+    ensures err { IfErr result (IsLeft book.log) }
 {
     share_and_work::<Brand, R>(rt, alloc, Blank::new(PARTS), book, workers as usize, moves)
 }
@@ -65,9 +65,9 @@ fn share_and_work<L: Sharing + Send + Sync, R: Threads + Wait + Sync>(
     workers: usize,
     moves: u32,
 ) -> Result<Round, RoundFault>
-    requires shared { (blank.name ≡ L.name) × (blank.parts ≡ L.parts) × (L.parts ≡ PARTS) × (book.story ≡ L.begun) }
+    requires shared { (blank.name ≡ L.name) × (blank.parts ≡ L.parts) × (L.parts ≡ PARTS) × (book.log ≡ L.begun) }
     requires few { (1 ≤ workers) × (workers ≤ 8) }
-    ensures ok { IfOk result (λ r. IsRound moves L.begun r.book.story) }
+    ensures ok { IfOk result (λ r. IsRound moves L.begun r.book.log) }
     ensures err { IfErr result (IsLeft L.begun) }
 {
     let Ok(passes) = Vec::with_capacity(alloc, workers) else {
@@ -88,7 +88,7 @@ fn finish<L: Sharing>(
     shared: Shared<Book, L>,
     outcome: Outcome<L>,
 ) -> Result<Round, RoundFault>
-    ensures ok { IfOk result (λ r. (moves : ℕ) → (passes : List PassView) → AreFresh passes → AllGoOn moves passes outcome.passes.items → IsRound moves L.begun r.book.story) }
+    ensures ok { IfOk result (λ r. (moves : ℕ) → (passes : List PassView) → AreFresh passes → AllGoOn moves passes outcome.passes.items → IsRound moves L.begun r.book.log) }
     ensures err { IfErr result (IsLeft L.begun) }
 {
     let Outcome {

@@ -1,12 +1,12 @@
 //! The laws are called, each once: they state what holds of all values, and do nothing. And what threads will share may be sent.
 use branch_tree::{below_is_parked, fork_taken_back, given_back, names_by_path, paths_go_on};
 use depends::{
-    arrangements_agree, consequences_are_least, free_steps_undo, held_consequences_are_left,
-    neighbours_swap, orders_undo, plans_are_consequences, steps_are_lawful,
+    consequences_are_least, free_steps_undo, held_consequences_are_left, linearizations_agree,
+    neighbours_swap, orders_undo, plans_are_consequences, steps_are_reversible,
 };
 use saved_steps::{nexts_are_moves, steps_are_taken_back, steps_leave_threads};
 use step_history::{
-    allowed_orders_undo, frames_are_counted, frames_stand, free_steps_return,
+    backward_orders_undo, frames_are_counted, frames_stand, free_steps_return,
     more_machines_keep_histories, threads_move_where_ready,
 };
 
@@ -28,19 +28,19 @@ fn laws_of_steps(_rt: HostRuntime) {
 
 #[test]
 fn laws_of_dependence(_rt: HostRuntime) {
-    steps_are_lawful();
+    steps_are_reversible();
     neighbours_swap();
     free_steps_undo();
     consequences_are_least();
     orders_undo();
-    arrangements_agree();
+    linearizations_agree();
     held_consequences_are_left();
     plans_are_consequences();
 }
 
 #[test]
 fn laws_of_histories(_rt: HostRuntime) {
-    allowed_orders_undo();
+    backward_orders_undo();
     frames_are_counted();
     frames_stand();
     free_steps_return();

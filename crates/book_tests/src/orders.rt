@@ -1,4 +1,4 @@
-//! Orders in which steps are undone, and arrangements in which they are taken again.
+//! Orders in which steps are undone, and linearizations in which they are taken again.
 use crate::acts::{
     Act, Row, TWO_BRANCHES, book_over, expect, is_answered, listed, rerun_of, shown, world,
 };
@@ -94,7 +94,7 @@ fn has_names(alloc: Global, book: &Book, names: &[&str]) -> Result<bool, Fail> {
     Ok(listed(alloc, book)? == wanted)
 }
 
-/// Whether a book has this arrangement by seven entries, and the items and frames of the first.
+/// Whether a book has this linearization by seven entries, and the items and frames of the first.
 fn is_arranged(alloc: Global, again: &Book, names: &[&str], world_of: &str) -> Result<bool, Fail> {
     let (_begin, log) = again.entries();
     Ok(
@@ -104,7 +104,7 @@ fn is_arranged(alloc: Global, again: &Book, names: &[&str], world_of: &str) -> R
     )
 }
 
-/// Whether a rerun of this arrangement has it, and gives what the book has.
+/// Whether a rerun of this linearization has it, and gives what the book has.
 fn agrees(alloc: Global, book: &Book, names: &[&str], world_of: &str) -> Result<bool, Fail> {
     match rerun_of(alloc, book, names) {
         Ok(again) => {
@@ -126,7 +126,7 @@ fn all_agree(rt: &impl Abort, alloc: Global, book: &mut Book) -> Result<(), Fail
 }
 
 #[test]
-fn six_arrangements(rt: HostRuntime) -> Result<(), Fail> {
+fn six_linearizations(rt: HostRuntime) -> Result<(), Fail> {
     let mut book = book_over(rt.alloc(), "[]")?;
     let agreed = all_agree(&rt, rt.alloc(), &mut book);
     drop(book);

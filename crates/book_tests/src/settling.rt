@@ -139,13 +139,13 @@ const PUT_AND_SETTLED: &[Row] = &[
 ];
 
 /// The rerun has the log up to the settlement, the definition after it, and an entry for each step.
-fn is_retold(alloc: Global, book: &Book, again: &Book) -> Result<bool, Fail> {
+fn is_replayed(alloc: Global, book: &Book, again: &Book) -> Result<bool, Fail> {
     let (_begin, log) = book.entries();
-    let (_again, retold) = again.entries();
+    let (_again, replayed) = again.entries();
     Ok(
         log.len() == 14
-            && retold.len() == 14
-            && log[..12] == retold[..12]
+            && replayed.len() == 14
+            && log[..12] == replayed[..12]
             && listed(alloc, again)?.as_str() == r#"c#0 a#1 {"id":{"S":"k"},"v":{"S":"1"}}"#
             && world(alloc, again)? == world(alloc, book)?,
     )
@@ -155,9 +155,9 @@ fn reruns_from_there(rt: &impl Abort, alloc: Global, book: &mut Book) -> Result<
     expect(rt, alloc, book, PUT_AND_SETTLED)?;
     match rerun_of(alloc, book, &["c#0", "a#1"]) {
         Ok(again) => {
-            let is_retold = is_retold(alloc, book, &again);
+            let is_replayed = is_replayed(alloc, book, &again);
             drop(again);
-            is_retold
+            is_replayed
         }
         Err(refusal) => Err(refusal.into()),
     }
@@ -166,9 +166,9 @@ fn reruns_from_there(rt: &impl Abort, alloc: Global, book: &mut Book) -> Result<
 #[test]
 fn reruns_begin_from_what_was_settled(rt: HostRuntime) -> Result<(), Fail> {
     let mut book = book_over(rt.alloc(), "[]")?;
-    let retold = reruns_from_there(&rt, rt.alloc(), &mut book);
+    let replayed = reruns_from_there(&rt, rt.alloc(), &mut book);
     drop(book);
-    assert!(rt; retold?);
+    assert!(rt; replayed?);
     Ok(())
 }
 

@@ -18,7 +18,7 @@ use Rattle.branch_tree.specs.FlatMap.{FrameMap, IsTree, branch_count}
 use Rattle.branch_tree.specs.Bounds.{place_of, bound_of}
 use Rattle.branch_tree.specs.Leading.{leading_done, is_in_turn, done_at, failures}
 use Rattle.branch_tree.specs.Ready.{root_readiness, readiness_of, readiness_under, readiness_in, begins_under, may_begin, progress, frame_is, is_done}
-use Rattle.branch_tree.specs.First.{has_move, thread_under, path_cmp, is_free, IsFirst}
+use Rattle.branch_tree.specs.First.{is_enabled, thread_under, path_cmp, is_free, IsFirst}
 use Rattle.branch_tree.specs.Tree.{Rows, under, rows_from, flat, frame_at, branch_at, IsNode}
 use Rattle.branch_tree.specs.Falls.{under_len}
 use Rattle.branch_tree.proofs.Below.{nothing_under}
@@ -62,11 +62,11 @@ begins_below root frames b (c ∷ q) = refl
 
 -- ---- a thread that is done has nothing under it, and none that moves
 
-done_readiness : (begins : Bool) (frames : FrameMap) (o : Option Frame) → frame_is is_done o ≡ true → has_move (readiness_of begins frames o) ≡ false
+done_readiness : (begins : Bool) (frames : FrameMap) (o : Option Frame) → frame_is is_done o ≡ true → is_enabled (readiness_of begins frames o) ≡ false
 done_readiness begins frames None d = cc
 done_readiness begins frames (Some f) d = by f.phase d
   where
-    by : (p : Phase) → is_done p ≡ true → has_move (readiness_in begins frames f.count p) ≡ false
+    by : (p : Phase) → is_done p ≡ true → is_enabled (readiness_in begins frames f.count p) ≡ false
     by Ready d = cc
     by (Parked n bound) d = cc
     by (Done output) d = refl
@@ -113,8 +113,8 @@ module _ (root : Bool) (frame : Frame) (kids : List Rows) (base : Thread) (passe
       fun_ext (λ r. at_node frame kids ((frame.count, i) ∷ r) ∙ own_map frame.count kids i kid h r) in
       let b : begins_under root (frame_at (flat frame kids)) (place_of ((frame.count, i) ∷ q)) ≡ begins_under (begins i) (frame_at kid) (place_of q) =
       begins_below root (frame_at (flat frame kids)) (frame.count, i) q ∙ ap (λ (n : FrameMap). begins_under (begins i) n (place_of q)) k in
-      ap₂ (λ (c : Bool) (n : FrameMap). has_move (root_readiness c n) && not (passed (thread_under base ((frame.count, i) ∷ q)))) b m
-      ∙ ap (λ (t : Thread). has_move (readiness_under (begins i) (frame_at kid) q) && not (passed t)) (below_base base frame.count i q)
+      ap₂ (λ (c : Bool) (n : FrameMap). is_enabled (root_readiness c n) && not (passed (thread_under base ((frame.count, i) ∷ q)))) b m
+      ∙ ap (λ (t : Thread). is_enabled (readiness_under (begins i) (frame_at kid) q) && not (passed t)) (below_base base frame.count i q)
 
   nowhere : (p : Path) → ((r : Path) → frame_at (flat frame kids) (p ++ r) ≡ None) → free p ≡ false
   nowhere p h =
@@ -223,7 +223,7 @@ first_here root frames base passed h =
 base_itself : (base : Thread) → thread_under base [] ≡ base
 base_itself base = ap (λ (p : Path). record { exec = base.exec; path = p }) (append-nil base.path)
 
-pub root_free : (root : Bool) (frames : FrameMap) (base : Thread) (passed : Thread → Bool) (r : Readiness) → root_readiness root frames ≡ r → is_free root frames base passed [] ≡ (has_move r && not (passed base))
+pub root_free : (root : Bool) (frames : FrameMap) (base : Thread) (passed : Thread → Bool) (r : Readiness) → root_readiness root frames ≡ r → is_free root frames base passed [] ≡ (is_enabled r && not (passed base))
 root_free root frames base passed r h = rw (base_itself base, h) refl
 
 module _ (root : Bool) (frame : Frame) (kids : List Rows) (v : Rows) (is : flat frame kids ≡ v) (node : IsNode frame kids) (base : Thread) (passed : Thread → Bool) where
@@ -231,7 +231,7 @@ module _ (root : Bool) (frame : Frame) (kids : List Rows) (v : Rows) (is : flat 
   no_kids h = λ i q l t. absurd (omega (arith, node.counted))
 
   -- a thread that ended
-  pub first_of_ended : (p : Phase) → frame.phase ≡ p → branch_count p ≡ 0 → has_move (readiness_in root (frame_at v) frame.count p) ≡ false → IsFirst root (frame_at v) base passed None
+  pub first_of_ended : (p : Phase) → frame.phase ≡ p → branch_count p ≡ 0 → is_enabled (readiness_in root (frame_at v) frame.count p) ≡ false → IsFirst root (frame_at v) base passed None
   first_of_ended p e none still =
       first_of_all root frame kids base passed v is None
       (root_free root (frame_at v) base passed _ (sym (not_parked root frame kids v p is e)) ∙ rw still refl)
@@ -244,7 +244,7 @@ module _ (root : Bool) (frame : Frame) (kids : List Rows) (v : Rows) (is : flat 
       (root_free root (frame_at v) base passed _ (sym (not_parked root frame kids v Ready is e)) ∙ still (frame.count == 0 && not root) (passed base) h)
       (no_kids (ap branch_count e))
     where
-      still : (waits out : Bool) → (waits || out) ≡ true → (has_move (cond waits readiness.Waiting readiness.Ready) && not out) ≡ false
+      still : (waits out : Bool) → (waits || out) ≡ true → (is_enabled (cond waits readiness.Waiting readiness.Ready) && not out) ≡ false
       still true true h = refl
       still true false h = refl
       still false true h = refl
@@ -254,7 +254,7 @@ module _ (root : Bool) (frame : Frame) (kids : List Rows) (v : Rows) (is : flat 
   first_of_ready e h =
       first_here root (frame_at v) base passed (root_free root (frame_at v) base passed _ (sym (not_parked root frame kids v Ready is e)) ∙ goes (frame.count == 0 && not root) (passed base) h)
     where
-      goes : (waits out : Bool) → (waits || out) ≡ false → (has_move (cond waits readiness.Waiting readiness.Ready) && not out) ≡ true
+      goes : (waits out : Bool) → (waits || out) ≡ false → (is_enabled (cond waits readiness.Waiting readiness.Ready) && not out) ≡ true
       goes true out h = cc
       goes false true h = cc
       goes false false h = refl
@@ -264,7 +264,7 @@ module _ (root : Bool) (frame : Frame) (kids : List Rows) (v : Rows) (is : flat 
   parked_free n bound e =
       root_free root (frame_at v) base passed _ (sym (parked root frame kids v n bound is node e)) ∙ ap (λ (b : Bool). b && not (passed base)) (moves (failed_one kids) (all_done kids))
     where
-      moves : (failed done : Bool) → has_move (progress failed done) ≡ (failed || done)
+      moves : (failed done : Bool) → is_enabled (progress failed done) ≡ (failed || done)
       moves true done = refl
       moves false true = refl
       moves false false = refl

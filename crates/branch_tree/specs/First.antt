@@ -11,14 +11,14 @@ use Rattle.branch_tree.specs.Paths.{Path}
 use Rattle.branch_tree.specs.FlatMap.{FrameMap}
 use Rattle.branch_tree.specs.Ready.{readiness_under}
 
-abbrev pub has_move : Readiness → Bool
-has_move Ready = true
-has_move Join = true
-has_move Terminate = true
-has_move Waiting = false
-has_move Done = false
-has_move Failed = false
-has_move NoThread = false
+abbrev pub is_enabled : Readiness → Bool
+is_enabled Ready = true
+is_enabled Join = true
+is_enabled Terminate = true
+is_enabled Waiting = false
+is_enabled Done = false
+is_enabled Failed = false
+is_enabled NoThread = false
 
 -- the thread that a path leads to from another
 abbrev pub thread_under : Thread → Path → Thread
@@ -30,7 +30,7 @@ path_cmp = slice_cmp branch_cmp
 
 -- of the threads at and under a base, which may begin or not
 abbrev pub is_free : Bool → FrameMap → Thread → (Thread → Bool) → Path → Bool
-is_free begins frames base passed p = has_move (readiness_under begins frames p) && not (passed (thread_under base p))
+is_free begins frames base passed p = is_enabled (readiness_under begins frames p) && not (passed (thread_under base p))
 
 -- Nothing, where no name of a thread at or under the base is free; or the name of one that is, with none before it.
 abbrev pub IsFirst : Bool → FrameMap → Thread → (Thread → Bool) → Option Thread → Type 0

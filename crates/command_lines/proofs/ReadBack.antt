@@ -12,7 +12,7 @@ use Rattle.attr_values.specs.declared.key.KeyAttribute.{KeyAttribute}
 use Rattle.attr_values.specs.declared.key.KeyType.{KeyType}
 use Rattle.attr_values.specs.declared.key.KeyType.TheVariants.{S, N}
 use Rattle.asl_fields.specs.Fields.{is_text}
-use Rattle.command_lines.specs.Grammar.{Spoken, table, define, start, step, undo, plan, rollback, settle, hold, drive, work, show, items, history, held, is_table_name, is_table_name_byte, execution_in, count_in, workers_in, work_of, type_in, key_name_in, key_in, first_word, table_by, table_of, define_of, start_of, words_command}
+use Rattle.command_lines.specs.Grammar.{CommandView, table, define, start, step, undo, plan, rollback, settle, hold, drive, work, show, items, history, held, is_table_name, is_table_name_byte, execution_in, count_in, workers_in, work_of, type_in, key_name_in, key_in, first_word, table_by, table_of, define_of, start_of, words_command}
 use Rattle.command_lines.specs.Spelled.{type_text, key_text, items_text, is_key_name, IsExecution, IsSort, IsProper, line_of}
 use Rattle.command_lines.specs.GrammarLaws.{LineIsRead}
 use Rattle.command_lines.proofs.Cuts.{cut_some}
@@ -112,7 +112,7 @@ work_reads workers moves few some = rw (
   count_reads moves some,
 )
 
-text_reads : (command : Spoken) → IsProper command → words_command (line_of command) ≡ Some command
+text_reads : (command : CommandView) → IsProper command → words_command (line_of command) ≡ Some command
 text_reads (table name schema json) kept = table_reads name schema.partition schema.sort json kept.0 kept.1 kept.2
 text_reads (define name json) kept = define_reads name json kept
 text_reads (start exec machine json) kept = start_reads exec machine json kept.0 kept.1

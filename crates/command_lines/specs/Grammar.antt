@@ -1,6 +1,6 @@
 -- The grammar of lines: which command a line is, if it is one.
 --
---     table NAME2 K:TYPE [K:TYPE] J        step T        plan S          items         settle
+--     table TABLE_NAME K:TYPE [K:TYPE] J   step T        plan S          items         settle
 --     define NAME J                        show T        rollback S      history       hold S
 --     start NAME NAME J                    undo S        drive K         work W K      held
 --
@@ -24,22 +24,22 @@ use Rattle.command_lines.specs.declared.command.Command.TheVariants.{Table, Defi
 
 -- A command: of a table its name, its key and its items' JSON; of a definition the machine's name and the definition's
 -- JSON; of a start the execution's thread, the machine's name and the input's JSON. Texts are their bytes.
-pub data Spoken : Type 0 where
-  table : List ℕ → KeySchema → List ℕ → Spoken
-  define : List ℕ → List ℕ → Spoken
-  start : Thread → List ℕ → List ℕ → Spoken
-  step : Thread → Spoken
-  undo : StepName → Spoken
-  plan : StepName → Spoken
-  rollback : StepName → Spoken
-  settle : Spoken
-  hold : StepName → Spoken
-  drive : ℕ → Spoken
-  work : ℕ → ℕ → Spoken
-  show : Thread → Spoken
-  items : Spoken
-  history : Spoken
-  held : Spoken
+pub data CommandView : Type 0 where
+  table : List ℕ → KeySchema → List ℕ → CommandView
+  define : List ℕ → List ℕ → CommandView
+  start : Thread → List ℕ → List ℕ → CommandView
+  step : Thread → CommandView
+  undo : StepName → CommandView
+  plan : StepName → CommandView
+  rollback : StepName → CommandView
+  settle : CommandView
+  hold : StepName → CommandView
+  drive : ℕ → CommandView
+  work : ℕ → ℕ → CommandView
+  show : Thread → CommandView
+  items : CommandView
+  history : CommandView
+  held : CommandView
 
 -- one part after another: nothing where one of them is nothing
 infixl 10 ◌>>=◌
@@ -63,7 +63,7 @@ name_in word = if is_name word then Some word else None
 abbrev pub is_table_name_byte : ℕ → Bool
 is_table_name_byte b = is_name_byte b || b == 46
 
--- NAME2: such bytes, at least one and at most 255
+-- TABLE_NAME: such bytes, at least one and at most 255
 abbrev pub is_table_name : List ℕ → Bool
 is_table_name word = nat_le 1 (length word) && (nat_le (length word) 255 && list_all is_table_name_byte word)
 
@@ -115,14 +115,14 @@ key_in word = do
 
 -- Where the next word is a key too, it is the sort key, which needs another name, and J comes after it. Where it is none, J
 -- comes at once.
-abbrev pub table_by : List ℕ → KeyAttribute → Option KeyAttribute → List ℕ → Option Spoken
+abbrev pub table_by : List ℕ → KeyAttribute → Option KeyAttribute → List ℕ → Option CommandView
 table_by name partition None text = Some (table name (record { partition = partition; sort = None }) text)
 table_by name partition (Some sort) text = do
   (word, json) ← cut_at 32 text
   if is_text sort.name partition.name then None else Some (table name (record { partition = partition; sort = Some sort }) json)
 
--- NAME2 K:TYPE [K:TYPE] J
-abbrev pub table_of : List ℕ → Option Spoken
+-- TABLE_NAME K:TYPE [K:TYPE] J
+abbrev pub table_of : List ℕ → Option CommandView
 table_of text = do
   (first, after_name) ← cut_at 32 text
   name ← table_name_in first
@@ -131,14 +131,14 @@ table_of text = do
   table_by name partition (key_in (first_word after_key)) after_key
 
 -- NAME J
-abbrev pub define_of : List ℕ → Option Spoken
+abbrev pub define_of : List ℕ → Option CommandView
 define_of text = do
   (word, json) ← cut_at 32 text
   name ← name_in word
   Some (define name json)
 
 -- NAME NAME J
-abbrev pub start_of : List ℕ → Option Spoken
+abbrev pub start_of : List ℕ → Option CommandView
 start_of text = do
   (first, after_exec) ← cut_at 32 text
   thread ← execution_in first
@@ -147,7 +147,7 @@ start_of text = do
   Some (start thread machine json)
 
 -- W K
-abbrev pub work_of : List ℕ → Option Spoken
+abbrev pub work_of : List ℕ → Option CommandView
 work_of text = do
   (first, second) ← cut_at 32 text
   workers ← workers_in first
@@ -155,7 +155,7 @@ work_of text = do
   Some (work workers moves)
 
 -- by the first word, from what stands after it
-abbrev pub command_by : List ℕ → List ℕ → Option Spoken
+abbrev pub command_by : List ℕ → List ℕ → Option CommandView
 command_by keyword text =
     if is_text keyword (codes "table") then table_of text
     else (if is_text keyword (codes "define") then define_of text
@@ -171,7 +171,7 @@ command_by keyword text =
     else None))))))))))
 
 -- of a text whose words are these
-abbrev pub words_command : List ℕ → Option Spoken
+abbrev pub words_command : List ℕ → Option CommandView
 words_command text =
     if is_text text (codes "items") then Some items
     else (if is_text text (codes "history") then Some history
@@ -190,15 +190,15 @@ abbrev pub is_one_line : List ℕ → Bool
 is_one_line text = nat_le (length text) longest_line && list_all (λ b. not (b == 10)) text
 
 -- of a text
-abbrev pub text_command : List ℕ → Option Spoken
+abbrev pub text_command : List ℕ → Option CommandView
 text_command text = if is_one_line text then words_command text else None
 
 -- the command that a line is, without its end
-abbrev pub command_of : List ℕ → Option Spoken
+abbrev pub command_of : List ℕ → Option CommandView
 command_of line = if is_utf8 line then text_command line else None
 
 -- this line is this command
-abbrev pub Says : Spoken → List ℕ → Type 0
+abbrev pub Says : CommandView → List ℕ → Type 0
 Says command line = command_of line ≡ Some command
 
 -- a key of the program, as the grammar speaks of it
@@ -206,19 +206,19 @@ abbrev pub attribute_of : KeyWord → KeyAttribute
 attribute_of key = record { name = key.name.now; kind = key.kind }
 
 -- a command of the program, as the grammar speaks of it
-abbrev pub spoken : Command → Spoken
-spoken (Table name schema json) = table name schema json.now
-spoken (Define name json) = define name json.now
-spoken (Start exec machine json) = start exec.thread machine json.now
-spoken (Step thread) = step thread
-spoken (Undo named) = undo named
-spoken (Plan named) = plan named
-spoken (Rollback named) = rollback named
-spoken Settle = settle
-spoken (Hold named) = hold named
-spoken (Drive count) = drive count
-spoken (Work workers moves) = work workers moves
-spoken (Show thread) = show thread
-spoken Items = items
-spoken History = history
-spoken Held = held
+abbrev pub command_view : Command → CommandView
+command_view (Table name schema json) = table name schema json.now
+command_view (Define name json) = define name json.now
+command_view (Start exec machine json) = start exec.thread machine json.now
+command_view (Step thread) = step thread
+command_view (Undo named) = undo named
+command_view (Plan named) = plan named
+command_view (Rollback named) = rollback named
+command_view Settle = settle
+command_view (Hold named) = hold named
+command_view (Drive count) = drive count
+command_view (Work workers moves) = work workers moves
+command_view (Show thread) = show thread
+command_view Items = items
+command_view History = history
+command_view Held = held

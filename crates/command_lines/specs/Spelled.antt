@@ -8,7 +8,7 @@ use Rattle.attr_values.specs.declared.key.KeyAttribute.{KeyAttribute}
 use Rattle.attr_values.specs.declared.key.KeyType.{KeyType}
 use Rattle.attr_values.specs.declared.key.KeyType.TheVariants.{S, N}
 use Rattle.asl_fields.specs.Fields.{is_text}
-use Rattle.command_lines.specs.Grammar.{Spoken, table, define, start, step, undo, plan, rollback, settle, hold, drive, work, show, items, history, held, is_table_name, first_word, key_in, most_driven, most_workers}
+use Rattle.command_lines.specs.Grammar.{CommandView, table, define, start, step, undo, plan, rollback, settle, hold, drive, work, show, items, history, held, is_table_name, first_word, key_in, most_driven, most_workers}
 
 abbrev pub type_text : KeyType → List ℕ
 type_text S = codes "S"
@@ -23,7 +23,7 @@ abbrev pub items_text : Option KeyAttribute → List ℕ → List ℕ
 items_text None json = json
 items_text (Some sort) json = key_text sort ++ 32 ∷ json
 
-abbrev pub line_of : Spoken → List ℕ
+abbrev pub line_of : CommandView → List ℕ
 line_of (table name schema json) = codes "table " ++ (name ++ 32 ∷ (key_text schema.partition ++ 32 ∷ items_text schema.sort json))
 line_of (define name json) = codes "define " ++ (name ++ 32 ∷ json)
 line_of (start exec machine json) = codes "start " ++ (thread_text exec ++ 32 ∷ (machine ++ 32 ∷ json))
@@ -54,7 +54,7 @@ abbrev pub IsSort : KeyAttribute → Option KeyAttribute → List ℕ → Type 0
 IsSort partition None json = key_in (first_word json) ≡ None
 IsSort partition (Some sort) json = IsTrue (is_key_name sort.name) × IsTrue (not (is_text sort.name partition.name))
 
-abbrev pub IsProper : Spoken → Type 0
+abbrev pub IsProper : CommandView → Type 0
 IsProper (table name schema json) = IsTrue (is_table_name name) × IsTrue (is_key_name schema.partition.name) × IsSort schema.partition schema.sort json
 IsProper (define name json) = IsTrue (is_name name)
 IsProper (start exec machine json) = IsExecution exec × IsTrue (is_name machine)

@@ -1,7 +1,7 @@
 // The commands, read from lines.
 ghost use Rattle.std.specs.Prelude.{◌≡◌, ◌↔◌, None, Some, IfOk, IsErrOf, MatchResult, option_map};
 ghost use Rattle.step_names.specs.Grammar as grammar;
-ghost use Rattle.command_lines.specs.Grammar.{cut_at, command_of, text_command, words_command, command_by, table_of, define_of, start_of, execution_in, count_in, workers_in, work_of, spoken, attribute_of};
+ghost use Rattle.command_lines.specs.Grammar.{cut_at, command_of, text_command, words_command, command_by, table_of, define_of, start_of, execution_in, count_in, workers_in, work_of, command_view, attribute_of};
 
 pub use crate::execution::Execution;
 pub use crate::words::LONGEST_LINE;
@@ -99,7 +99,7 @@ impl<'a> Command<'a> {
     ///
     /// `BadLine` where the line is no command, and `Memory`.
     pub fn read(alloc: Global, line: &'a [u8]) -> Result<Command<'a>, CommandFault>
-        ensures ok { IfOk result (λ c. command_of line.now ≡ Some (spoken c)) }
+        ensures ok { IfOk result (λ c. command_of line.now ≡ Some (command_view c)) }
         ensures bad { IsErrOf result CommandFault.BadLine ↔ (command_of line.now ≡ None) }
     {
         match str::from_utf8(line) {
@@ -110,7 +110,7 @@ impl<'a> Command<'a> {
 }
 
 fn read_text(alloc: Global, text: &str) -> Result<Command<'_>, CommandFault>
-    ensures ok { IfOk result (λ c. text_command text.now ≡ Some (spoken c)) }
+    ensures ok { IfOk result (λ c. text_command text.now ≡ Some (command_view c)) }
     ensures bad { IsErrOf result CommandFault.BadLine ↔ (text_command text.now ≡ None) }
 {
     if is_one_line(text) {
@@ -121,7 +121,7 @@ fn read_text(alloc: Global, text: &str) -> Result<Command<'_>, CommandFault>
 }
 
 fn read_spelled(alloc: Global, text: &str) -> Result<Command<'_>, CommandFault>
-    ensures ok { IfOk result (λ c. words_command text.now ≡ Some (spoken c)) }
+    ensures ok { IfOk result (λ c. words_command text.now ≡ Some (command_view c)) }
     ensures bad { IsErrOf result CommandFault.BadLine ↔ (words_command text.now ≡ None) }
 {
     match text {
@@ -138,7 +138,7 @@ fn read_spelled(alloc: Global, text: &str) -> Result<Command<'_>, CommandFault>
 
 /// The command whose first word this is, from the rest of its line.
 fn read_words<'a>(alloc: Global, keyword: &str, rest: &'a str) -> Result<Command<'a>, CommandFault>
-    ensures ok { IfOk result (λ c. command_by keyword.now rest.now ≡ Some (spoken c)) }
+    ensures ok { IfOk result (λ c. command_by keyword.now rest.now ≡ Some (command_view c)) }
     ensures bad { IsErrOf result CommandFault.BadLine ↔ (command_by keyword.now rest.now ≡ None) }
 {
     match keyword {
@@ -158,7 +158,7 @@ fn read_words<'a>(alloc: Global, keyword: &str, rest: &'a str) -> Result<Command
 }
 
 fn read_table(alloc: Global, text: &str) -> Result<Command<'_>, CommandFault>
-    ensures ok { IfOk result (λ c. table_of text.now ≡ Some (spoken c)) }
+    ensures ok { IfOk result (λ c. table_of text.now ≡ Some (command_view c)) }
     ensures bad { IsErrOf result CommandFault.BadLine ↔ (table_of text.now ≡ None) }
 {
     let (name, rest) = parted(text)?;
@@ -213,7 +213,7 @@ fn attribute_of(alloc: Global, key: KeyWord<'_>) -> Result<KeyAttribute, AllocEr
 }
 
 fn read_define(alloc: Global, text: &str) -> Result<Command<'_>, CommandFault>
-    ensures ok { IfOk result (λ c. define_of text.now ≡ Some (spoken c)) }
+    ensures ok { IfOk result (λ c. define_of text.now ≡ Some (command_view c)) }
     ensures bad { IsErrOf result CommandFault.BadLine ↔ (define_of text.now ≡ None) }
 {
     let (name, definition) = parted(text)?;
@@ -227,7 +227,7 @@ fn read_define(alloc: Global, text: &str) -> Result<Command<'_>, CommandFault>
 }
 
 fn read_start(alloc: Global, text: &str) -> Result<Command<'_>, CommandFault>
-    ensures ok { IfOk result (λ c. start_of text.now ≡ Some (spoken c)) }
+    ensures ok { IfOk result (λ c. start_of text.now ≡ Some (command_view c)) }
     ensures bad { IsErrOf result CommandFault.BadLine ↔ (start_of text.now ≡ None) }
 {
     let (exec, rest) = parted(text)?;
@@ -292,7 +292,7 @@ fn read_count(word: &str) -> Result<u32, CommandFault>
 }
 
 fn read_work(text: &str) -> Result<Command<'_>, CommandFault>
-    ensures { MatchResult result (λ c. work_of text.now ≡ Some (spoken c)) (λ e. (e ≡ CommandFault.BadLine) × (work_of text.now ≡ None)) }
+    ensures { MatchResult result (λ c. work_of text.now ≡ Some (command_view c)) (λ e. (e ≡ CommandFault.BadLine) × (work_of text.now ≡ None)) }
 {
     let (workers, moves) = parted(text)?;
     Ok(Command::Work {

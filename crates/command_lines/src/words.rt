@@ -30,7 +30,7 @@ pub(crate) struct KeyWord<'a> {
     pub(crate) kind: KeyType,
 }
 
-/// NAME2: bytes of a NAME and points, at least one and at most 255.
+/// TABLE_NAME: bytes of a NAME and points, at least one and at most 255.
 pub(crate) fn is_table_name(word: &str) -> bool
     ensures { result ≡ is_table_name word.now }
 {

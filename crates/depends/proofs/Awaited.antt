@@ -7,7 +7,7 @@ use Rattle.std.proofs.lemmas.List.{append-nil, append_cancel_left}
 use Rattle.std.proofs.lemmas.Option.{same_Some}
 use Rattle.std.proofs.lemmas.Slice.Eq.{bytes_eq-Decides}
 use Rattle.saved_steps.specs.Bounds.{Place, place_by, place_of, sibling, any_below, in_window, bound_in}
-use Rattle.saved_steps.specs.Deeds.{waits, first_bound}
+use Rattle.saved_steps.specs.Effects.{waits, first_bound}
 use Rattle.saved_steps.specs.Frame.{Frame}
 use Rattle.saved_steps.specs.Held.{paths_of}
 use Rattle.saved_steps.specs.Paths.{Path, same_branch}

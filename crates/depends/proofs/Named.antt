@@ -7,8 +7,8 @@ use Rattle.step_names.specs.Thread.{Thread}
 use Rattle.step_names.specs.Under.{is_under}
 use Rattle.step_names.specs.declared.step.StepName.{StepName}
 use Rattle.step_names.proofs.OrderLaws.{thread_same, thread_itself, thread_eq}
-use Rattle.saved_steps.specs.Deeds.{Deed}
-use Rattle.saved_steps.specs.Run.{carried_out}
+use Rattle.saved_steps.specs.Effects.{Effect}
+use Rattle.saved_steps.specs.Run.{after_effect}
 use Rattle.saved_steps.specs.Steps.{name_of, is_close, makes, closes}
 use Rattle.saved_steps.specs.World.{Setting, World, is_same_thread, is_same_step}
 use Rattle.trace_theory.specs.Traces.{HasNames}
@@ -17,17 +17,17 @@ use Rattle.trace_theory.proofs.Lists.{by_bool}
 use Rattle.trace_theory.proofs.Names.{names_once}
 use Rattle.depends.specs.Instance.{steps, is_one_step, reaches}
 use Rattle.depends.specs.Laws.{HasNoFrames, StepsHaveNames}
-use Rattle.depends.proofs.Lawful.{good}
+use Rattle.depends.proofs.Reversible.{good}
 use Rattle.depends.proofs.Planned.{IsPlanned, planned}
 use Rattle.depends.proofs.Threads.{either, under_under, nothing_over}
-use Rattle.depends.proofs.Worlds.{Good, frame_own, frame_other, same_frame, none_yet, deed_taken}
+use Rattle.depends.proofs.Worlds.{Good, frame_own, frame_other, same_frame, none_yet, effect_taken}
 
 -- the step of a name was taken: its thread counts that far, or lay under a fork that is behind
 data Was (w : World) (n : StepName) : Type 0 where
   counted : (f : Frame) → w.frames n.thread ≡ Some f → n.no ≤ f.count → Was w n
   behind : (above : Thread) (fork : ℕ) (f : Frame) → is_under n.thread above fork ≡ true → w.frames above ≡ Some f → fork + 1 ≤ f.count → Was w n
 
-module _ (w : World) (d : Deed) (fine : Good w) (p : IsPlanned w d) where
+module _ (w : World) (d : Effect) (fine : Good w) (p : IsPlanned w d) where
   new : (n : StepName) → Was w n → is_same_step n d.fact.name ≡ true → ⊥
   new n (counted f h c) e =
       let k = and_parts (is_same_thread n.thread d.fact.name.thread) (n.no == d.fact.name.no) e in
@@ -41,11 +41,11 @@ module _ (w : World) (d : Deed) (fine : Good w) (p : IsPlanned w d) where
         | inr s ↦ nothing_over d.fact.name.thread above fork s.0 v
       ]
 
-  marked : Was (carried_out w d) d.fact.name
+  marked : Was (after_effect w d) d.fact.name
   marked = counted d.frame (frame_own w d d.fact.name.thread (thread_itself d.fact.name.thread)) (let e = p.count in omega (arith, e))
 
   -- a frame that stood is there with its count or more, or lies under the fork that the step closed
-  kept_or_closed : (t : Thread) (f : Frame) → w.frames t ≡ Some f → ((g : Frame) × ((carried_out w d).frames t ≡ Some g) × (f.count ≤ g.count)) ⊎ (is_under t d.fact.name.thread (d.fact.name.no - 1) ≡ true)
+  kept_or_closed : (t : Thread) (f : Frame) → w.frames t ≡ Some f → ((g : Frame) × ((after_effect w d).frames t ≡ Some g) × (f.count ≤ g.count)) ⊎ (is_under t d.fact.name.thread (d.fact.name.no - 1) ≡ true)
   kept_or_closed t f h =
       by_bool (is_same_thread d.fact.name.thread t) _
       (λ k. let e = (p.follows f (subst (λ x. w.frames x ≡ Some f) (sym (thread_same d.fact.name.thread t k)) h)).0 in let c = p.count in inl (d.frame, frame_own w d t k, omega (arith, c, e)))
@@ -54,14 +54,14 @@ module _ (w : World) (d : Deed) (fine : Good w) (p : IsPlanned w d) where
       (λ j. inl (f, frame_other w d t k j ∙ h, omega arith)))
 
   -- what lay under the fork that the step closed: some thread of it stood, so the thread was parked there
-  closed : (n : StepName) (t : Thread) (f : Frame) → w.frames t ≡ Some f → is_under t d.fact.name.thread (d.fact.name.no - 1) ≡ true → is_under n.thread d.fact.name.thread (d.fact.name.no - 1) ≡ true → Was (carried_out w d) n
+  closed : (n : StepName) (t : Thread) (f : Frame) → w.frames t ≡ Some f → is_under t d.fact.name.thread (d.fact.name.no - 1) ≡ true → is_under n.thread d.fact.name.thread (d.fact.name.no - 1) ≡ true → Was (after_effect w d) n
   closed n t f h v u =
       let a = fine.over d.fact.name.thread t (d.fact.name.no - 1) f v h in
       let e = (p.follows a.frame a.stands).0 in
       let c = p.count in
       behind d.fact.name.thread (d.fact.name.no - 1) d.frame u (frame_own w d d.fact.name.thread (thread_itself d.fact.name.thread)) (omega (arith, c, e))
 
-  stays : (n : StepName) → Was w n → Was (carried_out w d) n
+  stays : (n : StepName) → Was w n → Was (after_effect w d) n
   stays n (counted f h c) = elim (kept_or_closed n.thread f h) [ inl k ↦ counted k.0 k.1 (omega (arith, c, k.2)) | inr u ↦ closed n n.thread f h u u ]
   stays n (behind above fork f u h c) =
       elim (kept_or_closed above f h) [ inl k ↦ behind above fork k.0 u k.1 (omega (arith, c, k.2)) | inr v ↦ closed n above f h v (under_under n.thread above d.fact.name.thread fork (d.fact.name.no - 1) u v) ]
@@ -71,9 +71,9 @@ names_from_none s base none = record {
   itself = λ a. itself (name_of a);
   alike = λ a b. alike (name_of a) (name_of b);
   once = names_once (steps s) base (λ w step. Was w (name_of step))
-      (λ w v n k f r h was. by_bool (is_one_step k n) _ (λ e. let t = deed_taken s w v n f h in let p = planned s w n t.0 t.1 in absurd (new w t.0 (good s base w none r) p.1 (name_of k) was (subst (λ x. is_same_step (name_of k) x ≡ true) (sym p.0) e))) (λ e. e))
-      (λ w v n f r h. let t = deed_taken s w v n f h in let p = planned s w n t.0 t.1 in subst (λ x. Was v x) p.0 (subst (λ x. Was x t.0.fact.name) t.2 (marked w t.0 (good s base w none r) p.1)))
-      (λ w v n k f r h was. let t = deed_taken s w v n f h in let p = planned s w n t.0 t.1 in subst (λ x. Was x (name_of k)) t.2 (stays w t.0 (good s base w none r) p.1 (name_of k) was));
+      (λ w v n k f r h was. by_bool (is_one_step k n) _ (λ e. let t = effect_taken s w v n f h in let p = planned s w n t.0 t.1 in absurd (new w t.0 (good s base w none r) p.1 (name_of k) was (subst (λ x. is_same_step (name_of k) x ≡ true) (sym p.0) e))) (λ e. e))
+      (λ w v n f r h. let t = effect_taken s w v n f h in let p = planned s w n t.0 t.1 in subst (λ x. Was v x) p.0 (subst (λ x. Was x t.0.fact.name) t.2 (marked w t.0 (good s base w none r) p.1)))
+      (λ w v n k f r h was. let t = effect_taken s w v n f h in let p = planned s w n t.0 t.1 in subst (λ x. Was x (name_of k)) t.2 (stays w t.0 (good s base w none r) p.1 (name_of k) was));
 }
   where
     itself : (a : StepName) → is_same_step a a ≡ true

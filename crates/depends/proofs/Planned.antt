@@ -9,7 +9,7 @@ use Rattle.saved_steps.specs.Turn.{first_frame}
 use Rattle.saved_steps.specs.Frame.{Frame}
 use Rattle.step_names.specs.Thread.{Thread, execution}
 use Rattle.step_names.specs.declared.step.StepName.{StepName}
-use Rattle.saved_steps.specs.Deeds.{Deed, next_step, deed_of, move_deed, frame_deed, start_deed, if_numbered, deed}
+use Rattle.saved_steps.specs.Effects.{Effect, next_step, own_effect, move_effect, frame_effect, start_effect, if_numbered, effect_of}
 use Rattle.saved_steps.specs.Steps.{Step, started, moved, start_name, name_of, is_fork, is_close}
 use Rattle.saved_steps.specs.World.{Setting, World}
 use Rattle.saved_steps.specs.declared.fact.Kind.{Kind}
@@ -19,7 +19,7 @@ use Rattle.saved_steps.specs.Ready.{frame_is, is_done}
 use Rattle.saved_steps.specs.FlatMap as flat
 use Rattle.saved_steps.specs.Phase.{Phase}
 use Rattle.saved_steps.specs.Phase.TheVariants as phase
-use Rattle.saved_steps.proofs.Left.{deeds_leave}
+use Rattle.saved_steps.proofs.Left.{effects_leave}
 use Rattle.trace_theory.proofs.Runs.{and_then_some, map_some}
 use Rattle.depends.specs.Dependence.{awaited_by}
 use Rattle.depends.proofs.Awaited.{all_done}
@@ -43,7 +43,7 @@ parked_as (phase.Parked n bound) = refl
 parked_as (phase.Done output) = refl
 parked_as (phase.Failed fault) = refl
 
-pub record IsPlanned (w : World) (d : Deed) : Type 0 where
+pub record IsPlanned (w : World) (d : Effect) : Type 0 where
   pub count : d.frame.count ≡ d.fact.name.no
   pub parks : is_fork d.fact.kind ≡ true → is_parked d.frame.phase ≡ true
   -- it follows on the frame that its thread has
@@ -57,12 +57,12 @@ pub record IsPlanned (w : World) (d : Deed) : Type 0 where
   -- only an execution's own thread may have none
   pub stands : ((f : Frame) × (w.frames d.fact.name.thread ≡ Some f)) ⊎ ((d.fact.name.thread.path ≡ []) × (w.frames d.fact.name.thread ≡ None))
 
-start_planned : (s : Setting) (w : World) (exec machine : List ℕ) (input : Json) (d : Deed) → start_deed s w exec machine input ≡ Some d → (d.fact.name ≡ start_name exec) × IsPlanned w d
+start_planned : (s : Setting) (w : World) (exec machine : List ℕ) (input : Json) (d : Effect) → start_effect s w exec machine input ≡ Some d → (d.fact.name ≡ start_name exec) × IsPlanned w d
 start_planned s w exec machine input d h =
-    let k = unless_some (is_some (w.frames (execution exec))) (option_map (λ (m : Definition). deed_of Start (start_name exec) (first_frame machine m input)) (s.machines machine)) d h in
+    let k = unless_some (is_some (w.frames (execution exec))) (option_map (λ (m : Definition). own_effect Start (start_name exec) (first_frame machine m input)) (s.machines machine)) d h in
     let none = none_there (w.frames (execution exec)) k.0 in
-    let m = map_some (λ (m : Definition). deed_of Start (start_name exec) (first_frame machine m input)) (s.machines machine) d k.1 in
-    subst (λ (e : Deed). (e.fact.name ≡ start_name exec) × IsPlanned w e) m.2 (
+    let m = map_some (λ (m : Definition). own_effect Start (start_name exec) (first_frame machine m input)) (s.machines machine) d k.1 in
+    subst (λ (e : Effect). (e.fact.name ≡ start_name exec) × IsPlanned w e) m.2 (
       refl,
       record {
         count = refl;
@@ -78,10 +78,10 @@ start_planned s w exec machine input d h =
     nothing : (f : Frame) → None ≡ Some f → ⊥
     nothing f e = cc
 
-pub numbered : (d e : Deed) (number : ℕ) → if_numbered number d ≡ Some e → (d.fact.name.no ≡ number) × (d ≡ e)
+pub numbered : (d e : Effect) (number : ℕ) → if_numbered number d ≡ Some e → (d.fact.name.no ≡ number) × (d ≡ e)
 numbered d e number h = let k = if_some (d.fact.name.no == number) d e h in (eqb-true d.fact.name.no number k.0, k.1)
 
--- what a deed leaves is parked where it is a fork alone
+-- what an effect leaves is parked where it is a fork alone
 leaves_fork : (k : Kind) (name : StepName) (f : Frame) → Leaves k name f → is_parked f.phase ≡ true → is_fork k ≡ true
 leaves_fork Start name f l h = let e = parked_as f.phase ∙ l in let x = sym h ∙ e in cc
 leaves_fork Plain name f l h = let e = parked_as f.phase ∙ l in let x = sym h ∙ e in cc
@@ -91,11 +91,11 @@ leaves_fork Join name f l h = let e = parked_as f.phase ∙ l in let x = sym h �
 leaves_fork Terminate name f l h = let e = parked_as f.phase ∙ l in let x = sym h ∙ e in cc
 
 -- the branches for which a move waited are done
-move_awaits : (w : World) (t u : Thread) (f : Frame) (d : Deed) → d.fact.name.thread ≡ t → (d.fact.bound ≡ 0) ⊎ IsBounded w t f d → awaited_by d.fact u ≡ Some [] → frame_is is_done (w.frames u) ≡ true
+move_awaits : (w : World) (t u : Thread) (f : Frame) (d : Effect) → d.fact.name.thread ≡ t → (d.fact.bound ≡ 0) ⊎ IsBounded w t f d → awaited_by d.fact u ≡ Some [] → frame_is is_done (w.frames u) ≡ true
 move_awaits w t u f d own (inl e) h = let x = rw e at h in cc
 move_awaits w t u f d own (inr b) h = all_done w t u f d.fact own b.begins b.bound h
 
-move_planned : (s : Setting) (w : World) (t : Thread) (f : Frame) (d : Deed) → w.frames t ≡ Some f → IsMove (next_step t f) f d → Leaves d.fact.kind d.fact.name d.frame → frame_deed s w t f ≡ Some d → IsPlanned w d
+move_planned : (s : Setting) (w : World) (t : Thread) (f : Frame) (d : Effect) → w.frames t ≡ Some f → IsMove (next_step t f) f d → Leaves d.fact.kind d.fact.name d.frame → frame_effect s w t f ≡ Some d → IsPlanned w d
 move_planned s w t f d here m left moves = record {
   count = m.count ∙ sym no;
   parks = m.parks;
@@ -112,13 +112,13 @@ move_planned s w t f d here m left moves = record {
     there : w.frames d.fact.name.thread ≡ Some f
     there = ap (λ (n : StepName). w.frames n.thread) m.named ∙ here
 
-pub planned : (s : Setting) (w : World) (step : Step) (d : Deed) → deed s w step ≡ Some d → (d.fact.name ≡ name_of step) × IsPlanned w d
+pub planned : (s : Setting) (w : World) (step : Step) (d : Effect) → effect_of s w step ≡ Some d → (d.fact.name ≡ name_of step) × IsPlanned w d
 planned s w (started exec machine input) d h = start_planned s w exec machine input d h
 planned s w (moved name) d h =
-    let k = and_then_some (if_numbered name.no) (move_deed s w name.thread) d h in
+    let k = and_then_some (if_numbered name.no) (move_effect s w name.thread) d h in
     let n = numbered k.0 d name.no k.2 in
-    let f = and_then_some (frame_deed s w name.thread) (w.frames name.thread) k.0 k.1 in
+    let f = and_then_some (frame_effect s w name.thread) (w.frames name.thread) k.0 k.1 in
     let m = frame_move s w name.thread f.0 k.0 f.2 in
-    let left : Leaves k.0.fact.kind k.0.fact.name k.0.frame = subst (λ (e : Deed). Leaves e.fact.kind e.fact.name e.frame) (sym n.1) (deeds_leave s w (moved name) d h) in
-    subst (λ (e : Deed). (e.fact.name ≡ name) × IsPlanned w e) n.1
+    let left : Leaves k.0.fact.kind k.0.fact.name k.0.frame = subst (λ (e : Effect). Leaves e.fact.kind e.fact.name e.frame) (sym n.1) (effects_leave s w (moved name) d h) in
+    subst (λ (e : Effect). (e.fact.name ≡ name) × IsPlanned w e) n.1
     (ap₂ (λ (t : Thread) (no : ℕ). let x : StepName = record { thread = t; no = no } in x) (ap (λ (x : StepName). x.thread) m.named) n.0, move_planned s w name.thread f.0 k.0 f.1 m left f.2)

@@ -24,7 +24,7 @@ use Rattle.saved_steps.specs.Handling.{retried, catcher_for, error_object}
 use Rattle.saved_steps.specs.Outcomes.{action_of, asks, task_turn, forks, fork_of, turn_of, turn}
 use Rattle.saved_steps.specs.Results.{Work, work_of, on_catch, on_retry, handled, errors_of, taken_by, after_branch, call_fault, comes_to, after_result, after_answer, after_join}
 use Rattle.saved_steps.specs.Processing.{and_then, effective, held, passed_on, placed_in}
-use Rattle.saved_steps.specs.Turn.{Standing, ends, go_on, own_fault}
+use Rattle.saved_steps.specs.Turn.{Location, ends, go_on, own_fault}
 use Rattle.saved_steps.specs.Fault.{Fault}
 use Rattle.saved_steps.specs.Frame.{Frame}
 use Rattle.saved_steps.specs.Phase.{Phase}
@@ -34,7 +34,7 @@ use Rattle.saved_steps.specs.Outcome.TheVariants as outcome
 use Rattle.saved_steps.proofs.Turns.{next_frame-count}
 use Rattle.step_names.specs.Thread.{Thread}
 use Rattle.step_names.specs.declared.step.StepName.{StepName}
-use Rattle.saved_steps.specs.Deeds.{Deed, next_step, deed_of, called, call_deed, deed_of_turn, kids, first_fault, outputs, join_deed, close_deed, deed_in, stands, frame_deed, waits, first_bound}
+use Rattle.saved_steps.specs.Effects.{Effect, next_step, own_effect, called, call_effect, effect_of_turn, kids, first_fault, outputs, join_effect, close_effect, effect_in, stands, frame_effect, waits, first_bound}
 use Rattle.saved_steps.specs.Steps.{is_fork, is_close}
 use Rattle.saved_steps.specs.declared.fact.Kind.TheVariants.{Plain, Join, Terminate}
 use Rattle.saved_steps.specs.World.{Setting, World}
@@ -111,91 +111,91 @@ turned level (state.Fail s) f = next_frame-count level (state.Fail s) f
 
 -- ---- moves
 
--- a deed of a frame's move
-pub record IsMove (name : StepName) (f : Frame) (d : Deed) : Type 0 where
+-- an effect of a frame's move
+pub record IsMove (name : StepName) (f : Frame) (d : Effect) : Type 0 where
   pub named : d.fact.name ≡ name
   pub count : d.frame.count ≡ f.count + 1
   pub parks : is_fork d.fact.kind ≡ true → is_parked d.frame.phase ≡ true
   pub closes : is_parked f.phase ≡ true → is_close d.fact.kind ≡ true
 
 module _ (name : StepName) (f : Frame) (ready : is_parked f.phase ≡ false) where
-  plain_move : (g : Frame) → g.count ≡ f.count + 1 → IsMove name f (deed_of Plain name g)
+  plain_move : (g : Frame) → g.count ≡ f.count + 1 → IsMove name f (own_effect Plain name g)
   plain_move g count = record { named = refl; count = count; parks = λ h. cc; closes = λ h. cc }
 
   called_move : (g : Frame) (items : table.Table) (access : Option (Key × AccessMode)) → g.count ≡ f.count + 1 → IsMove name f (called name g items access)
   called_move g items None count = plain_move g count
   called_move g items (Some (key, mode)) count = record { named = refl; count = count; parks = λ h. cc; closes = λ h. cc }
 
-  call_move : (level : Definition) (work : Work) (o : table.Outcome) → IsMove name f (call_deed name level work f o)
+  call_move : (level : Definition) (work : Work) (o : table.Outcome) → IsMove name f (call_effect name level work f o)
   call_move level work o = called_move (after_answer level work f o.answer) o.items o.access (after_answer_count level work f o.answer)
 
-  turn_move : (s : Setting) (w : World) (at : Standing) (o : Outcome) (d : Deed) → IsTurn f o → deed_of_turn s w name at f o ≡ Some d → IsMove name f d
+  turn_move : (s : Setting) (w : World) (at : Location) (o : Outcome) (d : Effect) → IsTurn f o → effect_of_turn s w name at f o ≡ Some d → IsMove name f d
   turn_move s w at (outcome.Next g) d t h = subst (IsMove name f) (same_Some _ _ h) (plain_move g t)
   turn_move s w at (outcome.Fork g branches) d t h = subst (IsMove name f) (same_Some _ _ h) (record { named = refl; count = t.0; parks = λ k. t.1; closes = λ k. cc })
   turn_move s w at (outcome.Call c) d t h =
-      let m = map_some (λ (work : Work). call_deed name at.0 work f (table.in_form s.table s.schema w.items c)) (work_of at.1) d h in
+      let m = map_some (λ (work : Work). call_effect name at.0 work f (table.in_form s.table s.schema w.items c)) (work_of at.1) d h in
       subst (IsMove name f) m.2 (call_move at.0 m.0 (table.in_form s.table s.schema w.items c))
 
--- a deed that closes the fork of a frame
-pub close_move : (name : StepName) (at : Standing) (f : Frame) (fault : Option Fault) (outputs_there : Option (List Data)) (d : Deed) → close_deed name at f fault outputs_there ≡ Some d → IsMove name f d × (is_close d.fact.kind ≡ true)
+-- an effect that closes the fork of a frame
+pub close_move : (name : StepName) (at : Location) (f : Frame) (fault : Option Fault) (outputs_there : Option (List Data)) (d : Effect) → close_effect name at f fault outputs_there ≡ Some d → IsMove name f d × (is_close d.fact.kind ≡ true)
 close_move name at f (Some fault) outputs_there d h =
-    let own : IsMove name f (deed_of Terminate name (after_branch at f fault)) = record { named = refl; count = handled_count at.0 (errors_of at.1) f (taken_by at.1 fault); parks = λ k. cc; closes = λ k. refl } in
-    subst (λ (e : Deed). IsMove name f e × (is_close e.fact.kind ≡ true)) (same_Some _ _ h) (own, refl)
+    let own : IsMove name f (own_effect Terminate name (after_branch at f fault)) = record { named = refl; count = handled_count at.0 (errors_of at.1) f (taken_by at.1 fault); parks = λ k. cc; closes = λ k. refl } in
+    subst (λ (e : Effect). IsMove name f e × (is_close e.fact.kind ≡ true)) (same_Some _ _ h) (own, refl)
 close_move name at f None outputs_there d h =
-    let j = and_then_some (join_deed name at f) outputs_there d h in
-    let m = map_some (λ (work : Work). deed_of Join name (after_join at.0 work f j.0)) (work_of at.1) d j.2 in
-    let own : IsMove name f (deed_of Join name (after_join at.0 m.0 f j.0)) = record { named = refl; count = after_result_count at.0 m.0 f (list (items_of j.0)); parks = λ k. cc; closes = λ k. refl } in
-    subst (λ (e : Deed). IsMove name f e × (is_close e.fact.kind ≡ true)) m.2 (own, refl)
+    let j = and_then_some (join_effect name at f) outputs_there d h in
+    let m = map_some (λ (work : Work). own_effect Join name (after_join at.0 work f j.0)) (work_of at.1) d j.2 in
+    let own : IsMove name f (own_effect Join name (after_join at.0 m.0 f j.0)) = record { named = refl; count = after_result_count at.0 m.0 f (list (items_of j.0)); parks = λ k. cc; closes = λ k. refl } in
+    subst (λ (e : Effect). IsMove name f e × (is_close e.fact.kind ≡ true)) m.2 (own, refl)
 
-phase_move : (s : Setting) (w : World) (t : Thread) (at : Standing) (f : Frame) (p : Phase) (d : Deed) → f.phase ≡ p → deed_in s w t at f p ≡ Some d → IsMove (next_step t f) f d
+phase_move : (s : Setting) (w : World) (t : Thread) (at : Location) (f : Frame) (p : Phase) (d : Effect) → f.phase ≡ p → effect_in s w t at f p ≡ Some d → IsMove (next_step t f) f d
 phase_move s w t at f Ready d e h =
-    let k = turn_told w.frames t f (deed_of_turn s w (next_step t f) at f (turn at f)) d h in
-    let m = turn_move (next_step t f) f (ap is_parked e) s w at (turn at f) k.deed (turned at.0 at.1 f) k.is in
+    let k = turn_told w.frames t f (effect_of_turn s w (next_step t f) at f (turn at f)) d h in
+    let m = turn_move (next_step t f) f (ap is_parked e) s w at (turn at f) k.effect_of (turned at.0 at.1 f) k.is in
     subst (IsMove (next_step t f) f) k.told (record { named = m.named; count = m.count; parks = m.parks; closes = m.closes })
 phase_move s w t at f (Parked n bound) d e h = (close_move (next_step t f) at f (first_fault (kids w t f n)) (outputs (kids w t f n)) d h).0
 phase_move s w t at f (Done output) d e h = cc
 phase_move s w t at f (Failed fault) d e h = cc
 
-pub frame_move : (s : Setting) (w : World) (t : Thread) (f : Frame) (d : Deed) → frame_deed s w t f ≡ Some d → IsMove (next_step t f) f d
+pub frame_move : (s : Setting) (w : World) (t : Thread) (f : Frame) (d : Effect) → frame_effect s w t f ≡ Some d → IsMove (next_step t f) f d
 frame_move s w t f d h =
-    let k = and_then_some (λ at. deed_in s w t at f f.phase) (stands s f) d h in
+    let k = and_then_some (λ at. effect_in s w t at f f.phase) (stands s f) d h in
     phase_move s w t k.0 f f.phase d refl k.2
 
 -- ---- a bound
 
-close_unbounded : (name : StepName) (at : Standing) (f : Frame) (fault : Option Fault) (outputs_there : Option (List Data)) (d : Deed) → close_deed name at f fault outputs_there ≡ Some d → d.fact.bound ≡ 0
-close_unbounded name at f (Some fault) outputs_there d h = subst (λ (e : Deed). e.fact.bound ≡ 0) (same_Some _ _ h) refl
+close_unbounded : (name : StepName) (at : Location) (f : Frame) (fault : Option Fault) (outputs_there : Option (List Data)) (d : Effect) → close_effect name at f fault outputs_there ≡ Some d → d.fact.bound ≡ 0
+close_unbounded name at f (Some fault) outputs_there d h = subst (λ (e : Effect). e.fact.bound ≡ 0) (same_Some _ _ h) refl
 close_unbounded name at f None outputs_there d h =
-    let j = and_then_some (join_deed name at f) outputs_there d h in
-    let m = map_some (λ (work : Work). deed_of Join name (after_join at.0 work f j.0)) (work_of at.1) d j.2 in
-    subst (λ (e : Deed). e.fact.bound ≡ 0) m.2 refl
+    let j = and_then_some (join_effect name at f) outputs_there d h in
+    let m = map_some (λ (work : Work). own_effect Join name (after_join at.0 work f j.0)) (work_of at.1) d j.2 in
+    subst (λ (e : Effect). e.fact.bound ≡ 0) m.2 refl
 
 -- a move has the bound of the fork over it, whose thread may begin; or it has none
-pub record IsBounded (w : World) (t : Thread) (f : Frame) (d : Deed) : Type 0 where
+pub record IsBounded (w : World) (t : Thread) (f : Frame) (d : Effect) : Type 0 where
   pub begins : waits w.frames t f ≡ false
   pub bound : d.fact.bound ≡ first_bound w.frames t f
 
-phase_bounded : (s : Setting) (w : World) (t : Thread) (at : Standing) (f : Frame) (p : Phase) (d : Deed) → deed_in s w t at f p ≡ Some d → (d.fact.bound ≡ 0) ⊎ IsBounded w t f d
+phase_bounded : (s : Setting) (w : World) (t : Thread) (at : Location) (f : Frame) (p : Phase) (d : Effect) → effect_in s w t at f p ≡ Some d → (d.fact.bound ≡ 0) ⊎ IsBounded w t f d
 phase_bounded s w t at f Ready d h =
-    let k = turn_told w.frames t f (deed_of_turn s w (next_step t f) at f (turn at f)) d h in
-    inr (record { begins = k.begins; bound = subst (λ (e : Deed). e.fact.bound ≡ first_bound w.frames t f) k.told refl })
+    let k = turn_told w.frames t f (effect_of_turn s w (next_step t f) at f (turn at f)) d h in
+    inr (record { begins = k.begins; bound = subst (λ (e : Effect). e.fact.bound ≡ first_bound w.frames t f) k.told refl })
 phase_bounded s w t at f (Parked n bound) d h = inl (close_unbounded (next_step t f) at f (first_fault (kids w t f n)) (outputs (kids w t f n)) d h)
 phase_bounded s w t at f (Done output) d h = cc
 phase_bounded s w t at f (Failed fault) d h = cc
 
-phase_goes : (s : Setting) (w : World) (t : Thread) (at : Standing) (f : Frame) (p : Phase) (d : Deed) → deed_in s w t at f p ≡ Some d → is_done p ≡ false
+phase_goes : (s : Setting) (w : World) (t : Thread) (at : Location) (f : Frame) (p : Phase) (d : Effect) → effect_in s w t at f p ≡ Some d → is_done p ≡ false
 phase_goes s w t at f Ready d h = refl
 phase_goes s w t at f (Parked n bound) d h = refl
 phase_goes s w t at f (Done output) d h = cc
 phase_goes s w t at f (Failed fault) d h = cc
 
-pub frame_bounded : (s : Setting) (w : World) (t : Thread) (f : Frame) (d : Deed) → frame_deed s w t f ≡ Some d → ((d.fact.bound ≡ 0) ⊎ IsBounded w t f d) × (is_done f.phase ≡ false)
+pub frame_bounded : (s : Setting) (w : World) (t : Thread) (f : Frame) (d : Effect) → frame_effect s w t f ≡ Some d → ((d.fact.bound ≡ 0) ⊎ IsBounded w t f d) × (is_done f.phase ≡ false)
 frame_bounded s w t f d h =
-    let k = and_then_some (λ at. deed_in s w t at f f.phase) (stands s f) d h in
+    let k = and_then_some (λ at. effect_in s w t at f f.phase) (stands s f) d h in
     (phase_bounded s w t k.0 f f.phase d k.2, phase_goes s w t k.0 f f.phase d k.2)
 
 -- a thread that moves from a ready frame may begin
-pub frame_begins : (s : Setting) (w : World) (t : Thread) (f : Frame) (d : Deed) → frame_deed s w t f ≡ Some d → f.phase ≡ Ready → waits w.frames t f ≡ false
+pub frame_begins : (s : Setting) (w : World) (t : Thread) (f : Frame) (d : Effect) → frame_effect s w t f ≡ Some d → f.phase ≡ Ready → waits w.frames t f ≡ false
 frame_begins s w t f d h e =
-    let k = and_then_some (λ at. deed_in s w t at f f.phase) (stands s f) d h in
-    (turn_told w.frames t f (deed_of_turn s w (next_step t f) k.0 f (turn k.0 f)) d (ap (deed_in s w t k.0 f) (sym e) ∙ k.2)).begins
+    let k = and_then_some (λ at. effect_in s w t at f f.phase) (stands s f) d h in
+    (turn_told w.frames t f (effect_of_turn s w (next_step t f) k.0 f (turn k.0 f)) d (ap (effect_in s w t k.0 f) (sym e) ∙ k.2)).begins

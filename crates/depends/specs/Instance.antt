@@ -5,10 +5,10 @@ use Rattle.item_store.specs.Deciding.{Attributes}
 use Rattle.saved_steps.specs.Frame.{Frame}
 use Rattle.step_names.specs.Thread.{Thread}
 use Rattle.trace_theory.specs.Footprints.{Plans}
-use Rattle.trace_theory.specs.Traces.{Machine, Taken}
-use Rattle.saved_steps.specs.Deeds.{Deed, deed}
-use Rattle.saved_steps.specs.Keeping.{Kept, kept, undo}
-use Rattle.saved_steps.specs.Run.{begun, carried_out, take_step}
+use Rattle.trace_theory.specs.Traces.{Machine, Occurrence}
+use Rattle.saved_steps.specs.Effects.{Effect, effect_of}
+use Rattle.saved_steps.specs.Saving.{SavedState, kept, undo}
+use Rattle.saved_steps.specs.Run.{begun, after_effect, take_step}
 use Rattle.saved_steps.specs.Steps.{Step, name_of, makes, closes, touches_key, writes_key}
 use Rattle.saved_steps.specs.World.{Setting, World, is_same_thread, is_same_step}
 use Rattle.saved_steps.specs.declared.fact.Fact.{Fact}
@@ -20,15 +20,15 @@ use Rattle.depends.specs.Dependence.{awaited_by, depends_directly}
 abbrev pub is_one_step : Step → Step → Bool
 is_one_step a b = is_same_step (name_of a) (name_of b)
 
-abbrev pub steps : Setting → Machine World Step Fact Kept
+abbrev pub steps : Setting → Machine World Step Fact SavedState
 steps s = record { take = take_step s; is_same = is_one_step; depends = depends_directly; saved = kept; undo = undo }
 
 -- a step that was taken, with its fact and what it kept
-abbrev pub Past : Type 0
-Past = Taken Step Fact Kept
+abbrev pub TakenStep : Type 0
+TakenStep = Occurrence Step Fact SavedState
 
 -- a step that is taken in a world, with its fact and what it keeps of that world
-abbrev pub taken_in : World → Step → Fact → Past
+abbrev pub taken_in : World → Step → Fact → TakenStep
 taken_in w step fact = record { step = step; fact = fact; saved = kept w fact }
 
 -- ---- footprints
@@ -69,19 +69,19 @@ looks s t = is_thread (forked_by s) t || is_end (awaited_by s t)
 
 -- a step touches its own thread, what lies under the fork that it makes or closes, what a first move looks at, and the item of
 -- its key
-abbrev pub touches : Deed → Cell → Bool
+abbrev pub touches : Effect → Cell → Bool
 touches d (frame_at t) = (is_same_thread d.fact.name.thread t || reaches d.fact t) || looks d.fact t
 touches d (item_at key) = touches_key d.fact key
 
 -- of these it writes all but what a first move looks at, and an item that it reads
-abbrev pub writes : Deed → Cell → Bool
+abbrev pub writes : Effect → Cell → Bool
 writes d (frame_at t) = is_same_thread d.fact.name.thread t || reaches d.fact t
 writes d (item_at key) = writes_key d.fact key
 
 -- what stands afterwards where it writes
-abbrev pub leaves : Deed → Cell → Content
+abbrev pub leaves : Effect → Cell → Content
 leaves d (frame_at t) = a_frame (if is_same_thread d.fact.name.thread t then Some d.frame else if makes d.fact t then begun d t else None)
 leaves d (item_at key) = an_item d.item
 
-abbrev pub plans : Setting → Plans World Step Fact Cell Content Deed
-plans s = record { at = at; plan = deed s; carried_out = carried_out; fact = λ d. d.fact; touches = touches; writes = writes; holds = leaves }
+abbrev pub plans : Setting → Plans World Step Fact Cell Content Effect
+plans s = record { at = at; plan = effect_of s; after_effect = after_effect; fact = λ d. d.fact; touches = touches; writes = writes; holds = leaves }

@@ -15,7 +15,7 @@ use Rattle.saved_steps.specs.Frame.{Frame}
 use Rattle.saved_steps.specs.Phase.{Phase}
 use Rattle.saved_steps.specs.Phase.TheVariants.{Ready, Parked, Done, Failed}
 use Rattle.step_names.specs.Thread.{Thread}
-use Rattle.trace_theory.specs.Traces.{run, names_of, after, undo_each}
+use Rattle.trace_theory.specs.Traces.{run, names_of, consequences, undo_each}
 use Rattle.saved_steps.specs.Steps.{Step, started, moved}
 use Rattle.saved_steps.specs.World.{Setting, World}
 use Rattle.saved_steps.specs.declared.fact.Fact.{Fact}
@@ -104,10 +104,10 @@ abbrev kinds : List Step → Option (List Kind)
 kinds names = option_map (λ p. map (λ t. t.fact.kind) p.1) (run (steps setting) base names)
 
 abbrev after_of : List Step → Step → Option (List Step)
-after_of names s = option_map (λ p. names_of (steps setting) (after (steps setting) p.1 s)) (run (steps setting) base names)
+after_of names s = option_map (λ p. names_of (steps setting) (consequences (steps setting) p.1 s)) (run (steps setting) base names)
 
 abbrev rolled_back : List Step → Step → Option (List Look)
-rolled_back names s = option_map (λ p. seen (undo_each (steps setting) p.0 (reverse (after (steps setting) p.1 s)))) (run (steps setting) base names)
+rolled_back names s = option_map (λ p. seen (undo_each (steps setting) p.0 (reverse (consequences (steps setting) p.1 s)))) (run (steps setting) base names)
 
 row_kinds : kinds history ≡ Some (Start ∷ Fork ∷ Fork ∷ Plain ∷ Plain ∷ Terminate ∷ [])
 row_kinds = refl

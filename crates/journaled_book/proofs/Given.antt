@@ -6,7 +6,7 @@ use Rattle.attr_values.specs.declared.fault.ItemFault.{ItemFault}
 use Rattle.item_store.specs.Table.{Table}
 use Rattle.book_log.specs.Beginning.{table_of}
 use Rattle.book_log.specs.Legal.{IsLegal}
-use Rattle.book_log.specs.Story.{Story, accepted}
+use Rattle.book_log.specs.Log.{Log, appended}
 use Rattle.book_log.specs.declared.begin.Begin.{Begin}
 use Rattle.book_log.specs.declared.entry.Entry.{Entry}
 use Rattle.book_log.proofs.LegalRuns.{accepted_is_legal}
@@ -20,49 +20,49 @@ use Rattle.journaled_book.specs.Opening.{Give, HasDamageAt}
 
 -- ---- the lines
 
-more_entry_lines : (lines : List (List ℕ)) (log : List Entry) (line : List ℕ) (entry : Entry) → AreEntryLines lines log → IsLineOf line entry → AreEntryLines (lines ++ line ∷ []) (log ++ entry ∷ [])
+more_entry_lines : (lines : List (List ℕ)) (entries : List Entry) (line : List ℕ) (entry : Entry) → AreEntryLines lines entries → IsLineOf line entry → AreEntryLines (lines ++ line ∷ []) (entries ++ entry ∷ [])
 more_entry_lines [] [] line entry h is = (is, tt)
-more_entry_lines [] (x ∷ log) line entry h is = absurd h
+more_entry_lines [] (x ∷ entries) line entry h is = absurd h
 more_entry_lines (l ∷ lines) [] line entry h is = absurd h
-more_entry_lines (l ∷ lines) (x ∷ log) line entry h is = (h.0, more_entry_lines lines log line entry h.1 is)
+more_entry_lines (l ∷ lines) (x ∷ entries) line entry h is = (h.0, more_entry_lines lines entries line entry h.1 is)
 
-pub both_entry_lines : (lines more : List (List ℕ)) (log es : List Entry) → AreEntryLines lines log → AreEntryLines more es → AreEntryLines (lines ++ more) (log ++ es)
+pub both_entry_lines : (lines more : List (List ℕ)) (entries es : List Entry) → AreEntryLines lines entries → AreEntryLines more es → AreEntryLines (lines ++ more) (entries ++ es)
 both_entry_lines [] more [] es h k = k
-both_entry_lines [] more (x ∷ log) es h k = absurd h
+both_entry_lines [] more (x ∷ entries) es h k = absurd h
 both_entry_lines (l ∷ lines) more [] es h k = absurd h
-both_entry_lines (l ∷ lines) more (x ∷ log) es h k = (h.0, both_entry_lines lines more log es h.1 k)
+both_entry_lines (l ∷ lines) more (x ∷ entries) es h k = (h.0, both_entry_lines lines more entries es h.1 k)
 
--- the lines of a story that went on
-pub gone_on : (lines more : List (List ℕ)) (before : Option Story) (after : Story) → AreLinesOf lines before → GoesOnBy more before after → AreLinesOf (lines ++ more) (Some after)
+-- the lines of a log that went on
+pub gone_on : (lines more : List (List ℕ)) (before : Option Log) (after : Log) → AreLinesOf lines before → GoesOnBy more before after → AreLinesOf (lines ++ more) (Some after)
 gone_on lines more None after h goes = absurd goes
 gone_on [] more (Some before) after h goes = absurd h
 gone_on (l ∷ lines) more (Some before) after h goes =
-    subst (λ (s : Story). AreLinesOf (l ∷ (lines ++ more)) (Some s)) (sym goes.1) (h.0, both_entry_lines lines more before.log goes.0 h.1 goes.2)
+    subst (λ (s : Log). AreLinesOf (l ∷ (lines ++ more)) (Some s)) (sym goes.1) (h.0, both_entry_lines lines more before.entries goes.0 h.1 goes.2)
 
-pub more_lines : (lines : List (List ℕ)) (story : Story) (line : List ℕ) (entry : Entry) → AreLinesOf lines (Some story) → IsLineOf line entry → AreLinesOf (lines ++ line ∷ []) (Some (accepted story entry))
-more_lines [] story line entry h is = absurd h
-more_lines (l ∷ lines) story line entry h is = (h.0, more_entry_lines lines story.log line entry h.1 is)
+pub more_lines : (lines : List (List ℕ)) (log : Log) (line : List ℕ) (entry : Entry) → AreLinesOf lines (Some log) → IsLineOf line entry → AreLinesOf (lines ++ line ∷ []) (Some (appended log entry))
+more_lines [] log line entry h is = absurd h
+more_lines (l ∷ lines) log line entry h is = (h.0, more_entry_lines lines log.entries line entry h.1 is)
 
-pub first_line : (lines : List (List ℕ)) (line : List ℕ) (begin : Begin) → AreLinesOf lines None → IsBeginLine line begin → AreLinesOf (lines ++ line ∷ []) (Some (record { begin = begin; log = [] }))
+pub first_line : (lines : List (List ℕ)) (line : List ℕ) (begin : Begin) → AreLinesOf lines None → IsBeginLine line begin → AreLinesOf (lines ++ line ∷ []) (Some (record { begin = begin; entries = [] }))
 first_line [] line begin h is = (is, tt)
 first_line (l ∷ lines) line begin h is = absurd h
 
 -- ---- and their book
 
-first_legal : (begin : Begin) (r : Result Table ItemFault) → table_of begin ≡ r → IsOk r → IsLegal (record { begin = begin; log = [] })
+first_legal : (begin : Begin) (r : Result Table ItemFault) → table_of begin ≡ r → IsOk r → IsLegal (record { begin = begin; entries = [] })
 unfolding IsLegal
 first_legal begin (Ok items) e h = ((items, e), tt)
 first_legal begin (Err fault) e h = cc
 
-began : (story : Story) → story.log ≡ [] → record { begin = story.begin; log = [] } ≡ story
-began story e = ap (λ (log : List Entry). let s : Story = record { begin = story.begin; log = log } in s) (sym e)
+began : (log : Log) → log.entries ≡ [] → record { begin = log.begin; entries = [] } ≡ log
+began log e = ap (λ (entries : List Entry). let s : Log = record { begin = log.begin; entries = entries } in s) (sym e)
 
-pub more_given : (lines : List (List ℕ)) (before : Option Story) (line : List ℕ) (after : Story) → Give lines before → Follows before line after → Give (lines ++ line ∷ []) (Some after)
+pub more_given : (lines : List (List ℕ)) (before : Option Log) (line : List ℕ) (after : Log) → Give lines before → Follows before line after → Give (lines ++ line ∷ []) (Some after)
 more_given lines None line after h f =
-    subst (λ (s : Story). Give (lines ++ line ∷ []) (Some s)) (began after f.empty)
+    subst (λ (s : Log). Give (lines ++ line ∷ []) (Some s)) (began after f.empty)
     (record { are_lines = first_line lines line after.begin h.are_lines f.is_line; is_legal = first_legal after.begin (table_of after.begin) refl f.is_table })
 more_given lines (Some before) line after h f =
-    subst (λ (s : Story). Give (lines ++ line ∷ []) (Some s)) (sym f.after_is)
+    subst (λ (s : Log). Give (lines ++ line ∷ []) (Some s)) (sym f.after_is)
     (record { are_lines = more_lines lines before line f.entry h.are_lines f.is_line; is_legal = accepted_is_legal before f.entry h.is_legal f.is_accepted })
 
 -- ---- texts, one after another
@@ -79,22 +79,22 @@ module _ {T : Type 0} (text : T → List ℕ) (lines : List T) (at : ℕ) (d lin
       ap (map text) (sym (take-append-drop at lines)) ∙ map-append text (take at lines) (drop at lines)
       ∙ ap (λ (xs : List T). map text (take at lines) ++ map text xs) (drop_more lines at d low ∙ ap (λ (x : T). x ∷ drop (at + 1) lines) is)
 
-  pub damage_at : (place : ℕ) (story : Option Story) (bytes : List ℕ) → place ≡ at → Give (map text (take at lines)) story → bytes ≡ text line → IsDamaged story bytes → HasDamageAt (map text lines) place
-  damage_at place story bytes here given same damaged = record {
+  pub damage_at : (place : ℕ) (log : Option Log) (bytes : List ℕ) → place ≡ at → Give (map text (take at lines)) log → bytes ≡ text line → IsDamaged log bytes → HasDamageAt (map text lines) place
+  damage_at place log bytes here given same damaged = record {
     front = map text (take at lines);
     line = text line;
     later = map text (drop (at + 1) lines);
     parts = parted;
     place_is = here ∙ sym placed;
-    story = story;
+    log = log;
     given = given;
-    is_damaged = subst (λ (b : List ℕ). IsDamaged story b) same damaged;
+    is_damaged = subst (λ (b : List ℕ). IsDamaged log b) same damaged;
   }
 
-  pub given_more : (story : Option Story) (after : Story) (bytes : List ℕ) → Give (map text (take at lines)) story → bytes ≡ text line → Follows story bytes after → Give (map text (take (at + 1) lines)) (Some after)
-  given_more story after bytes given same follows =
+  pub given_more : (log : Option Log) (after : Log) (bytes : List ℕ) → Give (map text (take at lines)) log → bytes ≡ text line → Follows log bytes after → Give (map text (take (at + 1) lines)) (Some after)
+  given_more log after bytes given same follows =
       subst (λ (ls : List (List ℕ)). Give ls (Some after)) (sym one_more)
-      (more_given (map text (take at lines)) story (text line) after given (subst (λ (b : List ℕ). Follows story b after) same follows))
+      (more_given (map text (take at lines)) log (text line) after given (subst (λ (b : List ℕ). Follows log b after) same follows))
 
 -- the fault that is told of a place
 pub told_at : (p place : ℕ) (fault : LineFault) → fault_at p fault ≡ Damaged place → (fault ≡ line_fault.Damaged) × (place ≡ p)

@@ -10,7 +10,7 @@ use Rattle.step_names.specs.declared.step.StepName.{StepName}
 use Rattle.book_log.specs.Answers.{IsDefineRefusal, plan_answer, undo_answer}
 use Rattle.book_log.specs.Beginning.{table_of}
 use Rattle.book_log.specs.Legal.{IsAccepted}
-use Rattle.book_log.specs.Story.{Story}
+use Rattle.book_log.specs.Log.{Log}
 use Rattle.book_log.specs.declared.begin.Begin.{Begin}
 use Rattle.book_log.specs.declared.entry.Entry.TheVariants.{Define}
 use Rattle.book_log.specs.declared.refusal.Refusal.{Refusal}
@@ -19,14 +19,14 @@ use Rattle.book_journal.specs.Entries.{AddLines, HoldLines}
 use Rattle.book_journal.specs.Faults.{fault_of}
 use Rattle.book_journal.specs.Kept.{lines_in, IsAtRest, IsSame, LeavesAllOrNone, MayAdd}
 use Rattle.book_journal.specs.declared.fault.JournalFault.{JournalFault}
-use Rattle.rollback_book.specs.Book.{Volume}
+use Rattle.rollback_book.specs.Book.{BookView}
 use Rattle.rollback_book.specs.Making.{CanEnter, IsPlanned, OrMemory}
 use Rattle.rollback_book.specs.declared.making.Made.{Made}
 use Rattle.rollback_book.specs.declared.room.PlanRoom.{PlanRoom}
 use Rattle.journaled_book.specs.declared.fault.BeginRefusal.{BeginRefusal}
 use Rattle.journaled_book.specs.declared.fault.BeginRefusal.TheVariants as begin_refusal
-use Rattle.journaled_book.specs.declared.fault.ChangeFault.{ChangeFault}
-use Rattle.journaled_book.specs.declared.fault.ChangeFault.TheVariants as change_fault
+use Rattle.journaled_book.specs.declared.fault.EntryFault.{EntryFault}
+use Rattle.journaled_book.specs.declared.fault.EntryFault.TheVariants as entry_fault
 
 -- ---- the journal
 
@@ -63,7 +63,7 @@ IsStoreFault fault = (cause : Error) × (fault ≡ fault_of cause)
 -- ---- the book
 
 -- everything is made for this command, and the book is as it was left when this was made
-abbrev pub IsReady : Option Volume → Made → Type 0
+abbrev pub IsReady : Option BookView → Made → Type 0
 IsReady None m = ⊥
 IsReady (Some b) m = CanEnter b m
 
@@ -73,47 +73,47 @@ RefusesBegin begin (begin_refusal.Item fault) = (fault ≡ item.Memory) ⊎ (tab
 RefusesBegin begin (begin_refusal.Journal fault) = IsOk (table_of begin) × IsStoreFault fault
 
 -- the book refuses, or it would not but for want of memory; or the journal refuses what the book would not
-abbrev pub RefusesChange : {T : Type 0} → Result T Refusal → ChangeFault → Type 0
-RefusesChange answer (change_fault.Book refusal) = OrMemory answer refusal
-RefusesChange answer (change_fault.Journal fault) = IsOk answer × IsStoreFault fault
+abbrev pub RefusesChange : {T : Type 0} → Result T Refusal → EntryFault → Type 0
+RefusesChange answer (entry_fault.Book refusal) = OrMemory answer refusal
+RefusesChange answer (entry_fault.Journal fault) = IsOk answer × IsStoreFault fault
 
-abbrev pub AnswersChange : {T : Type 0} → Result T Refusal → Result T ChangeFault → Type 0
+abbrev pub AnswersChange : {T : Type 0} → Result T Refusal → Result T EntryFault → Type 0
 AnswersChange answer (Ok told) = answer ≡ Ok told
 AnswersChange answer (Err fault) = RefusesChange answer fault
 
 -- the same; and in some cases want of memory may be told for any answer of the book
-abbrev pub RefusesChangeOr : {T : Type 0} → Type 0 → Result T Refusal → ChangeFault → Type 0
-RefusesChangeOr lacks answer (change_fault.Book refusal) = OrMemory answer refusal ⊎ ((refusal ≡ refused.Memory) × lacks)
-RefusesChangeOr lacks answer (change_fault.Journal fault) = IsOk answer × IsStoreFault fault
+abbrev pub RefusesChangeOr : {T : Type 0} → Type 0 → Result T Refusal → EntryFault → Type 0
+RefusesChangeOr lacks answer (entry_fault.Book refusal) = OrMemory answer refusal ⊎ ((refusal ≡ refused.Memory) × lacks)
+RefusesChangeOr lacks answer (entry_fault.Journal fault) = IsOk answer × IsStoreFault fault
 
-abbrev pub AnswersChangeOr : {T : Type 0} → Type 0 → Result T Refusal → Result T ChangeFault → Type 0
+abbrev pub AnswersChangeOr : {T : Type 0} → Type 0 → Result T Refusal → Result T EntryFault → Type 0
 AnswersChangeOr lacks answer (Ok told) = answer ≡ Ok told
 AnswersChangeOr lacks answer (Err fault) = RefusesChangeOr lacks answer fault
 
 -- the book refuses a definition for what stands, or the journal refuses the line of a machine
-abbrev pub RefusesDefine : Story → List ℕ → source.Data → ChangeFault → Type 0
-RefusesDefine story name d (change_fault.Book refusal) = IsDefineRefusal story name d refusal
-RefusesDefine story name d (change_fault.Journal fault) = (machine : Definition) × Defines d machine × IsAccepted story (Define name machine) × IsStoreFault fault
+abbrev pub RefusesDefine : Log → List ℕ → source.Data → EntryFault → Type 0
+RefusesDefine log name d (entry_fault.Book refusal) = IsDefineRefusal log name d refusal
+RefusesDefine log name d (entry_fault.Journal fault) = (machine : Definition) × Defines d machine × IsAccepted log (Define name machine) × IsStoreFault fault
 
 -- the book refuses, or the journal refuses what the book would not
-abbrev pub RefusesUndo : Story → StepName → ChangeFault → Type 0
-RefusesUndo story step (change_fault.Book refusal) = undo_answer story step ≡ Err refusal
-RefusesUndo story step (change_fault.Journal fault) = (undo_answer story step ≡ Ok step) × IsStoreFault fault
+abbrev pub RefusesUndo : Log → StepName → EntryFault → Type 0
+RefusesUndo log step (entry_fault.Book refusal) = undo_answer log step ≡ Err refusal
+RefusesUndo log step (entry_fault.Journal fault) = (undo_answer log step ≡ Ok step) × IsStoreFault fault
 
-abbrev pub AnswersUndo : Story → StepName → Result StepName ChangeFault → Type 0
-AnswersUndo story step (Ok name) = (undo_answer story step ≡ Ok step) × (name ≡ step)
-AnswersUndo story step (Err fault) = RefusesUndo story step fault
+abbrev pub AnswersUndo : Log → StepName → Result StepName EntryFault → Type 0
+AnswersUndo log step (Ok name) = (undo_answer log step ≡ Ok step) × (name ≡ step)
+AnswersUndo log step (Err fault) = RefusesUndo log step fault
 
 -- as a book plans
-abbrev pub PlansRollback : Story → StepName → Result PlanRoom Refusal → Type 0
-PlansRollback story step (Ok plan) = (plan.step ≡ step) × IsPlanned story plan
-PlansRollback story step (Err refusal) = ((refusal ≡ refused.Memory) × IsOk (plan_answer story step)) ⊎ (plan_answer story step ≡ Err refusal)
+abbrev pub PlansRollback : Log → StepName → Result PlanRoom Refusal → Type 0
+PlansRollback log step (Ok plan) = (plan.step ≡ step) × IsPlanned log plan
+PlansRollback log step (Err refusal) = ((refusal ≡ refused.Memory) × IsOk (plan_answer log step)) ⊎ (plan_answer log step ≡ Err refusal)
 
 -- commands were accepted since a plan was made after so many entries; or the journal refuses
-abbrev pub RefusesRollback : Story → StepName → List StepName → ℕ → ChangeFault → Type 0
-RefusesRollback story step names entries (change_fault.Book refusal) = (refusal ≡ refused.Stale (length story.log)) × (entries < length story.log)
-RefusesRollback story step names entries (change_fault.Journal fault) = (plan_answer story step ≡ Ok names) × IsStoreFault fault
+abbrev pub RefusesRollback : Log → StepName → List StepName → ℕ → EntryFault → Type 0
+RefusesRollback log step names entries (entry_fault.Book refusal) = (refusal ≡ refused.Stale (length log.entries)) × (entries < length log.entries)
+RefusesRollback log step names entries (entry_fault.Journal fault) = (plan_answer log step ≡ Ok names) × IsStoreFault fault
 
-abbrev pub AnswersRollback : Story → StepName → List StepName → ℕ → Result (List StepName) ChangeFault → Type 0
-AnswersRollback story step names entries (Ok told) = (told ≡ names) × (plan_answer story step ≡ Ok names)
-AnswersRollback story step names entries (Err fault) = RefusesRollback story step names entries fault
+abbrev pub AnswersRollback : Log → StepName → List StepName → ℕ → Result (List StepName) EntryFault → Type 0
+AnswersRollback log step names entries (Ok told) = (told ≡ names) × (plan_answer log step ≡ Ok names)
+AnswersRollback log step names entries (Err fault) = RefusesRollback log step names entries fault

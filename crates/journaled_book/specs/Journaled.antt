@@ -3,43 +3,43 @@ use Rattle.std.specs.Prelude.{◌≡◌, ℕ, List, ◌++◌, Option, None, Some
 use Rattle.std.specs.Coded.{Coded, code_by, coded×}
 use Rattle.sqlite.specs.Held.{Held, held_code}
 use Rattle.sqlite.specs.State.{State, HasCleanDisk}
-use Rattle.book_log.specs.Story.{Story, accepted}
+use Rattle.book_log.specs.Log.{Log, appended}
 use Rattle.book_log.specs.declared.entry.Entry.{Entry}
 use Rattle.book_journal.specs.Entries.{HoldLines}
 use Rattle.book_journal.specs.Kept.{lines_in, IsAtRest}
-use Rattle.rollback_book.specs.Book.{Volume}
+use Rattle.rollback_book.specs.Book.{BookView}
 use Rattle.journaled_book.specs.Lines.{AreEntryLines, AreLinesOf}
 
 -- the book, none before its table is given, and what the journal's connection holds
 pub record Journaled (S : Type 0) : Type 0 where
-  pub book : Option Volume
+  pub book : Option BookView
   pub journal : Held S
 
-abbrev pub journaled_code : {S : Type 0} → Coded (Option Volume) → Coded S → Coded (Journaled S)
+abbrev pub journaled_code : {S : Type 0} → Coded (Option BookView) → Coded S → Coded (Journaled S)
 journaled_code {S} book store =
-    code_by (Option Volume × Held S) (coded× book (held_code store)) (λ j. (j.book, j.journal)) (λ p. record { book = p.0; journal = p.1 }) (λ _. refl)
+    code_by (Option BookView × Held S) (coded× book (held_code store)) (λ j. (j.book, j.journal)) (λ p. record { book = p.0; journal = p.1 }) (λ _. refl)
 
-abbrev pub story_of : Option Volume → Option Story
-story_of book = option_map (λ b. b.story) book
+abbrev pub log_of : Option BookView → Option Log
+log_of book = option_map (λ b. b.log) book
 
-abbrev pub with_entry : Option Story → Entry → Option Story
-with_entry story entry = option_map (λ s. accepted s entry) story
+abbrev pub with_entry : Option Log → Entry → Option Log
+with_entry log entry = option_map (λ s. appended s entry) log
 
 -- the journal of a book that went on, or of one that is away
 abbrev pub journal_of : {S : Type 0} → Result (Journaled S) (Journaled S) → Held S
 journal_of (Ok book) = book.journal
 journal_of (Err away) = away.journal
 
--- the story went on by entries that these lines say
-abbrev pub GoesOnBy : List (List ℕ) → Option Story → Story → Type 0
+-- the log went on by entries that these lines say
+abbrev pub GoesOnBy : List (List ℕ) → Option Log → Log → Type 0
 GoesOnBy lines None after = ⊥
-GoesOnBy lines (Some before) after = (more : List Entry) × (after ≡ record { begin = before.begin; log = before.log ++ more }) × AreEntryLines lines more
+GoesOnBy lines (Some before) after = (more : List Entry) × (after ≡ record { begin = before.begin; entries = before.entries ++ more }) × AreEntryLines lines more
 
--- the journal holds lines of this story
-abbrev pub HasLinesOf : State → Option Story → Type 0
-HasLinesOf s story = (lines : List (List ℕ)) × HoldLines (lines_in s) lines × AreLinesOf lines story
+-- the journal holds lines of this log
+abbrev pub HasLinesOf : State → Option Log → Type 0
+HasLinesOf s log = (lines : List (List ℕ)) × HoldLines (lines_in s) lines × AreLinesOf lines log
 
 -- While the store is open, the journal's lines are those of the book, and a crash leaves them and nothing else.
-pub record IsJournalOf (s : State) (story : Option Story) : Type 0 where
-  pub lines : HasCleanDisk s → IsTrue s.is_open → HasLinesOf s story
+pub record IsJournalOf (s : State) (log : Option Log) : Type 0 where
+  pub lines : HasCleanDisk s → IsTrue s.is_open → HasLinesOf s log
   pub rest : IsAtRest s

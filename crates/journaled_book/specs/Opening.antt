@@ -2,7 +2,7 @@
 use Rattle.std.specs.Prelude.{◌≡◌, ℕ, List, ◌∷◌, ◌++◌, length, Option, None, Some}
 use Rattle.sqlite.specs.Order.{Row}
 use Rattle.book_log.specs.Legal.{IsLegal}
-use Rattle.book_log.specs.Story.{Story}
+use Rattle.book_log.specs.Log.{Log}
 use Rattle.book_journal.specs.Entries.{HoldLines, HaveGap}
 use Rattle.book_journal.specs.declared.fault.JournalFault.{JournalFault}
 use Rattle.book_journal.specs.declared.fault.JournalFault.TheVariants as journal_fault
@@ -10,15 +10,15 @@ use Rattle.journaled_book.specs.Lines.{AreLinesOf, IsDamaged}
 use Rattle.journaled_book.specs.declared.fault.OpenFault.{OpenFault}
 use Rattle.journaled_book.specs.declared.fault.OpenFault.TheVariants.{Damaged, Journal, Memory}
 
--- each entry of the story was accepted at its place
-abbrev pub IsLegalBook : Option Story → Type 0
+-- each entry of the log was accepted at its place
+abbrev pub IsLegalBook : Option Log → Type 0
 IsLegalBook None = Unit {0}
-IsLegalBook (Some story) = IsLegal story
+IsLegalBook (Some log) = IsLegal log
 
 -- these lines give this book
-pub record Give (lines : List (List ℕ)) (story : Option Story) : Type 0 where
-  pub are_lines : AreLinesOf lines story
-  pub is_legal : IsLegalBook story
+pub record Give (lines : List (List ℕ)) (log : Option Log) : Type 0 where
+  pub are_lines : AreLinesOf lines log
+  pub is_legal : IsLegalBook log
 
 -- the line at this place is damaged, and those before it give a book
 pub record HasDamageAt (lines : List (List ℕ)) (place : ℕ) : Type 0 where
@@ -27,13 +27,13 @@ pub record HasDamageAt (lines : List (List ℕ)) (place : ℕ) : Type 0 where
   pub later : List (List ℕ)
   pub parts : lines ≡ front ++ line ∷ later
   pub place_is : place ≡ length front
-  pub story : Option Story
-  pub given : Give front story
-  pub is_damaged : IsDamaged story line
+  pub log : Option Log
+  pub given : Give front log
+  pub is_damaged : IsDamaged log line
 
 -- the entries of the journal are these lines' and ..
-abbrev pub OpensTo : List Row → Option Story → Type 0
-OpensTo rows story = (lines : List (List ℕ)) × HoldLines rows lines × Give lines story
+abbrev pub OpensTo : List Row → Option Log → Type 0
+OpensTo rows log = (lines : List (List ℕ)) × HoldLines rows lines × Give lines log
 
 abbrev pub RefusesJournal : List Row → JournalFault → Type 0
 RefusesJournal rows (journal_fault.Gap position) = HaveGap rows position

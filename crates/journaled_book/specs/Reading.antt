@@ -1,11 +1,11 @@
 -- What is read of a line, and what comes of its command.
 use Rattle.std.specs.Prelude.{◌≡◌, ℕ, List, Option, Some}
-use Rattle.book_log.specs.Story.{Story}
+use Rattle.book_log.specs.Log.{Log}
 use Rattle.book_log.specs.declared.refusal.Refusal.{Refusal}
 use Rattle.book_log.specs.declared.refusal.Refusal.TheVariants as refusal
 use Rattle.book_journal.specs.declared.fault.JournalFault.{JournalFault}
 use Rattle.book_journal.specs.declared.fault.JournalFault.TheVariants as journal_fault
-use Rattle.command_lines.specs.Grammar.{Spoken, command_of}
+use Rattle.command_lines.specs.Grammar.{CommandView, command_of}
 use Rattle.journaled_book.specs.Lines.{Adds, Begins, IsDamaged}
 use Rattle.journaled_book.specs.declared.fault.LineFault.{LineFault}
 use Rattle.journaled_book.specs.declared.fault.LineFault.TheVariants as line_fault
@@ -27,14 +27,14 @@ abbrev pub refused_line : Refusal → LineFault
 refused_line refusal.Memory = line_fault.Memory
 refused_line e = line_fault.Damaged
 
--- a line of this command begins this story
-abbrev pub BeginsBy : Spoken → Story → Type 0
-BeginsBy command story = (line : List ℕ) → command_of line ≡ Some command → Begins line story
+-- a line of this command begins this log
+abbrev pub BeginsBy : CommandView → Log → Type 0
+BeginsBy command log = (line : List ℕ) → command_of line ≡ Some command → Begins line log
 
 -- a line of this command adds its entry
-abbrev pub AddsBy : Story → Spoken → Story → Type 0
+abbrev pub AddsBy : Log → CommandView → Log → Type 0
 AddsBy before command after = (line : List ℕ) → command_of line ≡ Some command → Adds before line after
 
 -- a line of this command is damaged
-abbrev pub IsDamagedBy : Option Story → Spoken → Type 0
+abbrev pub IsDamagedBy : Option Log → CommandView → Type 0
 IsDamagedBy before command = (line : List ℕ) → command_of line ≡ Some command → IsDamaged before line

@@ -3,7 +3,7 @@ ghost use Rattle.std.specs.Prelude.{◌≡◌, Some, IsSome, IfOk, IfErr};
 ghost use Rattle.sqlite.specs.Held.{state};
 ghost use Rattle.book_journal.specs.Entries.{texts};
 ghost use Rattle.journaled_book.specs.Changes.{AppendsAll};
-ghost use Rattle.journaled_book.specs.Journaled.{GoesOnBy, IsJournalOf, journal_of, story_of};
+ghost use Rattle.journaled_book.specs.Journaled.{GoesOnBy, IsJournalOf, journal_of, log_of};
 
 use crate::book::JournaledBook;
 use book_journal::Journal;
@@ -35,7 +35,7 @@ impl<S: Alter> Model for AwayBook<S> {
 
     ghost view = { λ j. record { book = Some j.was.value; journal = j.journal } };
 
-    ghost invariant = { λ j. IsJournalOf (state S.Store j.journal) (Some j.was.value.story) };
+    ghost invariant = { λ j. IsJournalOf (state S.Store j.journal) (Some j.was.value.log) };
 }
 
 impl<S: Alter> JournaledBook<S> {
@@ -53,9 +53,9 @@ impl<S: Alter> JournaledBook<S> {
 }
 
 impl<S: Alter> AwayBook<S> {
-    /// Puts the book back, whose story is the one from before. Takes no memory.
+    /// Puts the book back, whose log is the one from before. Takes no memory.
     pub fn put_back(self, book: Book) -> JournaledBook<S>
-        requires same { story_of self.book ≡ Some book.story }
+        requires same { log_of self.book ≡ Some book.log }
         ensures book { result.book ≡ Some book }
         ensures journal { result.journal ≡ self.journal }
     {
@@ -66,13 +66,13 @@ impl<S: Alter> AwayBook<S> {
         }
     }
 
-    /// Puts the book back, whose story went on by entries that these lines say: all lines are appended before, in one transaction.
+    /// Puts the book back, whose log went on by entries that these lines say: all lines are appended before, in one transaction.
     ///
     /// # Errors
     ///
     /// As the journal refuses the lines, all of them. The book is dropped then, and the journal is as it was.
     pub fn append(self, book: Book, lines: &[&str]) -> Result<JournaledBook<S>, AwayBook<S>>
-        requires lines { GoesOnBy (texts lines.now) (story_of self.book) book.story }
+        requires lines { GoesOnBy (texts lines.now) (log_of self.book) book.log }
         ensures ok { IfOk result (λ back. back.book ≡ Some book) }
         ensures err { IfErr result (λ away. away.book ≡ self.book) }
         ensures journal { AppendsAll (state S.Store self.journal) (state S.Store (journal_of result)) (texts lines.now) result }
@@ -93,7 +93,7 @@ impl<S: Alter> AwayBook<S> {
     /// The journal, which holds the lines of the book as it was. Takes no memory.
     pub fn journal(&self) -> &Journal<S>
         ensures same { result.now ≡ self.now.journal }
-        ensures journal { IsJournalOf (state S.Store self.now.journal) (story_of self.now.book) }
+        ensures journal { IsJournalOf (state S.Store self.now.journal) (log_of self.now.book) }
     {
         &self.journal
     }
@@ -101,7 +101,7 @@ impl<S: Alter> AwayBook<S> {
     /// The journal, which holds the lines of the book as it was.
     pub fn into_journal(self) -> Journal<S>
         ensures same { result ≡ self.journal }
-        ensures journal { IsJournalOf (state S.Store result) (story_of self.book) }
+        ensures journal { IsJournalOf (state S.Store result) (log_of self.book) }
     {
         let AwayBook { was: _, journal } = self;
         journal

@@ -5,12 +5,12 @@ ghost use Rattle.book_log.specs.Beginning.{table_of};
 ghost use Rattle.book_journal.specs.Kept.{lines_in, IsAtRest};
 ghost use Rattle.rollback_book.specs.Making.{Answers, IsPlanned, IsProper, WasPlanned};
 ghost use Rattle.journaled_book.specs.Changes.{AnswersRollback, AnswersUndo, Appends, IsRead, IsReady, IsStoreFault, PlansRollback, RefusesBegin};
-ghost use Rattle.journaled_book.specs.Journaled.{IsJournalOf, story_of, with_entry};
+ghost use Rattle.journaled_book.specs.Journaled.{IsJournalOf, log_of, with_entry};
 ghost use Rattle.journaled_book.specs.Lines.{IsBeginLine, IsLineOf, SaysChange};
 ghost use Rattle.journaled_book.specs.Opening.{OpensTo, RefusesOpen};
 
 use crate::changing;
-use crate::fault::{BeginRefusal, ChangeFault, OpenFault};
+use crate::fault::{BeginRefusal, EntryFault, OpenFault};
 use crate::loading::load;
 use book_journal::{Journal, JournalFault};
 use book_log::{Begin, Entry, Refusal, StepNames};
@@ -24,7 +24,7 @@ use step_names::StepName;
 /// that of the log's entry n.
 ///
 /// Contracts see the book and what the journal's connection shows. While the disk is clean and the connection open, the
-/// journal's lines are those of the book's story.
+/// journal's lines are those of the book's log.
 #[derive(Drop)]
 pub struct JournaledBook<S: Alter> {
     pub(crate) book: Option<Book>,
@@ -32,7 +32,7 @@ pub struct JournaledBook<S: Alter> {
 }
 
 impl<S: Alter> Model for JournaledBook<S> {
-    ghost use Rattle.journaled_book.specs.Journaled.{Journaled, journaled_code, IsJournalOf, story_of};
+    ghost use Rattle.journaled_book.specs.Journaled.{Journaled, journaled_code, IsJournalOf, log_of};
     ghost use Rattle.std.specs.Coded.{coded_option};
     ghost use Rattle.sqlite.specs.Held.{state};
     ghost use Rattle.rollback_book.specs.contracts.book.Book as book_row;
@@ -43,7 +43,7 @@ impl<S: Alter> Model for JournaledBook<S> {
 
     ghost view = { λ j. record { book = j.book; journal = j.journal } };
 
-    ghost invariant = { λ j. IsJournalOf (state S.Store j.journal) (story_of j.book) };
+    ghost invariant = { λ j. IsJournalOf (state S.Store j.journal) (log_of j.book) };
 }
 
 impl<S: Alter> JournaledBook<S> {
@@ -58,7 +58,7 @@ impl<S: Alter> JournaledBook<S> {
         alloc: Global,
         journal: Journal<S>,
     ) -> Result<JournaledBook<S>, (OpenFault, Journal<S>)>
-        ensures opened { IfOk result (λ j. HasCleanDisk (state S.Store j.journal) → OpensTo (lines_in (state S.Store journal)) (story_of j.book)) }
+        ensures opened { IfOk result (λ j. HasCleanDisk (state S.Store j.journal) → OpensTo (lines_in (state S.Store journal)) (log_of j.book)) }
         ensures refused { IfErr result (λ e. HasCleanDisk (state S.Store e.1) → RefusesOpen (lines_in (state S.Store journal)) e.0) }
         ensures memory { IfErr result (λ e. ¬ (e.0 ≡ OpenFault.Journal JournalFault.Memory)) }
         ensures read { MatchResult result (λ j. IsRead (state S.Store journal) (state S.Store j.journal)) (λ e. IsRead (state S.Store journal) (state S.Store e.1)) }
@@ -73,7 +73,7 @@ impl<S: Alter> JournaledBook<S> {
     /// The book, once its table was given. Takes no memory.
     pub fn book(&self) -> Option<&Book>
         ensures book { option_map (λ book. book.now) result ≡ self.now.book }
-        ensures journal { IsJournalOf (state S.Store self.now.journal) (story_of self.now.book) }
+        ensures journal { IsJournalOf (state S.Store self.now.journal) (log_of self.now.book) }
     {
         self.book.as_ref()
     }
@@ -88,7 +88,7 @@ impl<S: Alter> JournaledBook<S> {
     /// The journal, which holds the lines of the book.
     pub fn into_journal(self) -> Journal<S>
         ensures same { result ≡ self.journal }
-        ensures journal { IsJournalOf (state S.Store result) (story_of self.book) }
+        ensures journal { IsJournalOf (state S.Store result) (log_of self.book) }
     {
         let JournaledBook { book, journal } = self;
         drop(book);
@@ -103,7 +103,7 @@ impl<S: Alter> JournaledBook<S> {
     pub fn begin(&mut self, alloc: Global, begin: Begin, line: &str) -> Result<(), BeginRefusal>
         requires closed { self.old.book ≡ None }
         requires line { IsBeginLine line.now begin }
-        ensures ok { OnOk result ((story_of self.new.book ≡ Some (record { begin = begin; log = [] })) × IsOk (table_of begin)) }
+        ensures ok { OnOk result ((log_of self.new.book ≡ Some (record { begin = begin; entries = [] })) × IsOk (table_of begin)) }
         ensures refused { IfErr result (RefusesBegin begin) }
         ensures err { OnErr result (self.new.book ≡ None) }
         ensures journal { Appends (state S.Store self.old.journal) (state S.Store self.new.journal) line.now result }
@@ -113,15 +113,15 @@ impl<S: Alter> JournaledBook<S> {
         Ok(())
     }
 
-    /// Makes everything that a command needs but its line in the journal, as `Book::ready_entry`. The story and the journal
+    /// Makes everything that a command needs but its line in the journal, as `Book::ready_entry`. The log and the journal
     /// are the same then.
     pub(crate) fn ready(&mut self, alloc: Global, change: Change<'_>) -> Result<Made, Refusal>
         requires open { IsSome self.old.book }
         requires proper { IsProper change }
-        ensures answer { IfSome self.old.book (λ b. Answers b.story change.entry result) }
+        ensures answer { IfSome self.old.book (λ b. Answers b.log change.entry result) }
         ensures ready { IfOk result (λ made. IsReady self.new.book made) }
         ensures line { IfOk result (λ made. (line : List ℕ) → SaysChange change.entry line → IsLineOf line made.entry) }
-        ensures story { story_of self.new.book ≡ story_of self.old.book }
+        ensures log { log_of self.new.book ≡ log_of self.old.book }
         ensures journal { self.new.journal ≡ self.old.journal }
         ensures rest { IsAtRest (state S.Store self.new.journal) }
     {
@@ -140,7 +140,7 @@ impl<S: Alter> JournaledBook<S> {
     pub(crate) fn enter(&mut self, made: Made, line: &str) -> Result<Entered, JournalFault>
         requires ready { IsReady self.old.book made }
         requires line { IsLineOf line.now made.entry }
-        ensures ok { IfOk result (λ answer. (answer ≡ made.answer) × (story_of self.new.book ≡ with_entry (story_of self.old.book) made.entry)) }
+        ensures ok { IfOk result (λ answer. (answer ≡ made.answer) × (log_of self.new.book ≡ with_entry (log_of self.old.book) made.entry)) }
         ensures refused { IfErr result IsStoreFault }
         ensures err { OnErr result (self.new.book ≡ self.old.book) }
         ensures journal { Appends (state S.Store self.old.journal) (state S.Store self.new.journal) line.now result }
@@ -156,11 +156,11 @@ impl<S: Alter> JournaledBook<S> {
     /// # Errors
     ///
     /// As the book refuses, before anything is appended; or as the journal refuses the line. Book and journal are as before then.
-    pub fn undo(&mut self, room: Room, line: &str) -> Result<StepName, ChangeFault>
+    pub fn undo(&mut self, room: Room, line: &str) -> Result<StepName, EntryFault>
         requires open { IsSome self.old.book }
         requires line { IsLineOf line.now (Entry.Undo room.step) }
-        ensures answer { IfSome self.old.book (λ b. AnswersUndo b.story room.step result) }
-        ensures ok { OnOk result (story_of self.new.book ≡ with_entry (story_of self.old.book) (Entry.Undo room.step)) }
+        ensures answer { IfSome self.old.book (λ b. AnswersUndo b.log room.step result) }
+        ensures ok { OnOk result (log_of self.new.book ≡ with_entry (log_of self.old.book) (Entry.Undo room.step)) }
         ensures err { OnErr result (self.new.book ≡ self.old.book) }
         ensures journal { Appends (state S.Store self.old.journal) (state S.Store self.new.journal) line.now result }
     {
@@ -173,7 +173,7 @@ impl<S: Alter> JournaledBook<S> {
     /// Plans the rollback of a step, as `Book::plan_room`.
     pub fn plan_room(&self, alloc: Global, step: &StepName) -> Result<PlanRoom, Refusal>
         requires { IsSome self.now.book }
-        ensures { IfSome self.now.book (λ b. PlansRollback b.story step.now result) }
+        ensures { IfSome self.now.book (λ b. PlansRollback b.log step.now result) }
     {
         let Some(book) = &self.book else {
             unreachable!()
@@ -188,12 +188,12 @@ impl<S: Alter> JournaledBook<S> {
     ///
     /// `Stale` where commands were accepted since the plan was made, before anything is appended; or as the journal refuses the
     /// line. Book and journal are as before then.
-    pub fn rollback(&mut self, plan: PlanRoom, line: &str) -> Result<StepNames, ChangeFault>
-        requires planned { IfSome self.old.book (λ b. WasPlanned b.story plan) }
+    pub fn rollback(&mut self, plan: PlanRoom, line: &str) -> Result<StepNames, EntryFault>
+        requires planned { IfSome self.old.book (λ b. WasPlanned b.log plan) }
         requires open { IsSome self.old.book }
         requires line { IsLineOf line.now (Entry.Rollback plan.step plan.names) }
-        ensures answer { IfSome self.old.book (λ b. AnswersRollback b.story plan.step plan.names plan.entries result) }
-        ensures ok { OnOk result (story_of self.new.book ≡ with_entry (story_of self.old.book) (Entry.Rollback plan.step plan.names)) }
+        ensures answer { IfSome self.old.book (λ b. AnswersRollback b.log plan.step plan.names plan.entries result) }
+        ensures ok { OnOk result (log_of self.new.book ≡ with_entry (log_of self.old.book) (Entry.Rollback plan.step plan.names)) }
         ensures err { OnErr result (self.new.book ≡ self.old.book) }
         ensures journal { Appends (state S.Store self.old.journal) (state S.Store self.new.journal) line.now result }
     {

@@ -2,13 +2,13 @@
 ghost use Rattle.std.specs.Prelude.{◌≡◌, ◌⊎◌, [], None, Some, IsOk, IfOk, IfErr, OnOk, OnErr};
 ghost use Rattle.sqlite.specs.Held.{state};
 ghost use Rattle.book_log.specs.Beginning.{table_of};
-ghost use Rattle.book_log.specs.Story.{accepted};
+ghost use Rattle.book_log.specs.Log.{appended};
 ghost use Rattle.book_journal.specs.Kept.{IsAtRest};
 ghost use Rattle.rollback_book.specs.Making.{CanEnter, WasPlanned};
 ghost use Rattle.journaled_book.specs.Changes.{AnswersRollback, AnswersUndo, Appends, IsStoreFault, RefusesBegin};
-ghost use Rattle.journaled_book.specs.Journaled.{story_of};
+ghost use Rattle.journaled_book.specs.Journaled.{log_of};
 
-use crate::fault::{BeginRefusal, ChangeFault};
+use crate::fault::{BeginRefusal, EntryFault};
 use book_journal::{Journal, JournalFault};
 use book_log::{Begin, Entry, Refusal, StepNames};
 use rollback_book::{Book, Entered, Made, PlanRoom, Room};
@@ -24,7 +24,7 @@ pub(crate) fn begin<S: Alter>(
     line: &str,
 ) -> Result<Book, BeginRefusal>
     requires { IsAtRest (state S.Store journal.old) }
-    ensures ok { IfOk result (λ book. (book.story ≡ record { begin = begin; log = [] }) × IsOk (table_of begin)) }
+    ensures ok { IfOk result (λ book. (book.log ≡ record { begin = begin; entries = [] }) × IsOk (table_of begin)) }
     ensures refused { IfErr result (RefusesBegin begin) }
     ensures journal { Appends (state S.Store journal.old) (state S.Store journal.new) line.now result }
 {
@@ -46,7 +46,7 @@ pub(crate) fn enter<S: Alter>(
     line: &str,
 ) -> Result<Entered, JournalFault>
     requires { CanEnter book.old made }
-    ensures ok { IfOk result (λ answer. (answer ≡ made.answer) × (book.new.story ≡ accepted book.old.story made.entry)) }
+    ensures ok { IfOk result (λ answer. (answer ≡ made.answer) × (book.new.log ≡ appended book.old.log made.entry)) }
     ensures refused { IfErr result IsStoreFault }
     ensures err { OnErr result (book.new ≡ book.old) }
     ensures journal { Appends (state S.Store journal.old) (state S.Store journal.new) line.now result }
@@ -65,20 +65,20 @@ pub(crate) fn undo<S: Alter>(
     journal: &mut Journal<S>,
     room: Room,
     line: &str,
-) -> Result<StepName, ChangeFault>
+) -> Result<StepName, EntryFault>
     requires { IsAtRest (state S.Store journal.old) }
-    ensures answer { AnswersUndo book.old.story room.step result }
-    ensures ok { OnOk result (book.new.story ≡ accepted book.old.story (Entry.Undo room.step)) }
+    ensures answer { AnswersUndo book.old.log room.step result }
+    ensures ok { OnOk result (book.new.log ≡ appended book.old.log (Entry.Undo room.step)) }
     ensures err { OnErr result (book.new ≡ book.old) }
     ensures journal { Appends (state S.Store journal.old) (state S.Store journal.new) line.now result }
 {
     let free = match book.can_undo(room) {
         Ok(free) => free,
-        Err(refusal) => return Err(ChangeFault::Book(refusal)),
+        Err(refusal) => return Err(EntryFault::Book(refusal)),
     };
     if let Err(fault) = append(journal, line) {
         drop(free);
-        return Err(ChangeFault::Journal(fault));
+        return Err(EntryFault::Journal(fault));
     }
     Ok(book.undo_found(free))
 }
@@ -88,22 +88,22 @@ pub(crate) fn rollback<S: Alter>(
     journal: &mut Journal<S>,
     plan: PlanRoom,
     line: &str,
-) -> Result<StepNames, ChangeFault>
+) -> Result<StepNames, EntryFault>
     requires rest { IsAtRest (state S.Store journal.old) }
-    requires planned { WasPlanned book.old.story plan }
-    ensures answer { AnswersRollback book.old.story plan.step plan.names plan.entries result }
-    ensures ok { OnOk result (book.new.story ≡ accepted book.old.story (Entry.Rollback plan.step plan.names)) }
+    requires planned { WasPlanned book.old.log plan }
+    ensures answer { AnswersRollback book.old.log plan.step plan.names plan.entries result }
+    ensures ok { OnOk result (book.new.log ≡ appended book.old.log (Entry.Rollback plan.step plan.names)) }
     ensures err { OnErr result (book.new ≡ book.old) }
     ensures journal { Appends (state S.Store journal.old) (state S.Store journal.new) line.now result }
 {
     let entries = book.entries().1.len();
     if entries != plan.entries() {
         drop(plan);
-        return Err(ChangeFault::Book(Refusal::Stale(entries)));
+        return Err(EntryFault::Book(Refusal::Stale(entries)));
     }
     if let Err(fault) = append(journal, line) {
         drop(plan);
-        return Err(ChangeFault::Journal(fault));
+        return Err(EntryFault::Journal(fault));
     }
     let Ok(names) = book.rollback(plan) else {
         unreachable!()

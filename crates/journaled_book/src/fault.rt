@@ -42,33 +42,33 @@ pub enum BeginRefusal {
 
 /// Why a step, or a step and its consequences, aren't taken back. Each refusal leaves book and journal as they were.
 #[derive(Debug, Drop)]
-pub enum ChangeFault {
+pub enum EntryFault {
     /// The book refuses.
     Book(Refusal),
     /// The journal refuses the line.
     Journal(JournalFault),
 }
 
-impl From<AllocError> for ChangeFault {
+impl From<AllocError> for EntryFault {
     ghost use Rattle.std.specs.Prelude.{◌≡◌};
     ghost use Rattle.book_log.specs.declared.refusal.Refusal.TheVariants.{Memory};
-    ghost use Rattle.journaled_book.specs.declared.fault.ChangeFault.TheVariants.{Book};
+    ghost use Rattle.journaled_book.specs.declared.fault.EntryFault.TheVariants.{Book};
 
     ghost from_gives = { λ _ e. e ≡ Book Memory };
 
-    fn from(_refused: AllocError) -> ChangeFault {
-        ChangeFault::Book(Refusal::Memory)
+    fn from(_refused: AllocError) -> EntryFault {
+        EntryFault::Book(Refusal::Memory)
     }
 }
 
-impl From<Refusal> for ChangeFault {
+impl From<Refusal> for EntryFault {
     ghost use Rattle.std.specs.Prelude.{◌≡◌};
-    ghost use Rattle.journaled_book.specs.declared.fault.ChangeFault.TheVariants.{Book};
+    ghost use Rattle.journaled_book.specs.declared.fault.EntryFault.TheVariants.{Book};
 
     ghost from_gives = { λ refusal e. e ≡ Book refusal };
 
-    fn from(refusal: Refusal) -> ChangeFault {
-        ChangeFault::Book(refusal)
+    fn from(refusal: Refusal) -> EntryFault {
+        EntryFault::Book(refusal)
     }
 }
 

@@ -15,5 +15,5 @@ mod parts;
 
 pub use away::AwayBook;
 pub use book::JournaledBook;
-pub use fault::{BeginRefusal, ChangeFault, OpenFault};
+pub use fault::{BeginRefusal, EntryFault, OpenFault};
 pub use rollback_book as books;

@@ -3,13 +3,13 @@ ghost use Rattle.std.specs.Prelude.{◌≡◌, ℕ, List, Err, IfOk, IsOk, OnOk,
 ghost use Rattle.book_log.specs.Answers.{plan_answer};
 ghost use Rattle.book_log.specs.Beginning.{table_of};
 ghost use Rattle.book_log.specs.Legal.{IsAccepted};
-ghost use Rattle.book_log.specs.Story.{Story, accepted};
+ghost use Rattle.book_log.specs.Log.{Log, appended};
 ghost use Rattle.book_log.specs.declared.refusal.Refusal.{Refusal};
 ghost use Rattle.command_lines.specs.Grammar as grammar;
-ghost use Rattle.command_lines.specs.Grammar.{spoken};
+ghost use Rattle.command_lines.specs.Grammar.{command_view};
 ghost use Rattle.rollback_book.specs.Making.{Answers, IsProper};
 ghost use Rattle.rollback_book.specs.declared.making.Made.{Made};
-ghost use Rattle.journaled_book.specs.Journaled.{story_of};
+ghost use Rattle.journaled_book.specs.Journaled.{log_of};
 ghost use Rattle.journaled_book.specs.Lines.{Adds, Begins, Follows, IsDamaged, SaysChange};
 ghost use Rattle.journaled_book.specs.Reading.{AddsBy, BeginsBy, IsDamagedBy, refused_line};
 
@@ -25,8 +25,8 @@ use step_names::{StepName, ThreadName};
 
 /// The book after one more line: the first begins it, and each other is one entry.
 pub(crate) fn add_line(alloc: Global, book: Option<Book>, line: &str) -> Result<Book, LineFault>
-    ensures ok { IfOk result (λ b. Follows (story_of book) line.now b.story) }
-    ensures damaged { result ≡ Err LineFault.Damaged → IsDamaged (story_of book) line.now }
+    ensures ok { IfOk result (λ b. Follows (log_of book) line.now b.log) }
+    ensures damaged { result ≡ Err LineFault.Damaged → IsDamaged (log_of book) line.now }
 {
     match book {
         None => begin_by_line(alloc, line),
@@ -44,7 +44,7 @@ pub(crate) fn add_line(alloc: Global, book: Option<Book>, line: &str) -> Result<
 }
 
 fn begin_by_line(alloc: Global, line: &str) -> Result<Book, LineFault>
-    ensures ok { IfOk result (λ b. Begins line.now b.story) }
+    ensures ok { IfOk result (λ b. Begins line.now b.log) }
     ensures damaged { result ≡ Err LineFault.Damaged → IsDamaged None line.now }
 {
     match Command::read(alloc, line.as_bytes()) {
@@ -55,8 +55,8 @@ fn begin_by_line(alloc: Global, line: &str) -> Result<Book, LineFault>
 }
 
 fn begin_by(alloc: Global, command: Command<'_>) -> Result<Book, LineFault>
-    ensures ok { IfOk result (λ b. BeginsBy (spoken command.entry) b.story) }
-    ensures damaged { result ≡ Err LineFault.Damaged → IsDamagedBy None (spoken command.entry) }
+    ensures ok { IfOk result (λ b. BeginsBy (command_view command.entry) b.log) }
+    ensures damaged { result ≡ Err LineFault.Damaged → IsDamagedBy None (command_view command.entry) }
 {
     match command {
         Command::Table {
@@ -77,7 +77,7 @@ fn begin_table(
     schema: KeySchema,
     items: &str,
 ) -> Result<Book, LineFault>
-    ensures ok { IfOk result (λ b. BeginsBy (grammar.table table schema items.now) b.story) }
+    ensures ok { IfOk result (λ b. BeginsBy (grammar.table table schema items.now) b.log) }
     ensures damaged { result ≡ Err LineFault.Damaged → IsDamagedBy None (grammar.table table schema items.now) }
 {
     match read_items(alloc, items) {
@@ -98,8 +98,8 @@ fn begin_table(
 }
 
 fn enter_line(alloc: Global, book: &mut Book, line: &str) -> Result<(), LineFault>
-    ensures ok { OnOk result (Adds book.old.story line.now book.new.story) }
-    ensures damaged { result ≡ Err LineFault.Damaged → IsDamaged (Some book.old.story) line.now }
+    ensures ok { OnOk result (Adds book.old.log line.now book.new.log) }
+    ensures damaged { result ≡ Err LineFault.Damaged → IsDamaged (Some book.old.log) line.now }
 {
     match Command::read(alloc, line.as_bytes()) {
         Ok(command) => enter_command(alloc, book, command),
@@ -109,8 +109,8 @@ fn enter_line(alloc: Global, book: &mut Book, line: &str) -> Result<(), LineFaul
 }
 
 fn enter_command(alloc: Global, book: &mut Book, command: Command<'_>) -> Result<(), LineFault>
-    ensures ok { OnOk result (AddsBy book.old.story (spoken command.entry) book.new.story) }
-    ensures damaged { result ≡ Err LineFault.Damaged → IsDamagedBy (Some book.old.story) (spoken command.entry) }
+    ensures ok { OnOk result (AddsBy book.old.log (command_view command.entry) book.new.log) }
+    ensures damaged { result ≡ Err LineFault.Damaged → IsDamagedBy (Some book.old.log) (command_view command.entry) }
 {
     match command {
         Command::Define { name, definition } => enter_define(alloc, book, &name, definition),
@@ -137,8 +137,8 @@ fn enter_define(
     name: &Text,
     definition: &str,
 ) -> Result<(), LineFault>
-    ensures ok { OnOk result (AddsBy book.old.story (grammar.define name.now definition.now) book.new.story) }
-    ensures damaged { result ≡ Err LineFault.Damaged → IsDamagedBy (Some book.old.story) (grammar.define name.now definition.now) }
+    ensures ok { OnOk result (AddsBy book.old.log (grammar.define name.now definition.now) book.new.log) }
+    ensures damaged { result ≡ Err LineFault.Damaged → IsDamagedBy (Some book.old.log) (grammar.define name.now definition.now) }
 {
     let definition = read_definition(alloc, definition)?;
     enter_change(
@@ -158,8 +158,8 @@ fn enter_start(
     machine: &Text,
     input: &str,
 ) -> Result<(), LineFault>
-    ensures ok { OnOk result (AddsBy book.old.story (grammar.start exec.now.thread machine.now input.now) book.new.story) }
-    ensures damaged { result ≡ Err LineFault.Damaged → IsDamagedBy (Some book.old.story) (grammar.start exec.now.thread machine.now input.now) }
+    ensures ok { OnOk result (AddsBy book.old.log (grammar.start exec.now.thread machine.now input.now) book.new.log) }
+    ensures damaged { result ≡ Err LineFault.Damaged → IsDamagedBy (Some book.old.log) (grammar.start exec.now.thread machine.now input.now) }
 {
     let input = read_value(alloc, input)?;
     enter_change(
@@ -174,30 +174,30 @@ fn enter_start(
 }
 
 fn enter_step(alloc: Global, book: &mut Book, thread: &ThreadName) -> Result<(), LineFault>
-    ensures ok { OnOk result (AddsBy book.old.story (grammar.step thread.now) book.new.story) }
-    ensures damaged { result ≡ Err LineFault.Damaged → IsDamagedBy (Some book.old.story) (grammar.step thread.now) }
+    ensures ok { OnOk result (AddsBy book.old.log (grammar.step thread.now) book.new.log) }
+    ensures damaged { result ≡ Err LineFault.Damaged → IsDamagedBy (Some book.old.log) (grammar.step thread.now) }
 {
     enter_change(alloc, book, Change::Step { thread })
 }
 
 fn enter_settle(alloc: Global, book: &mut Book) -> Result<(), LineFault>
-    ensures ok { OnOk result (AddsBy book.old.story grammar.settle book.new.story) }
-    ensures damaged { result ≡ Err LineFault.Damaged → IsDamagedBy (Some book.old.story) grammar.settle }
+    ensures ok { OnOk result (AddsBy book.old.log grammar.settle book.new.log) }
+    ensures damaged { result ≡ Err LineFault.Damaged → IsDamagedBy (Some book.old.log) grammar.settle }
 {
     enter_change(alloc, book, Change::Settle)
 }
 
 fn enter_hold(alloc: Global, book: &mut Book, step: &StepName) -> Result<(), LineFault>
-    ensures ok { OnOk result (AddsBy book.old.story (grammar.hold step.now) book.new.story) }
-    ensures damaged { result ≡ Err LineFault.Damaged → IsDamagedBy (Some book.old.story) (grammar.hold step.now) }
+    ensures ok { OnOk result (AddsBy book.old.log (grammar.hold step.now) book.new.log) }
+    ensures damaged { result ≡ Err LineFault.Damaged → IsDamagedBy (Some book.old.log) (grammar.hold step.now) }
 {
     enter_change(alloc, book, Change::Hold { step })
 }
 
 fn enter_change(alloc: Global, book: &mut Book, change: Change<'_>) -> Result<(), LineFault>
     requires { IsProper change }
-    ensures ok { OnOk result ((line : List ℕ) → SaysChange change.entry line → Adds book.old.story line book.new.story) }
-    ensures damaged { result ≡ Err LineFault.Damaged → (line : List ℕ) → SaysChange change.entry line → IsDamaged (Some book.old.story) line }
+    ensures ok { OnOk result ((line : List ℕ) → SaysChange change.entry line → Adds book.old.log line book.new.log) }
+    ensures damaged { result ≡ Err LineFault.Damaged → (line : List ℕ) → SaysChange change.entry line → IsDamaged (Some book.old.log) line }
 {
     match book.ready_entry(alloc, change) {
         Ok(made) => {
@@ -209,8 +209,8 @@ fn enter_change(alloc: Global, book: &mut Book, change: Change<'_>) -> Result<()
 }
 
 fn enter_undo(alloc: Global, book: &mut Book, step: &StepName) -> Result<(), LineFault>
-    ensures ok { OnOk result (AddsBy book.old.story (grammar.undo step.now) book.new.story) }
-    ensures damaged { result ≡ Err LineFault.Damaged → IsDamagedBy (Some book.old.story) (grammar.undo step.now) }
+    ensures ok { OnOk result (AddsBy book.old.log (grammar.undo step.now) book.new.log) }
+    ensures damaged { result ≡ Err LineFault.Damaged → IsDamagedBy (Some book.old.log) (grammar.undo step.now) }
 {
     let room = match book.room(alloc, step) {
         Ok(room) => room,
@@ -223,8 +223,8 @@ fn enter_undo(alloc: Global, book: &mut Book, step: &StepName) -> Result<(), Lin
 }
 
 fn enter_rollback(alloc: Global, book: &mut Book, step: &StepName) -> Result<(), LineFault>
-    ensures ok { OnOk result (AddsBy book.old.story (grammar.rollback step.now) book.new.story) }
-    ensures damaged { result ≡ Err LineFault.Damaged → IsDamagedBy (Some book.old.story) (grammar.rollback step.now) }
+    ensures ok { OnOk result (AddsBy book.old.log (grammar.rollback step.now) book.new.log) }
+    ensures damaged { result ≡ Err LineFault.Damaged → IsDamagedBy (Some book.old.log) (grammar.rollback step.now) }
 {
     let room = match book.plan_room(alloc, step) {
         Ok(room) => room,

@@ -4,7 +4,7 @@ ghost use Rattle.sqlite.specs.Held.{state};
 ghost use Rattle.sqlite.specs.State.{HasCleanDisk};
 ghost use Rattle.book_journal.specs.Kept.{lines_in};
 ghost use Rattle.journaled_book.specs.Changes.{IsRead};
-ghost use Rattle.journaled_book.specs.Journaled.{story_of};
+ghost use Rattle.journaled_book.specs.Journaled.{log_of};
 ghost use Rattle.journaled_book.specs.Opening.{Give, HasDamageAt, OpensTo, RefusesOpen};
 ghost use Rattle.journaled_book.specs.Reading.{fault_at};
 
@@ -20,7 +20,7 @@ pub(crate) fn load<S: Alter>(
     alloc: Global,
     journal: &mut Journal<S>,
 ) -> Result<Option<Book>, OpenFault>
-    ensures opened { HasCleanDisk (state S.Store journal.new) → IfOk result (λ book. OpensTo (lines_in (state S.Store journal.old)) (story_of book)) }
+    ensures opened { HasCleanDisk (state S.Store journal.new) → IfOk result (λ book. OpensTo (lines_in (state S.Store journal.old)) (log_of book)) }
     ensures refused { HasCleanDisk (state S.Store journal.new) → IfErr result (RefusesOpen (lines_in (state S.Store journal.old))) }
     ensures memory { ¬ (result ≡ Err (OpenFault.Journal JournalFault.Memory)) }
     ensures journal { IsRead (state S.Store journal.old) (state S.Store journal.new) }
@@ -31,7 +31,7 @@ pub(crate) fn load<S: Alter>(
 
 /// The book of these lines, which are applied one after another.
 fn book_of(alloc: Global, lines: &[String]) -> Result<Option<Book>, OpenFault>
-    ensures ok { IfOk result (λ book. Give (map string_bytes lines.now) (story_of book)) }
+    ensures ok { IfOk result (λ book. Give (map string_bytes lines.now) (log_of book)) }
     ensures damaged { (place : ℕ) → result ≡ Err (OpenFault.Damaged place) → HasDamageAt (map string_bytes lines.now) place }
     ensures named { (fault : JournalFault) → ¬ (result ≡ Err (OpenFault.Journal fault)) }
 {

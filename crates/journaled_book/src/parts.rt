@@ -60,7 +60,7 @@ pub(crate) fn read_definition(alloc: Global, text: &str) -> Result<Value, LineFa
 
 /// A book without entries.
 pub(crate) fn open_book(alloc: Global, begin: Begin) -> Result<Book, LineFault>
-    ensures ok { IfOk result (λ book. (book.story ≡ record { begin = begin; log = [] }) × IsOk (table_of begin)) }
+    ensures ok { IfOk result (λ book. (book.log ≡ record { begin = begin; entries = [] }) × IsOk (table_of begin)) }
     ensures damaged { result ≡ Err LineFault.Damaged → ¬ (IsOk (table_of begin)) }
 {
     match Book::open(alloc, begin) {

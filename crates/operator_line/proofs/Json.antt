@@ -8,7 +8,7 @@ use Rattle.json_tree.specs.Data.{Data, list, items_of}
 use Rattle.json_tree.specs.Reading.{source_of, whole_of, read_json}
 use Rattle.json_tree.specs.declared.fault.JsonFault.{JsonFault}
 use Rattle.json_tree.specs.declared.fault.JsonFault.TheVariants.{NotJson, NotWhole, Memory}
-use Rattle.book_log.specs.Story.{Story}
+use Rattle.book_log.specs.Log.{Log}
 use Rattle.attr_values.specs.declared.key.KeySchema.{KeySchema}
 use Rattle.attr_values.specs.declared.fault.ItemFault.{ItemFault}
 use Rattle.item_store.specs.Table.{Table}
@@ -19,7 +19,7 @@ use Rattle.book_log.specs.declared.begin.Begin.{Begin}
 use Rattle.journaled_book.specs.Changes.{RefusesBegin}
 use Rattle.journaled_book.specs.declared.fault.BeginRefusal.{BeginRefusal}
 use Rattle.journaled_book.specs.declared.fault.BeginRefusal.TheVariants as not_begun
-use Rattle.operator_line.specs.Answers.{Tells, journal_reply, OfJson, OfSource, OfWhole, values_in, AnswersItems, AnswersBegin, AnswersBeginning}
+use Rattle.operator_line.specs.Answers.{AnswersUnchanged, journal_reply, OfJson, OfSource, OfWhole, values_in, AnswersItems, AnswersBegin, AnswersBeginning}
 use Rattle.reply_lines.specs.Replies.{done_reply, json_reply, item_fault_reply, refused_by}
 
 of_whole : (w : Option Data) (d : Data) (Refused : List ℕ → Type 0) (Read : Data → Type 0) → w ≡ Some d → Read d → OfWhole w Refused Read
@@ -34,19 +34,19 @@ of_source (Some x) d Refused Read e p = of_whole (whole_of x) d Refused Read e p
 pub json-read : (json : List ℕ) (d : Data) (Refused : List ℕ → Type 0) (Read : Data → Type 0) → read_json json ≡ Some d → Read d → OfJson json Refused Read
 json-read json d Refused Read e p = of_source (source_of json) d Refused Read e p
 
-of_part : {U : Type 0} → (s : Option source.Data) (r : Result U AllocError) (text : List ℕ) (book : Option Story) (Read : Data → Type 0)
-    → IsSome s → option_and_then whole_of s ≡ None → OnOk r (text ≡ refused_by 25 2) → OnOk r (OfSource s (λ told. Tells told book text book) Read)
+of_part : {U : Type 0} → (s : Option source.Data) (r : Result U AllocError) (text : List ℕ) (book : Option Log) (Read : Data → Type 0)
+    → IsSome s → option_and_then whole_of s ≡ None → OnOk r (text ≡ refused_by 25 2) → OnOk r (OfSource s (λ told. AnswersUnchanged told book text book) Read)
 of_part None r text book Read some fails w = cc
 of_part (Some x) r text book Read some fails w =
-    subst (λ (o : Option Data). OnOk r (OfWhole o (λ told. Tells told book text book) Read)) (sym fails) (on_ok_weaker r (λ e. (e, refl)) w)
+    subst (λ (o : Option Data). OnOk r (OfWhole o (λ told. AnswersUnchanged told book text book) Read)) (sym fails) (on_ok_weaker r (λ e. (e, refl)) w)
 
 -- and one that isn't
-pub json-refused : {U : Type 0} → (json : List ℕ) (fault : JsonFault) (r : Result U AllocError) (text : List ℕ) (book : Option Story) (Read : Data → Type 0)
+pub json-refused : {U : Type 0} → (json : List ℕ) (fault : JsonFault) (r : Result U AllocError) (text : List ℕ) (book : Option Log) (Read : Data → Type 0)
     → (fault ≡ NotJson → source_of json ≡ None)
     → (fault ≡ NotWhole → IsSome (source_of json) × (read_json json ≡ None))
-    → (fault ≡ Memory → OnOk r ⊥) → OnOk r (text ≡ json_reply fault) → OnOk r (OfJson json (λ told. Tells told book text book) Read)
+    → (fault ≡ Memory → OnOk r ⊥) → OnOk r (text ≡ json_reply fault) → OnOk r (OfJson json (λ told. AnswersUnchanged told book text book) Read)
 json-refused json NotJson r text book Read none part memory w =
-    subst (λ (s : Option source.Data). OnOk r (OfSource s (λ told. Tells told book text book) Read)) (sym (none refl)) (on_ok_weaker r (λ e. (e, refl)) w)
+    subst (λ (s : Option source.Data). OnOk r (OfSource s (λ told. AnswersUnchanged told book text book) Read)) (sym (none refl)) (on_ok_weaker r (λ e. (e, refl)) w)
 json-refused json NotWhole r text book Read none part memory w = of_part (source_of json) r text book Read (part refl).0 (part refl).1 w
 json-refused json Memory r text book Read none part memory w = on_ok_weaker r (λ b. absurd b) (memory refl)
 
@@ -56,16 +56,16 @@ values_of [] = refl
 values_of (d ∷ ds) = ap (λ (es : List Data). d ∷ es) (values_of ds)
 
 -- a table with items
-pub items-begin : (name : List ℕ) (schema : KeySchema) (ds : List Data) (reply : List ℕ) (after : Option Story) → AnswersBeginning (record { table = name; schema = schema; items = ds }) reply after
+pub items-begin : (name : List ℕ) (schema : KeySchema) (ds : List Data) (reply : List ℕ) (after : Option Log) → AnswersBeginning (record { table = name; schema = schema; items = ds }) reply after
     → AnswersItems name schema (list (items_of ds)) reply after
 items-begin name schema ds reply after h =
     subst (λ (es : List Data). AnswersBeginning (record { table = name; schema = schema; items = es }) reply after) (sym (values_of ds)) h
 
-pub begin-done : (begin : Begin) (r : Result Table ItemFault) (reply : List ℕ) (after : Option Story) → IsOk r → (reply ≡ done_reply) × (after ≡ Some (record { begin = begin; log = [] })) → AnswersBegin begin r reply after
+pub begin-done : (begin : Begin) (r : Result Table ItemFault) (reply : List ℕ) (after : Option Log) → IsOk r → (reply ≡ done_reply) × (after ≡ Some (record { begin = begin; entries = [] })) → AnswersBegin begin r reply after
 begin-done begin (Ok items) reply after ok h = inl h
 begin-done begin (Err fault) reply after ok h = cc
 
-pub begin-unwritten : (begin : Begin) (r : Result Table ItemFault) (reply : List ℕ) (after : Option Story) → IsOk r → (reply ≡ journal_reply) × (after ≡ None) → AnswersBegin begin r reply after
+pub begin-unwritten : (begin : Begin) (r : Result Table ItemFault) (reply : List ℕ) (after : Option Log) → IsOk r → (reply ≡ journal_reply) × (after ≡ None) → AnswersBegin begin r reply after
 begin-unwritten begin (Ok items) reply after ok h = inr h
 begin-unwritten begin (Err fault) reply after ok h = cc
 
@@ -78,5 +78,5 @@ pub begin-journal : (begin : Begin) (refusal : BeginRefusal) (fault : JournalFau
 begin-journal begin (not_begun.Journal f) fault e h = h.0
 begin-journal begin (not_begun.Item f) fault e h = cc
 
-pub begin-refused : (begin : Begin) (r : Result Table ItemFault) (fault : ItemFault) (reply : List ℕ) (after : Option Story) → r ≡ Err fault → (reply ≡ item_fault_reply fault) × (after ≡ None) → AnswersBegin begin r reply after
+pub begin-refused : (begin : Begin) (r : Result Table ItemFault) (fault : ItemFault) (reply : List ℕ) (after : Option Log) → r ≡ Err fault → (reply ≡ item_fault_reply fault) × (after ≡ None) → AnswersBegin begin r reply after
 begin-refused begin r fault reply after e h = subst (λ (x : Result Table ItemFault). AnswersBegin begin x reply after) (sym e) h

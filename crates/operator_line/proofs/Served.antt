@@ -5,7 +5,7 @@ use lib.Pointwise.{pointwise}
 use lib.ListN.{length-take}
 use Rattle.std.specs.Io.KnownBytes.{Appends, Keeps, Consumes}
 use Rattle.std.proofs.KnownBytes.{Appends-nil, Appends-trans, Appends-kept}
-use Rattle.book_log.specs.Story.{Story}
+use Rattle.book_log.specs.Log.{Log}
 use Rattle.operator_line.specs.Lines.{grown, kept, within_limit, without_return, ended_line, last_line}
 use Rattle.operator_line.specs.Texts.{lines_of, lines_after, has_no_feed}
 use Rattle.operator_line.specs.Answers.{AnswersLine, AnswersLines}
@@ -15,16 +15,16 @@ use Rattle.operator_line.specs.declared.serving.ServeFault.TheVariants.{Read, Wr
 
 -- ---- answers
 
-AnswersLines-append : (xs ys : List (Option (List ℕ))) (a b c : Option Story) (o p : List ℕ) → AnswersLines a xs o b → AnswersLines b ys p c → AnswersLines a (xs ++ ys) (o ++ p) c
+AnswersLines-append : (xs ys : List (Option (List ℕ))) (a b c : Option Log) (o p : List ℕ) → AnswersLines a xs o b → AnswersLines b ys p c → AnswersLines a (xs ++ ys) (o ++ p) c
 AnswersLines-append [] ys a b c o p h k =
-    subst (λ (x : List ℕ). AnswersLines a ys (x ++ p) c) (sym h.0) (subst (λ (x : Option Story). AnswersLines x ys p c) h.1 k)
+    subst (λ (x : List ℕ). AnswersLines a ys (x ++ p) c) (sym h.0) (subst (λ (x : Option Log). AnswersLines x ys p c) h.1 k)
 AnswersLines-append (x ∷ xs) ys a b c o p h k =
     (h.0, h.1, h.2 ++ p, h.3, AnswersLines-append xs ys h.1 b c h.2 p h.4 k, ap (λ l. l ++ p) h.5 ∙ append_assoc h.0 h.2 p)
 
-pub until-none : (lines : List (Option (List ℕ))) (a : Option Story) (w : Option (List ℕ)) → AnswersUntil lines lines a a w w
+pub until-none : (lines : List (Option (List ℕ))) (a : Option Log) (w : Option (List ℕ)) → AnswersUntil lines lines a a w w
 until-none lines a w = record { front = []; output = []; parted = refl; answered = (refl, refl); appended = Appends-nil w }
 
-pub until-then : (x y z : List (Option (List ℕ))) (a b c : Option Story) (o p n : Option (List ℕ)) → AnswersUntil x y a b o p → AnswersUntil y z b c p n → AnswersUntil x z a c o n
+pub until-then : (x y z : List (Option (List ℕ))) (a b c : Option Log) (o p n : Option (List ℕ)) → AnswersUntil x y a b o p → AnswersUntil y z b c p n → AnswersUntil x z a c o n
 until-then x y z a b c o p n h k = record {
   front = h.front ++ k.front;
   output = h.output ++ k.output;
@@ -33,7 +33,7 @@ until-then x y z a b c o p n h k = record {
   appended = Appends-trans o p n h.output k.output h.appended k.appended;
 }
 
-pub until-line : (line : Option (List ℕ)) (later : List (Option (List ℕ))) (reply : List ℕ) (a b : Option Story) (o n : Option (List ℕ)) → AnswersLine a line reply b → Appends o n reply → AnswersUntil (line ∷ later) later a b o n
+pub until-line : (line : Option (List ℕ)) (later : List (Option (List ℕ))) (reply : List ℕ) (a b : Option Log) (o n : Option (List ℕ)) → AnswersLine a line reply b → Appends o n reply → AnswersUntil (line ∷ later) later a b o n
 until-line line later reply a b o n h k = record {
   front = line ∷ [];
   output = reply ++ [];
@@ -42,10 +42,10 @@ until-line line later reply a b o n h k = record {
   appended = subst (Appends o n) (sym (append-nil reply)) k;
 }
 
-pub until-before : (x y : List (Option (List ℕ))) (a b c : Option Story) (o p n : Option (List ℕ)) → AnswersUntil x y a b o p → AnswersBefore y b c p n → AnswersBefore x a c o n
+pub until-before : (x y : List (Option (List ℕ))) (a b c : Option Log) (o p n : Option (List ℕ)) → AnswersUntil x y a b o p → AnswersBefore y b c p n → AnswersBefore x a c o n
 until-before x y a b c o p n h k = record { later = k.later; until = until-then x y k.later a b c o p n h k.until }
 
-pub until-up_to : (x y : List (Option (List ℕ))) (a b c : Option Story) (o p n : Option (List ℕ)) → AnswersUntil x y a b o p → AnswersUpTo y b c p n → AnswersUpTo x a c o n
+pub until-up_to : (x y : List (Option (List ℕ))) (a b c : Option Log) (o p n : Option (List ℕ)) → AnswersUntil x y a b o p → AnswersUpTo y b c p n → AnswersUpTo x a c o n
 until-up_to x y a b c o p n h k = record {
   line = k.line;
   later = k.later;
@@ -55,7 +55,7 @@ until-up_to x y a b c o p n h k = record {
   part = k.part;
 }
 
-pub until-failed : (x y : List (Option (List ℕ))) (a b c : Option Story) (o p n : Option (List ℕ)) → AnswersUntil x y a b o p → AnswersFailed y b c p n → AnswersFailed x a c o n
+pub until-failed : (x y : List (Option (List ℕ))) (a b c : Option Log) (o p n : Option (List ℕ)) → AnswersUntil x y a b o p → AnswersFailed y b c p n → AnswersFailed x a c o n
 until-failed x y a b c o p n h k = record {
   line = k.line;
   later = k.later;
@@ -79,7 +79,7 @@ part_kept result reply o p n w keeps =
     record { written = part.written; unwritten = part.unwritten; parted = part.parted; appended = Appends-kept o p n part.written part.appended keeps }
 
 -- a reply that is written whole is no less than a part of it
-pub part-whole : (line : Option (List ℕ)) (reply : List ℕ) (a b : Option Story) (o n : Option (List ℕ)) → AnswersLine a line reply b → Appends o n reply → AnswersPart line a b o n
+pub part-whole : (line : Option (List ℕ)) (reply : List ℕ) (a b : Option Log) (o n : Option (List ℕ)) → AnswersLine a line reply b → Appends o n reply → AnswersPart line a b o n
 part-whole line reply a b o n h k = record {
   written = reply;
   unwritten = [];
@@ -133,13 +133,13 @@ ended-is front bytes = ap ended_line (kept-grown front bytes) ∙ ended-kept (fr
 
 -- ---- one line
 
-pub none-before : (lines : List (Option (List ℕ))) (a b : Option Story) (o n : Option (List ℕ)) → b ≡ a → Keeps o n → AnswersBefore lines a b o n
+pub none-before : (lines : List (Option (List ℕ))) (a b : Option Log) (o n : Option (List ℕ)) → b ≡ a → Keeps o n → AnswersBefore lines a b o n
 none-before lines a b o n same keeps = record {
   later = lines;
   until = record { front = []; output = []; parted = refl; answered = (refl, same); appended = Appends-kept o o n [] (Appends-nil o) keeps };
 }
 
-module _ (front bytes rest : List ℕ) (h : has_no_feed bytes ≡ true) (a b : Option Story) (o n : Option (List ℕ)) where
+module _ (front bytes rest : List ℕ) (h : has_no_feed bytes ≡ true) (a b : Option Log) (o n : Option (List ℕ)) where
   line_is : lines_after front (bytes ++ 10 ∷ rest) ≡ ended_line (grown bytes (kept front)) ∷ lines_after [] rest
   line_is = lines-feed bytes front rest h ∙ ap (λ (l : Option (List ℕ)). l ∷ lines_after [] rest) (sym (ended-is front bytes))
 
@@ -166,7 +166,7 @@ module _ (front bytes rest : List ℕ) (h : has_no_feed bytes ≡ true) (a b : O
     fails = fails;
   }
 
-pub up_to-kept : (lines : List (Option (List ℕ))) (a b : Option Story) (o p n : Option (List ℕ)) → AnswersUpTo lines a b o p → Keeps p n → AnswersUpTo lines a b o n
+pub up_to-kept : (lines : List (Option (List ℕ))) (a b : Option Log) (o p n : Option (List ℕ)) → AnswersUpTo lines a b o p → Keeps p n → AnswersUpTo lines a b o n
 up_to-kept lines a b o p n h keeps = record {
   line = h.line;
   later = h.later;
@@ -176,7 +176,7 @@ up_to-kept lines a b o p n h keeps = record {
   part = record { written = h.part.written; unwritten = h.part.unwritten; replied = h.part.replied; appended = Appends-kept h.contents p n h.part.written h.part.appended keeps };
 }
 
-pub until-kept : (lines later : List (Option (List ℕ))) (a b : Option Story) (o p n : Option (List ℕ)) → AnswersUntil lines later a b o p → Keeps p n → AnswersUntil lines later a b o n
+pub until-kept : (lines later : List (Option (List ℕ))) (a b : Option Log) (o p n : Option (List ℕ)) → AnswersUntil lines later a b o p → Keeps p n → AnswersUntil lines later a b o n
 until-kept lines later a b o p n h keeps = record {
   front = h.front;
   output = h.output;
@@ -186,7 +186,7 @@ until-kept lines later a b o p n h keeps = record {
 }
 
 -- a reply that is written whole, and then flushed
-pub line-flushed : (result : Result Unit ServeFault) (line : Option (List ℕ)) (reply : List ℕ) (a b : Option Story) (o p n : Option (List ℕ)) → IfErr result (λ e. e ≡ Write)
+pub line-flushed : (result : Result Unit ServeFault) (line : Option (List ℕ)) (reply : List ℕ) (a b : Option Log) (o p n : Option (List ℕ)) → IfErr result (λ e. e ≡ Write)
     → AnswersLine a line reply b → Appends o p reply → Keeps p n → ServesLine result line a b o n
 line-flushed (Ok u) line reply a b o p n is w k keeps = (reply, w, Appends-kept o p n reply k keeps)
 line-flushed (Err e) line reply a b o p n is w k keeps =
@@ -195,7 +195,7 @@ line-flushed (Err e) line reply a b o p n is w k keeps =
 -- ---- a piece
 
 -- a line of a piece that is not answered whole
-pub line-failed : (e : ServeFault) (front piece tail bytes after : List ℕ) (line : Option (List ℕ)) (s t u : Option Story) (o p n : Option (List ℕ)) → has_no_feed bytes ≡ true
+pub line-failed : (e : ServeFault) (front piece tail bytes after : List ℕ) (line : Option (List ℕ)) (s t u : Option Log) (o p n : Option (List ℕ)) → has_no_feed bytes ≡ true
     → ((more : List ℕ) → AnswersUntil (lines_after front (piece ++ more)) (lines_after tail ((bytes ++ 10 ∷ after) ++ more)) s t o p)
     → ServesLine (Err e) (ended_line (grown bytes (kept tail))) t u p n → ServesPiece (Err e) front piece line s u o n
 line-failed Write front piece tail bytes after line s t u o p n h until w = λ more.
@@ -211,7 +211,7 @@ line-failed Memory front piece tail bytes after line s t u o p n h until w = λ 
     until-before (lines_after front (piece ++ more)) (lines_after tail ((bytes ++ 10 ∷ after) ++ more)) s t u o p n (until more) (none-before _ t u p n w.0 w.1)
 
 -- a line of a piece that is
-pub line-goes_on : (front piece tail bytes after reply : List ℕ) (s t u : Option Story) (o p n : Option (List ℕ)) → has_no_feed bytes ≡ true
+pub line-goes_on : (front piece tail bytes after reply : List ℕ) (s t u : Option Log) (o p n : Option (List ℕ)) → has_no_feed bytes ≡ true
     → ((more : List ℕ) → AnswersUntil (lines_after front (piece ++ more)) (lines_after tail ((bytes ++ 10 ∷ after) ++ more)) s t o p)
     → AnswersLine t (ended_line (grown bytes (kept tail))) reply u → Appends p n reply
     → (more : List ℕ) → AnswersUntil (lines_after front (piece ++ more)) (lines_after [] (after ++ more)) s u o n × AnswersUpTo (lines_after front (piece ++ more)) s u o n
@@ -223,7 +223,7 @@ line-goes_on front piece tail bytes after reply s t u o p n h until w k more =
     )
 
 -- what is left of a piece belongs to the line at hand
-pub rest-kept : (front piece tail rest : List ℕ) (s t : Option Story) (o n : Option (List ℕ)) → has_no_feed rest ≡ true
+pub rest-kept : (front piece tail rest : List ℕ) (s t : Option Log) (o n : Option (List ℕ)) → has_no_feed rest ≡ true
     → ((more : List ℕ) → AnswersUntil (lines_after front (piece ++ more)) (lines_after tail (rest ++ more)) s t o n)
     → (more : List ℕ) → AnswersUntil (lines_after front (piece ++ more)) (lines_after (tail ++ rest) more) s t o n
 rest-kept front piece tail rest s t o n h until more =
@@ -237,7 +237,7 @@ last-by b bytes false e =
     let long : nat_le (length (b ∷ bytes)) 1048576 ≡ false = grind (rules, e) in
     ap (λ (fits : Bool). Some (cond fits (Some (b ∷ bytes)) None)) (sym long)
 
-last-failed : (e : ServeFault) (line : Option (List ℕ)) (input : List ℕ) (a t b : Option Story) (o p n : Option (List ℕ)) → AnswersUntil (lines_of input) (line ∷ []) a t o p → ServesLine (Err e) line t b p n → Serves (Err e) input a b o n
+last-failed : (e : ServeFault) (line : Option (List ℕ)) (input : List ℕ) (a t b : Option Log) (o p n : Option (List ℕ)) → AnswersUntil (lines_of input) (line ∷ []) a t o p → ServesLine (Err e) line t b p n → Serves (Err e) input a b o n
 last-failed Write line input a t b o p n until w =
     until-up_to (lines_of input) (line ∷ []) a t b o p n until (record { line = line; later = []; between = t; contents = p; until = until-none (line ∷ []) t p; part = w })
 last-failed Read line input a t b o p n until w = absurd w
@@ -245,16 +245,16 @@ last-failed Journal line input a t b o p n until w =
     until-failed (lines_of input) (line ∷ []) a t b o p n until (record { line = line; later = []; between = t; contents = p; until = until-none (line ∷ []) t p; fails = w })
 last-failed Memory line input a t b o p n until w = until-before (lines_of input) (line ∷ []) a t b o p n until (none-before (line ∷ []) t b p n w.0 w.1)
 
-last-line : (result : Result Unit ServeFault) (line : Option (List ℕ)) (input : List ℕ) (a t b : Option Story) (o p n : Option (List ℕ)) → AnswersUntil (lines_of input) (line ∷ []) a t o p → ServesLine result line t b p n → Serves result input a b o n
+last-line : (result : Result Unit ServeFault) (line : Option (List ℕ)) (input : List ℕ) (a t b : Option Log) (o p n : Option (List ℕ)) → AnswersUntil (lines_of input) (line ∷ []) a t o p → ServesLine result line t b p n → Serves result input a b o n
 last-line (Ok u) line input a t b o p n until w = until-then (lines_of input) (line ∷ []) [] a t b o p n until (until-line line [] w.0 t b p n w.1 w.2)
 last-line (Err e) line input a t b o p n until w = last-failed e line input a t b o p n until w
 
-last-none : (result : Result Unit ServeFault) (input : List ℕ) (a t b : Option Story) (o p n : Option (List ℕ)) → AnswersUntil (lines_of input) [] a t o p → ServesLast result None t b p n → Serves result input a b o n
-last-none (Ok u) input a t b o p n until w = until-kept (lines_of input) [] a b o p n (subst (λ (x : Option Story). AnswersUntil (lines_of input) [] a x o p) (sym w.0) until) w.1
+last-none : (result : Result Unit ServeFault) (input : List ℕ) (a t b : Option Log) (o p n : Option (List ℕ)) → AnswersUntil (lines_of input) [] a t o p → ServesLast result None t b p n → Serves result input a b o n
+last-none (Ok u) input a t b o p n until w = until-kept (lines_of input) [] a b o p n (subst (λ (x : Option Log). AnswersUntil (lines_of input) [] a x o p) (sym w.0) until) w.1
 last-none (Err e) input a t b o p n until w = absurd w
 
 -- what stands after the last line feed
-pub last-served : (result : Result Unit ServeFault) (tail input : List ℕ) (a t b : Option Story) (o p n : Option (List ℕ)) → AnswersUntil (lines_of input) (lines_after tail []) a t o p → ServesLast result (last_line (kept tail)) t b p n → Serves result input a b o n
+pub last-served : (result : Result Unit ServeFault) (tail input : List ℕ) (a t b : Option Log) (o p n : Option (List ℕ)) → AnswersUntil (lines_of input) (lines_after tail []) a t o p → ServesLast result (last_line (kept tail)) t b p n → Serves result input a b o n
 last-served result [] input a t b o p n until w = last-none result input a t b o p n until w
 last-served result (c ∷ tail) input a t b o p n until w =
     last-line result (within_limit (c ∷ tail)) input a t b o p n until
@@ -270,7 +270,7 @@ pub still : (text : List ℕ) (new : Option (List ℕ)) → Keeps (Some text) ne
 still text None h = absurd h
 still text (Some rest) h = ap (λ l. Some l) h
 
-pub read-failed : (e : ServeFault) (front text input : List ℕ) (left line : Option (List ℕ)) (a t b : Option Story) (o p n : Option (List ℕ)) → AnswersUntil (lines_of input) (lines_after front text) a t o p
+pub read-failed : (e : ServeFault) (front text input : List ℕ) (left line : Option (List ℕ)) (a t b : Option Log) (o p n : Option (List ℕ)) → AnswersUntil (lines_of input) (lines_after front text) a t o p
     → ServesRead (Err e) front text left line t b p n → Serves (Err e) input a b o n
 read-failed Write front text input left line a t b o p n until w = until-up_to (lines_of input) (lines_after front text) a t b o p n until w
 read-failed Read front text input left line a t b o p n until w = until-before (lines_of input) (lines_after front text) a t b o p n until (none-before (lines_after front text) t b p n w.1 w.2)
@@ -284,13 +284,13 @@ if_some (Some x) h = h x refl
 -- ---- a piece, so far
 
 -- of the piece this rest is left; a line ended before it, if has_line says so
-pub record IsSoFar (front : List ℕ) (piece : List ℕ) (rest : List ℕ) (has_line : Bool) (line : Option (List ℕ)) (s : Option Story) (t : Option Story) (o : Option (List ℕ)) (n : Option (List ℕ)) : Type 0 where
+pub record IsSoFar (front : List ℕ) (piece : List ℕ) (rest : List ℕ) (has_line : Bool) (line : Option (List ℕ)) (s : Option Log) (t : Option Log) (o : Option (List ℕ)) (n : Option (List ℕ)) : Type 0 where
   pub tail : List ℕ
   pub line_is : line ≡ kept tail
   pub until : (more : List ℕ) → AnswersUntil (lines_after front (piece ++ more)) (lines_after tail (rest ++ more)) s t o n
   pub up_to : has_line ≡ true → (more : List ℕ) → AnswersUpTo (lines_after front (piece ++ more)) s t o n
 
-pub so_far-begins : (front piece : List ℕ) (line : Option (List ℕ)) (s : Option Story) (o : Option (List ℕ)) → line ≡ kept front → IsSoFar front piece piece false line s s o o
+pub so_far-begins : (front piece : List ℕ) (line : Option (List ℕ)) (s : Option Log) (o : Option (List ℕ)) → line ≡ kept front → IsSoFar front piece piece false line s s o o
 so_far-begins front piece line s o e = record {
   tail = front;
   line_is = e;
@@ -298,7 +298,7 @@ so_far-begins front piece line s o e = record {
   up_to = λ h. cc;
 }
 
-module _ (front piece rest bytes after : List ℕ) (has_line : Bool) (line : Option (List ℕ)) (s t u : Option Story) (o p n : Option (List ℕ)) (h : has_no_feed bytes ≡ true) (parted : rest ≡ bytes ++ 10 ∷ after)
+module _ (front piece rest bytes after : List ℕ) (has_line : Bool) (line : Option (List ℕ)) (s t u : Option Log) (o p n : Option (List ℕ)) (h : has_no_feed bytes ≡ true) (parted : rest ≡ bytes ++ 10 ∷ after)
     (soon : IsSoFar front piece rest has_line line s t o p) where
   here : (more : List ℕ) → AnswersUntil (lines_after front (piece ++ more)) (lines_after soon.tail ((bytes ++ 10 ∷ after) ++ more)) s t o p
   here more = subst (λ (l : List ℕ). AnswersUntil (lines_after front (piece ++ more)) (lines_after soon.tail (l ++ more)) s t o p) parted (soon.until more)
@@ -317,7 +317,7 @@ module _ (front piece rest bytes after : List ℕ) (has_line : Bool) (line : Opt
   so_far-fails e line' w =
       line-failed e front piece soon.tail bytes after line' s t u o p n h here (subst (λ (l : Option (List ℕ)). ServesLine (Err e) (ended_line (grown bytes l)) t u p n) soon.line_is w)
 
-module _ (front piece rest : List ℕ) (has_line : Bool) (line line' : Option (List ℕ)) (s t : Option Story) (o p n : Option (List ℕ)) (soon : IsSoFar front piece rest has_line line s t o p) where
+module _ (front piece rest : List ℕ) (has_line : Bool) (line line' : Option (List ℕ)) (s t : Option Log) (o p n : Option (List ℕ)) (soon : IsSoFar front piece rest has_line line s t o p) where
   pub so_far-ends : has_no_feed rest ≡ true → line' ≡ grown rest line → Keeps p n → ServesPiece (Ok tt) front piece line' s t o n
   so_far-ends h e keeps = (
     soon.tail ++ rest,
@@ -338,21 +338,21 @@ module _ (front piece rest : List ℕ) (has_line : Bool) (line line' : Option (L
 -- ---- the whole input, so far
 
 -- of the input this is left to read, and the line at hand has begun; all before it is answered
-pub record IsReading (input : List ℕ) (left : Option (List ℕ)) (line : Option (List ℕ)) (s : Option Story) (t : Option Story) (o : Option (List ℕ)) (n : Option (List ℕ)) : Type 0 where
+pub record IsReading (input : List ℕ) (left : Option (List ℕ)) (line : Option (List ℕ)) (s : Option Log) (t : Option Log) (o : Option (List ℕ)) (n : Option (List ℕ)) : Type 0 where
   pub tail : List ℕ
   pub rest : List ℕ
   pub left_is : left ≡ Some rest
   pub line_is : line ≡ kept tail
   pub until : AnswersUntil (lines_of input) (lines_after tail rest) s t o n
 
-pub reading-begins : (input : List ℕ) (left line : Option (List ℕ)) (s : Option Story) (o : Option (List ℕ)) → left ≡ Some input → line ≡ Some [] → IsReading input left line s s o o
+pub reading-begins : (input : List ℕ) (left line : Option (List ℕ)) (s : Option Log) (o : Option (List ℕ)) → left ≡ Some input → line ≡ Some [] → IsReading input left line s s o o
 reading-begins input left line s o e f = record { tail = []; rest = input; left_is = e; line_is = f; until = until-none (lines_of input) s o }
 
 -- what asking the reader once does
-abbrev pub Asks : Result Bool ServeFault → Option (List ℕ) → Option (List ℕ) → Option (List ℕ) → Option (List ℕ) → Option Story → Option Story → Option (List ℕ) → Option (List ℕ) → Type 0
+abbrev pub Asks : Result Bool ServeFault → Option (List ℕ) → Option (List ℕ) → Option (List ℕ) → Option (List ℕ) → Option Log → Option Log → Option (List ℕ) → Option (List ℕ) → Type 0
 Asks result left left' line line' t u p n = (front : List ℕ) (text : List ℕ) → line ≡ kept front → left ≡ Some text → ServesRead result front text left' line' t u p n
 
-module _ (input : List ℕ) (left left' line line' : Option (List ℕ)) (s t u : Option Story) (o p n : Option (List ℕ)) (soon : IsReading input left line s t o p) where
+module _ (input : List ℕ) (left left' line line' : Option (List ℕ)) (s t u : Option Log) (o p n : Option (List ℕ)) (soon : IsReading input left line s t o p) where
   pub reading-goes_on : Asks (Ok true) left left' line line' t u p n → IsReading input left' line' s u o n
   reading-goes_on asks =
       let (tail, rest, left_is, line_is, until) = asks soon.tail soon.rest soon.line_is soon.left_is in
@@ -375,22 +375,22 @@ module _ (input : List ℕ) (left left' line line' : Option (List ℕ)) (s t u :
         rest = soon.rest;
         left_is = left_is;
         until = until-kept (lines_of input) (lines_after soon.tail soon.rest) s u o p n
-            (subst (λ (x : Option Story). AnswersUntil (lines_of input) (lines_after soon.tail soon.rest) s x o p) (sym same) soon.until) keeps;
+            (subst (λ (x : Option Log). AnswersUntil (lines_of input) (lines_after soon.tail soon.rest) s x o p) (sym same) soon.until) keeps;
       }
 
-  pub reading-ends : (v : Option Story) (m : Option (List ℕ)) (result : Result Unit ServeFault) → Asks (Ok false) left left' line line' t u p n → ServesLast result (last_line line') u v n m
+  pub reading-ends : (v : Option Log) (m : Option (List ℕ)) (result : Result Unit ServeFault) → Asks (Ok false) left left' line line' t u p n → ServesLast result (last_line line') u v n m
       → Serves result input s v o m × (left' ≡ Some [])
   reading-ends v m result asks last =
       let (over, gone, line_is, same, keeps) = asks soon.tail soon.rest soon.line_is soon.left_is in
       let until : AnswersUntil (lines_of input) (lines_after soon.tail []) s u o n =
       until-kept (lines_of input) (lines_after soon.tail []) s u o p n
-      (subst (λ (x : Option Story). AnswersUntil (lines_of input) (lines_after soon.tail []) s x o p) (sym same)
+      (subst (λ (x : Option Log). AnswersUntil (lines_of input) (lines_after soon.tail []) s x o p) (sym same)
       (subst (λ (x : List ℕ). AnswersUntil (lines_of input) (lines_after soon.tail x) s t o p) over soon.until)) keeps in (
         last-served result soon.tail input s u v o n m until (subst (λ (l : Option (List ℕ)). ServesLast result (last_line l) u v n m) line_is last),
         gone,
       )
 
-pub reading-stops : (input : List ℕ) (left line : Option (List ℕ)) (s t : Option Story) (o n : Option (List ℕ)) → IsReading input left line s t o n → Serves (Err Read) input s t o n
+pub reading-stops : (input : List ℕ) (left line : Option (List ℕ)) (s t : Option Log) (o n : Option (List ℕ)) → IsReading input left line s t o n → Serves (Err Read) input s t o n
 reading-stops input left line s t o n soon = record { later = lines_after soon.tail soon.rest; until = soon.until }
 
 -- ---- small words
@@ -400,7 +400,7 @@ on_ok-from (Ok x) P p = p
 on_ok-from (Err e) P p = tt
 
 -- serving that ended by a fault
-pub failed-answers : (r : Result Unit ServeFault) (e : ServeFault) → r ≡ Err e → (o : Option (List ℕ)) (s u : Option Story) (w n : Option (List ℕ))
+pub failed-answers : (r : Result Unit ServeFault) (e : ServeFault) → r ≡ Err e → (o : Option (List ℕ)) (s u : Option Log) (w n : Option (List ℕ))
     → ((input : List ℕ) → o ≡ Some input → Serves (Err e) input s u w n) → IfSome o (λ input. Serves r input s u w n)
 failed-answers r e is o s u w n h = if_some o (λ input f. subst (λ (x : Result Unit ServeFault). Serves x input s u w n) (sym is) (h input f))
 
@@ -426,15 +426,15 @@ write_keeps (Err Memory) reply o n w = absurd w
 
 -- ---- a reader that failed
 
-pub reading-read : (input : List ℕ) (left line : Option (List ℕ)) (s t : Option Story) (o n : Option (List ℕ)) → IsReading input left line s t o n → AnswersRead input left s t o n
+pub reading-read : (input : List ℕ) (left line : Option (List ℕ)) (s t : Option Log) (o n : Option (List ℕ)) → IsReading input left line s t o n → AnswersRead input left s t o n
 reading-read input left line s t o n soon = record { begun = soon.tail; rest = soon.rest; left_is = soon.left_is; until = soon.until }
 
 pub failed-read : {P : List ℕ → Type 0} → (r : Result Unit ServeFault) (e : ServeFault) → r ≡ Err e → (o : Option (List ℕ)) → ((input : List ℕ) → o ≡ Some input → e ≡ Read → P input) → r ≡ Err Read → IfSome o P
 failed-read r e is o h read = let same : e ≡ Read = cc in if_some o (λ input f. h input f same)
 
-by-line : (l : Option (Option (List ℕ))) (a b : Option Story) (o n : Option (List ℕ)) → ServesLast (Err Read) l a b o n → ⊥
+by-line : (l : Option (Option (List ℕ))) (a b : Option Log) (o n : Option (List ℕ)) → ServesLast (Err Read) l a b o n → ⊥
 by-line None a b o n w = w
 by-line (Some line) a b o n w = w
 
-pub last-reads_not : (r : Result Unit ServeFault) (l : Option (Option (List ℕ))) (a b : Option Story) (o n : Option (List ℕ)) → ServesLast r l a b o n → r ≡ Err Read → ⊥
+pub last-reads_not : (r : Result Unit ServeFault) (l : Option (Option (List ℕ))) (a b : Option Log) (o n : Option (List ℕ)) → ServesLast r l a b o n → r ≡ Err Read → ⊥
 last-reads_not r l a b o n w e = by-line l a b o n (subst (λ (x : Result Unit ServeFault). ServesLast x l a b o n) e w)

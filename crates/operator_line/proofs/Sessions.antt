@@ -3,54 +3,54 @@ use Rattle.std.proofs.Common.{◌≡◌, ℕ, List, [], ◌∷◌, Bool, true, f
 use Rattle.std.specs.Prelude.{Result, is_some, IfOk, IfSome, IsSome}
 use Rattle.std.specs.Str.{is_utf8}
 use Rattle.std.specs.declared.alloc.AllocError.{AllocError}
-use Rattle.book_log.specs.Story.{Story}
+use Rattle.book_log.specs.Log.{Log}
 use Rattle.book_log.specs.declared.entry.Entry.{Entry}
-use Rattle.command_lines.specs.Grammar.{Spoken, command_of, text_command, spoken}
+use Rattle.command_lines.specs.Grammar.{CommandView, command_of, text_command, command_view}
 use Rattle.command_lines.specs.declared.command.Command.{Command}
 use Rattle.command_lines.specs.declared.command.Command.TheVariants.{Table, Define, Start, Step, Undo, Plan, Rollback, Settle, Hold, Drive, Work, Show, Items, History, Held}
-use Rattle.journaled_book.specs.Book.{Volume}
-use Rattle.journaled_book.specs.Journaled.{story_of, with_entry}
+use Rattle.journaled_book.specs.Book.{BookView}
+use Rattle.journaled_book.specs.Journaled.{log_of, with_entry}
 use Rattle.reply_lines.specs.Replies.{refused}
-use Rattle.operator_line.specs.Answers.{AnswersOpen, AnswersClosed, AnswersCommand, AnswersSpoken}
+use Rattle.operator_line.specs.Answers.{AnswersOpen, AnswersClosed, AnswersCommand, AnswersView}
 use Rattle.operator_line.specs.Answering.{AnswersBy, AnswersTextBy, is_work}
 use Rattle.operator_line.specs.declared.session.Answered.{Answered}
 use Rattle.operator_line.specs.declared.session.Answered.TheVariants.{Told, Lost}
 
-pub answers_open : {U : Type 0} → (book : Option Volume) (command : Spoken) (r : Result U AllocError) (text : List ℕ) (after : Option Story) → is_some book ≡ true
-    → ((b : Volume) → book ≡ Some b → OnOk r (AnswersOpen b.story command text after)) → OnOk r (AnswersCommand (story_of book) command text after)
+pub answers_open : {U : Type 0} → (book : Option BookView) (command : CommandView) (r : Result U AllocError) (text : List ℕ) (after : Option Log) → is_some book ≡ true
+    → ((b : BookView) → book ≡ Some b → OnOk r (AnswersOpen b.log command text after)) → OnOk r (AnswersCommand (log_of book) command text after)
 answers_open None command r text after is h = cc
 answers_open (Some b) command r text after is h = h b refl
 
 -- where a table is given, the book that there is then
-pub answers_begun : {U : Type 0} → (book : Option Volume) (command : Spoken) (r : Result U AllocError) (text : List ℕ) (after : Option Story) → is_some book ≡ false
-    → OnOk r (AnswersClosed command text after) → OnOk r (AnswersCommand (story_of book) command text after)
+pub answers_begun : {U : Type 0} → (book : Option BookView) (command : CommandView) (r : Result U AllocError) (text : List ℕ) (after : Option Log) → is_some book ≡ false
+    → OnOk r (AnswersClosed command text after) → OnOk r (AnswersCommand (log_of book) command text after)
 answers_begun None command r text after is h = h
 answers_begun (Some b) command r text after is h = cc
 
-pub answers_closed : {U : Type 0} → (book : Option Volume) (command : Spoken) (r : Result U AllocError) (text : List ℕ) → is_some book ≡ false
-    → OnOk r (AnswersClosed command text None) → OnOk r (AnswersCommand (story_of book) command text (story_of book))
+pub answers_closed : {U : Type 0} → (book : Option BookView) (command : CommandView) (r : Result U AllocError) (text : List ℕ) → is_some book ≡ false
+    → OnOk r (AnswersClosed command text None) → OnOk r (AnswersCommand (log_of book) command text (log_of book))
 answers_closed None command r text is h = h
 answers_closed (Some b) command r text is h = cc
 
-pub some_story : (book : Option Volume) → IsSome book → (story : Story) × (story_of book ≡ Some story)
-some_story None some = cc
-some_story (Some b) some = (b.story, refl)
+pub some_log : (book : Option BookView) → IsSome book → (log : Log) × (log_of book ≡ Some log)
+some_log None some = cc
+some_log (Some b) some = (b.log, refl)
 
--- a book stays where its story does
-pub some_kept : (old new : Option Volume) → IsSome old → story_of new ≡ story_of old → IsSome new
+-- a book stays where its log does
+pub some_kept : (old new : Option BookView) → IsSome old → log_of new ≡ log_of old → IsSome new
 some_kept None new some same = cc
 some_kept (Some b) None some same = cc
 some_kept (Some b) (Some a) some same = refl
 
 -- and where it has an entry more
-pub some_entered : (old new : Option Volume) (entry : Entry) → IsSome old → story_of new ≡ with_entry (story_of old) entry → IsSome new
+pub some_entered : (old new : Option BookView) (entry : Entry) → IsSome old → log_of new ≡ with_entry (log_of old) entry → IsSome new
 some_entered None new entry some same = cc
 some_entered (Some b) None entry some same = cc
 some_entered (Some b) (Some a) entry some same = refl
 
-pub if_story : (P : Story → Type 0) (o : Option Story) → ((s : Story) → o ≡ Some s → P s) → IfSome o P
-if_story P None h = tt
-if_story P (Some s) h = h s refl
+pub if_log : (P : Log → Type 0) (o : Option Log) → ((s : Log) → o ≡ Some s → P s) → IfSome o P
+if_log P None h = tt
+if_log P (Some s) h = h s refl
 
 pub on_err-from : {T E : Type 0} → (r : Result T E) (P : Type 0) → P → OnErr r P
 on_err-from (Ok x) P p = tt
@@ -62,18 +62,18 @@ no_text line wrong = ap (λ (u : Bool). if u then text_command line else None) w
 
 -- ---- lines that are none
 
-pub line_refused : (r : Result Answered AllocError) (said : Option Spoken) (text : List ℕ) (before : Option Story) → said ≡ None → IfOk r (λ a. (a ≡ Told) × (text ≡ refused 20))
+pub line_refused : (r : Result Answered AllocError) (said : Option CommandView) (text : List ℕ) (before : Option Log) → said ≡ None → IfOk r (λ a. (a ≡ Told) × (text ≡ refused 20))
     → IfOk r (λ a. AnswersTextBy a before said text before)
-line_refused (Ok Told) said text before none h = subst (λ (o : Option Spoken). AnswersSpoken before o text before) (sym none) (h.1, refl)
+line_refused (Ok Told) said text before none h = subst (λ (o : Option CommandView). AnswersView before o text before) (sym none) (h.1, refl)
 line_refused (Ok Lost) said text before none h = let wrong = h.0 in cc
 line_refused (Err e) said text before none h = tt
 
-pub long_refused : (r : Result Answered AllocError) (text : List ℕ) (before : Option Story) → IfOk r (λ a. (a ≡ Told) × (text ≡ refused 20)) → IfOk r (λ a. AnswersBy a before None text before)
+pub long_refused : (r : Result Answered AllocError) (text : List ℕ) (before : Option Log) → IfOk r (λ a. (a ≡ Told) × (text ≡ refused 20)) → IfOk r (λ a. AnswersBy a before None text before)
 long_refused (Ok Told) text before h = inr (h.1, refl)
 long_refused (Ok Lost) text before h = let wrong = h.0 in cc
 long_refused (Err e) text before h = tt
 
-pub bytes_answered : (r : Result Answered AllocError) (bytes text : List ℕ) (before after : Option Story) → (bytes ≡ [] → ⊥) → IfOk r (λ a. AnswersTextBy a before (command_of bytes) text after)
+pub bytes_answered : (r : Result Answered AllocError) (bytes text : List ℕ) (before after : Option Log) → (bytes ≡ [] → ⊥) → IfOk r (λ a. AnswersTextBy a before (command_of bytes) text after)
     → IfOk r (λ a. AnswersBy a before (Some bytes) text after)
 bytes_answered r [] text before after some h = absurd (some refl)
 bytes_answered (Ok Told) (b ∷ bytes) text before after some h = inr h
@@ -81,7 +81,7 @@ bytes_answered (Ok Lost) (b ∷ bytes) text before after some h = (record { work
 bytes_answered (Err e) (b ∷ bytes) text before after some h = tt
 
 -- any command but a round's
-pub no_round : (c : Command) → ((workers moves : ℕ) → c ≡ Work workers moves → ⊥) → is_work (spoken c) ≡ false
+pub no_round : (c : Command) → ((workers moves : ℕ) → c ≡ Work workers moves → ⊥) → is_work (command_view c) ≡ false
 no_round (Table name schema items) apart = refl
 no_round (Define name definition) apart = refl
 no_round (Start exec machine input) apart = refl

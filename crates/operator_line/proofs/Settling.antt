@@ -7,7 +7,7 @@ use Rattle.step_names.specs.Written.{step_text}
 use Rattle.step_names.specs.declared.step.StepName.{StepName}
 use Rattle.book_log.specs.Answers.{step_answer}
 use Rattle.book_log.specs.Legal.{GoesOnLegally}
-use Rattle.book_log.specs.Story.{Story, accepted}
+use Rattle.book_log.specs.Log.{Log, appended}
 use Rattle.book_log.specs.declared.entry.Entry.{Entry}
 use Rattle.book_log.specs.declared.entry.Entry.TheVariants.{Define, Start, Step as Stepped, Undo, Rollback, Settle, Hold}
 use Rattle.book_rounds.specs.Rounds.{AreSteps, IsRound, with_entries}
@@ -45,28 +45,28 @@ names_few (Settle ∷ es) = let h = names_few es in omega (arith, h)
 names_few (Hold name count ∷ es) = let h = names_few es in omega (arith, h)
 
 -- steps that are legal were taken, each a move where it stands
-takes_legal : (story : Story) (es : List Entry) → AreSteps es → GoesOnLegally story es → Takes story (stepped_names es) (with_entries story es)
-takes_legal story [] steps legal = with_none story
-takes_legal story (Stepped name kind ∷ es) steps legal = (
+takes_legal : (log : Log) (es : List Entry) → AreSteps es → GoesOnLegally log es → Takes log (stepped_names es) (with_entries log es)
+takes_legal log [] steps legal = with_none log
+takes_legal log (Stepped name kind ∷ es) steps legal = (
   record { name = name; kind = kind },
   legal.0,
   refl,
-  subst (Takes (accepted story (Stepped name kind)) (stepped_names es)) (with_more story (Stepped name kind) es) (takes_legal (accepted story (Stepped name kind)) es steps.1 legal.1),
+  subst (Takes (appended log (Stepped name kind)) (stepped_names es)) (with_more log (Stepped name kind) es) (takes_legal (appended log (Stepped name kind)) es steps.1 legal.1),
 )
-takes_legal story (Define name machine ∷ es) steps legal = absurd steps.0
-takes_legal story (Start exec machine input ∷ es) steps legal = absurd steps.0
-takes_legal story (Undo name ∷ es) steps legal = absurd steps.0
-takes_legal story (Rollback name undone ∷ es) steps legal = absurd steps.0
-takes_legal story (Settle ∷ es) steps legal = absurd steps.0
-takes_legal story (Hold name count ∷ es) steps legal = absurd steps.0
+takes_legal log (Define name machine ∷ es) steps legal = absurd steps.0
+takes_legal log (Start exec machine input ∷ es) steps legal = absurd steps.0
+takes_legal log (Undo name ∷ es) steps legal = absurd steps.0
+takes_legal log (Rollback name undone ∷ es) steps legal = absurd steps.0
+takes_legal log (Settle ∷ es) steps legal = absurd steps.0
+takes_legal log (Hold name count ∷ es) steps legal = absurd steps.0
 
 -- ---- a round
 
-module _ (begun moves : ℕ) (was after : Story) (begun_is : begun ≡ length was.log) (round : IsRound moves was after) where
+module _ (begun moves : ℕ) (was after : Log) (begun_is : begun ≡ length was.entries) (round : IsRound moves was after) where
   since_is : since begun after ≡ round.more
-  since_is = rw (begun_is, round.after_is) (drop-append_seam was.log round.more)
+  since_is = rw (begun_is, round.after_is) (drop-append_seam was.entries round.more)
 
-  pub round_goes : (before : Option Story) → before ≡ Some was → GoesOnFrom begun before after
+  pub round_goes : (before : Option Log) → before ≡ Some was → GoesOnFrom begun before after
   round_goes before is = record {
     was = was;
     before_is = is;
@@ -79,17 +79,17 @@ module _ (begun moves : ℕ) (was after : Story) (begun_is : begun ≡ length wa
   round_few = subst (λ (es : List Entry). length es ≤ moves) (sym since_is) round.few
 
   -- as many entries as before
-  pub round_still : length after.log ≡ begun → after ≡ was
+  pub round_still : length after.entries ≡ begun → after ≡ was
   round_still same = by_more round.more refl
     where
       by_more : (more : List Entry) → round.more ≡ more → after ≡ was
       by_more [] is = round.after_is ∙ ap (with_entries was) is ∙ with_none was
       by_more (e ∷ more) is =
-          let long : length after.log ≡ length was.log + length round.more = ap (λ (s : Story). length s.log) round.after_is ∙ length-append was.log round.more in
+          let long : length after.entries ≡ length was.entries + length round.more = ap (λ (s : Log). length s.entries) round.after_is ∙ length-append was.entries round.more in
           let some : length round.more ≡ length more + 1 = ap length is ∙ omega arith in
           absurd (omega (arith, long, some, same, begun_is))
 
-  pub round_works : (reply : List ℕ) (told : Option Story) → reply ≡ names_reply (stepped_names (since begun after)) → told ≡ Some after → Works was moves reply told
+  pub round_works : (reply : List ℕ) (told : Option Log) → reply ≡ names_reply (stepped_names (since begun after)) → told ≡ Some after → Works was moves reply told
   round_works reply told text is = record {
     names = stepped_names round.more;
     last = after;
@@ -98,23 +98,23 @@ module _ (begun moves : ℕ) (was after : Story) (begun_is : begun ≡ length wa
     told = (text ∙ ap (λ (es : List Entry). names_reply (stepped_names es)) since_is, is);
   }
 
-  pub settled_works : (w : Worked) (before told : Option Story) (workers : ℕ) → before ≡ Some was → Settles w begun before after told → WorksBy w before workers moves told
+  pub settled_works : (w : Worked) (before told : Option Log) (workers : ℕ) → before ≡ Some was → Settles w begun before after told → WorksBy w before workers moves told
   settled_works (worked.Told reply) before told workers is s = rw is (inl (round_works (string_bytes reply.text) told s.0 s.1))
   settled_works worked.NoMemory before told workers is s = absurd s
   settled_works worked.Lost before told workers is s = (subst IsSome (sym is) refl, s)
 
 -- no step was taken
-pub stayed_works : (w : Worked) (story : Story) (before told : Option Story) (workers moves : ℕ) → before ≡ Some story → told ≡ before → Stays w story → WorksBy w before workers moves told
-stayed_works (worked.Told reply) story before told workers moves is same (inl none) =
-    rw (same, is) (inl (record { names = []; last = story; few = omega arith; takes = refl; told = (none, refl) }))
-stayed_works (worked.Told reply) story before told workers moves is same (inr full) = rw (same, is) (inr full)
-stayed_works worked.NoMemory story before told workers moves is same s = same
-stayed_works worked.Lost story before told workers moves is same s = absurd s
+pub stayed_works : (w : Worked) (log : Log) (before told : Option Log) (workers moves : ℕ) → before ≡ Some log → told ≡ before → Stays w log → WorksBy w before workers moves told
+stayed_works (worked.Told reply) log before told workers moves is same (inl none) =
+    rw (same, is) (inl (record { names = []; last = log; few = omega arith; takes = refl; told = (none, refl) }))
+stayed_works (worked.Told reply) log before told workers moves is same (inr full) = rw (same, is) (inr full)
+stayed_works worked.NoMemory log before told workers moves is same s = same
+stayed_works worked.Lost log before told workers moves is same s = absurd s
 
 -- ---- its lines
 
-pub goes_by : (lines : List (List ℕ)) (begun : ℕ) (before : Option Story) (after : Story) → GoesOnFrom begun before after → AreEntryLines lines (since begun after) → GoesOnBy lines before after
-goes_by lines begun before after goes are = subst (λ (o : Option Story). GoesOnBy lines o after) (sym goes.before_is) (since begun after, goes.after_is, are)
+pub goes_by : (lines : List (List ℕ)) (begun : ℕ) (before : Option Log) (after : Log) → GoesOnFrom begun before after → AreEntryLines lines (since begun after) → GoesOnBy lines before after
+goes_by lines begun before after goes are = subst (λ (o : Option Log). GoesOnBy lines o after) (sym goes.before_is) (since begun after, goes.after_is, are)
 
 pub one_line_more : (lines : List (List ℕ)) (es : List Entry) (line : List ℕ) (e : Entry) → AreEntryLines lines es → IsLineOf line e → AreEntryLines (lines ++ line ∷ []) (es ++ e ∷ [])
 one_line_more lines es line e are is = both_entry_lines lines (line ∷ []) es (e ∷ []) are (is, tt)

@@ -9,20 +9,20 @@ use Rattle.step_names.specs.Order.{thread_cmp}
 use Rattle.step_names.specs.Thread.{Thread, IsThread}
 use Rattle.step_names.specs.Written.{step_text}
 use Rattle.step_names.specs.declared.step.StepName.{StepName}
-use Rattle.book_log.specs.Answers.{StepLacks, has_move, step_answer}
-use Rattle.book_log.specs.Story.{Story}
+use Rattle.book_log.specs.Answers.{StepLacks, is_enabled, step_answer}
+use Rattle.book_log.specs.Log.{Log}
 use Rattle.book_log.specs.declared.moved.Moved.{Moved}
 use Rattle.book_log.specs.declared.refusal.Refusal.{Refusal}
 use Rattle.book_log.specs.declared.refusal.Refusal.TheVariants.{NoMachine, MachineTaken, BadMachine, ExecTaken, NoThread, NotReady, NoStep, HasDependents, Stale, Full, Memory, Settled, Held}
 use Rattle.journaled_book.specs.Changes.{RefusesChangeOr}
 use Rattle.journaled_book.specs.Making.{OrMemory}
 use Rattle.journaled_book.specs.Ready.{IsFirstToMove, moves_freely}
-use Rattle.journaled_book.specs.declared.fault.ChangeFault.{ChangeFault}
-use Rattle.journaled_book.specs.declared.fault.ChangeFault.TheVariants as by
+use Rattle.journaled_book.specs.declared.fault.EntryFault.{EntryFault}
+use Rattle.journaled_book.specs.declared.fault.EntryFault.TheVariants as by
 use Rattle.reply_lines.specs.Replies.{names_reply}
 use Rattle.reply_lines.specs.Replying.{AreLines}
 use Rattle.reply_lines.specs.declared.lines.Lines.{Lines}
-use Rattle.operator_line.specs.Answers.{Drives, MovesFirst, NeedsHeld, NoneMoves, StopsDrive, Turn, took, skipped, drive_reply, is_held, is_passed, taken_in}
+use Rattle.operator_line.specs.Answers.{DrivesAtMost, IsLeastEnabled, NeedsHeld, NoneMoves, StopsDrive, Turn, took, skipped, drive_reply, is_held, is_passed, taken_in}
 use Rattle.operator_line.specs.Driving.{AddsThread, IsFirst, KeepsLines, PassesBy, Taken, TakesOne, is_for_hold, passed_in}
 use Rattle.operator_line.specs.declared.driving.Tried.{Tried}
 use Rattle.operator_line.specs.declared.driving.Tried.TheVariants.{Taken as StepTaken, PassedBy, NoMove}
@@ -36,17 +36,17 @@ took_more (skipped t ∷ turns) more = took_more turns more
 
 -- ---- who is passed by
 
-module _ (P Q : Thread → Bool) (same : (u : Thread) → P u ≡ Q u) (story : Story) where
-  free_same : (u : Thread) (b : Bool) → moves_freely story P u ≡ b → moves_freely story Q u ≡ b
-  free_same u b h = subst (λ (c : Bool). (has_move story u && not c) ≡ b) (same u) h
+module _ (P Q : Thread → Bool) (same : (u : Thread) → P u ≡ Q u) (log : Log) where
+  free_same : (u : Thread) (b : Bool) → moves_freely log P u ≡ b → moves_freely log Q u ≡ b
+  free_same u b h = subst (λ (c : Bool). (is_enabled log u && not c) ≡ b) (same u) h
 
-  none_same : NoneMoves P story → NoneMoves Q story
+  none_same : NoneMoves P log → NoneMoves Q log
   none_same h = λ t is. free_same t false (h t is)
 
-  first_same : (t : Thread) → MovesFirst P story t → MovesFirst Q story t
+  first_same : (t : Thread) → IsLeastEnabled P log t → IsLeastEnabled Q log t
   first_same t h = record { moves = free_same t true h.moves; least = λ u is less. free_same u false (h.least u is less) }
 
-  stops_same : (fault : ChangeFault) → StopsDrive P story fault → StopsDrive Q story fault
+  stops_same : (fault : EntryFault) → StopsDrive P log fault → StopsDrive Q log fault
   stops_same (by.Book refusal) (inl h) = inl h
   stops_same (by.Book refusal) (inr h) = inr (h.0, first_same h.0 h.1, h.2, h.3)
   stops_same (by.Journal fault) h = (h.0, first_same h.0 h.1, h.2)
@@ -62,15 +62,15 @@ not_true false true h = cc
 not_true false false h = refl
 
 -- the first one isn't passed by
-pub first_is_free : (story : Story) (P : Thread → Bool) (r : Result (Option Thread) Refusal) → IfOk r (IsFirstToMove story P) → IfOk r (λ found. IfSome found (λ t. P t ≡ false))
-first_is_free story P (Ok None) h = tt
-first_is_free story P (Ok (Some t)) h = not_true (has_move story t) (P t) h.1
-first_is_free story P (Err e) h = tt
+pub first_is_free : (log : Log) (P : Thread → Bool) (r : Result (Option Thread) Refusal) → IfOk r (IsFirstToMove log P) → IfOk r (λ found. IfSome found (λ t. P t ≡ false))
+first_is_free log P (Ok None) h = tt
+first_is_free log P (Ok (Some t)) h = not_true (is_enabled log t) (P t) h.1
+first_is_free log P (Err e) h = tt
 
-pub first_found : (story : Story) (P : Thread → Bool) (r : Result (Option Thread) Refusal) → IfOk r (IsFirstToMove story P) → IfOk r (IsFirst P story)
-first_found story P (Ok None) h = h
-first_found story P (Ok (Some t)) h = record { moves = h.1; least = h.2 }
-first_found story P (Err e) h = tt
+pub first_found : (log : Log) (P : Thread → Bool) (r : Result (Option Thread) Refusal) → IfOk r (IsFirstToMove log P) → IfOk r (IsFirst P log)
+first_found log P (Ok None) h = h
+first_found log P (Ok (Some t)) h = record { moves = h.1; least = h.2 }
+first_found log P (Err e) h = tt
 
 -- one more is passed by
 pub one_passed : (t : Thread) (old new : Thread → Bool) → ((u : Thread) → new u ≡ cond (eq_by_cmp thread_cmp t u) true (old u)) → (u : Thread) → new u ≡ (eq_by_cmp thread_cmp t u || old u)
@@ -78,7 +78,7 @@ one_passed t old new h u = h u ∙ or_cond (eq_by_cmp thread_cmp t u) (old u)
 
 -- ---- a refusal
 
-pub not_held : (fault : ChangeFault) → ((x : StepName) → fault ≡ by.Book (Held x) → ⊥) → is_for_hold fault ≡ false
+pub not_held : (fault : EntryFault) → ((x : StepName) → fault ≡ by.Book (Held x) → ⊥) → is_for_hold fault ≡ false
 not_held (by.Book NoMachine) apart = refl
 not_held (by.Book MachineTaken) apart = refl
 not_held (by.Book (BadMachine fault)) apart = refl
@@ -94,52 +94,52 @@ not_held (by.Book Settled) apart = refl
 not_held (by.Book (Held x)) apart = absurd (apart x refl)
 not_held (by.Journal fault) apart = refl
 
-needs_held : (story : Story) (t : Thread) (x : StepName) → RefusesChangeOr (StepLacks story t) (step_answer story t) (by.Book (Held x)) → NeedsHeld story t
-needs_held story t x (inr h) = let wrong = h.0 in cc
-needs_held story t x (inl h) = by_answer (step_answer story t) refl h
+needs_held : (log : Log) (t : Thread) (x : StepName) → RefusesChangeOr (StepLacks log t) (step_answer log t) (by.Book (Held x)) → NeedsHeld log t
+needs_held log t x (inr h) = let wrong = h.0 in cc
+needs_held log t x (inl h) = by_answer (step_answer log t) refl h
   where
-    by_answer : (a : Result Moved Refusal) → step_answer story t ≡ a → OrMemory a (Held x) → NeedsHeld story t
+    by_answer : (a : Result Moved Refusal) → step_answer log t ≡ a → OrMemory a (Held x) → NeedsHeld log t
     by_answer (Ok m) is same = cc
     by_answer (Err f) is same = (x, is ∙ ap (λ (e : Refusal). let r : Result Moved Refusal = Err e in r) (sym same))
 
-pub stops_drive : (story : Story) (passed : Thread → Bool) (t : Thread) (fault : ChangeFault) → MovesFirst passed story t → RefusesChangeOr (StepLacks story t) (step_answer story t) fault → is_for_hold fault ≡ false
-    → StopsDrive passed story fault
-stops_drive story passed t (by.Book e) first (inr h) other = inl h.0
-stops_drive story passed t (by.Book e) first (inl h) other = by_answer (step_answer story t) refl h
+pub stops_drive : (log : Log) (passed : Thread → Bool) (t : Thread) (fault : EntryFault) → IsLeastEnabled passed log t → RefusesChangeOr (StepLacks log t) (step_answer log t) fault → is_for_hold fault ≡ false
+    → StopsDrive passed log fault
+stops_drive log passed t (by.Book e) first (inr h) other = inl h.0
+stops_drive log passed t (by.Book e) first (inl h) other = by_answer (step_answer log t) refl h
   where
-    by_answer : (a : Result Moved Refusal) → step_answer story t ≡ a → OrMemory a e → (e ≡ Memory) ⊎ ((u : Thread) × MovesFirst passed story u × (step_answer story u ≡ Err e) × (is_held e ≡ false))
+    by_answer : (a : Result Moved Refusal) → step_answer log t ≡ a → OrMemory a e → (e ≡ Memory) ⊎ ((u : Thread) × IsLeastEnabled passed log u × (step_answer log u ≡ Err e) × (is_held e ≡ false))
     by_answer (Ok m) is same = inl same
     by_answer (Err f) is same = inr (t, first, is ∙ ap (λ (x : Refusal). let r : Result Moved Refusal = Err x in r) (sym same), other)
-stops_drive story passed t (by.Journal f) first h other = (t, first, h.0)
+stops_drive log passed t (by.Journal f) first h other = (t, first, h.0)
 
-pub refused_turn : (story : Story) (t : Thread) (passed more : BTreeSet Thread) (lines same : Lines) (fault : ChangeFault) (r : Result Tried ChangeFault) → MovesFirst (passed_in passed) story t
-    → RefusesChangeOr (StepLacks story t) (step_answer story t) fault → PassesBy t fault passed more r → KeepsLines lines same → TakesOne story story passed more lines same r
-refused_turn story t passed more lines same fault (Ok StepTaken) first h p k = absurd p
-refused_turn story t passed more lines same fault (Ok PassedBy) first h p k =
-    (t, first, needs_held story t p.0 (subst (RefusesChangeOr (StepLacks story t) (step_answer story t)) p.1 h), refl, k, p.2)
-refused_turn story t passed more lines same fault (Ok NoMove) first h p k = absurd p
-refused_turn story t passed more lines same fault (Err told) first h (inl memory) k = (subst (StopsDrive (passed_in passed) story) (sym memory) (inl refl), refl, k)
-refused_turn story t passed more lines same fault (Err told) first h (inr p) k = (subst (StopsDrive (passed_in passed) story) (sym p.0) (stops_drive story (passed_in passed) t fault first h p.1), refl, k)
+pub refused_turn : (log : Log) (t : Thread) (passed more : BTreeSet Thread) (lines same : Lines) (fault : EntryFault) (r : Result Tried EntryFault) → IsLeastEnabled (passed_in passed) log t
+    → RefusesChangeOr (StepLacks log t) (step_answer log t) fault → PassesBy t fault passed more r → KeepsLines lines same → TakesOne log log passed more lines same r
+refused_turn log t passed more lines same fault (Ok StepTaken) first h p k = absurd p
+refused_turn log t passed more lines same fault (Ok PassedBy) first h p k =
+    (t, first, needs_held log t p.0 (subst (RefusesChangeOr (StepLacks log t) (step_answer log t)) p.1 h), refl, k, p.2)
+refused_turn log t passed more lines same fault (Ok NoMove) first h p k = absurd p
+refused_turn log t passed more lines same fault (Err told) first h (inl memory) k = (subst (StopsDrive (passed_in passed) log) (sym memory) (inl refl), refl, k)
+refused_turn log t passed more lines same fault (Err told) first h (inr p) k = (subst (StopsDrive (passed_in passed) log) (sym p.0) (stops_drive log (passed_in passed) t fault first h p.1), refl, k)
 
 -- ---- all turns
 
 -- Whatever comes from here on, with the turns so far it came from the beginning.
-pub record HasTaken (count left : ℕ) (before now : Story) (set : BTreeSet Thread) (lines : Lines) : Type 0 where
+pub record HasTaken (count left : ℕ) (before now : Log) (set : BTreeSet Thread) (lines : Lines) : Type 0 where
   pub turns : List Turn
   pub passed : List Thread
   pub passed_are : (u : Thread) → passed_in set u ≡ is_passed passed u
   pub lines_are : AreLines lines (map step_text (taken_in turns))
   pub counted : length (taken_in turns) + left ≡ count
-  pub goes_on : (rest : List Turn) (stop : Option ChangeFault) (after : Story) → Drives left passed now rest stop after → Drives count [] before (turns ++ rest) stop after
+  pub goes_on : (rest : List Turn) (stop : Option EntryFault) (after : Log) → DrivesAtMost left passed now rest stop after → DrivesAtMost count [] before (turns ++ rest) stop after
 
-pub begins : (count : ℕ) (before : Story) (set : BTreeSet Thread) (lines : Lines) → ((u : Thread) → passed_in set u ≡ false) → AreLines lines [] → HasTaken count count before before set lines
+pub begins : (count : ℕ) (before : Log) (set : BTreeSet Thread) (lines : Lines) → ((u : Thread) → passed_in set u ≡ false) → AreLines lines [] → HasTaken count count before before set lines
 begins count before set lines none h = record { turns = []; passed = []; passed_are = none; lines_are = h; counted = omega arith; goes_on = λ rest stop after d. d }
 
 one_less : (n : ℕ) → suc n - 1 ≡ n
 one_less n = omega arith
 
 -- one step more
-pub one_more : (count left : ℕ) (before now next : Story) (set more : BTreeSet Thread) (lines longer : Lines) → 0 < left → HasTaken count left before now set lines → TakesOne now next set more lines longer (Ok StepTaken)
+pub one_more : (count left : ℕ) (before now next : Log) (set more : BTreeSet Thread) (lines longer : Lines) → 0 < left → HasTaken count left before now set lines → TakesOne now next set more lines longer (Ok StepTaken)
     → HasTaken count (left - 1) before next more longer
 one_more count zero before now next set more lines longer some t one = absurd (omega (arith, some))
 one_more count (suc left) before now next set more lines longer some t one =
@@ -155,18 +155,18 @@ one_more count (suc left) before now next set more lines longer some t one =
       lines_are = subst (AreLines longer) (sym texts) (one.5 (map step_text (taken_in t.turns)) t.lines_are);
       counted = omega (arith, long, c);
       goes_on = λ rest stop after d.
-          subst (λ (l : List Turn). Drives count [] before l stop after) (sym (append_assoc t.turns (took x ∷ []) rest))
+          subst (λ (l : List Turn). DrivesAtMost count [] before l stop after) (sym (append_assoc t.turns (took x ∷ []) rest))
           (t.goes_on (took x ∷ rest) stop after (
             one.0,
             first_same (passed_in set) (is_passed t.passed) t.passed_are now x.thread one.1,
             one.2,
             refl,
-            subst (λ (s : Story). Drives left t.passed s rest stop after) one.3 (subst (λ (n : ℕ). Drives n t.passed next rest stop after) (one_less left) d),
+            subst (λ (s : Log). DrivesAtMost left t.passed s rest stop after) one.3 (subst (λ (n : ℕ). DrivesAtMost n t.passed next rest stop after) (one_less left) d),
           ));
     }
 
 -- one thread more is passed by
-pub one_skipped : (count left : ℕ) (before now next : Story) (set more : BTreeSet Thread) (lines same : Lines) → 0 < left → HasTaken count left before now set lines → TakesOne now next set more lines same (Ok PassedBy)
+pub one_skipped : (count left : ℕ) (before now next : Log) (set more : BTreeSet Thread) (lines same : Lines) → 0 < left → HasTaken count left before now set lines → TakesOne now next set more lines same (Ok PassedBy)
     → HasTaken count left before next more same
 one_skipped count zero before now next set more lines same some t one = absurd (omega (arith, some))
 one_skipped count (suc left) before now next set more lines same some t one =
@@ -179,19 +179,19 @@ one_skipped count (suc left) before now next set more lines same some t one =
       lines_are = subst (λ (ns : List StepName). AreLines same (map step_text ns)) (sym names) (one.4.1 (map step_text (taken_in t.turns)) t.lines_are);
       counted = ap (λ (ns : List StepName). length ns + suc left) names ∙ t.counted;
       goes_on = λ rest stop after d.
-          subst (λ (l : List Turn). Drives count [] before l stop after) (sym (append_assoc t.turns (skipped x ∷ []) rest))
+          subst (λ (l : List Turn). DrivesAtMost count [] before l stop after) (sym (append_assoc t.turns (skipped x ∷ []) rest))
           (t.goes_on (skipped x ∷ rest) stop after (
             first_same (passed_in set) (is_passed t.passed) t.passed_are now x one.1,
             one.2,
-            subst (λ (s : Story). Drives (suc left) (x ∷ t.passed) s rest stop after) one.3 d,
+            subst (λ (s : Log). DrivesAtMost (suc left) (x ∷ t.passed) s rest stop after) one.3 d,
           ));
     }
 
-ended : (count left : ℕ) (before now : Story) (set : BTreeSet Thread) (lines : Lines) (stop : Option ChangeFault) (t : HasTaken count left before now set lines) → Drives left t.passed now [] stop now → Taken count before now lines stop
+ended : (count left : ℕ) (before now : Log) (set : BTreeSet Thread) (lines : Lines) (stop : Option EntryFault) (t : HasTaken count left before now set lines) → DrivesAtMost left t.passed now [] stop now → Taken count before now lines stop
 ended count left before now set lines stop t d =
-    record { turns = t.turns; drives = subst (λ (l : List Turn). Drives count [] before l stop now) (append-nil t.turns) (t.goes_on [] stop now d); lines_are = t.lines_are }
+    record { turns = t.turns; drives = subst (λ (l : List Turn). DrivesAtMost count [] before l stop now) (append-nil t.turns) (t.goes_on [] stop now d); lines_are = t.lines_are }
 
-abbrev kept : (count left : ℕ) (before now : Story) (set : BTreeSet Thread) (lines same : Lines) → KeepsLines lines same → HasTaken count left before now set lines → HasTaken count left before now set same
+abbrev kept : (count left : ℕ) (before now : Log) (set : BTreeSet Thread) (lines same : Lines) → KeepsLines lines same → HasTaken count left before now set lines → HasTaken count left before now set same
 kept count left before now set lines same k t = record {
   turns = t.turns;
   passed = t.passed;
@@ -202,28 +202,28 @@ kept count left before now set lines same k t = record {
 }
 
 -- as many as were wanted
-pub all_taken : (count left : ℕ) (before now : Story) (set : BTreeSet Thread) (lines : Lines) → left ≡ 0 → HasTaken count left before now set lines → Taken count before now lines None
+pub all_taken : (count left : ℕ) (before now : Log) (set : BTreeSet Thread) (lines : Lines) → left ≡ 0 → HasTaken count left before now set lines → Taken count before now lines None
 all_taken count zero before now set lines none t = ended count zero before now set lines None t refl
 all_taken count (suc left) before now set lines none t = cc
 
 -- no more, since none can move or a step was refused
-pub none_left : (count left : ℕ) (before now next : Story) (set more : BTreeSet Thread) (lines same : Lines) → 0 < left → HasTaken count left before now set lines → TakesOne now next set more lines same (Ok NoMove)
+pub none_left : (count left : ℕ) (before now next : Log) (set more : BTreeSet Thread) (lines same : Lines) → 0 < left → HasTaken count left before now set lines → TakesOne now next set more lines same (Ok NoMove)
     → Taken count before next same None
 none_left count zero before now next set more lines same some t one = absurd (omega (arith, some))
 none_left count (suc left) before now next set more lines same some t one =
-    subst (λ (s : Story). Taken count before s same None) (sym one.1)
+    subst (λ (s : Log). Taken count before s same None) (sym one.1)
     (ended count (suc left) before now set same None (kept count (suc left) before now set lines same one.2 t) (none_same (passed_in set) (is_passed t.passed) t.passed_are now one.0, refl))
 
-pub stopped : (count left : ℕ) (before now next : Story) (set more : BTreeSet Thread) (lines same : Lines) (fault : ChangeFault) → 0 < left → HasTaken count left before now set lines → TakesOne now next set more lines same (Err fault)
+pub stopped : (count left : ℕ) (before now next : Log) (set more : BTreeSet Thread) (lines same : Lines) (fault : EntryFault) → 0 < left → HasTaken count left before now set lines → TakesOne now next set more lines same (Err fault)
     → Taken count before next same (Some fault)
 stopped count zero before now next set more lines same fault some t one = absurd (omega (arith, some))
 stopped count (suc left) before now next set more lines same fault some t one =
-    subst (λ (s : Story). Taken count before s same (Some fault)) (sym one.1)
+    subst (λ (s : Log). Taken count before s same (Some fault)) (sym one.1)
     (ended count (suc left) before now set same (Some fault) (kept count (suc left) before now set lines same one.2 t) (stops_same (passed_in set) (is_passed t.passed) t.passed_are now fault one.0, refl))
 
 -- ---- what is told
 
-pub few_lines : (count left : ℕ) (before now : Story) (set : BTreeSet Thread) (lines : Lines) → HasTaken count left before now set lines → 0 < left → count < 2 ^ 32 → lines.count + 1 < 2 ^ 32
+pub few_lines : (count left : ℕ) (before now : Log) (set : BTreeSet Thread) (lines : Lines) → HasTaken count left before now set lines → 0 < left → count < 2 ^ 32 → lines.count + 1 < 2 ^ 32
 few_lines count left before now set lines t some few =
     let l = t.lines_are.counted in
     let m = length-map (taken_in t.turns) step_text in
@@ -231,21 +231,21 @@ few_lines count left before now set lines t some few =
     omega (arith, l, m, c, some, few)
 
 -- where no line is there, and it ended at a refusal, nothing was taken
-pub none_taken : (count : ℕ) (before after : Story) (lines : Lines) (fault : ChangeFault) → Taken count before after lines (Some fault) → lines.count ≡ 0 → after ≡ before
+pub none_taken : (count : ℕ) (before after : Log) (lines : Lines) (fault : EntryFault) → Taken count before after lines (Some fault) → lines.count ≡ 0 → after ≡ before
 none_taken count before after lines fault t none = by_turns count [] t.turns t.drives (sym t.lines_are.counted ∙ none)
   where
-    by_turns : (n : ℕ) (passed : List Thread) (turns : List Turn) → Drives n passed before turns (Some fault) after → length (map step_text (taken_in turns)) ≡ 0 → after ≡ before
+    by_turns : (n : ℕ) (passed : List Thread) (turns : List Turn) → DrivesAtMost n passed before turns (Some fault) after → length (map step_text (taken_in turns)) ≡ 0 → after ≡ before
     by_turns zero passed [] d e = absurd d
     by_turns (suc n) passed [] d e = d.1
     by_turns n passed (took x ∷ turns) d e = cc
     by_turns zero passed (skipped t ∷ turns) d e = absurd d
     by_turns (suc n) passed (skipped t ∷ turns) d e = by_turns (suc n) (t ∷ passed) turns d.2 e
 
-pub drive_done : (names : List StepName) (stop : Option ChangeFault) → stop ≡ None → drive_reply names stop ≡ names_reply names
+pub drive_done : (names : List StepName) (stop : Option EntryFault) → stop ≡ None → drive_reply names stop ≡ names_reply names
 drive_done [] None e = refl
 drive_done [] (Some fault) e = cc
 drive_done (x ∷ names) stop e = refl
 
-pub drive_taken : (lines : Lines) (names : List StepName) (stop : Option ChangeFault) → AreLines lines (map step_text names) → (lines.count ≡ 0 → ⊥) → drive_reply names stop ≡ names_reply names
+pub drive_taken : (lines : Lines) (names : List StepName) (stop : Option EntryFault) → AreLines lines (map step_text names) → (lines.count ≡ 0 → ⊥) → drive_reply names stop ≡ names_reply names
 drive_taken lines [] stop h some = absurd (some h.counted)
 drive_taken lines (x ∷ names) stop h some = refl

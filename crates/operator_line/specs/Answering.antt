@@ -2,14 +2,14 @@
 use Rattle.std.specs.Prelude.{◌≡◌, ◌⊎◌, ℕ, Bool, true, false, List, [], ◌∷◌, ◌++◌, drop, length, Option, None, Some, option_and_then, Result, Ok, Err, IsSome, string_bytes}
 use Rattle.std.specs.declared.alloc.AllocError.{AllocError}
 use Rattle.step_names.specs.declared.step.StepName.{StepName}
-use Rattle.book_log.specs.Story.{Story}
+use Rattle.book_log.specs.Log.{Log}
 use Rattle.book_log.specs.declared.entry.Entry.{Entry}
 use Rattle.book_log.specs.declared.entry.Entry.TheVariants.{Define, Start, Step as Stepped, Undo, Rollback, Settle, Hold}
 use Rattle.book_rounds.specs.Rounds.{AreSteps, with_entries}
-use Rattle.command_lines.specs.Grammar as spoken
-use Rattle.command_lines.specs.Grammar.{Spoken, command_of}
+use Rattle.command_lines.specs.Grammar as command_view
+use Rattle.command_lines.specs.Grammar.{CommandView, command_of}
 use Rattle.reply_lines.specs.Replies.{names_reply}
-use Rattle.operator_line.specs.Answers.{AnswersLine, AnswersSpoken, AnswersCommand, HasNoRoom, Tells}
+use Rattle.operator_line.specs.Answers.{AnswersLine, AnswersView, AnswersCommand, HasNoRoom, AnswersUnchanged}
 use Rattle.operator_line.specs.Serving.{IsWork}
 use Rattle.operator_line.specs.declared.session.Answered.{Answered}
 use Rattle.operator_line.specs.declared.session.Answered.TheVariants.{Told, Lost}
@@ -22,21 +22,21 @@ is_lost (Ok Told) = false
 is_lost (Ok Lost) = true
 is_lost (Err e) = false
 
-abbrev pub is_work : Spoken → Bool
-is_work (spoken.work workers moves) = true
+abbrev pub is_work : CommandView → Bool
+is_work (command_view.work workers moves) = true
 is_work _ = false
 
 -- the line is answered, or was a round's on a book that is lost
-abbrev pub AnswersBy : Answered → Option Story → Option (List ℕ) → List ℕ → Option Story → Type 0
+abbrev pub AnswersBy : Answered → Option Log → Option (List ℕ) → List ℕ → Option Log → Type 0
 AnswersBy Told before line reply after = AnswersLine before line reply after
 AnswersBy Lost before line reply after = IsWork line × IsSome before × (after ≡ before)
 
 -- the same of what the line says
-abbrev pub SaysWork : Option Spoken → Type 0
-SaysWork said = (workers : ℕ) × (moves : ℕ) × (said ≡ Some (spoken.work workers moves))
+abbrev pub SaysWork : Option CommandView → Type 0
+SaysWork said = (workers : ℕ) × (moves : ℕ) × (said ≡ Some (command_view.work workers moves))
 
-abbrev pub AnswersTextBy : Answered → Option Story → Option Spoken → List ℕ → Option Story → Type 0
-AnswersTextBy Told before said reply after = AnswersSpoken before said reply after
+abbrev pub AnswersTextBy : Answered → Option Log → Option CommandView → List ℕ → Option Log → Type 0
+AnswersTextBy Told before said reply after = AnswersView before said reply after
 AnswersTextBy Lost before said reply after = SaysWork said × IsSome before × (after ≡ before)
 
 -- ---- a round
@@ -53,20 +53,20 @@ stepped_names (Settle ∷ es) = stepped_names es
 stepped_names (Hold name count ∷ es) = stepped_names es
 
 -- the entries after the first so many
-abbrev pub since : ℕ → Story → List Entry
-since begun story = drop begun story.log
+abbrev pub since : ℕ → Log → List Entry
+since begun log = drop begun log.entries
 
--- the story goes on from one of so many entries, by steps alone
-pub record GoesOnFrom (begun : ℕ) (before : Option Story) (after : Story) : Type 0 where
-  pub was : Story
+-- the log goes on from one of so many entries, by steps alone
+pub record GoesOnFrom (begun : ℕ) (before : Option Log) (after : Log) : Type 0 where
+  pub was : Log
   pub before_is : before ≡ Some was
-  pub begun_is : begun ≡ length was.log
+  pub begun_is : begun ≡ length was.entries
   pub after_is : after ≡ with_entries was (since begun after)
   pub steps : AreSteps (since begun after)
 
 -- a round is told, or nothing has changed; a book that was there may be lost
-abbrev pub WorksBy : Worked → Option Story → ℕ → ℕ → Option Story → Type 0
-WorksBy (worked.Told reply) before workers moves after = AnswersCommand before (spoken.work workers moves) (string_bytes reply.text) after
+abbrev pub WorksBy : Worked → Option Log → ℕ → ℕ → Option Log → Type 0
+WorksBy (worked.Told reply) before workers moves after = AnswersCommand before (command_view.work workers moves) (string_bytes reply.text) after
 WorksBy worked.NoMemory before workers moves after = after ≡ before
 WorksBy worked.Lost before workers moves after = IsSome before × (after ≡ before)
 
@@ -77,20 +77,20 @@ IsToldOr text worked.NoMemory = Unit {0}
 IsToldOr text worked.Lost = ⊥
 
 -- the steps since then are told, or the session has failed
-abbrev pub Settles : Worked → ℕ → Option Story → Story → Option Story → Type 0
+abbrev pub Settles : Worked → ℕ → Option Log → Log → Option Log → Type 0
 Settles (worked.Told reply) begun before now after = (string_bytes reply.text ≡ names_reply (stepped_names (since begun now))) × (after ≡ Some now)
 Settles worked.NoMemory begun before now after = ⊥
 Settles worked.Lost begun before now after = after ≡ before
 
 -- it is told that no step was taken, or that there is no room for one
-abbrev pub TellsNone : Story → List ℕ → Type 0
-TellsNone story text = (text ≡ names_reply []) ⊎ HasNoRoom story text (Some story)
+abbrev pub TellsNone : Log → List ℕ → Type 0
+TellsNone log text = (text ≡ names_reply []) ⊎ HasNoRoom log text (Some log)
 
 -- no step was taken, which is told, or memory was refused
-abbrev pub Stays : Worked → Story → Type 0
-Stays (worked.Told reply) story = TellsNone story (string_bytes reply.text)
-Stays worked.NoMemory story = Unit {0}
-Stays worked.Lost story = ⊥
+abbrev pub Stays : Worked → Log → Type 0
+Stays (worked.Told reply) log = TellsNone log (string_bytes reply.text)
+Stays worked.NoMemory log = Unit {0}
+Stays worked.Lost log = ⊥
 
 abbrev pub is_gone : Worked → Bool
 is_gone worked.Lost = true

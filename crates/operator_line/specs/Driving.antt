@@ -7,22 +7,22 @@ use Rattle.step_names.specs.Thread.{Thread}
 use Rattle.step_names.specs.Written.{step_text}
 use Rattle.step_names.specs.declared.step.StepName.{StepName}
 use Rattle.book_log.specs.Answers.{step_answer}
-use Rattle.book_log.specs.Story.{Story, accepted}
+use Rattle.book_log.specs.Log.{Log, appended}
 use Rattle.book_log.specs.declared.entry.Entry.TheVariants.{Step as Stepped}
 use Rattle.book_log.specs.declared.moved.Moved.{Moved}
 use Rattle.book_log.specs.declared.refusal.Refusal.TheVariants.{Held, Memory}
-use Rattle.journaled_book.specs.declared.fault.ChangeFault.{ChangeFault}
-use Rattle.journaled_book.specs.declared.fault.ChangeFault.TheVariants as by
+use Rattle.journaled_book.specs.declared.fault.EntryFault.{EntryFault}
+use Rattle.journaled_book.specs.declared.fault.EntryFault.TheVariants as by
 use Rattle.reply_lines.specs.Replying.{AreLines}
 use Rattle.reply_lines.specs.declared.lines.Lines.{Lines}
-use Rattle.operator_line.specs.Answers.{Drives, MovesFirst, NeedsHeld, NoneMoves, StopsDrive, Turn, is_held, taken_in}
+use Rattle.operator_line.specs.Answers.{DrivesAtMost, IsLeastEnabled, NeedsHeld, NoneMoves, StopsDrive, Turn, is_held, taken_in}
 use Rattle.operator_line.specs.declared.driving.Tried.{Tried}
 use Rattle.operator_line.specs.declared.driving.Tried.TheVariants.{Taken as StepTaken, PassedBy, NoMove}
 
 -- these lines are of the steps that were taken, at most so many
-pub record Taken (count : ℕ) (before after : Story) (lines : Lines) (stop : Option ChangeFault) : Type 0 where
+pub record Taken (count : ℕ) (before after : Log) (lines : Lines) (stop : Option EntryFault) : Type 0 where
   pub turns : List Turn
-  pub drives : Drives count [] before turns stop after
+  pub drives : DrivesAtMost count [] before turns stop after
   pub lines_are : AreLines lines (map step_text (taken_in turns))
 
 -- the lines are the same
@@ -41,12 +41,12 @@ pub record AddsThread (t : Thread) (old new : BTreeSet Thread) : Type 0 where
   pub small : btree_set_len old < 2 ^ 63
   pub more : btree_set_len new ≡ btree_set_len old + 1
 
-abbrev pub is_for_hold : ChangeFault → Bool
+abbrev pub is_for_hold : EntryFault → Bool
 is_for_hold (by.Book refusal) = is_held refusal
 is_for_hold (by.Journal fault) = false
 
 -- a refusal of a step that needs what is held has its thread passed by; each other is told, and so is want of memory
-abbrev pub PassesBy : Thread → ChangeFault → BTreeSet Thread → BTreeSet Thread → Result Tried ChangeFault → Type 0
+abbrev pub PassesBy : Thread → EntryFault → BTreeSet Thread → BTreeSet Thread → Result Tried EntryFault → Type 0
 PassesBy t fault old new (Ok StepTaken) = ⊥
 PassesBy t fault old new (Ok PassedBy) = (needed : StepName) × (fault ≡ by.Book (Held needed)) × AddsThread t old new
 PassesBy t fault old new (Ok NoMove) = ⊥
@@ -55,17 +55,17 @@ PassesBy t fault old new (Err told) = (told ≡ by.Book Memory) ⊎ ((told ≡ f
 -- ---- one turn
 
 -- one step is taken, or a thread is passed by, or there is none to try, or it is refused
-abbrev pub TakesOne : Story → Story → BTreeSet Thread → BTreeSet Thread → Lines → Lines → Result Tried ChangeFault → Type 0
+abbrev pub TakesOne : Log → Log → BTreeSet Thread → BTreeSet Thread → Lines → Lines → Result Tried EntryFault → Type 0
 TakesOne before after passed more old new (Ok StepTaken) =
-    (m : Moved) × MovesFirst (passed_in passed) before m.name.thread × (step_answer before m.name.thread ≡ Ok m) × (after ≡ accepted before (Stepped m.name m.kind))
+    (m : Moved) × IsLeastEnabled (passed_in passed) before m.name.thread × (step_answer before m.name.thread ≡ Ok m) × (after ≡ appended before (Stepped m.name m.kind))
     × (new.count ≡ old.count + 1) × ((texts : List (List ℕ)) → AreLines old texts → AreLines new (texts ++ step_text m.name ∷ [])) × (more ≡ passed)
 TakesOne before after passed more old new (Ok PassedBy) =
-    (t : Thread) × MovesFirst (passed_in passed) before t × NeedsHeld before t × (after ≡ before) × KeepsLines old new × AddsThread t passed more
+    (t : Thread) × IsLeastEnabled (passed_in passed) before t × NeedsHeld before t × (after ≡ before) × KeepsLines old new × AddsThread t passed more
 TakesOne before after passed more old new (Ok NoMove) = NoneMoves (passed_in passed) before × (after ≡ before) × KeepsLines old new
 TakesOne before after passed more old new (Err fault) = StopsDrive (passed_in passed) before fault × (after ≡ before) × KeepsLines old new
 
 -- the threads that are passed by are the same, or one more
-abbrev pub Grows : BTreeSet Thread → BTreeSet Thread → Result Tried ChangeFault → Type 0
+abbrev pub Grows : BTreeSet Thread → BTreeSet Thread → Result Tried EntryFault → Type 0
 Grows old new (Ok StepTaken) = new ≡ old
 Grows old new (Ok PassedBy) = (btree_set_len old < 2 ^ 63) × (btree_set_len new ≡ btree_set_len old + 1)
 Grows old new (Ok NoMove) = Unit {0}
@@ -73,13 +73,13 @@ Grows old new (Err fault) = Unit {0}
 
 -- ---- of a session with a book
 
-abbrev pub TakesOneOf : Option Story → Option Story → BTreeSet Thread → BTreeSet Thread → Lines → Lines → Result Tried ChangeFault → Type 0
-TakesOneOf old new passed more lines longer result = (before : Story) → old ≡ Some before → (after : Story) × (new ≡ Some after) × TakesOne before after passed more lines longer result
+abbrev pub TakesOneOf : Option Log → Option Log → BTreeSet Thread → BTreeSet Thread → Lines → Lines → Result Tried EntryFault → Type 0
+TakesOneOf old new passed more lines longer result = (before : Log) → old ≡ Some before → (after : Log) × (new ≡ Some after) × TakesOne before after passed more lines longer result
 
-abbrev pub TakenOf : ℕ → Option Story → Option Story → Lines → Option ChangeFault → Type 0
-TakenOf count old new lines stop = (before : Story) → old ≡ Some before → (after : Story) × (new ≡ Some after) × Taken count before after lines stop
+abbrev pub TakenOf : ℕ → Option Log → Option Log → Lines → Option EntryFault → Type 0
+TakenOf count old new lines stop = (before : Log) → old ≡ Some before → (after : Log) × (new ≡ Some after) × Taken count before after lines stop
 
 -- the least thread that has a move and isn't passed by, if there is one
-abbrev pub IsFirst : (Thread → Bool) → Story → Option Thread → Type 0
-IsFirst passed story None = NoneMoves passed story
-IsFirst passed story (Some t) = MovesFirst passed story t
+abbrev pub IsFirst : (Thread → Bool) → Log → Option Thread → Type 0
+IsFirst passed log None = NoneMoves passed log
+IsFirst passed log (Some t) = IsLeastEnabled passed log t

@@ -8,6 +8,6 @@ pub mod Sessions
 pub mod Answering
 mod AnswerRows
 -- what stands below and is named by the crates above
-pub use Rattle.book_log.specs.Story
+pub use Rattle.book_log.specs.Log
 pub use Rattle.journaled_book.specs.Opening
 pub use Rattle.journaled_book.specs.declared.fault.OpenFault

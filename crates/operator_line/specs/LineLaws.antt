@@ -1,7 +1,7 @@
 -- Laws over what lines are answered, each the contract of a function of the crate.
 use Rattle.std.specs.Prelude.{◌≡◌, ℕ, Bool, true, List, Option, take, codes}
 use Rattle.asl_fields.specs.Fields.{is_text}
-use Rattle.book_log.specs.Story.{Story}
+use Rattle.book_log.specs.Log.{Log}
 use Rattle.operator_line.specs.Answers.{AnswersLine}
 
 -- a reply that begins so tells a refusal
@@ -10,4 +10,4 @@ is_refusal reply = is_text (take 3 reply) (codes "no ")
 
 -- a line that is refused leaves the book as it was
 abbrev pub RefusedLinesChangeNothing : Type 0
-RefusedLinesChangeNothing = (before after : Option Story) (line : Option (List ℕ)) (reply : List ℕ) → AnswersLine before line reply after → is_refusal reply ≡ true → after ≡ before
+RefusedLinesChangeNothing = (before after : Option Log) (line : Option (List ℕ)) (reply : List ℕ) → AnswersLine before line reply after → is_refusal reply ≡ true → after ≡ before

@@ -1,8 +1,8 @@
 -- What serving has done where it ends: with the whole input answered, or before that.
 use Rattle.std.specs.Prelude.{◌≡◌, ℕ, Bool, true, false, List, [], ◌∷◌, ◌++◌, Option, None, Some, option_and_then, Result, Ok, Err, IsSome, codes}
 use Rattle.std.specs.Io.KnownBytes.{Appends, Keeps}
-use Rattle.book_log.specs.Story.{Story}
-use Rattle.command_lines.specs.Grammar as spoken
+use Rattle.book_log.specs.Log.{Log}
+use Rattle.command_lines.specs.Grammar as command_view
 use Rattle.command_lines.specs.Grammar.{command_of}
 use Rattle.operator_line.specs.Lines.{kept}
 use Rattle.operator_line.specs.Texts.{lines_of, lines_after}
@@ -11,7 +11,7 @@ use Rattle.operator_line.specs.declared.serving.ServeFault.{ServeFault}
 use Rattle.operator_line.specs.declared.serving.ServeFault.TheVariants.{Read, Write, Journal, Memory}
 
 -- What was written answers the lines but these, which come later; the book is as after those that were answered.
-pub record AnswersUntil (lines : List (Option (List ℕ))) (later : List (Option (List ℕ))) (before : Option Story) (after : Option Story) (old : Option (List ℕ)) (new : Option (List ℕ)) : Type 0 where
+pub record AnswersUntil (lines : List (Option (List ℕ))) (later : List (Option (List ℕ))) (before : Option Log) (after : Option Log) (old : Option (List ℕ)) (new : Option (List ℕ)) : Type 0 where
   pub front : List (Option (List ℕ))
   pub output : List ℕ
   pub parted : lines ≡ front ++ later
@@ -19,12 +19,12 @@ pub record AnswersUntil (lines : List (Option (List ℕ))) (later : List (Option
   pub appended : Appends old new output
 
 -- What was written answers the lines before some line, of which and of those after it nothing is applied.
-pub record AnswersBefore (lines : List (Option (List ℕ))) (before : Option Story) (after : Option Story) (old : Option (List ℕ)) (new : Option (List ℕ)) : Type 0 where
+pub record AnswersBefore (lines : List (Option (List ℕ))) (before : Option Log) (after : Option Log) (old : Option (List ℕ)) (new : Option (List ℕ)) : Type 0 where
   pub later : List (Option (List ℕ))
   pub until : AnswersUntil lines later before after old new
 
 -- One line is answered, of whose reply only a beginning may be written.
-pub record AnswersPart (line : Option (List ℕ)) (before : Option Story) (after : Option Story) (old : Option (List ℕ)) (new : Option (List ℕ)) : Type 0 where
+pub record AnswersPart (line : Option (List ℕ)) (before : Option Log) (after : Option Log) (old : Option (List ℕ)) (new : Option (List ℕ)) : Type 0 where
   pub written : List ℕ
   pub unwritten : List ℕ
   pub replied : AnswersLine before line (written ++ unwritten) after
@@ -32,10 +32,10 @@ pub record AnswersPart (line : Option (List ℕ)) (before : Option Story) (after
 
 -- What was written answers the lines up to and with some line, of whose reply only a beginning may be written. The book is
 -- as after that line.
-pub record AnswersUpTo (lines : List (Option (List ℕ))) (before : Option Story) (after : Option Story) (old : Option (List ℕ)) (new : Option (List ℕ)) : Type 0 where
+pub record AnswersUpTo (lines : List (Option (List ℕ))) (before : Option Log) (after : Option Log) (old : Option (List ℕ)) (new : Option (List ℕ)) : Type 0 where
   pub line : Option (List ℕ)
   pub later : List (Option (List ℕ))
-  pub between : Option Story
+  pub between : Option Log
   pub contents : Option (List ℕ)
   pub until : AnswersUntil lines (line ∷ later) before between old contents
   pub part : AnswersPart line between after contents new
@@ -48,7 +48,7 @@ lost_reply = codes "no 24\n"
 pub record IsWork (line : Option (List ℕ)) : Type 0 where
   pub workers : ℕ
   pub moves : ℕ
-  pub said : option_and_then command_of line ≡ Some (spoken.work workers moves)
+  pub said : option_and_then command_of line ≡ Some (command_view.work workers moves)
 
 -- a reply is written, or a beginning of it
 pub record WritesPart (reply : List ℕ) (old : Option (List ℕ)) (new : Option (List ℕ)) : Type 0 where
@@ -57,24 +57,24 @@ pub record WritesPart (reply : List ℕ) (old : Option (List ℕ)) (new : Option
   pub parted : reply ≡ written ++ unwritten
   pub appended : Appends old new written
 
--- The steps of a round on a book couldn't be written down. The story of the journal's lines is the one from before it.
-pub record FailsLine (line : Option (List ℕ)) (before : Option Story) (after : Option Story) (old : Option (List ℕ)) (new : Option (List ℕ)) : Type 0 where
+-- The steps of a round on a book couldn't be written down. The log of the journal's lines is the one from before it.
+pub record FailsLine (line : Option (List ℕ)) (before : Option Log) (after : Option Log) (old : Option (List ℕ)) (new : Option (List ℕ)) : Type 0 where
   pub is_work : IsWork line
   pub has_book : IsSome before
   pub same : after ≡ before
   pub told : WritesPart lost_reply old new
 
 -- What was written answers the lines up to a round's that failed.
-pub record AnswersFailed (lines : List (Option (List ℕ))) (before : Option Story) (after : Option Story) (old : Option (List ℕ)) (new : Option (List ℕ)) : Type 0 where
+pub record AnswersFailed (lines : List (Option (List ℕ))) (before : Option Log) (after : Option Log) (old : Option (List ℕ)) (new : Option (List ℕ)) : Type 0 where
   pub line : Option (List ℕ)
   pub later : List (Option (List ℕ))
-  pub between : Option Story
+  pub between : Option Log
   pub contents : Option (List ℕ)
   pub until : AnswersUntil lines (line ∷ later) before between old contents
   pub fails : FailsLine line between after contents new
 
 -- Where the reader failed: this is left to read, and all lines are answered before the one at hand, which has begun.
-pub record AnswersRead (input : List ℕ) (left : Option (List ℕ)) (before : Option Story) (after : Option Story) (old : Option (List ℕ)) (new : Option (List ℕ)) : Type 0 where
+pub record AnswersRead (input : List ℕ) (left : Option (List ℕ)) (before : Option Log) (after : Option Log) (old : Option (List ℕ)) (new : Option (List ℕ)) : Type 0 where
   pub begun : List ℕ
   pub rest : List ℕ
   pub left_is : left ≡ Some rest
@@ -92,7 +92,7 @@ has_failed (Ok done) = false
 has_failed (Err fault) = fails fault
 
 -- how serving ends
-abbrev pub Serves : Result Unit ServeFault → List ℕ → Option Story → Option Story → Option (List ℕ) → Option (List ℕ) → Type 0
+abbrev pub Serves : Result Unit ServeFault → List ℕ → Option Log → Option Log → Option (List ℕ) → Option (List ℕ) → Type 0
 Serves (Ok _) input before after old new = AnswersUntil (lines_of input) [] before after old new
 Serves (Err Write) input before after old new = AnswersUpTo (lines_of input) before after old new
 Serves (Err Read) input before after old new = AnswersBefore (lines_of input) before after old new
@@ -117,7 +117,7 @@ WritesReply (Err Journal) reply old new = ⊥
 WritesReply (Err Memory) reply old new = ⊥
 
 -- a line is answered
-abbrev pub ServesLine : Result Unit ServeFault → Option (List ℕ) → Option Story → Option Story → Option (List ℕ) → Option (List ℕ) → Type 0
+abbrev pub ServesLine : Result Unit ServeFault → Option (List ℕ) → Option Log → Option Log → Option (List ℕ) → Option (List ℕ) → Type 0
 ServesLine (Ok _) line before after old new = (reply : List ℕ) × AnswersLine before line reply after × Appends old new reply
 ServesLine (Err Write) line before after old new = AnswersPart line before after old new
 ServesLine (Err Read) line before after old new = ⊥
@@ -125,14 +125,14 @@ ServesLine (Err Journal) line before after old new = FailsLine line before after
 ServesLine (Err Memory) line before after old new = (after ≡ before) × Keeps old new
 
 -- the last line is, where there is one
-abbrev pub ServesLast : Result Unit ServeFault → Option (Option (List ℕ)) → Option Story → Option Story → Option (List ℕ) → Option (List ℕ) → Type 0
+abbrev pub ServesLast : Result Unit ServeFault → Option (Option (List ℕ)) → Option Log → Option Log → Option (List ℕ) → Option (List ℕ) → Type 0
 ServesLast result (Some line) before after old new = ServesLine result line before after old new
 ServesLast (Ok _) None before after old new = (after ≡ before) × Keeps old new
 ServesLast (Err e) None before after old new = ⊥
 
 -- The lines that end in a piece of the input are, where the line at hand had begun so; whatever comes after the piece, the
 -- lines that are left are those of what the line at hand has now, and of that.
-abbrev pub ServesPiece : Result Unit ServeFault → List ℕ → List ℕ → Option (List ℕ) → Option Story → Option Story → Option (List ℕ) → Option (List ℕ) → Type 0
+abbrev pub ServesPiece : Result Unit ServeFault → List ℕ → List ℕ → Option (List ℕ) → Option Log → Option Log → Option (List ℕ) → Option (List ℕ) → Type 0
 ServesPiece (Ok _) front piece line before after old new =
     (tail : List ℕ) × (line ≡ kept tail) × ((more : List ℕ) → AnswersUntil (lines_after front (piece ++ more)) (lines_after tail more) before after old new)
 ServesPiece (Err Write) front piece line before after old new = (more : List ℕ) → AnswersUpTo (lines_after front (piece ++ more)) before after old new
@@ -141,7 +141,7 @@ ServesPiece (Err Journal) front piece line before after old new = (more : List �
 ServesPiece (Err Memory) front piece line before after old new = (more : List ℕ) → AnswersBefore (lines_after front (piece ++ more)) before after old new
 
 -- The lines that end in what the reader gives are. It gave all there was where there is no more.
-abbrev pub ServesRead : Result Bool ServeFault → List ℕ → List ℕ → Option (List ℕ) → Option (List ℕ) → Option Story → Option Story → Option (List ℕ) → Option (List ℕ) → Type 0
+abbrev pub ServesRead : Result Bool ServeFault → List ℕ → List ℕ → Option (List ℕ) → Option (List ℕ) → Option Log → Option Log → Option (List ℕ) → Option (List ℕ) → Type 0
 ServesRead (Ok true) front text left line before after old new =
     (tail : List ℕ) × (rest : List ℕ) × (left ≡ Some rest) × (line ≡ kept tail) × AnswersUntil (lines_after front text) (lines_after tail rest) before after old new
 ServesRead (Ok false) front text left line before after old new = (text ≡ []) × (left ≡ Some []) × (line ≡ kept front) × (after ≡ before) × Keeps old new

@@ -3,15 +3,15 @@
 use Rattle.std.specs.Prelude.{Bool, true, false, Option, refl}
 use Rattle.std.specs.Coded.{Coded, code_by, coded×, coded_bool}
 use Rattle.sqlite.specs.Held.{Held}
-use Rattle.book_log.specs.Story.{Story}
-use Rattle.journaled_book.specs.Book.{Volume}
-use Rattle.journaled_book.specs.Journaled.{Journaled, story_of}
+use Rattle.book_log.specs.Log.{Log}
+use Rattle.journaled_book.specs.Book.{BookView}
+use Rattle.journaled_book.specs.Journaled.{Journaled, log_of}
 use Rattle.operator_line.specs.declared.session.Hand.{Hand}
 use Rattle.operator_line.specs.declared.session.Hand.TheVariants.{Open, Failed}
 
 pub record Sitting (S : Type 0) : Type 0 where
   pub is_failed : Bool
-  pub book : Option Volume
+  pub book : Option BookView
   pub journal : Held S
 
 abbrev pub sitting : {S : Type 0} → Bool → Journaled S → Sitting S
@@ -25,10 +25,10 @@ abbrev pub sitting_of : {S : Type 0} → Hand S → Sitting S
 sitting_of (Open held) = sitting false held
 sitting_of (Failed held) = sitting true held
 
--- the story of the journal's lines, none before a table is given
-abbrev pub told : {S : Type 0} → Sitting S → Option Story
-told session = story_of session.book
+-- the log of the journal's lines, none before a table is given
+abbrev pub told : {S : Type 0} → Sitting S → Option Log
+told session = log_of session.book
 
 -- the same of a session that hasn't failed
-abbrev pub story_in : {S : Type 0} → Journaled S → Option Story
-story_in held = story_of held.book
+abbrev pub log_in : {S : Type 0} → Journaled S → Option Log
+log_in held = log_of held.book

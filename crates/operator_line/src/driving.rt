@@ -2,13 +2,13 @@
 ghost use Rattle.std.specs.Prelude.{◌≡◌, ◌+◌, ◌<◌, ◌^◌, [], false, IfOk, IfErr, IfSome, IsSome, string_bytes, string_len, OnOk, OnErr};
 ghost use Rattle.operator_line.specs.Answers.{AnswersDrive};
 ghost use Rattle.operator_line.specs.Driving.{AddsThread, Grows, IsFirst, PassesBy, TakenOf, TakesOneOf, passed_in};
-ghost use Rattle.operator_line.specs.Sessions.{story_in};
+ghost use Rattle.operator_line.specs.Sessions.{log_in};
 ghost use Rattle.reply_lines.specs.Replying.{AreLines, has_room_for_lines};
 
 use crate::open_session::refuse_change;
 use book_log::Refusal;
 use command_lines::step_line;
-use journaled_book::{ChangeFault, JournaledBook};
+use journaled_book::{EntryFault, JournaledBook};
 use reply_lines::{Lines, Reply};
 use sqlite::Alter;
 use std::alloc::{AllocError, Global};
@@ -37,8 +37,8 @@ pub(crate) fn drive<S: Alter>(
 ) -> Result<(), AllocError>
     requires open { IsSome book.old.book }
     requires empty { string_bytes reply.old.text ≡ [] }
-    ensures ok { IfSome (story_in book.old) (λ story. OnOk result (AnswersDrive story count (string_bytes reply.new.text) (story_in book.new))) }
-    ensures err { OnErr result (story_in book.new ≡ story_in book.old) }
+    ensures ok { IfSome (log_in book.old) (λ log. OnOk result (AnswersDrive log count (string_bytes reply.new.text) (log_in book.new))) }
+    ensures err { OnErr result (log_in book.new ≡ log_in book.old) }
 {
     let mut lines = Lines::new(alloc);
     reply.reserve_lines(&lines)?;
@@ -55,11 +55,11 @@ fn take_steps<S: Alter>(
     count: u32,
     lines: &mut Lines,
     reply: &mut Reply,
-) -> Option<ChangeFault>
+) -> Option<EntryFault>
     requires open { IsSome book.old.book }
     requires empty { AreLines lines.old [] }
     requires room { has_room_for_lines reply.old.text (string_len lines.old.text) }
-    ensures taken { TakenOf count (story_in book.old) (story_in book.new) lines.new result }
+    ensures taken { TakenOf count (log_in book.old) (log_in book.new) lines.new result }
     ensures text { string_bytes reply.new.text ≡ string_bytes reply.old.text }
     ensures room { has_room_for_lines reply.new.text (string_len lines.new.text) }
 {
@@ -82,11 +82,11 @@ fn take_step<S: Alter>(
     passed: &mut BTreeSet<ThreadName>,
     lines: &mut Lines,
     reply: &mut Reply,
-) -> Result<Tried, ChangeFault>
+) -> Result<Tried, EntryFault>
     requires open { IsSome book.old.book }
     requires few { lines.old.count + 1 < 2 ^ 32 }
     requires room { has_room_for_lines reply.old.text (string_len lines.old.text) }
-    ensures step { TakesOneOf (story_in book.old) (story_in book.new) passed.old passed.new lines.old lines.new result }
+    ensures step { TakesOneOf (log_in book.old) (log_in book.new) passed.old passed.new lines.old lines.new result }
     ensures grows { Grows passed.old passed.new result }
     ensures open { IsSome book.new.book }
     ensures text { string_bytes reply.new.text ≡ string_bytes reply.old.text }
@@ -116,7 +116,7 @@ fn first_ready<S: Alter>(
     passed: &BTreeSet<ThreadName>,
 ) -> Result<Option<ThreadName>, Refusal>
     requires { IsSome book.now.book }
-    ensures first { IfSome (story_in book.now) (λ story. IfOk result (IsFirst (passed_in passed.now) story)) }
+    ensures first { IfSome (log_in book.now) (λ log. IfOk result (IsFirst (passed_in passed.now) log)) }
     ensures free { IfOk result (λ found. IfSome found (λ thread. passed_in passed.now thread ≡ false)) }
     ensures memory { IfErr result (λ e. e ≡ Refusal.Memory) }
 {
@@ -131,14 +131,14 @@ fn first_ready<S: Alter>(
 fn pass_by(
     passed: &mut BTreeSet<ThreadName>,
     thread: ThreadName,
-    fault: ChangeFault,
-) -> Result<Tried, ChangeFault>
+    fault: EntryFault,
+) -> Result<Tried, EntryFault>
     requires { passed_in passed.old thread ≡ false }
     ensures passes { PassesBy thread fault passed.old passed.new result }
     ensures grows { Grows passed.old passed.new result }
 {
     match fault {
-        ChangeFault::Book(Refusal::Held(_)) => {
+        EntryFault::Book(Refusal::Held(_)) => {
             add_thread(passed, thread)?;
             Ok(Tried::PassedBy)
         }

@@ -3,9 +3,9 @@ ghost use Rattle.std.specs.Prelude.{◌≡◌, [], Some, None, false, string_byt
 ghost use Rattle.journaled_book.specs.Lines.{IsBeginLine};
 ghost use Rattle.operator_line.specs.Answering.{is_work};
 ghost use Rattle.operator_line.specs.Answers.{AnswersBeginning, AnswersCommand, change_reply, left_names};
-ghost use Rattle.operator_line.specs.Sessions.{story_in};
+ghost use Rattle.operator_line.specs.Sessions.{log_in};
 ghost use Rattle.command_lines.specs.Grammar as grammar;
-ghost use Rattle.command_lines.specs.Grammar.{command_of, spoken};
+ghost use Rattle.command_lines.specs.Grammar.{command_of, command_view};
 ghost use Rattle.reply_lines.specs.Replies.{json_reply, item_fault_reply, names_reply};
 ghost use Rattle.reply_lines.specs.Replying.{Writes};
 
@@ -15,7 +15,7 @@ use attr_values::{ItemFault, KeySchema};
 use book_log::Refusal;
 use command_lines::{Command, Execution};
 use journaled_book::books::{Begin, Book, Room};
-use journaled_book::{BeginRefusal, ChangeFault, JournaledBook};
+use journaled_book::{BeginRefusal, EntryFault, JournaledBook};
 use json_tree::{Json, JsonFault, Text, read};
 use reply_lines::Reply;
 use serde_json::Value;
@@ -63,11 +63,11 @@ impl<S: Alter> OpenSession<S> {
         line: &str,
         reply: &mut Reply,
     ) -> Result<(), AllocError>
-        requires line { command_of line.now ≡ Some (spoken command) }
-        requires alone { is_work (spoken command) ≡ false }
+        requires line { command_of line.now ≡ Some (command_view command) }
+        requires alone { is_work (command_view command) ≡ false }
         requires empty { string_bytes reply.old.text ≡ [] }
-        ensures ok { OnOk result (AnswersCommand (story_in self.old) (spoken command.entry) (string_bytes reply.new.text) (story_in self.new)) }
-        ensures err { OnErr result (story_in self.new ≡ story_in self.old) }
+        ensures ok { OnOk result (AnswersCommand (log_in self.old) (command_view command.entry) (string_bytes reply.new.text) (log_in self.new)) }
+        ensures err { OnErr result (log_in self.new ≡ log_in self.old) }
     {
         match command {
             Command::Table {
@@ -106,8 +106,8 @@ impl<S: Alter> OpenSession<S> {
     ) -> Result<(), AllocError>
         requires line { command_of line.now ≡ Some (grammar.table table schema items.now) }
         requires empty { string_bytes reply.old.text ≡ [] }
-        ensures ok { OnOk result (AnswersCommand (story_in self.old) (grammar.table table schema items.now) (string_bytes reply.new.text) (story_in self.new)) }
-        ensures err { OnErr result (story_in self.new ≡ story_in self.old) }
+        ensures ok { OnOk result (AnswersCommand (log_in self.old) (grammar.table table schema items.now) (string_bytes reply.new.text) (log_in self.new)) }
+        ensures err { OnErr result (log_in self.new ≡ log_in self.old) }
     {
         if self.book.is_open() {
             return reply.refuse(TABLE_TAKEN);
@@ -133,8 +133,8 @@ impl<S: Alter> OpenSession<S> {
         requires closed { self.old.book ≡ None }
         requires line { IsBeginLine line.now begin }
         requires empty { string_bytes reply.old.text ≡ [] }
-        ensures ok { OnOk result (AnswersBeginning begin (string_bytes reply.new.text) (story_in self.new)) }
-        ensures err { OnErr result (story_in self.new ≡ None) }
+        ensures ok { OnOk result (AnswersBeginning begin (string_bytes reply.new.text) (log_in self.new)) }
+        ensures err { OnErr result (log_in self.new ≡ None) }
     {
         reply.reserve_step()?;
         match self.book.begin(self.alloc, begin, line) {
@@ -153,8 +153,8 @@ impl<S: Alter> OpenSession<S> {
     ) -> Result<(), AllocError>
         requires line { command_of line.now ≡ Some (grammar.define name.now definition.now) }
         requires empty { string_bytes reply.old.text ≡ [] }
-        ensures ok { OnOk result (AnswersCommand (story_in self.old) (grammar.define name.now definition.now) (string_bytes reply.new.text) (story_in self.new)) }
-        ensures err { OnErr result (story_in self.new ≡ story_in self.old) }
+        ensures ok { OnOk result (AnswersCommand (log_in self.old) (grammar.define name.now definition.now) (string_bytes reply.new.text) (log_in self.new)) }
+        ensures err { OnErr result (log_in self.new ≡ log_in self.old) }
     {
         if !self.book.is_open() {
             return reply.refuse(NO_TABLE);
@@ -185,8 +185,8 @@ impl<S: Alter> OpenSession<S> {
     ) -> Result<(), AllocError>
         requires line { command_of line.now ≡ Some (grammar.start exec.now.thread machine.now input.now) }
         requires empty { string_bytes reply.old.text ≡ [] }
-        ensures ok { OnOk result (AnswersCommand (story_in self.old) (grammar.start exec.now.thread machine.now input.now) (string_bytes reply.new.text) (story_in self.new)) }
-        ensures err { OnErr result (story_in self.new ≡ story_in self.old) }
+        ensures ok { OnOk result (AnswersCommand (log_in self.old) (grammar.start exec.now.thread machine.now input.now) (string_bytes reply.new.text) (log_in self.new)) }
+        ensures err { OnErr result (log_in self.new ≡ log_in self.old) }
     {
         if !self.book.is_open() {
             return reply.refuse(NO_TABLE);
@@ -208,8 +208,8 @@ impl<S: Alter> OpenSession<S> {
     fn step(&mut self, thread: &ThreadName, line: &str, reply: &mut Reply) -> Result<(), AllocError>
         requires line { command_of line.now ≡ Some (grammar.step thread.now) }
         requires empty { string_bytes reply.old.text ≡ [] }
-        ensures ok { OnOk result (AnswersCommand (story_in self.old) (grammar.step thread.now) (string_bytes reply.new.text) (story_in self.new)) }
-        ensures err { OnErr result (story_in self.new ≡ story_in self.old) }
+        ensures ok { OnOk result (AnswersCommand (log_in self.old) (grammar.step thread.now) (string_bytes reply.new.text) (log_in self.new)) }
+        ensures err { OnErr result (log_in self.new ≡ log_in self.old) }
     {
         if !self.book.is_open() {
             return reply.refuse(NO_TABLE);
@@ -224,8 +224,8 @@ impl<S: Alter> OpenSession<S> {
     fn undo(&mut self, step: &StepName, line: &str, reply: &mut Reply) -> Result<(), AllocError>
         requires line { command_of line.now ≡ Some (grammar.undo step.now) }
         requires empty { string_bytes reply.old.text ≡ [] }
-        ensures ok { OnOk result (AnswersCommand (story_in self.old) (grammar.undo step.now) (string_bytes reply.new.text) (story_in self.new)) }
-        ensures err { OnErr result (story_in self.new ≡ story_in self.old) }
+        ensures ok { OnOk result (AnswersCommand (log_in self.old) (grammar.undo step.now) (string_bytes reply.new.text) (log_in self.new)) }
+        ensures err { OnErr result (log_in self.new ≡ log_in self.old) }
     {
         if !self.book.is_open() {
             return reply.refuse(NO_TABLE);
@@ -240,7 +240,7 @@ impl<S: Alter> OpenSession<S> {
 
     fn plan(&self, step: &StepName, reply: &mut Reply) -> Result<(), AllocError>
         requires { string_bytes reply.old.text ≡ [] }
-        ensures ok { OnOk result (AnswersCommand (story_in self.now) (grammar.plan step.now) (string_bytes reply.new.text) (story_in self.now)) }
+        ensures ok { OnOk result (AnswersCommand (log_in self.now) (grammar.plan step.now) (string_bytes reply.new.text) (log_in self.now)) }
     {
         let Some(book) = self.book.book() else {
             return reply.refuse(NO_TABLE);
@@ -255,8 +255,8 @@ impl<S: Alter> OpenSession<S> {
     fn rollback(&mut self, step: &StepName, line: &str, reply: &mut Reply) -> Result<(), AllocError>
         requires line { command_of line.now ≡ Some (grammar.rollback step.now) }
         requires empty { string_bytes reply.old.text ≡ [] }
-        ensures ok { OnOk result (AnswersCommand (story_in self.old) (grammar.rollback step.now) (string_bytes reply.new.text) (story_in self.new)) }
-        ensures err { OnErr result (story_in self.new ≡ story_in self.old) }
+        ensures ok { OnOk result (AnswersCommand (log_in self.old) (grammar.rollback step.now) (string_bytes reply.new.text) (log_in self.new)) }
+        ensures err { OnErr result (log_in self.new ≡ log_in self.old) }
     {
         if !self.book.is_open() {
             return reply.refuse(NO_TABLE);
@@ -268,8 +268,8 @@ impl<S: Alter> OpenSession<S> {
         reply.accept_names(room.names())?;
         match self.book.rollback(room, line) {
             Ok(_names) => Ok(()),
-            Err(ChangeFault::Book(_)) => unreachable!(),
-            Err(ChangeFault::Journal(_)) => {
+            Err(EntryFault::Book(_)) => unreachable!(),
+            Err(EntryFault::Journal(_)) => {
                 reply.clear();
                 reply.refuse(NO_JOURNAL)
             }
@@ -279,8 +279,8 @@ impl<S: Alter> OpenSession<S> {
     fn settle(&mut self, line: &str, reply: &mut Reply) -> Result<(), AllocError>
         requires line { command_of line.now ≡ Some grammar.settle }
         requires empty { string_bytes reply.old.text ≡ [] }
-        ensures ok { OnOk result (AnswersCommand (story_in self.old) grammar.settle (string_bytes reply.new.text) (story_in self.new)) }
-        ensures err { OnErr result (story_in self.new ≡ story_in self.old) }
+        ensures ok { OnOk result (AnswersCommand (log_in self.old) grammar.settle (string_bytes reply.new.text) (log_in self.new)) }
+        ensures err { OnErr result (log_in self.new ≡ log_in self.old) }
     {
         if !self.book.is_open() {
             return reply.refuse(NO_TABLE);
@@ -295,8 +295,8 @@ impl<S: Alter> OpenSession<S> {
     fn hold(&mut self, step: &StepName, line: &str, reply: &mut Reply) -> Result<(), AllocError>
         requires line { command_of line.now ≡ Some (grammar.hold step.now) }
         requires empty { string_bytes reply.old.text ≡ [] }
-        ensures ok { OnOk result (AnswersCommand (story_in self.old) (grammar.hold step.now) (string_bytes reply.new.text) (story_in self.new)) }
-        ensures err { OnErr result (story_in self.new ≡ story_in self.old) }
+        ensures ok { OnOk result (AnswersCommand (log_in self.old) (grammar.hold step.now) (string_bytes reply.new.text) (log_in self.new)) }
+        ensures err { OnErr result (log_in self.new ≡ log_in self.old) }
     {
         if !self.book.is_open() {
             return reply.refuse(NO_TABLE);
@@ -310,8 +310,8 @@ impl<S: Alter> OpenSession<S> {
 
     fn drive(&mut self, count: u32, reply: &mut Reply) -> Result<(), AllocError>
         requires { string_bytes reply.old.text ≡ [] }
-        ensures ok { OnOk result (AnswersCommand (story_in self.old) (grammar.drive count) (string_bytes reply.new.text) (story_in self.new)) }
-        ensures err { OnErr result (story_in self.new ≡ story_in self.old) }
+        ensures ok { OnOk result (AnswersCommand (log_in self.old) (grammar.drive count) (string_bytes reply.new.text) (log_in self.new)) }
+        ensures err { OnErr result (log_in self.new ≡ log_in self.old) }
     {
         if !self.book.is_open() {
             return reply.refuse(NO_TABLE);
@@ -321,7 +321,7 @@ impl<S: Alter> OpenSession<S> {
 
     fn show(&self, thread: &ThreadName, reply: &mut Reply) -> Result<(), AllocError>
         requires { string_bytes reply.old.text ≡ [] }
-        ensures ok { OnOk result (AnswersCommand (story_in self.now) (grammar.show thread.now) (string_bytes reply.new.text) (story_in self.now)) }
+        ensures ok { OnOk result (AnswersCommand (log_in self.now) (grammar.show thread.now) (string_bytes reply.new.text) (log_in self.now)) }
     {
         let Some(book) = self.book.book() else {
             return reply.refuse(NO_TABLE);
@@ -334,7 +334,7 @@ impl<S: Alter> OpenSession<S> {
 
     fn items(&self, reply: &mut Reply) -> Result<(), AllocError>
         requires { string_bytes reply.old.text ≡ [] }
-        ensures ok { OnOk result (AnswersCommand (story_in self.now) grammar.items (string_bytes reply.new.text) (story_in self.now)) }
+        ensures ok { OnOk result (AnswersCommand (log_in self.now) grammar.items (string_bytes reply.new.text) (log_in self.now)) }
     {
         match self.book.book() {
             Some(book) => reply.accept_items(self.alloc, book.items()),
@@ -344,7 +344,7 @@ impl<S: Alter> OpenSession<S> {
 
     fn history(&self, reply: &mut Reply) -> Result<(), AllocError>
         requires { string_bytes reply.old.text ≡ [] }
-        ensures ok { OnOk result (AnswersCommand (story_in self.now) grammar.history (string_bytes reply.new.text) (story_in self.now)) }
+        ensures ok { OnOk result (AnswersCommand (log_in self.now) grammar.history (string_bytes reply.new.text) (log_in self.now)) }
     {
         match self.book.book() {
             Some(book) => reply.accept_steps(book.history()),
@@ -354,7 +354,7 @@ impl<S: Alter> OpenSession<S> {
 
     fn held(&self, reply: &mut Reply) -> Result<(), AllocError>
         requires { string_bytes reply.old.text ≡ [] }
-        ensures ok { OnOk result (AnswersCommand (story_in self.now) grammar.held (string_bytes reply.new.text) (story_in self.now)) }
+        ensures ok { OnOk result (AnswersCommand (log_in self.now) grammar.held (string_bytes reply.new.text) (log_in self.now)) }
     {
         match self.book.book() {
             Some(book) => tell_left(self.alloc, book, reply),
@@ -367,7 +367,7 @@ impl<S: Alter> OpenSession<S> {
 #[tactic(auto, using(crate::proofs::Left::left_planned, crate::proofs::Left::none_left_of))]
 fn tell_left(alloc: Global, book: &Book, reply: &mut Reply) -> Result<(), AllocError>
     requires { string_bytes reply.old.text ≡ [] }
-    ensures { OnOk result (string_bytes reply.new.text ≡ names_reply (left_names book.now.story)) }
+    ensures { OnOk result (string_bytes reply.new.text ≡ names_reply (left_names book.now.log)) }
 {
     let Some(step) = book.held() else {
         return tell_no_steps(alloc, reply);
@@ -381,15 +381,15 @@ fn tell_left(alloc: Global, book: &Book, reply: &mut Reply) -> Result<(), AllocE
 /// Tells why a command isn't accepted.
 pub(crate) fn refuse_change(
     alloc: Global,
-    fault: ChangeFault,
+    fault: EntryFault,
     reply: &mut Reply,
 ) -> Result<(), AllocError>
     ensures ok { Writes result reply.old reply.new (change_reply fault) }
-    ensures memory { fault ≡ ChangeFault.Book Refusal.Memory → OnOk result ⊥ }
+    ensures memory { fault ≡ EntryFault.Book Refusal.Memory → OnOk result ⊥ }
 {
     match fault {
-        ChangeFault::Book(refusal) => reply.refuse_command(alloc, refusal),
-        ChangeFault::Journal(_) => reply.refuse(NO_JOURNAL),
+        EntryFault::Book(refusal) => reply.refuse_command(alloc, refusal),
+        EntryFault::Journal(_) => reply.refuse(NO_JOURNAL),
     }
 }
 

@@ -10,7 +10,7 @@ ghost use Rattle.journaled_book.specs.Opening.{OpensTo, RefusesOpen};
 ghost use Rattle.operator_line.specs.Answering.{AnswersBy, AnswersTextBy, WorksBy, is_gone, is_lost, is_work};
 ghost use Rattle.operator_line.specs.Sessions.{sitting_of, told};
 ghost use Rattle.command_lines.specs.Grammar as grammar;
-ghost use Rattle.command_lines.specs.Grammar.{command_of, spoken};
+ghost use Rattle.command_lines.specs.Grammar.{command_of, command_view};
 ghost use Rattle.operator_line.specs.Lines.{bytes_of};
 ghost use Rattle.reply_lines.specs.Replies.{bad_line, refused};
 
@@ -199,10 +199,10 @@ impl<S: Alter> Session<S> {
         reply: &mut Reply,
     ) -> Result<Answered, AllocError>
         requires here { self.old.is_failed ≡ false }
-        requires line { command_of line.now ≡ Some (spoken command) }
-        requires alone { is_work (spoken command) ≡ false }
+        requires line { command_of line.now ≡ Some (command_view command) }
+        requires alone { is_work (command_view command) ≡ false }
         requires empty { string_bytes reply.old.text ≡ [] }
-        ensures ok { IfOk result (λ answered. AnswersTextBy answered (told self.old) (Some (spoken command.entry)) (string_bytes reply.new.text) (told self.new)) }
+        ensures ok { IfOk result (λ answered. AnswersTextBy answered (told self.old) (Some (command_view command.entry)) (string_bytes reply.new.text) (told self.new)) }
         ensures err { OnErr result (told self.new ≡ told self.old) }
         ensures failed { self.new.is_failed ≡ is_lost result }
     {

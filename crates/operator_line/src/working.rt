@@ -5,7 +5,7 @@ ghost use Rattle.book_journal.specs.Entries.{texts};
 ghost use Rattle.book_log.specs.declared.entry.Entry.{Entry as LogEntry};
 ghost use Rattle.book_rounds.specs.Rounds.{AreSteps};
 ghost use Rattle.step_workers.specs.Work.{IsStep};
-ghost use Rattle.journaled_book.specs.Journaled.{GoesOnBy, story_of};
+ghost use Rattle.journaled_book.specs.Journaled.{GoesOnBy, log_of};
 ghost use Rattle.journaled_book.specs.Lines.{AreEntryLines};
 ghost use Rattle.operator_line.specs.Answering.{GoesOnFrom, IsToldOr, Settles, Stays, TellsNone, WorksBy, is_gone, since, stepped_names};
 ghost use Rattle.operator_line.specs.Answers.{HasNoRoom};
@@ -89,15 +89,15 @@ fn no_table(alloc: Global) -> Worked
 }
 
 fn entry_count(book: &Book) -> usize
-    ensures { result ≡ length book.now.story.log }
+    ensures { result ≡ length book.now.log.entries }
 {
     book.entries().1.len()
 }
 
-/// A book that has the story from before.
+/// A book that has the log from before.
 fn open_again<S: Alter>(alloc: Global, away: AwayBook<S>, book: Book) -> Hand<S>
-    requires { story_of away.book ≡ Some book.story }
-    ensures same { told (sitting_of result) ≡ story_of away.book }
+    requires { log_of away.book ≡ Some book.log }
+    ensures same { told (sitting_of result) ≡ log_of away.book }
     ensures here { (sitting_of result).is_failed ≡ false }
 {
     Hand::Open(OpenSession {
@@ -108,7 +108,7 @@ fn open_again<S: Alter>(alloc: Global, away: AwayBook<S>, book: Book) -> Hand<S>
 
 /// Tells that no step was taken: there was none to take, or the workers were refused.
 fn stay(alloc: Global, book: &Book, is_refused: bool) -> Worked
-    ensures { Stays result book.now.story }
+    ensures { Stays result book.now.log }
 {
     let mut reply = Reply::new(alloc);
     match tell_none(alloc, book, is_refused, &mut reply) {
@@ -124,7 +124,7 @@ fn tell_none(
     reply: &mut Reply,
 ) -> Result<(), AllocError>
     requires { string_bytes reply.old.text ≡ [] }
-    ensures { OnOk result (TellsNone book.now.story (string_bytes reply.new.text)) }
+    ensures { OnOk result (TellsNone book.now.log (string_bytes reply.new.text)) }
 {
     if !is_refused {
         return tell_no_steps(alloc, reply);
@@ -145,9 +145,9 @@ pub(crate) fn tell_no_steps(alloc: Global, reply: &mut Reply) -> Result<(), Allo
 /// Writes the steps since so many entries into the journal, and puts the book back.
 #[tactic(auto, using(crate::proofs::Settling::goes_by))]
 fn settle<S: Alter>(alloc: Global, away: AwayBook<S>, book: Book, begun: usize) -> (Hand<S>, Worked)
-    requires goes { GoesOnFrom begun (story_of away.book) book.story }
-    requires few { length (since begun book.story) < 2 ^ 32 }
-    ensures settled { Settles result.1 begun (story_of away.book) book.story (told (sitting_of result.0)) }
+    requires goes { GoesOnFrom begun (log_of away.book) book.log }
+    requires few { length (since begun book.log) < 2 ^ 32 }
+    ensures settled { Settles result.1 begun (log_of away.book) book.log (told (sitting_of result.0)) }
     ensures failed { (sitting_of result.0).is_failed ≡ is_gone result.1 }
 {
     let Ok((reply, lines)) = tell(alloc, &book.entries().1[begun..]) else {
@@ -167,7 +167,7 @@ fn append<S: Alter>(
     book: Book,
     lines: &[String],
 ) -> Result<JournaledBook<S>, AwayBook<S>>
-    requires { GoesOnBy (map string_bytes lines.now) (story_of away.book) book.story }
+    requires { GoesOnBy (map string_bytes lines.now) (log_of away.book) book.log }
     ensures ok { IfOk result (λ back. back.book ≡ Some book) }
     ensures err { IfErr result (λ left. left.book ≡ away.book) }
 {

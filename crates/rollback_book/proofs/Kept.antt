@@ -6,7 +6,7 @@ use Rattle.std.proofs.Math.Seq.{drop-cons}
 use Rattle.std.proofs.lemmas.List.{map-append}
 use Rattle.std.proofs.lemmas.Option.{same_Some}
 use Rattle.step_names.specs.declared.step.StepName.{StepName}
-use Rattle.trace_theory.specs.Traces.{In, IsRun, after, without}
+use Rattle.trace_theory.specs.Traces.{In, IsRun, consequences, without}
 use Rattle.trace_theory.proofs.Least.{Once}
 use Rattle.trace_theory.proofs.Lists.{by_bool, In-front, Before-across, any_one, none_any}
 use Rattle.saved_steps.specs.Steps.{Step, moved, name_of}
@@ -18,11 +18,11 @@ use Rattle.depends.specs.Instance.{steps}
 use Rattle.depends.specs.Laws.{IsFrom, facts_of}
 use Rattle.depends.proofs.Named.{steps_have_names}
 use Rattle.depends.proofs.Searching.{facts}
-use Rattle.step_history.specs.History.{Past}
+use Rattle.step_history.specs.History.{TakenStep}
 use Rattle.step_history.proofs.Planned.{Undoes}
 use Rattle.step_index.specs.Held.{Held, AreLeft, count_left}
 use Rattle.book_log.specs.Legal.{IsAccepted, IsLegal}
-use Rattle.book_log.specs.Story.{Story, accepted, base_of, remainder, remaining, held, held_after, while_in, left_by, left_of, past_of, setting_of, world_of, consequences_of}
+use Rattle.book_log.specs.Log.{Log, appended, base_of, remainder, remaining, held, held_after, while_in, left_by, left_of, past_of, setting_of, world_of, consequences_of}
 use Rattle.book_log.specs.declared.entry.Entry.{Entry}
 use Rattle.book_log.specs.declared.entry.Entry.TheVariants.{Define, Start, Step as Stepped, Undo, Rollback, Settle, Hold as HoldEntry}
 use Rattle.book_log.proofs.HoldSaid.{held_next, nothing_left}
@@ -35,25 +35,25 @@ use Rattle.rollback_book.proofs.Marks.{left_facts, removed_map, undone_out, undo
 
 -- ---- nothing about a hold changes
 
-pub hold_alike : (a b : Story) (rs us : List StepRecord) (o : Option Hold) → held b ≡ held a → left_of b ≡ left_of a → past_of b ≡ past_of a → facts rs ≡ facts us → IsHoldOf a rs o → IsHoldOf b us o
+pub hold_alike : (a b : Log) (rs us : List StepRecord) (o : Option Hold) → held b ≡ held a → left_of b ≡ left_of a → past_of b ≡ past_of a → facts rs ≡ facts us → IsHoldOf a rs o → IsHoldOf b us o
 hold_alike a b rs us None same left past e h = same ∙ h
 hold_alike a b rs us (Some h) same left past e k = (same ∙ k.0, left_facts rs us h.left e k.1, k.2 ∙ ap₂ marks_by (sym left) (sym past))
 
 -- the same is held, with more room
-pub hold_kept : (story : Story) (rs : List StepRecord) (o p : Option Hold) → KeepsHold o p → IsHoldOf story rs o → IsHoldOf story rs p
-hold_kept story rs None None k h = h
-hold_kept story rs None (Some g) k h = absurd k
-hold_kept story rs (Some h) None k i = absurd k
-hold_kept story rs (Some h) (Some g) k i = (i.0 ∙ ap Some (sym k.0), k.2 rs i.1, k.1 ∙ i.2)
+pub hold_kept : (log : Log) (rs : List StepRecord) (o p : Option Hold) → KeepsHold o p → IsHoldOf log rs o → IsHoldOf log rs p
+hold_kept log rs None None k h = h
+hold_kept log rs None (Some g) k h = absurd k
+hold_kept log rs (Some h) None k i = absurd k
+hold_kept log rs (Some h) (Some g) k i = (i.0 ∙ ap Some (sym k.0), k.2 rs i.1, k.1 ∙ i.2)
 
 -- what nothing is held for says that nothing is held
-pub full_said : (story : Story) (rs : List StepRecord) (o : Option Hold) (full : Bool) → IsHoldOf story rs o → full_unheld o full ≡ true → (held story ≡ None) × (full ≡ true)
-full_said story rs None full h e = (h, e)
-full_said story rs (Some g) full h e = cc
+pub full_said : (log : Log) (rs : List StepRecord) (o : Option Hold) (full : Bool) → IsHoldOf log rs o → full_unheld o full ≡ true → (held log ≡ None) × (full ≡ true)
+full_said log rs None full h e = (h, e)
+full_said log rs (Some g) full h e = cc
 
-pub room_said : (story : Story) (rs : List StepRecord) (o : Option Hold) (full : Bool) → IsHoldOf story rs o → full_unheld o full ≡ false → held story ≡ None → full ≡ false
-room_said story rs None full h e none = e
-room_said story rs (Some g) full h e none = let k : None ≡ Some g.step = sym none ∙ h.0 in cc
+pub room_said : (log : Log) (rs : List StepRecord) (o : Option Hold) (full : Bool) → IsHoldOf log rs o → full_unheld o full ≡ false → held log ≡ None → full ≡ false
+room_said log rs None full h e none = e
+room_said log rs (Some g) full h e none = let k : None ≡ Some g.step = sym none ∙ h.0 in cc
 
 -- nothing changes of a hold itself
 pub hold_itself : (o : Option Hold) → KeepsHold o o
@@ -63,61 +63,61 @@ hold_itself (Some h) = (refl, refl, λ rs left. left)
 -- ---- a step more
 
 -- a step that was taken last is none of those before it
-last_unmarked : (story : Story) (s : Setting) (w : World) (ts : List Past) (t : Past) (left : List Past) → StandsAt story s w (ts ++ t ∷ []) → ((x : Past) → In x left → In x ts) → is_marked left t ≡ false
-last_unmarked story s w ts t left h inside =
-    let have = steps_have_names s (base_of story) (from_start story s w (ts ++ t ∷ []) h) in
-    none_any (λ (x : Past). is_same_step (name_of x.step) (name_of t.step)) left
-    (λ x i. have.once (ts ++ t ∷ []) w x t (is_run story s w (ts ++ t ∷ []) h) (Before-across x t ts (t ∷ []) (inside x i) (inl refl)))
+last_unmarked : (log : Log) (s : Setting) (w : World) (ts : List TakenStep) (t : TakenStep) (left : List TakenStep) → StandsAt log s w (ts ++ t ∷ []) → ((x : TakenStep) → In x left → In x ts) → is_marked left t ≡ false
+last_unmarked log s w ts t left h inside =
+    let have = steps_have_names s (base_of log) (from_start log s w (ts ++ t ∷ []) h) in
+    none_any (λ (x : TakenStep). is_same_step (name_of x.step) (name_of t.step)) left
+    (λ x i. have.once (ts ++ t ∷ []) w x t (is_run log s w (ts ++ t ∷ []) h) (Before-across x t ts (t ∷ []) (inside x i) (inl refl)))
 
 -- what is left remains
-left_remains : (story : Story) → IsLegal story → (x : Past) → In x (left_of story) → In x (past_of story)
-left_remains story legal x i = by_held (held story) refl
+left_remains : (log : Log) → IsLegal log → (x : TakenStep) → In x (left_of log) → In x (past_of log)
+left_remains log legal x i = by_held (held log) refl
   where
-    by_held : (o : Option StepName) → held story ≡ o → In x (past_of story)
-    by_held None e = absurd (subst (In x) (nothing_left story e) i)
-    by_held (Some name) e = (holds_stand story name legal e).inside x i
+    by_held : (o : Option StepName) → held log ≡ o → In x (past_of log)
+    by_held None e = absurd (subst (In x) (nothing_left log e) i)
+    by_held (Some name) e = (holds_stand log name legal e).inside x i
 
-pub hold_grown : (story next : Story) (s : Setting) (w : World) (t : Past) (rs us : List StepRecord) (o p : Option Hold) → IsLegal story → held next ≡ held story → left_of next ≡ left_of story → StandsAt next s w (past_of story ++ t ∷ [])
-    → facts rs ≡ facts_of (past_of story) → facts us ≡ facts_of (past_of story ++ t ∷ []) → AddsUnheld o p → IsHoldOf story rs o → IsHoldOf next us p
-hold_grown story next s w t rs us None None legal same left there old new adds h = same ∙ h
-hold_grown story next s w t rs us None (Some g) legal same left there old new adds h = absurd adds
-hold_grown story next s w t rs us (Some h) None legal same left there old new adds k = absurd adds
-hold_grown story next s w t rs us (Some h) (Some g) legal same left there old new adds k =
-    let ts = past_of story in
+pub hold_grown : (log next : Log) (s : Setting) (w : World) (t : TakenStep) (rs us : List StepRecord) (o p : Option Hold) → IsLegal log → held next ≡ held log → left_of next ≡ left_of log → StandsAt next s w (past_of log ++ t ∷ [])
+    → facts rs ≡ facts_of (past_of log) → facts us ≡ facts_of (past_of log ++ t ∷ []) → AddsUnheld o p → IsHoldOf log rs o → IsHoldOf next us p
+hold_grown log next s w t rs us None None legal same left there old new adds h = same ∙ h
+hold_grown log next s w t rs us None (Some g) legal same left there old new adds h = absurd adds
+hold_grown log next s w t rs us (Some h) None legal same left there old new adds k = absurd adds
+hold_grown log next s w t rs us (Some h) (Some g) legal same left there old new adds k =
+    let ts = past_of log in
     let past = past_there next s w (ts ++ t ∷ []) there in
     let r : StepRecord = record { fact = t.fact; saved = Started } in
     let e : facts (rs ++ r ∷ []) ≡ facts us =
-    map-append (λ (x : StepRecord). x.fact) rs (r ∷ []) ∙ ap (λ (l : List Fact). l ++ t.fact ∷ []) old ∙ sym (map-append (λ (x : Past). x.fact) ts (t ∷ [])) ∙ sym new in
-    let none = last_unmarked next s w ts t (left_of story) there (left_remains story legal) in (
+    map-append (λ (x : StepRecord). x.fact) rs (r ∷ []) ∙ ap (λ (l : List Fact). l ++ t.fact ∷ []) old ∙ sym (map-append (λ (x : TakenStep). x.fact) ts (t ∷ [])) ∙ sym new in
+    let none = last_unmarked next s w ts t (left_of log) there (left_remains log legal) in (
       same ∙ k.0 ∙ ap Some (sym adds.0),
       left_facts (rs ++ r ∷ []) us g.left e (adds.2 rs r k.1),
-      adds.1 ∙ ap (λ (l : List Bool). l ++ false ∷ []) k.2 ∙ sym (marks_more (left_of story) ts t none) ∙ ap₂ marks_by (sym left) (sym past),
+      adds.1 ∙ ap (λ (l : List Bool). l ++ false ∷ []) k.2 ∙ sym (marks_more (left_of log) ts t none) ∙ ap₂ marks_by (sym left) (sym past),
     )
 
 -- ---- steps taken back
 
 -- the held step is marked, so something is counted
-held_counted : (story : Story) (name : StepName) → IsLegal story → held story ≡ Some name → 1 ≤ count_left (marks_by (left_of story) (past_of story))
-held_counted story name legal e =
-    let k = holds_stand story name legal e in
-    let first : In k.step (left_of story) = subst (In k.step) (sym k.left) (inl refl) in
-    one_counted (left_of story) (past_of story) k.step (k.inside k.step first) (any_one (λ (x : Past). is_same_step (name_of x.step) (name_of k.step.step)) (left_of story) k.step first (step_itself (name_of k.step.step)))
+held_counted : (log : Log) (name : StepName) → IsLegal log → held log ≡ Some name → 1 ≤ count_left (marks_by (left_of log) (past_of log))
+held_counted log name legal e =
+    let k = holds_stand log name legal e in
+    let first : In k.step (left_of log) = subst (In k.step) (sym k.left) (inl refl) in
+    one_counted (left_of log) (past_of log) k.step (k.inside k.step first) (any_one (λ (x : TakenStep). is_same_step (name_of x.step) (name_of k.step.step)) (left_of log) k.step first (step_itself (name_of k.step.step)))
 
 -- the steps of a list that are taken out of what remains, and of what is left
-pub record IsOut (story next : Story) (places : List ℕ) : Type 0 where
-  pub past : past_of next ≡ removed_each (past_of story) places
-  pub marks : marks_by (left_of next) (past_of next) ≡ removed_each (marks_by (left_of story) (past_of story)) places
-  pub kept : (name : StepName) → held next ≡ Some name → held story ≡ Some name
+pub record IsOut (log next : Log) (places : List ℕ) : Type 0 where
+  pub past : past_of next ≡ removed_each (past_of log) places
+  pub marks : marks_by (left_of next) (past_of next) ≡ removed_each (marks_by (left_of log) (past_of log)) places
+  pub kept : (name : StepName) → held next ≡ Some name → held log ≡ Some name
 
-module _ (story next : Story) (places : List ℕ) (legal : IsLegal next) (out : IsOut story next places) where
-  out_none : held story ≡ None → held next ≡ None
+module _ (log next : Log) (places : List ℕ) (legal : IsLegal next) (out : IsOut log next places) where
+  out_none : held log ≡ None → held next ≡ None
   out_none none = by_held (held next) refl
     where
       by_held : (o : Option StepName) → held next ≡ o → held next ≡ None
       by_held None e = e
       by_held (Some name) e = let k : None ≡ Some name = sym none ∙ out.kept name e in cc
 
-  over : count_left (removed_each (marks_by (left_of story) (past_of story)) places) ≡ 0 → held next ≡ None
+  over : count_left (removed_each (marks_by (left_of log) (past_of log)) places) ≡ 0 → held next ≡ None
   over zero_left = by_held (held next) refl
     where
       by_held : (o : Option StepName) → held next ≡ o → held next ≡ None
@@ -127,7 +127,7 @@ module _ (story next : Story) (places : List ℕ) (legal : IsLegal next) (out : 
           let n = ap count_left out.marks ∙ zero_left in
           absurd (omega (arith, k, n))
 
-  goes_on : (name : StepName) → held story ≡ Some name → 1 ≤ count_left (removed_each (marks_by (left_of story) (past_of story)) places) → held next ≡ Some name
+  goes_on : (name : StepName) → held log ≡ Some name → 1 ≤ count_left (removed_each (marks_by (left_of log) (past_of log)) places) → held next ≡ Some name
   goes_on name was some = by_held (held next) refl
     where
       by_held : (o : Option StepName) → held next ≡ o → held next ≡ Some name
@@ -137,60 +137,60 @@ module _ (story next : Story) (places : List ℕ) (legal : IsLegal next) (out : 
           absurd (omega (arith, none, n, some))
       by_held (Some other) e = let k : Some name ≡ Some other = sym was ∙ out.kept other e in e ∙ sym k
 
-  pub hold_fewer : (rs us : List StepRecord) (o p : Option Hold) → facts rs ≡ facts_of (past_of story) → facts us ≡ facts_of (past_of next) → TakesOut o places p → IsHoldOf story rs o → IsHoldOf next us p
+  pub hold_fewer : (rs us : List StepRecord) (o p : Option Hold) → facts rs ≡ facts_of (past_of log) → facts us ≡ facts_of (past_of next) → TakesOut o places p → IsHoldOf log rs o → IsHoldOf next us p
   hold_fewer rs us None None old new takes h = out_none h
   hold_fewer rs us None (Some g) old new takes h = absurd takes
   hold_fewer rs us (Some h) None old new takes k = over (sym (ap (λ (l : List Bool). count_left (removed_each l places)) k.2) ∙ takes)
   hold_fewer rs us (Some h) (Some g) old new takes k =
       let e : facts (removed_each rs places) ≡ facts us =
-      sym (removed_map (λ (r : StepRecord). r.fact) rs places) ∙ ap (λ (l : List Fact). removed_each l places) old ∙ removed_map (λ (x : Past). x.fact) (past_of story) places
+      sym (removed_map (λ (r : StepRecord). r.fact) rs places) ∙ ap (λ (l : List Fact). removed_each l places) old ∙ removed_map (λ (x : TakenStep). x.fact) (past_of log) places
       ∙ ap facts_of (sym out.past) ∙ sym new in
-      let marks : g.left.marks ≡ removed_each (marks_by (left_of story) (past_of story)) places = takes.1 ∙ ap (λ (l : List Bool). removed_each l places) k.2 in
-      let some : 1 ≤ count_left (removed_each (marks_by (left_of story) (past_of story)) places) = subst (λ (l : List Bool). 1 ≤ count_left l) marks takes.3 in (
+      let marks : g.left.marks ≡ removed_each (marks_by (left_of log) (past_of log)) places = takes.1 ∙ ap (λ (l : List Bool). removed_each l places) k.2 in
+      let some : 1 ≤ count_left (removed_each (marks_by (left_of log) (past_of log)) places) = subst (λ (l : List Bool). 1 ≤ count_left l) marks takes.3 in (
         goes_on h.step k.0 some ∙ ap Some (sym takes.0),
         left_facts (removed_each rs places) us g.left e (takes.2 rs k.1),
         marks ∙ sym out.marks,
       )
 
 -- where all of these go of what remains and of what is left, they go at their places
-pub all_out : (story next : Story) (s : Setting) (w : World) (all rest : List Past) (places : List ℕ) → StandsAt story s w (past_of story) → past_of next ≡ without (steps s) all (past_of story) → left_of next ≡ without (steps s) all (left_of story)
-    → ((name : StepName) → held next ≡ Some name → held story ≡ Some name) → Undoes s (past_of story) places (without (steps s) all (past_of story)) → IsOut story next places
-all_out story next s w all rest places h past left kept undoes =
-    let base = base_of story in
-    let ts = past_of story in
-    let have = steps_have_names s base (from_start story s w ts h) in
-    let once : Once (steps s) base have ts = λ x y b. have.once ts w x y (is_run story s w ts h) b in
+pub all_out : (log next : Log) (s : Setting) (w : World) (all rest : List TakenStep) (places : List ℕ) → StandsAt log s w (past_of log) → past_of next ≡ without (steps s) all (past_of log) → left_of next ≡ without (steps s) all (left_of log)
+    → ((name : StepName) → held next ≡ Some name → held log ≡ Some name) → Undoes s (past_of log) places (without (steps s) all (past_of log)) → IsOut log next places
+all_out log next s w all rest places h past left kept undoes =
+    let base = base_of log in
+    let ts = past_of log in
+    let have = steps_have_names s base (from_start log s w ts h) in
+    let once : Once (steps s) base have ts = λ x y b. have.once ts w x y (is_run log s w ts h) b in
     let gone = undone_out s base have places ts (without (steps s) all ts) once undoes in
     record {
       past = past ∙ sym gone;
-      marks = ap₂ marks_by left past ∙ sym (marks_rest s base have all (left_of story) ts) ∙ ap (marks_by (left_of story)) (sym gone) ∙ sym (marks_out (left_of story) ts places);
+      marks = ap₂ marks_by left past ∙ sym (marks_rest s base have all (left_of log) ts) ∙ ap (marks_by (left_of log)) (sym gone) ∙ sym (marks_out (left_of log) ts places);
       kept = kept;
     }
 
 -- and they can be taken out there
-pub can_take_out : (story : Story) (s : Setting) (w : World) (rest : List Past) (places : List ℕ) (rs : List StepRecord) (o : Option Hold) → StandsAt story s w (past_of story) → Undoes s (past_of story) places rest
-    → IsHoldOf story rs o → length rs ≡ length (past_of story) → CanTakeOut o places
-can_take_out story s w rest places rs None h undoes k many = tt
-can_take_out story s w rest places rs (Some g) h undoes k many =
-    let base = base_of story in
-    let ts = past_of story in
-    let have = steps_have_names s base (from_start story s w ts h) in
-    subst (λ (n : ℕ). AreWithin n places) (sym (k.1.many ∙ many)) (undone_within s base have places ts rest (λ x y b. have.once ts w x y (is_run story s w ts h) b) undoes)
+pub can_take_out : (log : Log) (s : Setting) (w : World) (rest : List TakenStep) (places : List ℕ) (rs : List StepRecord) (o : Option Hold) → StandsAt log s w (past_of log) → Undoes s (past_of log) places rest
+    → IsHoldOf log rs o → length rs ≡ length (past_of log) → CanTakeOut o places
+can_take_out log s w rest places rs None h undoes k many = tt
+can_take_out log s w rest places rs (Some g) h undoes k many =
+    let base = base_of log in
+    let ts = past_of log in
+    let have = steps_have_names s base (from_start log s w ts h) in
+    subst (λ (n : ℕ). AreWithin n places) (sym (k.1.many ∙ many)) (undone_within s base have places ts rest (λ x y b. have.once ts w x y (is_run log s w ts h) b) undoes)
 
 -- what is held was held
-pub held_before : (story : Story) (e : Entry) (ss : List Step) → held_after story.begin (remainder story) e ≡ while_in ss (held story) → (name : StepName) → held (accepted story e) ≡ Some name → held story ≡ Some name
-held_before story e ss while name h = (while_said ss (held story) name (sym while ∙ sym (held_next story e) ∙ h)).0
+pub held_before : (log : Log) (e : Entry) (ss : List Step) → held_after log.begin (remainder log) e ≡ while_in ss (held log) → (name : StepName) → held (appended log e) ≡ Some name → held log ≡ Some name
+held_before log e ss while name h = (while_said ss (held log) name (sym while ∙ sym (held_next log e) ∙ h)).0
 
 -- ---- a hold begins
 
-pub hold_begun : (story next : Story) (rs us : List StepRecord) (name : StepName) (h : Hold) → held next ≡ Some name → left_of next ≡ consequences_of story name → past_of next ≡ past_of story → facts rs ≡ facts us → IsHoldFor story rs name h → IsHoldOf next us (Some h)
-hold_begun story next rs us name h now left past e for =
+pub hold_begun : (log next : Log) (rs us : List StepRecord) (name : StepName) (h : Hold) → held next ≡ Some name → left_of next ≡ consequences_of log name → past_of next ≡ past_of log → facts rs ≡ facts us → IsHoldFor log rs name h → IsHoldOf next us (Some h)
+hold_begun log next rs us name h now left past e for =
     (now ∙ ap Some (sym for.0), left_facts rs us h.left e for.1, for.2 ∙ ap₂ marks_by (sym left) (sym past))
 
 -- nothing is held where a hold would be refused
-pub none_kept : (story : Story) (rs : List StepRecord) (o : Option Hold) → held story ≡ None → IsHoldOf story rs o → o ≡ None
-none_kept story rs None none h = refl
-none_kept story rs (Some h) none k = let e : None ≡ Some h.step = sym none ∙ k.0 in cc
+pub none_kept : (log : Log) (rs : List StepRecord) (o : Option Hold) → held log ≡ None → IsHoldOf log rs o → o ≡ None
+none_kept log rs None none h = refl
+none_kept log rs (Some h) none k = let e : None ≡ Some h.step = sym none ∙ k.0 in cc
 
 -- ---- places that are taken out one after another
 

@@ -13,7 +13,7 @@ use Rattle.saved_steps.specs.declared.fact.Fact.{Fact}
 use Rattle.saved_steps.specs.declared.record.StepRecord.{StepRecord}
 use Rattle.depends.specs.Instance.{steps, is_one_step}
 use Rattle.depends.proofs.Searching.{facts}
-use Rattle.step_history.specs.History.{Past}
+use Rattle.step_history.specs.History.{TakenStep}
 use Rattle.step_history.proofs.Left.{removed_at}
 use Rattle.step_history.proofs.Planned.{Undoes}
 use Rattle.step_index.specs.Held.{Held, AreLeft, classes_left, count_left}
@@ -58,16 +58,16 @@ removed_map f xs [] = refl
 removed_map f xs (p ∷ ps) = ap (λ l. removed_each l ps) (remove_map f xs p) ∙ removed_map f (remove xs p) ps
 
 -- where a step stands in a list
-record Stands (ts : List Past) (at : ℕ) (t : Past) : Type 0 where
-  front : List Past
-  back : List Past
+record Stands (ts : List TakenStep) (at : ℕ) (t : TakenStep) : Type 0 where
+  front : List TakenStep
+  back : List TakenStep
   whole : front ++ t ∷ back ≡ ts
   place : length front ≡ at
 
-stands_at : (ts : List Past) (at : ℕ) (t : Past) → slice_get ts at ≡ Some t → Stands ts at t
+stands_at : (ts : List TakenStep) (at : ℕ) (t : TakenStep) → slice_get ts at ≡ Some t → Stands ts at t
 stands_at [] at t h = cc
-stands_at (u ∷ ts) zero t h = record { front = []; back = ts; whole = ap (λ (z : Past). z ∷ ts) (sym (same_Some u t h)); place = refl }
-stands_at (u ∷ ts) (suc at) t h = let a = stands_at ts at t h in record { front = u ∷ a.front; back = a.back; whole = ap (λ (l : List Past). u ∷ l) a.whole; place = ap suc a.place }
+stands_at (u ∷ ts) zero t h = record { front = []; back = ts; whole = ap (λ (z : TakenStep). z ∷ ts) (sym (same_Some u t h)); place = refl }
+stands_at (u ∷ ts) (suc at) t h = let a = stands_at ts at t h in record { front = u ∷ a.front; back = a.back; whole = ap (λ (l : List TakenStep). u ∷ l) a.whole; place = ap suc a.place }
 
 pub shorter_by_one : {A : Type 0} (xs : List A) (at : ℕ) → at < length xs → length (remove xs at) ≡ length xs - 1
 shorter_by_one [] at l = absurd (omega (arith, l))
@@ -75,20 +75,20 @@ shorter_by_one (x ∷ xs) zero l = omega arith
 shorter_by_one (x ∷ xs) (suc at) l = let k = shorter_by_one xs at (omega (arith, l)) in omega (arith, k, l)
 
 module _ (s : Setting) (base : World) (names : HasNames (steps s) base) where
-  one_out : (ts : List Past) (at : ℕ) (t : Past) → Once (steps s) base names ts → slice_get ts at ≡ Some t → without (steps s) (t ∷ []) ts ≡ remove ts at
+  one_out : (ts : List TakenStep) (at : ℕ) (t : TakenStep) → Once (steps s) base names ts → slice_get ts at ≡ Some t → without (steps s) (t ∷ []) ts ≡ remove ts at
   one_out ts at t once here =
       let a = stands_at ts at t here in
       ap (without (steps s) (t ∷ [])) (sym a.whole) ∙ without_one (steps s) base names a.front a.back t (subst (Once (steps s) base names) (sym a.whole) once)
       ∙ sym (removed_at ts a.front a.back t at a.whole a.place)
 
   -- steps that are undone at their places are taken out there
-  pub undone_out : (places : List ℕ) (ts rest : List Past) → Once (steps s) base names ts → Undoes s ts places rest → removed_each ts places ≡ rest
+  pub undone_out : (places : List ℕ) (ts rest : List TakenStep) → Once (steps s) base names ts → Undoes s ts places rest → removed_each ts places ≡ rest
   undone_out [] ts rest once u = u
   undone_out (p ∷ ps) ts rest once u =
       let out = one_out ts p u.0 once u.1 in
-      ap (λ (l : List Past). removed_each l ps) (sym out) ∙ undone_out ps (without (steps s) (u.0 ∷ []) ts) rest (Once-filter (steps s) base names _ ts once) u.3
+      ap (λ (l : List TakenStep). removed_each l ps) (sym out) ∙ undone_out ps (without (steps s) (u.0 ∷ []) ts) rest (Once-filter (steps s) base names _ ts once) u.3
 
-  pub undone_within : (places : List ℕ) (ts rest : List Past) → Once (steps s) base names ts → Undoes s ts places rest → AreWithin (length ts) places
+  pub undone_within : (places : List ℕ) (ts rest : List TakenStep) → Once (steps s) base names ts → Undoes s ts places rest → AreWithin (length ts) places
   undone_within [] ts rest once u = tt
   undone_within (p ∷ ps) ts rest once u =
       let within = slice_get_within ts p u.0 u.1 in
@@ -98,20 +98,20 @@ module _ (s : Setting) (base : World) (names : HasNames (steps s) base) where
 -- ---- marks
 
 -- one of these has the name of a step
-abbrev pub is_marked : List Past → Past → Bool
-is_marked left t = list_any (λ (x : Past). is_same_step (name_of x.step) (name_of t.step)) left
+abbrev pub is_marked : List TakenStep → TakenStep → Bool
+is_marked left t = list_any (λ (x : TakenStep). is_same_step (name_of x.step) (name_of t.step)) left
 
-pub marks_more : (left ts : List Past) (t : Past) → is_marked left t ≡ false → marks_by left (ts ++ t ∷ []) ≡ marks_by left ts ++ false ∷ []
+pub marks_more : (left ts : List TakenStep) (t : TakenStep) → is_marked left t ≡ false → marks_by left (ts ++ t ∷ []) ≡ marks_by left ts ++ false ∷ []
 marks_more left ts t none = map-append (is_marked left) ts (t ∷ []) ∙ ap (λ (b : Bool). marks_by left ts ++ b ∷ []) none
 
-marks_same : (left more ts : List Past) → ((t : Past) → In t ts → is_marked left t ≡ is_marked more t) → marks_by left ts ≡ marks_by more ts
+marks_same : (left more ts : List TakenStep) → ((t : TakenStep) → In t ts → is_marked left t ≡ is_marked more t) → marks_by left ts ≡ marks_by more ts
 marks_same left more [] h = refl
 marks_same left more (t ∷ ts) h = ap₂ (λ (b : Bool) (l : List Bool). b ∷ l) (h t (inl refl)) (marks_same left more ts (λ u i. h u (inr i)))
 
-pub marks_out : (left ts : List Past) (places : List ℕ) → removed_each (marks_by left ts) places ≡ marks_by left (removed_each ts places)
+pub marks_out : (left ts : List TakenStep) (places : List ℕ) → removed_each (marks_by left ts) places ≡ marks_by left (removed_each ts places)
 marks_out left ts places = removed_map (is_marked left) ts places
 
-any_kept : (p q : Past → Bool) (xs : List Past) → ((x : Past) → p x ≡ true → q x ≡ true) → list_any p xs ≡ list_any p (filter q xs)
+any_kept : (p q : TakenStep → Bool) (xs : List TakenStep) → ((x : TakenStep) → p x ≡ true → q x ≡ true) → list_any p xs ≡ list_any p (filter q xs)
 any_kept p q [] h = refl
 any_kept p q (x ∷ xs) h =
     by_bool (q x) _
@@ -120,31 +120,31 @@ any_kept p q (x ∷ xs) h =
 
 module _ (s : Setting) (base : World) (names : HasNames (steps s) base) where
   -- of the steps that stay the marks stay, where of what is left all goes that goes of the steps
-  pub marks_rest : (all left ts : List Past) → marks_by left (without (steps s) all ts) ≡ marks_by (without (steps s) all left) (without (steps s) all ts)
+  pub marks_rest : (all left ts : List TakenStep) → marks_by left (without (steps s) all ts) ≡ marks_by (without (steps s) all left) (without (steps s) all ts)
   marks_rest all left ts = marks_same left (without (steps s) all left) (without (steps s) all ts) (λ t i.
-      any_kept (λ (x : Past). is_one_step x.step t.step) (λ (x : Past). not (is_among (steps s) all x)) left (λ x j. by_bool (is_among (steps s) all x) _
+      any_kept (λ (x : TakenStep). is_one_step x.step t.step) (λ (x : TakenStep). not (is_among (steps s) all x)) left (λ x j. by_bool (is_among (steps s) all x) _
       (λ k.
-      let y = one_any (λ (z : Past). is_one_step z.step x.step) all k in
+      let y = one_any (λ (z : TakenStep). is_one_step z.step x.step) all k in
       let e = same y.0 x y.2 in
-      let m = any_one (λ (z : Past). is_one_step z.step t.step) all y.0 y.1 (e t j) in
-      let r = (In-filter (λ (z : Past). not (is_among (steps s) all z)) ts t i).1 in
+      let m = any_one (λ (z : TakenStep). is_one_step z.step t.step) all y.0 y.1 (e t j) in
+      let r = (In-filter (λ (z : TakenStep). not (is_among (steps s) all z)) ts t i).1 in
       let c = rw m at r in
       cc)
       (λ k. ap not k)))
     where
-      same : (y x : Past) → is_one_step y.step x.step ≡ true → (t : Past) → is_one_step x.step t.step ≡ true → is_one_step y.step t.step ≡ true
+      same : (y x : TakenStep) → is_one_step y.step x.step ≡ true → (t : TakenStep) → is_one_step x.step t.step ≡ true → is_one_step y.step t.step ≡ true
       same y x h t j = subst (λ n. is_same_step (name_of y.step) n ≡ true) (step_same (name_of x.step) (name_of t.step) j) h
 
 -- ---- how many
 
-none_counted : (ts : List Past) → count_left (marks_by [] ts) ≡ 0
+none_counted : (ts : List TakenStep) → count_left (marks_by [] ts) ≡ 0
 none_counted [] = refl
 none_counted (t ∷ ts) = none_counted ts
 
-pub nothing_counted : (left ts : List Past) → left ≡ [] → count_left (marks_by left ts) ≡ 0
-nothing_counted left ts e = ap (λ (l : List Past). count_left (marks_by l ts)) e ∙ none_counted ts
+pub nothing_counted : (left ts : List TakenStep) → left ≡ [] → count_left (marks_by left ts) ≡ 0
+nothing_counted left ts e = ap (λ (l : List TakenStep). count_left (marks_by l ts)) e ∙ none_counted ts
 
-pub one_counted : (left ts : List Past) (t : Past) → In t ts → is_marked left t ≡ true → 1 ≤ count_left (marks_by left ts)
+pub one_counted : (left ts : List TakenStep) (t : TakenStep) → In t ts → is_marked left t ≡ true → 1 ≤ count_left (marks_by left ts)
 one_counted left [] t i m = absurd i
 one_counted left (u ∷ ts) t (inl e) m = let k = ap (is_marked left) (sym e) ∙ m in rw k (omega arith)
 one_counted left (u ∷ ts) t (inr i) m =
@@ -152,6 +152,6 @@ one_counted left (u ∷ ts) t (inr i) m =
     by_bool (is_marked left u) _ (λ k. rw k (omega (arith, rest))) (λ k. rw k rest)
 
 -- marks are counted as the steps that have them
-pub counted_steps : (left ts : List Past) → count_left (marks_by left ts) ≡ length (filter (is_marked left) ts)
+pub counted_steps : (left ts : List TakenStep) → count_left (marks_by left ts) ≡ length (filter (is_marked left) ts)
 counted_steps left [] = refl
 counted_steps left (t ∷ ts) = by_bool (is_marked left t) _ (λ k. rw k (ap suc (counted_steps left ts))) (λ k. rw k (counted_steps left ts))

@@ -5,15 +5,15 @@ use Rattle.std.proofs.lemmas.Option.{same_Some}
 use Rattle.step_history.specs.Frame.{Frame}
 use Rattle.step_history.specs.Phase.TheVariants.{Ready}
 use Rattle.asl_tree.specs.Definition.{Definition}
-use Rattle.branch_tree.specs.First.{has_move}
+use Rattle.branch_tree.specs.First.{is_enabled}
 use Rattle.branch_tree.specs.Ready.{readiness_at}
 use Rattle.branch_tree.specs.declared.readiness.Readiness.{Readiness}
 use Rattle.step_names.specs.Thread.{Thread}
 use Rattle.step_names.specs.declared.step.StepName.{StepName}
-use Rattle.saved_steps.specs.Deeds.{Deed, deed, frame_deed, if_numbered, move_deed, next_step, waits}
+use Rattle.saved_steps.specs.Effects.{Effect, effect_of, frame_effect, if_numbered, move_effect, next_step, waits}
 use Rattle.saved_steps.specs.First.{IsFirstReady, NoneFreeBefore, free}
-use Rattle.saved_steps.specs.Held.{frames_of, paths_of, seen}
-use Rattle.saved_steps.specs.Made.{Suits, deed_of_next, fact_made}
+use Rattle.saved_steps.specs.Held.{frames_of, paths_of, world_view}
+use Rattle.saved_steps.specs.Made.{CanMake, effect_of_next, fact_made}
 use Rattle.saved_steps.specs.Steps.{moved}
 use Rattle.saved_steps.specs.World.{Setting, World}
 use Rattle.saved_steps.specs.declared.fact.Fact.{Fact}
@@ -21,7 +21,7 @@ use Rattle.saved_steps.specs.declared.fact.Kind.{Kind}
 use Rattle.saved_steps.specs.declared.made.Made.{Made as MadeStep}
 use Rattle.saved_steps.specs.declared.next.Next.{Next}
 use Rattle.depends.proofs.Turned.{frame_move, frame_begins}
-use Rattle.step_history.specs.History.{Past, IsHistory}
+use Rattle.step_history.specs.History.{TakenStep, IsHistory, history_world}
 use Rattle.step_history.specs.Levels.{HasNamesBelow}
 use Rattle.step_history.specs.Moves.{IsMachineOf, IsMoveOf}
 use Rattle.step_history.proofs.Counts.{counted, counted_run}
@@ -30,8 +30,8 @@ use Rattle.book_log.proofs.Counts.{legal_counts, steps_there}
 use Rattle.depends.specs.Instance.{steps}
 use Rattle.trace_theory.proofs.Records.{run_is, run_names}
 use Rattle.std.proofs.lemmas.List.{length-map}
-use Rattle.book_log.specs.Answers.{deed_answer, has_move as can_move, step_answer, thread_answer, moved_answer, needed_left, unless_needed, is_full_for_step}
-use Rattle.book_log.specs.Story.{Story, base_of, first_world, past_of, remaining, settled, held, setting_of, world_of}
+use Rattle.book_log.specs.Answers.{effect_answer, is_enabled as can_move, step_answer, thread_answer, moved_answer, needed_left, unless_needed, is_full_for_step}
+use Rattle.book_log.specs.Log.{Log, base_of, first_world, past_of, remaining, settled, held, setting_of, world_of}
 use Rattle.book_log.specs.declared.entry.Entry.{Entry}
 use Rattle.book_log.specs.declared.entry.Entry.TheVariants.{Step as Stepped}
 use Rattle.book_log.specs.declared.moved.Moved.{Moved}
@@ -39,7 +39,7 @@ use Rattle.book_log.specs.declared.refusal.Refusal.{Refusal}
 use Rattle.book_log.specs.declared.refusal.Refusal.TheVariants as refusal
 use Rattle.book_log.specs.declared.refusal.Refusal.TheVariants.{NoThread, NotReady, Full}
 use Rattle.book_log.proofs.HoldSaid.{needs_none}
-use Rattle.rollback_book.specs.Book.{Volume, IsTied, place_in, placed}
+use Rattle.rollback_book.specs.Book.{BookView, BookInvariant, place_in, placed}
 use Rattle.rollback_book.specs.Making.{CanEnter, HasLogRoom, IsMoveRefusal, OrMemory}
 use Rattle.rollback_book.specs.Ready.{HasRoomUnlessHeld, IsFirstToMove, IsHeldBack, IsMadeIn, IsNextOf, IsReadyTo, MayEnter, moves_freely}
 use Rattle.rollback_book.specs.declared.making.Made.{Made}
@@ -54,65 +54,65 @@ some_there None h = cc
 some_there (Some x) h = (x, refl)
 
 -- no frame of the base counts further than there are settled steps
-base_counts : (b : Volume) → IsTied b → (u : Thread) (g : Frame) → (base_of b.story).frames u ≡ Some g → g.count ≤ length (settled b.story)
+base_counts : (b : BookView) → BookInvariant b → (u : Thread) (g : Frame) → (base_of b.log).frames u ≡ Some g → g.count ≤ length (settled b.log)
 base_counts b tied u g there =
-    let s = setting_of b.story in
-    let first = first_world b.story.begin in
+    let s = setting_of b.log in
+    let first = first_world b.log.begin in
     let h = stands b tied in
-    let c = (counted_run s first (base_of b.story) h.before (λ x. refl) (run_is (steps s) (settled b.story) first (base_of b.story) h.before h.leads) u g there).bound in
-    let named = ap length (run_names (steps s) (settled b.story) first (base_of b.story) h.before h.leads) in
-    let long = length-map h.before (λ (x : Past). x.step) in
+    let c = (counted_run s first (base_of b.log) h.before (λ x. refl) (run_is (steps s) (settled b.log) first (base_of b.log) h.before h.leads) u g there).bound in
+    let named = ap length (run_names (steps s) (settled b.log) first (base_of b.log) h.before h.leads) in
+    let long = length-map h.before (λ (x : TakenStep). x.step) in
     omega (arith, c, named, long)
 
 -- as many steps remain as the past has
-many_steps : (b : Volume) → IsTied b → length (remaining b.story) ≡ length (past_of b.story)
-many_steps b tied = steps_there b.story (setting_of b.story) (seen b.history.world) (past_of b.story) (stands b tied)
+many_steps : (b : BookView) → BookInvariant b → length (remaining b.log) ≡ length (past_of b.log)
+many_steps b tied = steps_there b.log (setting_of b.log) (world_view (history_world b.history)) (past_of b.log) (stands b tied)
 
-module _ (b : Volume) (tied : IsTied b) (t : Thread) where
+module _ (b : BookView) (tied : BookInvariant b) (t : Thread) where
   abbrev pub readiness_there : Readiness
-  readiness_there = readiness_at (paths_of (frames_of b.history.world) t.exec) t.path
+  readiness_there = readiness_at (paths_of (frames_of (history_world b.history)) t.exec) t.path
 
-  moves_there : move_deed (setting_of b.story) (world_of b.story) t ≡ move_deed (setting_of b.story) (seen b.history.world) t
-  moves_there = ap (λ (w : World). move_deed (setting_of b.story) w t) (world_is b tied)
+  moves_there : move_effect (setting_of b.log) (world_of b.log) t ≡ move_effect (setting_of b.log) (world_view (history_world b.history)) t
+  moves_there = ap (λ (w : World). move_effect (setting_of b.log) w t) (world_is b tied)
 
-  pub moves_where : is_some (move_deed (setting_of b.story) (world_of b.story) t) ≡ has_move readiness_there
+  pub moves_where : is_some (move_effect (setting_of b.log) (world_of b.log) t) ≡ is_enabled readiness_there
   moves_where =
       ap is_some moves_there
-      ∙ threads_move (setting_of b.story) (base_of b.story) (past_of b.story) b.history t (legal_whole b.story tied.legal) tied.history
+      ∙ threads_move (setting_of b.log) (base_of b.log) (past_of b.log) b.history t (legal_whole b.log tied.legal) tied.history
 
-  answer_by : (o : Option Frame) → frames_of b.history.world t ≡ o → step_answer b.story t ≡ thread_answer b.story t o
+  answer_by : (o : Option Frame) → frames_of (history_world b.history) t ≡ o → step_answer b.log t ≡ thread_answer b.log t o
   unfolding step_answer
-  answer_by o h = ap (thread_answer b.story t) (ap (λ (w : World). w.frames t) (world_is b tied) ∙ h)
+  answer_by o h = ap (thread_answer b.log t) (ap (λ (w : World). w.frames t) (world_is b tied) ∙ h)
 
-  pub told_there : readiness_at (paths_of (world_of b.story).frames t.exec) t.path ≡ readiness_there
+  pub told_there : readiness_at (paths_of (world_of b.log).frames t.exec) t.path ≡ readiness_there
   told_there = ap (λ (w : World). readiness_at (paths_of w.frames t.exec) t.path) (world_is b tied)
 
-  pub step_absent : frames_of b.history.world t ≡ None → step_answer b.story t ≡ Err NoThread
+  pub step_absent : frames_of (history_world b.history) t ≡ None → step_answer b.log t ≡ Err NoThread
   step_absent h = answer_by None h
 
-  module _ (f : Frame) (there : frames_of b.history.world t ≡ Some f) where
-    by_move : (o : Option Deed) → move_deed (setting_of b.story) (world_of b.story) t ≡ o → step_answer b.story t ≡ moved_answer b.story readiness_there o
-    by_move o h = answer_by (Some f) there ∙ ap₂ (λ (r : Readiness) (x : Option Deed). moved_answer b.story r x) told_there h
+  module _ (f : Frame) (there : frames_of (history_world b.history) t ≡ Some f) where
+    by_move : (o : Option Effect) → move_effect (setting_of b.log) (world_of b.log) t ≡ o → step_answer b.log t ≡ moved_answer b.log readiness_there o
+    by_move o h = answer_by (Some f) there ∙ ap₂ (λ (r : Readiness) (x : Option Effect). moved_answer b.log r x) told_there h
 
-    pub step_stuck : has_move readiness_there ≡ false → step_answer b.story t ≡ Err (NotReady readiness_there)
-    step_stuck h = by_move None (none_there (move_deed (setting_of b.story) (world_of b.story) t) (moves_where ∙ h))
+    pub step_stuck : is_enabled readiness_there ≡ false → step_answer b.log t ≡ Err (NotReady readiness_there)
+    step_stuck h = by_move None (none_there (move_effect (setting_of b.log) (world_of b.log) t) (moves_where ∙ h))
 
-    moving : has_move readiness_there ≡ true → (d : Deed) × (move_deed (setting_of b.story) (world_of b.story) t ≡ Some d)
-    moving h = some_there (move_deed (setting_of b.story) (world_of b.story) t) (moves_where ∙ h)
+    moving : is_enabled readiness_there ≡ true → (d : Effect) × (move_effect (setting_of b.log) (world_of b.log) t ≡ Some d)
+    moving h = some_there (move_effect (setting_of b.log) (world_of b.log) t) (moves_where ∙ h)
 
     abbrev or_full : Moved → Bool → Result Moved Refusal
     or_full m full = cond full (Err Full) (Ok m)
 
-    pub step_full : held b.story ≡ None → has_move readiness_there ≡ true → is_full_for_step b.story ≡ true → step_answer b.story t ≡ Err Full
+    pub step_full : held b.log ≡ None → is_enabled readiness_there ≡ true → is_full_for_step b.log ≡ true → step_answer b.log t ≡ Err Full
     step_full unheld h full =
         let d = moving h in
         let m : Moved = record { name = d.0.fact.name; kind = d.0.fact.kind } in
-        by_move (Some d.0) d.1 ∙ ap (λ (o : Option Fact). unless_needed o (or_full m (is_full_for_step b.story))) (needs_none b.story unheld d.0.fact) ∙ ap (or_full m) full
+        by_move (Some d.0) d.1 ∙ ap (λ (o : Option Fact). unless_needed o (or_full m (is_full_for_step b.log))) (needs_none b.log unheld d.0.fact) ∙ ap (or_full m) full
 
     pub few_steps : f.count + 1 < 2 ^ 32
     few_steps =
-        let c = (counted (setting_of b.story) (base_of b.story) (past_of b.story) b.history (length (settled b.story)) (base_counts b tied) tied.history t f there).bound in
-        let all = (legal_counts b.story tied.legal).stepped in
+        let c = (counted (setting_of b.log) (base_of b.log) (past_of b.log) b.history (length (settled b.log)) (base_counts b tied) tied.history t f there).bound in
+        let all = (legal_counts b.log tied.legal).stepped in
         let bounded = tied.bounded in
         let many = as_many_records b tied in
         let own = many_steps b tied in
@@ -120,24 +120,24 @@ module _ (b : Volume) (tied : IsTied b) (t : Thread) where
 
     names_below : HasNamesBelow t f
     names_below =
-        let p = frames_stand (setting_of b.story) (base_of b.story) (past_of b.story) b.history t f (legal_whole b.story tied.legal) tied.history there in
+        let p = frames_stand (setting_of b.log) (base_of b.log) (past_of b.log) b.history t f (legal_whole b.log tied.legal) tied.history there in
         p.below
 
-    begins : has_move readiness_there ≡ true → f.phase ≡ Ready → waits (frames_of b.history.world) t f ≡ false
+    begins : is_enabled readiness_there ≡ true → f.phase ≡ Ready → waits (frames_of (history_world b.history)) t f ≡ false
     begins h e =
-        let s = setting_of b.story in
-        let w = seen b.history.world in
+        let s = setting_of b.log in
+        let w = world_view (history_world b.history) in
         let d = moving h in
-        let by_frame : frame_deed s w t f ≡ Some d.0 = sym (ap (option_and_then (frame_deed s w t)) there) ∙ (sym moves_there ∙ d.1) in
+        let by_frame : frame_effect s w t f ≡ Some d.0 = sym (ap (option_and_then (frame_effect s w t)) there) ∙ (sym moves_there ∙ d.1) in
         frame_begins s w t f d.0 by_frame e
 
-    pub ready_to : (machine : Definition) → has_move readiness_there ≡ true → HasRoomUnlessHeld b.story → placed (place_in b.places f.level.machine) ≡ Some machine → IsReadyTo b t machine f
+    pub ready_to : (machine : Definition) → is_enabled readiness_there ≡ true → HasRoomUnlessHeld b.log → placed (place_in b.places f.level.machine) ≡ Some machine → IsReadyTo b t machine f
     ready_to machine h free known =
         let d = moving h in
         record {
           frame = there;
           known = sym (tied.machines f.level.machine) ∙ known;
-          deed = d.0;
+          effect = d.0;
           moves = d.1;
           few = few_steps;
           below = names_below;
@@ -148,35 +148,35 @@ module _ (b : Volume) (tied : IsTied b) (t : Thread) where
 
     pub machine_known : placed (place_in b.places f.level.machine) ≡ None → ⊥
     machine_known h =
-        let p = frames_stand (setting_of b.story) (base_of b.story) (past_of b.story) b.history t f (legal_whole b.story tied.legal) tied.history there in
-        let known : is_some ((setting_of b.story).machines f.level.machine) ≡ true = p.known in
-        let gone : is_some ((setting_of b.story).machines f.level.machine) ≡ false = ap is_some (sym (tied.machines f.level.machine) ∙ h) in
+        let p = frames_stand (setting_of b.log) (base_of b.log) (past_of b.log) b.history t f (legal_whole b.log tied.legal) tied.history there in
+        let known : is_some ((setting_of b.log).machines f.level.machine) ≡ true = p.known in
+        let gone : is_some ((setting_of b.log).machines f.level.machine) ≡ false = ap is_some (sym (tied.machines f.level.machine) ∙ h) in
         let clash : true ≡ false = sym known ∙ gone in
         cc
 
     -- what the next step does
     pub next_is : (machine : Definition) (name : StepName) (next : Next) → IsReadyTo b t machine f → name ≡ next_step t f
-        → ((s : Setting) (base : World) (ts : List Past) → IsHistory s base ts b.history → IsMachineOf s (frames_of b.history.world t) machine → IsMoveOf s b.history.world t (Some next)) → IsNextOf b t name next
+        → ((s : Setting) (base : World) (ts : List TakenStep) → IsHistory s base ts b.history → IsMachineOf s (frames_of (history_world b.history) t) machine → IsMoveOf s (history_world b.history) t (Some next)) → IsNextOf b t name next
     next_is machine name next ready named found =
-        let s = setting_of b.story in
-        let w = seen b.history.world in
-        let own : IsMachineOf s (frames_of b.history.world t) machine = subst (λ (o : Option Frame). IsMachineOf s o machine) (sym there) ready.known in
-        let m = found s (base_of b.story) (past_of b.story) tied.history own in
+        let s = setting_of b.log in
+        let w = world_view (history_world b.history) in
+        let own : IsMachineOf s (frames_of (history_world b.history) t) machine = subst (λ (o : Option Frame). IsMachineOf s o machine) (sym there) ready.known in
+        let m = found s (base_of b.log) (past_of b.log) tied.history own in
         let frame : m.0 ≡ f = same_Some m.0 f (sym m.1 ∙ there) in
-        let suits : Suits b.history.world (next_step t f) next = subst (λ (g : Frame). Suits b.history.world (next_step t g) next) frame m.2 in
-        let same : deed s w (moved (next_step t f)) ≡ deed_of_next b.history.world (next_step t f) next =
-        subst (λ (g : Frame). deed s w (moved (next_step t g)) ≡ deed_of_next b.history.world (next_step t g) next) frame m.3 in
-        let moves : move_deed s w t ≡ Some ready.deed = sym moves_there ∙ ready.moves in
-        let by_frame : frame_deed s w t f ≡ Some ready.deed = sym (ap (option_and_then (frame_deed s w t)) there) ∙ moves in
-        let told : ready.deed.fact.name ≡ next_step t f = (frame_move s w t f ready.deed by_frame).named in
-        let number : (ready.deed.fact.name.no == (next_step t f).no) ≡ true = eq-eqb ready.deed.fact.name.no (next_step t f).no (ap (λ (n : StepName). n.no) told) in
-        let does : deed s w (moved (next_step t f)) ≡ Some ready.deed =
-        ap (option_and_then (if_numbered (next_step t f).no)) moves ∙ ap (λ (x : Bool). cond x (Some ready.deed) None) number in
+        let suits : CanMake (history_world b.history) (next_step t f) next = subst (λ (g : Frame). CanMake (history_world b.history) (next_step t g) next) frame m.2 in
+        let same : effect_of s w (moved (next_step t f)) ≡ effect_of_next (history_world b.history) (next_step t f) next =
+        subst (λ (g : Frame). effect_of s w (moved (next_step t g)) ≡ effect_of_next (history_world b.history) (next_step t g) next) frame m.3 in
+        let moves : move_effect s w t ≡ Some ready.effect = sym moves_there ∙ ready.moves in
+        let by_frame : frame_effect s w t f ≡ Some ready.effect = sym (ap (option_and_then (frame_effect s w t)) there) ∙ moves in
+        let told : ready.effect.fact.name ≡ next_step t f = (frame_move s w t f ready.effect by_frame).named in
+        let number : (ready.effect.fact.name.no == (next_step t f).no) ≡ true = eq-eqb ready.effect.fact.name.no (next_step t f).no (ap (λ (n : StepName). n.no) told) in
+        let does : effect_of s w (moved (next_step t f)) ≡ Some ready.effect =
+        ap (option_and_then (if_numbered (next_step t f).no)) moves ∙ ap (λ (x : Bool). cond x (Some ready.effect) None) number in
         subst (λ (n : StepName). IsNextOf b t n next) (sym named) (record {
           thread = refl;
           suits = suits;
-          deed = ready.deed;
-          does = ap (λ (v : World). deed s v (moved (next_step t f))) (world_is b tied) ∙ does;
+          effect = ready.effect;
+          does = ap (λ (v : World). effect_of s v (moved (next_step t f))) (world_is b tied) ∙ does;
           same = sym same ∙ does;
           named = told;
           answer = ready.answer;
@@ -186,40 +186,40 @@ module _ (b : Volume) (tied : IsTied b) (t : Thread) where
 
     -- a thread that may move has a move
     pub has_next : (machine : Definition) → IsReadyTo b t machine f
-        → ((s : Setting) (base : World) (ts : List Past) → IsHistory s base ts b.history → IsMachineOf s (frames_of b.history.world t) machine → IsMoveOf s b.history.world t None) → ⊥
+        → ((s : Setting) (base : World) (ts : List TakenStep) → IsHistory s base ts b.history → IsMachineOf s (frames_of (history_world b.history) t) machine → IsMoveOf s (history_world b.history) t None) → ⊥
     has_next machine ready found =
-        let s = setting_of b.story in
-        let own : IsMachineOf s (frames_of b.history.world t) machine = subst (λ (o : Option Frame). IsMachineOf s o machine) (sym there) ready.known in
-        let none = found s (base_of b.story) (past_of b.story) tied.history own in
-        let clash : ◌≡◌ {A = Option Deed} None (Some ready.deed) = sym none ∙ sym moves_there ∙ ready.moves in
+        let s = setting_of b.log in
+        let own : IsMachineOf s (frames_of (history_world b.history) t) machine = subst (λ (o : Option Frame). IsMachineOf s o machine) (sym there) ready.known in
+        let none = found s (base_of b.log) (past_of b.log) tied.history own in
+        let clash : ◌≡◌ {A = Option Effect} None (Some ready.effect) = sym none ∙ sym moves_there ∙ ready.moves in
         cc
 
 -- what the history finds for a thread, of a machine
-abbrev pub Finds : Volume → Thread → Definition → Option Next → Type 0
-Finds b t machine o = (s : Setting) (base : World) (ts : List Past) → IsHistory s base ts b.history → IsMachineOf s (frames_of b.history.world t) machine → IsMoveOf s b.history.world t o
+abbrev pub Finds : BookView → Thread → Definition → Option Next → Type 0
+Finds b t machine o = (s : Setting) (base : World) (ts : List TakenStep) → IsHistory s base ts b.history → IsMachineOf s (frames_of (history_world b.history) t) machine → IsMoveOf s (history_world b.history) t o
 
 -- ---- a step for which everything is made
 
 -- the fact of a step that was made is that of what the thread's next step does
-made_fact : (before after : Volume) (t : Thread) (name : StepName) (next : Next) (m : MadeStep) (is : IsNextOf before t name next) → IsMadeIn before after name next m → is.deed.fact ≡ fact_made m
-made_fact before after t name next m is step = ap (λ (d : Deed). d.fact) (same_Some is.deed step.deed (sym is.same ∙ step.is)) ∙ sym step.made.fact
+made_fact : (before after : BookView) (t : Thread) (name : StepName) (next : Next) (m : MadeStep) (is : IsNextOf before t name next) → IsMadeIn before after name next m → is.effect.fact ≡ fact_made m
+made_fact before after t name next m is step = ap (λ (d : Effect). d.fact) (same_Some is.effect step.effect (sym is.same ∙ step.is)) ∙ sym step.made.fact
 
 -- a step that may be entered is answered to be taken
-enters : (story : Story) (d : Deed) (name : StepName) (f : Fact) → d.fact ≡ f → d.fact.name ≡ name → MayEnter story f → deed_answer story d ≡ Ok (record { name = name; kind = f.kind })
-enters story d name f same named may =
-    let none : needed_left story d.fact ≡ None = ap (needed_left story) same ∙ may.0 in
+enters : (log : Log) (d : Effect) (name : StepName) (f : Fact) → d.fact ≡ f → d.fact.name ≡ name → MayEnter log f → effect_answer log d ≡ Ok (record { name = name; kind = f.kind })
+enters log d name f same named may =
+    let none : needed_left log d.fact ≡ None = ap (needed_left log) same ∙ may.0 in
     let free = may.1 in
     rw (none, free) (ap₂ (λ (n : StepName) (k : Kind). let x : Moved = record { name = n; kind = k } in Ok x) named (ap (λ (x : Fact). x.kind) same))
 
-pub step_ready : (before after : Volume) (t : Thread) (name : StepName) (next : Next) (m : MadeStep) (r : Made) → after.story ≡ before.story → IsNextOf before t name next → IsMadeIn before after name next m → MayEnter before.story (fact_made m)
+pub step_ready : (before after : BookView) (t : Thread) (name : StepName) (next : Next) (m : MadeStep) (r : Made) → after.log ≡ before.log → IsNextOf before t name next → IsMadeIn before after name next m → MayEnter before.log (fact_made m)
     → HasLogRoom after → r.entry ≡ Stepped name (fact_made m).kind → r.change ≡ made.Step m → CanEnter after r
 step_ready before after t name next m r same is step may room entry change =
-    let d : is.deed ≡ step.deed = same_Some is.deed step.deed (sym is.same ∙ step.is) in
+    let d : is.effect ≡ step.effect = same_Some is.effect step.effect (sym is.same ∙ step.is) in
     let whole : CanEnter after (record { entry = Stepped name (fact_made m).kind; answer = r.answer; change = made.Step m }) = record {
-      accepted = ap₂ (λ (x : Story) (u : Thread). step_answer x u) same is.thread ∙ is.answer ∙ enters before.story is.deed name (fact_made m) (made_fact before after t name next m is step) is.named may;
+      is_accepted = ap₂ (λ (x : Log) (u : Thread). step_answer x u) same is.thread ∙ is.answer ∙ enters before.log is.effect name (fact_made m) (made_fact before after t name next m is step) is.named may;
       fits = record {
-        deed = step.deed;
-        is = ap (λ (x : Story). deed (setting_of x) (world_of x) (moved name)) same ∙ is.does ∙ ap (λ (x : Deed). Some x) d;
+        effect = step.effect;
+        is = ap (λ (x : Log). effect_of (setting_of x) (world_of x) (moved name)) same ∙ is.does ∙ ap (λ (x : Effect). Some x) d;
         made = step.made;
         ready = step.ready;
         room = step.room;
@@ -230,67 +230,67 @@ step_ready before after t name next m r same is step may room entry change =
     subst (λ (x : Made). CanEnter after x) (ap₂ (λ (e : Entry) (c : MadeChange). let x : Made = record { entry = e; answer = r.answer; change = c } in x) (sym entry) (sym change)) whole
 
 -- and it is answered so
-pub step_told : (story : Story) (before after : Volume) (t : Thread) (name : StepName) (next : Next) (m : MadeStep) → before.story ≡ story → IsNextOf before t name next → IsMadeIn before after name next m → MayEnter before.story (fact_made m)
-    → step_answer story t ≡ Ok (record { name = name; kind = (fact_made m).kind })
-step_told story before after t name next m same is step may =
-    ap (λ (x : Story). step_answer x t) (sym same) ∙ is.answer ∙ enters before.story is.deed name (fact_made m) (made_fact before after t name next m is step) is.named may
+pub step_told : (log : Log) (before after : BookView) (t : Thread) (name : StepName) (next : Next) (m : MadeStep) → before.log ≡ log → IsNextOf before t name next → IsMadeIn before after name next m → MayEnter before.log (fact_made m)
+    → step_answer log t ≡ Ok (record { name = name; kind = (fact_made m).kind })
+step_told log before after t name next m same is step may =
+    ap (λ (x : Log). step_answer x t) (sym same) ∙ is.answer ∙ enters before.log is.effect name (fact_made m) (made_fact before after t name next m is step) is.named may
 
 -- or it is held back
-held_back : (story : Story) (t : Thread) (d : Deed) (e : Refusal) → step_answer story t ≡ deed_answer story d → can_move story t ≡ true → IsHeldBack story d.fact e → IsMoveRefusal story t e
-held_back story t d (refusal.Held name) answer moves h =
-    let told : step_answer story t ≡ Err (refusal.Held name) = answer ∙ ap (λ (o : Option Fact). unless_needed o (cond (is_full_for_step story) (Err refusal.Full) (Ok (record { name = d.fact.name; kind = d.fact.kind })))) h.1 ∙ ap (λ (n : StepName). Err (refusal.Held n)) (sym h.2) in
+held_back : (log : Log) (t : Thread) (d : Effect) (e : Refusal) → step_answer log t ≡ effect_answer log d → can_move log t ≡ true → IsHeldBack log d.fact e → IsMoveRefusal log t e
+held_back log t d (refusal.Held name) answer moves h =
+    let told : step_answer log t ≡ Err (refusal.Held name) = answer ∙ ap (λ (o : Option Fact). unless_needed o (cond (is_full_for_step log) (Err refusal.Full) (Ok (record { name = d.fact.name; kind = d.fact.kind })))) h.1 ∙ ap (λ (n : StepName). Err (refusal.Held n)) (sym h.2) in
     inl (subst (λ (r : Result Moved Refusal). OrMemory r (refusal.Held name)) (sym told) refl)
-held_back story t d refusal.Full answer moves h =
+held_back log t d refusal.Full answer moves h =
     let none = h.0 in
     let full = h.1 in
-    let told : step_answer story t ≡ Err refusal.Full = answer ∙ rw (none, full) refl in
+    let told : step_answer log t ≡ Err refusal.Full = answer ∙ rw (none, full) refl in
     inl (subst (λ (r : Result Moved Refusal). OrMemory r refusal.Full) (sym told) refl)
-held_back story t d refusal.Memory answer moves h = inr (refl, (h, moves))
-held_back story t d refusal.NoMachine answer moves h = absurd h
-held_back story t d refusal.MachineTaken answer moves h = absurd h
-held_back story t d (refusal.BadMachine fault) answer moves h = absurd h
-held_back story t d refusal.ExecTaken answer moves h = absurd h
-held_back story t d refusal.NoThread answer moves h = absurd h
-held_back story t d (refusal.NotReady readiness) answer moves h = absurd h
-held_back story t d refusal.NoStep answer moves h = absurd h
-held_back story t d (refusal.HasDependents step) answer moves h = absurd h
-held_back story t d (refusal.Stale entries) answer moves h = absurd h
-held_back story t d refusal.Settled answer moves h = absurd h
+held_back log t d refusal.Memory answer moves h = inr (refl, (h, moves))
+held_back log t d refusal.NoMachine answer moves h = absurd h
+held_back log t d refusal.MachineTaken answer moves h = absurd h
+held_back log t d (refusal.BadMachine fault) answer moves h = absurd h
+held_back log t d refusal.ExecTaken answer moves h = absurd h
+held_back log t d refusal.NoThread answer moves h = absurd h
+held_back log t d (refusal.NotReady readiness) answer moves h = absurd h
+held_back log t d refusal.NoStep answer moves h = absurd h
+held_back log t d (refusal.HasDependents step) answer moves h = absurd h
+held_back log t d (refusal.Stale entries) answer moves h = absurd h
+held_back log t d refusal.Settled answer moves h = absurd h
 
-pub step_held_back : (before after : Volume) (t : Thread) (name : StepName) (next : Next) (m : MadeStep) (e : Refusal) → IsNextOf before t name next → IsMadeIn before after name next m → IsHeldBack before.story (fact_made m) e → IsMoveRefusal before.story t e
+pub step_held_back : (before after : BookView) (t : Thread) (name : StepName) (next : Next) (m : MadeStep) (e : Refusal) → IsNextOf before t name next → IsMadeIn before after name next m → IsHeldBack before.log (fact_made m) e → IsMoveRefusal before.log t e
 step_held_back before after t name next m e is step h =
-    held_back before.story t is.deed e is.answer is.moves (subst (λ (f : Fact). IsHeldBack before.story f e) (sym (made_fact before after t name next m is step)) h)
+    held_back before.log t is.effect e is.answer is.moves (subst (λ (f : Fact). IsHeldBack before.log f e) (sym (made_fact before after t name next m is step)) h)
 
 -- memory may be wanting for a move for which there is room, or while something is held
-lacks_memory : (story : Story) (t : Thread) (d : Deed) → step_answer story t ≡ deed_answer story d → can_move story t ≡ true → HasRoomUnlessHeld story → IsMoveRefusal story t refusal.Memory
-lacks_memory story t d answer moves room = by_held (held story) refl
+lacks_memory : (log : Log) (t : Thread) (d : Effect) → step_answer log t ≡ effect_answer log d → can_move log t ≡ true → HasRoomUnlessHeld log → IsMoveRefusal log t refusal.Memory
+lacks_memory log t d answer moves room = by_held (held log) refl
   where
-    by_held : (o : Option StepName) → held story ≡ o → IsMoveRefusal story t refusal.Memory
+    by_held : (o : Option StepName) → held log ≡ o → IsMoveRefusal log t refusal.Memory
     by_held None e =
-        let none = needs_none story e d.fact in
+        let none = needs_none log e d.fact in
         let free = room e in
-        let told : step_answer story t ≡ Ok (record { name = d.fact.name; kind = d.fact.kind }) = answer ∙ rw (none, free) refl in
+        let told : step_answer log t ≡ Ok (record { name = d.fact.name; kind = d.fact.kind }) = answer ∙ rw (none, free) refl in
         inl (subst (λ (r : Result Moved Refusal). OrMemory r refusal.Memory) (sym told) refl)
     by_held (Some name) e = inr (refl, (subst IsSome (sym e) refl, moves))
 
-pub next_lacks : (b : Volume) (t : Thread) (name : StepName) (next : Next) → IsNextOf b t name next → IsMoveRefusal b.story t refusal.Memory
-next_lacks b t name next is = lacks_memory b.story t is.deed is.answer is.moves is.room
+pub next_lacks : (b : BookView) (t : Thread) (name : StepName) (next : Next) → IsNextOf b t name next → IsMoveRefusal b.log t refusal.Memory
+next_lacks b t name next is = lacks_memory b.log t is.effect is.answer is.moves is.room
 
-pub ready_lacks : (b : Volume) (t : Thread) (machine : Definition) (f : Frame) → IsReadyTo b t machine f → IsMoveRefusal b.story t refusal.Memory
-ready_lacks b t machine f ready = lacks_memory b.story t ready.deed ready.answer (ap is_some ready.moves) ready.room
+pub ready_lacks : (b : BookView) (t : Thread) (machine : Definition) (f : Frame) → IsReadyTo b t machine f → IsMoveRefusal b.log t refusal.Memory
+ready_lacks b t machine f ready = lacks_memory b.log t ready.effect ready.answer (ap is_some ready.moves) ready.room
 
 -- ---- the first thread that has a move
 
-module _ (b : Volume) (tied : IsTied b) (passed : Thread → Bool) where
-  freely : (t : Thread) → moves_freely b.story passed t ≡ free (frames_of b.history.world) passed t
+module _ (b : BookView) (tied : BookInvariant b) (passed : Thread → Bool) where
+  freely : (t : Thread) → moves_freely b.log passed t ≡ free (frames_of (history_world b.history)) passed t
   freely t = ap (λ (x : Bool). x && not (passed t)) (moves_where b tied t)
 
-  pub first_to_move : (found : Option Thread) → IsFirstReady (frames_of b.history.world) passed found → IsFirstToMove b.story passed found
+  pub first_to_move : (found : Option Thread) → IsFirstReady (frames_of (history_world b.history)) passed found → IsFirstToMove b.log passed found
   first_to_move None h = λ t i. freely t ∙ h t i
   first_to_move (Some t) h = (h.0, freely t ∙ h.1, λ u i less. freely u ∙ h.2 u i less)
 
-  pub ready_there : (found : Option Thread) → IsFirstReady (frames_of b.history.world) passed found → IsFirstReady (world_of b.story).frames passed found
+  pub ready_there : (found : Option Thread) → IsFirstReady (frames_of (history_world b.history)) passed found → IsFirstReady (world_of b.log).frames passed found
   ready_there found h = subst (λ (w : World). IsFirstReady w.frames passed found) (sym (world_is b tied)) h
 
-  pub none_there_before : (name : List ℕ) → NoneFreeBefore (world_of b.story).frames passed name → NoneFreeBefore (frames_of b.history.world) passed name
+  pub none_there_before : (name : List ℕ) → NoneFreeBefore (world_of b.log).frames passed name → NoneFreeBefore (frames_of (history_world b.history)) passed name
   none_there_before name h = subst (λ (w : World). NoneFreeBefore w.frames passed name) (world_is b tied) h

@@ -27,16 +27,16 @@ settlement_is (Hold name count) h = cc
 -- ---- entries that are entered again
 
 -- one of the first entries of a legal log is accepted after those before it
-pub entry_in : (begin : Begin) (log items rest : List Entry) (i : ℕ) (e : Entry) → IsLegal (of_log begin log) → items ++ rest ≡ log → i < length items → e ≡ get_or items i e → IsAccepted (of_log begin (take i items)) e
-entry_in begin log items rest i e legal whole low is =
-    legal_entry (of_log begin log) (take i items) (drop (suc i) items ++ rest) e legal
+pub entry_in : (begin : Begin) (entries items rest : List Entry) (i : ℕ) (e : Entry) → IsLegal (of_log begin entries) → items ++ rest ≡ entries → i < length items → e ≡ get_or items i e → IsAccepted (of_log begin (take i items)) e
+entry_in begin entries items rest i e legal whole low is =
+    legal_entry (of_log begin entries) (take i items) (drop (suc i) items ++ rest) e legal
     (sym whole ∙ ap (λ (l : List Entry). l ++ rest) (parts_at items i e low is) ∙ append_assoc (take i items) (e ∷ drop (suc i) items) rest)
 
 -- ---- definitions since
 
 -- a definition among the last entries is accepted after the outline of those before it
-pub define_in : (begin : Begin) (log front rest : List Entry) (i : ℕ) (e : Entry) → IsLegal (of_log begin log) → front ++ rest ≡ log → i < length rest → e ≡ get_or rest i e → MayDefine (of_log begin (outline (front ++ take i rest))) e
-define_in begin log front rest i e legal whole low is =
+pub define_in : (begin : Begin) (entries front rest : List Entry) (i : ℕ) (e : Entry) → IsLegal (of_log begin entries) → front ++ rest ≡ entries → i < length rest → e ≡ get_or rest i e → MayDefine (of_log begin (outline (front ++ take i rest))) e
+define_in begin entries front rest i e legal whole low is =
     may_define begin (front ++ take i rest) (drop (suc i) rest) e
     (subst (λ (l : List Entry). IsLegal (of_log begin l))
     (sym whole ∙ ap (λ (l : List Entry). front ++ l) (parts_at rest i e low is) ∙ sym (append_assoc front (take i rest) (e ∷ drop (suc i) rest))) legal)
@@ -49,10 +49,10 @@ outline_next front rest i e none low is =
 
 -- ---- the last settlement
 
-pub whole_to : (log : List Entry) (later : ℕ) (e : Entry) → 1 ≤ later → slice_get log (later - 1) ≡ Some e → is_settlement e ≡ true → outline (take later log) ≡ take later log
-whole_to log later e some there is =
-    let within = slice_get_within log (later - 1) e there in
+pub whole_to : (entries : List Entry) (later : ℕ) (e : Entry) → 1 ≤ later → slice_get entries (later - 1) ≡ Some e → is_settlement e ≡ true → outline (take later entries) ≡ take later entries
+whole_to entries later e some there is =
+    let within = slice_get_within entries (later - 1) e there in
     let n : later - 1 + 1 ≡ later = omega (arith, some) in
-    let parts : take later log ≡ take (later - 1) log ++ Settle ∷ [] =
-    ap (λ (k : ℕ). take k log) (sym n) ∙ take_next log (later - 1) e within (sym (get_or_from_slice_get log (later - 1) e e there)) ∙ ap (λ (x : Entry). take (later - 1) log ++ x ∷ []) (settlement_is e is) in
-    ap outline parts ∙ outline_settled (take (later - 1) log) ∙ sym parts
+    let parts : take later entries ≡ take (later - 1) entries ++ Settle ∷ [] =
+    ap (λ (k : ℕ). take k entries) (sym n) ∙ take_next entries (later - 1) e within (sym (get_or_from_slice_get entries (later - 1) e e there)) ∙ ap (λ (x : Entry). take (later - 1) entries ++ x ∷ []) (settlement_is e is) in
+    ap outline parts ∙ outline_settled (take (later - 1) entries) ∙ sym parts

@@ -5,18 +5,18 @@ use Rattle.std.proofs.Math.Seq.{drop-cons}
 use Rattle.std.proofs.lemmas.List.{append-nil, map-append}
 use Rattle.std.proofs.lemmas.Option.{same_Some, slice_get-map, slice_get_within}
 use Rattle.step_names.specs.declared.step.StepName.{StepName}
-use Rattle.trace_theory.specs.Traces.{after}
+use Rattle.trace_theory.specs.Traces.{consequences}
 use Rattle.saved_steps.specs.declared.fact.Fact.{Fact}
 use Rattle.saved_steps.specs.declared.record.StepRecord.{StepRecord}
 use Rattle.depends.specs.Instance.{steps}
 use Rattle.depends.specs.Laws.{facts_of}
 use Rattle.depends.specs.Plans.{plan}
 use Rattle.depends.proofs.Searching.{facts}
-use Rattle.step_history.specs.History.{Past, IsPlanOf}
+use Rattle.step_history.specs.History.{TakenStep, IsPlanOf, history_records}
 use Rattle.book_log.specs.Answers.{plan_answer, names_of_facts}
-use Rattle.book_log.specs.Story.{Story, past_of, setting_of}
+use Rattle.book_log.specs.Log.{Log, past_of, setting_of}
 use Rattle.book_log.specs.declared.entry.Entry.{Entry}
-use Rattle.rollback_book.specs.Book.{Volume, IsTied, IsAt}
+use Rattle.rollback_book.specs.Book.{BookView, BookInvariant, IsAt}
 use Rattle.rollback_book.specs.Making.{IsPlanned, WasPlanned}
 use Rattle.rollback_book.specs.declared.room.PlanRoom.{PlanRoom}
 use Rattle.rollback_book.proofs.Commuted.{plan_allowed}
@@ -33,13 +33,13 @@ name_by_fact [] place = refl
 name_by_fact (r ∷ rs) zero = refl
 name_by_fact (r ∷ rs) (suc place) = name_by_fact rs place
 
-all_places : (ts xs : List Past) (places : List ℕ) → map (slice_get ts) places ≡ map Some xs → (k d : ℕ) → k < length places → (x : Past) × (slice_get ts (get_or places k d) ≡ Some x)
+all_places : (ts xs : List TakenStep) (places : List ℕ) → map (slice_get ts) places ≡ map Some xs → (k d : ℕ) → k < length places → (x : TakenStep) × (slice_get ts (get_or places k d) ≡ Some x)
 all_places ts xs [] h k d l = absurd (omega (arith, l))
 all_places ts [] (p ∷ places) h k d l = cc
 all_places ts (x ∷ xs) (p ∷ places) h zero d l = let e : slice_get ts p ≡ Some x = cc in (x, e)
 all_places ts (x ∷ xs) (p ∷ places) h (suc k) d l = let e : map (slice_get ts) places ≡ map Some xs = cc in all_places ts xs places e k d (omega (arith, l))
 
-names_by : (ts xs : List Past) (rs : List StepRecord) (places : List ℕ) → facts rs ≡ facts_of ts → map (slice_get ts) places ≡ map Some xs → map (name_at rs) places ≡ map Some (names_of_facts xs)
+names_by : (ts xs : List TakenStep) (rs : List StepRecord) (places : List ℕ) → facts rs ≡ facts_of ts → map (slice_get ts) places ≡ map Some xs → map (name_at rs) places ≡ map Some (names_of_facts xs)
 names_by ts [] rs [] e h = refl
 names_by ts (x ∷ xs) rs [] e h = cc
 names_by ts [] rs (p ∷ places) e h = cc
@@ -48,7 +48,7 @@ names_by ts (x ∷ xs) rs (p ∷ places) e h =
     let rest : map (slice_get ts) places ≡ map Some xs = cc in
     let own : name_at rs p ≡ Some x.fact.name =
     name_by_fact rs p ∙ ap (λ (fs : List Fact). option_map (λ (f : Fact). f.name) (slice_get fs p)) e
-    ∙ ap (option_map (λ (f : Fact). f.name)) (slice_get-map (λ (t : Past). t.fact) ts p ∙ ap (option_map (λ (t : Past). t.fact)) here) in
+    ∙ ap (option_map (λ (f : Fact). f.name)) (slice_get-map (λ (t : TakenStep). t.fact) ts p ∙ ap (option_map (λ (t : TakenStep). t.fact)) here) in
     ap₂ (λ (o : Option StepName) (os : List (Option StepName)). o ∷ os) own (names_by ts xs rs places e rest)
 
 some_names : (ns ms : List StepName) → map Some ns ≡ map Some ms → ns ≡ ms
@@ -62,57 +62,57 @@ some_names (n ∷ ns) (m ∷ ms) h =
 
 -- ---- a plan of a book
 
-module _ (b : Volume) (tied : IsTied b) (name : StepName) (at : ℕ) (is_at : IsAt b name at) where
-  planned_steps : (places : List ℕ) → places ≡ plan (facts b.history.records.items) at
-      → map (slice_get (past_of b.story)) places ≡ map Some (reverse (after (steps (setting_of b.story)) (past_of b.story) (stood b tied name at is_at).step.step))
-  planned_steps places e = ap (map (slice_get (past_of b.story))) (e ∙ ap (λ (fs : List Fact). plan fs at) (facts_are b tied)) ∙ places_are b tied name at is_at
+module _ (b : BookView) (tied : BookInvariant b) (name : StepName) (at : ℕ) (is_at : IsAt b name at) where
+  planned_steps : (places : List ℕ) → places ≡ plan (facts (history_records b.history)) at
+      → map (slice_get (past_of b.log)) places ≡ map Some (reverse (consequences (steps (setting_of b.log)) (past_of b.log) (stood b tied name at is_at).step.step))
+  planned_steps places e = ap (map (slice_get (past_of b.log))) (e ∙ ap (λ (fs : List Fact). plan fs at) (facts_are b tied)) ∙ places_are b tied name at is_at
 
-  pub places_within : (places : List ℕ) → places ≡ plan (facts b.history.records.items) at → All (λ place. place < length b.history.records.items) places
+  pub places_within : (places : List ℕ) → places ≡ plan (facts (history_records b.history)) at → All (λ place. place < length (history_records b.history)) places
   places_within places e = λ k d l.
-      let x = all_places (past_of b.story) (reverse (after (steps (setting_of b.story)) (past_of b.story) (stood b tied name at is_at).step.step)) places (planned_steps places e) k d l in
-      let w = slice_get_within (past_of b.story) (get_or places k d) x.0 x.1 in
+      let x = all_places (past_of b.log) (reverse (consequences (steps (setting_of b.log)) (past_of b.log) (stood b tied name at is_at).step.step)) places (planned_steps places e) k d l in
+      let w = slice_get_within (past_of b.log) (get_or places k d) x.0 x.1 in
       let m = as_many_records b tied in
       omega (arith, w, m)
 
-  pub names_planned : (places : List ℕ) (names : List StepName) → places ≡ plan (facts b.history.records.items) at → map Some names ≡ map (name_at b.history.records.items) places → plan_answer b.story name ≡ Ok names
+  pub names_planned : (places : List ℕ) (names : List StepName) → places ≡ plan (facts (history_records b.history)) at → map Some names ≡ map (name_at (history_records b.history)) places → plan_answer b.log name ≡ Ok names
   names_planned places names e h =
-      let xs = reverse (after (steps (setting_of b.story)) (past_of b.story) (stood b tied name at is_at).step.step) in
+      let xs = reverse (consequences (steps (setting_of b.log)) (past_of b.log) (stood b tied name at is_at).step.step) in
       plan_is b tied name at is_at
-      ∙ ap Ok (sym (some_names names (names_of_facts xs) (h ∙ names_by (past_of b.story) xs b.history.records.items places (facts_are b tied) (planned_steps places e))))
+      ∙ ap Ok (sym (some_names names (names_of_facts xs) (h ∙ names_by (past_of b.log) xs (history_records b.history) places (facts_are b tied) (planned_steps places e))))
 
-  pub planned : (r : PlanRoom) → r.step ≡ name → r.places ≡ plan (facts b.history.records.items) at → map Some r.names ≡ map (name_at b.history.records.items) r.places
-      → map Some r.undone ≡ map (name_at b.history.records.items) r.places → length b.story.log ≡ r.entries → IsPlanned b.story r
+  pub planned : (r : PlanRoom) → r.step ≡ name → r.places ≡ plan (facts (history_records b.history)) at → map Some r.names ≡ map (name_at (history_records b.history)) r.places
+      → map Some r.undone ≡ map (name_at (history_records b.history)) r.places → length b.log.entries ≡ r.entries → IsPlanned b.log r
   planned r step places names undone entries =
       let t = stood b tied name at is_at in
-      let told : slice_get (facts_of (past_of b.story)) at ≡ Some t.step.fact = slice_get-map (λ (x : Past). x.fact) (past_of b.story) at ∙ ap (option_map (λ (x : Past). x.fact)) t.there in
+      let told : slice_get (facts_of (past_of b.log)) at ≡ Some t.step.fact = slice_get-map (λ (x : TakenStep). x.fact) (past_of b.log) at ∙ ap (option_map (λ (x : TakenStep). x.fact)) t.there in
       record {
-        names = ap (plan_answer b.story) step ∙ names_planned r.places r.names places names;
+        names = ap (plan_answer b.log) step ∙ names_planned r.places r.names places names;
         kept = some_names r.undone r.names (undone ∙ sym names);
         entries = entries;
         at = at;
         there = ap (option_map (λ (f : Fact). f.name)) told ∙ ap Some (t.fact ∙ sym step);
         places = places ∙ ap (λ (fs : List Fact). plan fs at) (facts_are b tied);
-        order = plan_allowed b.story tied.legal name r.names (names_planned r.places r.names places names);
+        order = plan_allowed b.log tied.legal name r.names (names_planned r.places r.names places names);
       }
 
 -- ---- later
 
-nothing_later : (log front later : List Entry) → log ≡ front ++ later → length log ≡ length front → front ≡ log
-nothing_later log front [] e n = sym (e ∙ append-nil front)
-nothing_later log front (x ∷ later) e n = let l = ap length e in let a = length-append front (x ∷ later) in absurd (omega (arith, l, a, n))
+nothing_later : (entries front later : List Entry) → entries ≡ front ++ later → length entries ≡ length front → front ≡ entries
+nothing_later entries front [] e n = sym (e ∙ append-nil front)
+nothing_later entries front (x ∷ later) e n = let l = ap length e in let a = length-append front (x ∷ later) in absurd (omega (arith, l, a, n))
 
-pub still_planned : (story : Story) (r : PlanRoom) → WasPlanned story r → length story.log ≡ r.entries → IsPlanned story r
-still_planned story r was n =
-    let same = nothing_later story.log was.front was.later was.parts (n ∙ sym was.planned.entries) in
-    subst (λ (log : List Entry). IsPlanned (record { begin = story.begin; log = log }) r) same was.planned
+pub still_planned : (log : Log) (r : PlanRoom) → WasPlanned log r → length log.entries ≡ r.entries → IsPlanned log r
+still_planned log r was n =
+    let same = nothing_later log.entries was.front was.later was.parts (n ∙ sym was.planned.entries) in
+    subst (λ (entries : List Entry). IsPlanned (record { begin = log.begin; entries = entries }) r) same was.planned
 
 fact_named : (o : Option Fact) (name : StepName) → option_map (λ (f : Fact). f.name) o ≡ Some name → (f : Fact) × (o ≡ Some f) × (f.name ≡ name)
 fact_named None name h = cc
 fact_named (Some f) name h = (f, refl, same_Some f.name name h)
 
-module _ (b : Volume) (tied : IsTied b) (r : PlanRoom) (p : IsPlanned b.story r) where
+module _ (b : BookView) (tied : BookInvariant b) (r : PlanRoom) (p : IsPlanned b.log r) where
   pub planned_step : Stood b r.step p.at
-  planned_step = let f = fact_named (slice_get (facts_of (past_of b.story)) p.at) r.step p.there in stood_by b tied r.step p.at f.0 f.1 f.2
+  planned_step = let f = fact_named (slice_get (facts_of (past_of b.log)) p.at) r.step p.there in stood_by b tied r.step p.at f.0 f.1 f.2
 
   pub plan_of : IsPlanOf b.history r.places
   plan_of = (p.at, planned_step.within, p.places ∙ ap (λ (fs : List Fact). plan fs p.at) (sym (facts_are b tied)))

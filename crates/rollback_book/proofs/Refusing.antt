@@ -16,21 +16,22 @@ use Rattle.branch_tree.specs.Ready.{readiness_at}
 use Rattle.branch_tree.specs.declared.readiness.Readiness.{Readiness}
 use Rattle.step_names.specs.Thread.{Thread, execution}
 use Rattle.step_names.specs.declared.step.StepName.{StepName}
-use Rattle.saved_steps.specs.Deeds as deeds
-use Rattle.saved_steps.specs.Deeds.{Deed, deed_of, move_deed}
-use Rattle.saved_steps.specs.Held.{frames_of, paths_of, seen}
+use Rattle.saved_steps.specs.Effects as effects
+use Rattle.saved_steps.specs.Effects.{Effect, own_effect, move_effect}
+use Rattle.saved_steps.specs.Held.{frames_of, paths_of, world_view}
 use Rattle.saved_steps.specs.Steps.{started, start_name}
 use Rattle.saved_steps.specs.World.{Setting, World}
 use Rattle.saved_steps.specs.declared.fact.Fact.{Fact}
 use Rattle.saved_steps.specs.declared.fact.Kind.TheVariants as kind
 use Rattle.book_log.specs.Answers.{IsReadRefusal, IsDefineRefusal, is_full_for_step, is_full_for_define, start_answer, step_answer, thread_answer, moved_answer, needed_left, unless_needed}
-use Rattle.book_log.specs.Story.{Story, machine_of, setting_of, world_of}
+use Rattle.book_log.specs.Log.{Log, machine_of, setting_of, world_of}
 use Rattle.book_log.specs.declared.moved.Moved.{Moved}
 use Rattle.book_log.specs.declared.refusal.Refusal.{Refusal}
 use Rattle.book_log.specs.declared.refusal.Refusal.TheVariants.{NoMachine, MachineTaken, BadMachine, ExecTaken, NoThread, NotReady, NoStep, HasDependents, Stale, Full, Memory, Settled, Held}
-use Rattle.rollback_book.specs.Book.{Volume, IsTied}
+use Rattle.rollback_book.specs.Book.{BookView, BookInvariant}
 use Rattle.rollback_book.specs.Ready.{IsStartOf}
 use Rattle.rollback_book.proofs.Tied.{world_is}
+use Rattle.step_history.specs.History.{history_world}
 
 pub none_there : {A : Type 0} (o : Option A) → is_some o ≡ false → o ≡ None
 none_there None h = refl
@@ -49,26 +50,26 @@ read_refused d StatesAllPlace n h k = (h, k)
 read_refused d TooDeep n h k = (h, k)
 read_refused d NoMemory n h k = absurd (n refl)
 
-pub read_is_define : (story : Story) (name : List ℕ) (d : Data) (e : Refusal) → machine_of story name ≡ None → IsReadRefusal d e → IsDefineRefusal story name d e
-read_is_define story name d (BadMachine fault) free h = (free, h)
-read_is_define story name d Memory free h = free
-read_is_define story name d MachineTaken free h = absurd h
-read_is_define story name d Full free h = absurd h
-read_is_define story name d NoMachine free h = absurd h
-read_is_define story name d ExecTaken free h = absurd h
-read_is_define story name d NoThread free h = absurd h
-read_is_define story name d (NotReady readiness) free h = absurd h
-read_is_define story name d NoStep free h = absurd h
-read_is_define story name d (HasDependents step) free h = absurd h
-read_is_define story name d (Stale entries) free h = absurd h
-read_is_define story name d Settled free h = absurd h
-read_is_define story name d (Held step) free h = absurd h
+pub read_is_define : (log : Log) (name : List ℕ) (d : Data) (e : Refusal) → machine_of log name ≡ None → IsReadRefusal d e → IsDefineRefusal log name d e
+read_is_define log name d (BadMachine fault) free h = (free, h)
+read_is_define log name d Memory free h = free
+read_is_define log name d MachineTaken free h = absurd h
+read_is_define log name d Full free h = absurd h
+read_is_define log name d NoMachine free h = absurd h
+read_is_define log name d ExecTaken free h = absurd h
+read_is_define log name d NoThread free h = absurd h
+read_is_define log name d (NotReady readiness) free h = absurd h
+read_is_define log name d NoStep free h = absurd h
+read_is_define log name d (HasDependents step) free h = absurd h
+read_is_define log name d (Stale entries) free h = absurd h
+read_is_define log name d Settled free h = absurd h
+read_is_define log name d (Held step) free h = absurd h
 
 -- a machine that was read is refused for want of room or memory alone
-pub room_is_define : (story : Story) (name : List ℕ) (d : Data) (machine : Definition) (e : Refusal) → machine_of story name ≡ None → Defines d machine
-    → ((e ≡ Full) × IsTrue (is_full_for_define story)) ⊎ (e ≡ Memory) → IsDefineRefusal story name d e
-room_is_define story name d machine e free defines (inl h) = subst (λ (x : Refusal). IsDefineRefusal story name d x) (sym h.0) (free, (machine, defines), h.1)
-room_is_define story name d machine e free defines (inr h) = subst (λ (x : Refusal). IsDefineRefusal story name d x) (sym h) free
+pub room_is_define : (log : Log) (name : List ℕ) (d : Data) (machine : Definition) (e : Refusal) → machine_of log name ≡ None → Defines d machine
+    → ((e ≡ Full) × IsTrue (is_full_for_define log)) ⊎ (e ≡ Memory) → IsDefineRefusal log name d e
+room_is_define log name d machine e free defines (inl h) = subst (λ (x : Refusal). IsDefineRefusal log name d x) (sym h.0) (free, (machine, defines), h.1)
+room_is_define log name d machine e free defines (inr h) = subst (λ (x : Refusal). IsDefineRefusal log name d x) (sym h) free
 
 -- ---- starts
 
@@ -81,64 +82,64 @@ start_parts true false true name x h = cc
 start_parts true false false name x h = (refl, refl, refl)
 start_parts false there full name x h = cc
 
-pub start_not_full : (story : Story) (exec : Thread) (machine : List ℕ) (x : StepName) → start_answer story exec machine ≡ Ok x → is_full_for_step story ≡ false
+pub start_not_full : (log : Log) (exec : Thread) (machine : List ℕ) (x : StepName) → start_answer log exec machine ≡ Ok x → is_full_for_step log ≡ false
 unfolding start_answer
-start_not_full story exec machine x h = (start_parts (is_some (machine_of story machine)) (is_some ((world_of story).frames exec)) (is_full_for_step story) (start_name exec.exec) x h).2
+start_not_full log exec machine x h = (start_parts (is_some (machine_of log machine)) (is_some ((world_of log).frames exec)) (is_full_for_step log) (start_name exec.exec) x h).2
 
-module _ (b : Volume) (tied : IsTied b) (exec : Thread) (machine : List ℕ) where
-  start_told : (known there full : Bool) → is_some (machine_of b.story machine) ≡ known → is_some (frames_of b.history.world exec) ≡ there → is_full_for_step b.story ≡ full
-      → start_answer b.story exec machine ≡ start_by known there full (start_name exec.exec)
+module _ (b : BookView) (tied : BookInvariant b) (exec : Thread) (machine : List ℕ) where
+  start_told : (known there full : Bool) → is_some (machine_of b.log machine) ≡ known → is_some (frames_of (history_world b.history) exec) ≡ there → is_full_for_step b.log ≡ full
+      → start_answer b.log exec machine ≡ start_by known there full (start_name exec.exec)
   unfolding start_answer
   start_told known there full k t f =
-      ap (λ (x : Bool). start_by x (is_some ((world_of b.story).frames exec)) (is_full_for_step b.story) (start_name exec.exec)) k
-      ∙ ap (λ (x : Bool). start_by known x (is_full_for_step b.story) (start_name exec.exec)) (ap (λ (w : World). is_some (w.frames exec)) (world_is b tied) ∙ t)
+      ap (λ (x : Bool). start_by x (is_some ((world_of b.log).frames exec)) (is_full_for_step b.log) (start_name exec.exec)) k
+      ∙ ap (λ (x : Bool). start_by known x (is_full_for_step b.log) (start_name exec.exec)) (ap (λ (w : World). is_some (w.frames exec)) (world_is b tied) ∙ t)
       ∙ ap (λ (x : Bool). start_by known there x (start_name exec.exec)) f
 
-  pub start_unknown : is_some (machine_of b.story machine) ≡ false → start_answer b.story exec machine ≡ Err NoMachine
+  pub start_unknown : is_some (machine_of b.log machine) ≡ false → start_answer b.log exec machine ≡ Err NoMachine
   start_unknown k = start_told false _ _ k refl refl
 
-  pub start_taken : is_some (machine_of b.story machine) ≡ true → is_some (frames_of b.history.world exec) ≡ true → start_answer b.story exec machine ≡ Err ExecTaken
+  pub start_taken : is_some (machine_of b.log machine) ≡ true → is_some (frames_of (history_world b.history) exec) ≡ true → start_answer b.log exec machine ≡ Err ExecTaken
   start_taken k t = start_told true true _ k t refl
 
-  pub start_full : is_some (machine_of b.story machine) ≡ true → is_some (frames_of b.history.world exec) ≡ false → is_full_for_step b.story ≡ true → start_answer b.story exec machine ≡ Err Full
+  pub start_full : is_some (machine_of b.log machine) ≡ true → is_some (frames_of (history_world b.history) exec) ≡ false → is_full_for_step b.log ≡ true → start_answer b.log exec machine ≡ Err Full
   start_full k t f = start_told true false true k t f
 
-  pub start_free : is_some (machine_of b.story machine) ≡ true → is_some (frames_of b.history.world exec) ≡ false → is_full_for_step b.story ≡ false → start_answer b.story exec machine ≡ Ok (start_name exec.exec)
+  pub start_free : is_some (machine_of b.log machine) ≡ true → is_some (frames_of (history_world b.history) exec) ≡ false → is_full_for_step b.log ≡ false → start_answer b.log exec machine ≡ Ok (start_name exec.exec)
   start_free k t f = start_told true false false k t f
 
 -- the start of an execution with a machine that is known, over no frame
 start_does : (s : Setting) (w : World) (exec machine : List ℕ) (input : Json) (m : Definition) → w.frames (execution exec) ≡ None → s.machines machine ≡ Some m
-    → deeds.deed s w (started exec machine input) ≡ Some (deed_of kind.Start (start_name exec) (first_frame machine m input))
+    → effects.effect_of s w (started exec machine input) ≡ Some (own_effect kind.Start (start_name exec) (first_frame machine m input))
 start_does s w exec machine input m none known = rw (none, known) refl
 
-pub start_is : (b : Volume) (exec : Thread) (machine : List ℕ) (input : Json) (m : Definition) (f : Frame) → exec.path ≡ [] → world_of b.story ≡ seen b.history.world → frames_of b.history.world exec ≡ None
-    → start_answer b.story exec machine ≡ Ok (start_name exec.exec) → machine_of b.story machine ≡ Some m → f ≡ first_frame machine m input → IsStartOf b exec machine input f
+pub start_is : (b : BookView) (exec : Thread) (machine : List ℕ) (input : Json) (m : Definition) (f : Frame) → exec.path ≡ [] → world_of b.log ≡ world_view (history_world b.history) → frames_of (history_world b.history) exec ≡ None
+    → start_answer b.log exec machine ≡ Ok (start_name exec.exec) → machine_of b.log machine ≡ Some m → f ≡ first_frame machine m input → IsStartOf b exec machine input f
 start_is b exec machine input m f root world absent answer known frame =
     let own : exec ≡ execution exec.exec = ap (λ (p : List (ℕ × ℕ)). let t : Thread = record { exec = exec.exec; path = p } in t) root in
-    let there : frames_of b.history.world (execution exec.exec) ≡ None = ap (frames_of b.history.world) (sym own) ∙ absent in
-    let none : (world_of b.story).frames (execution exec.exec) ≡ None = ap (λ (w : World). w.frames (execution exec.exec)) world ∙ there in
+    let there : frames_of (history_world b.history) (execution exec.exec) ≡ None = ap (frames_of (history_world b.history)) (sym own) ∙ absent in
+    let none : (world_of b.log).frames (execution exec.exec) ≡ None = ap (λ (w : World). w.frames (execution exec.exec)) world ∙ there in
     record {
       answer = answer;
       suits = (there, refl, ap (λ (g : Frame). is_parked g.phase) frame);
-      does = start_does (setting_of b.story) (world_of b.story) exec.exec machine input m none known
-          ∙ ap (λ (g : Frame). Some (deed_of kind.Start (start_name exec.exec) g)) (sym frame);
+      does = start_does (setting_of b.log) (world_of b.log) exec.exec machine input m none known
+          ∙ ap (λ (g : Frame). Some (own_effect kind.Start (start_name exec.exec) g)) (sym frame);
     }
 
 -- ---- steps
 
-pub step_not_full : (story : Story) (t : Thread) (x : Moved) → step_answer story t ≡ Ok x → is_full_for_step story ≡ false
+pub step_not_full : (log : Log) (t : Thread) (x : Moved) → step_answer log t ≡ Ok x → is_full_for_step log ≡ false
 unfolding step_answer
-step_not_full story t x h = by_frame ((world_of story).frames t) h
+step_not_full log t x h = by_frame ((world_of log).frames t) h
   where
     by_room : (b : Bool) (o : Option Fact) (m : Moved) → unless_needed o (cond b (Err Full) (Ok m)) ≡ Ok x → b ≡ false
     by_room true None m e = cc
     by_room false None m e = refl
     by_room b (Some y) m e = cc
 
-    by_move : (r : Readiness) (o : Option Deed) → moved_answer story r o ≡ Ok x → is_full_for_step story ≡ false
+    by_move : (r : Readiness) (o : Option Effect) → moved_answer log r o ≡ Ok x → is_full_for_step log ≡ false
     by_move r None e = cc
-    by_move r (Some d) e = by_room (is_full_for_step story) (needed_left story d.fact) (record { name = d.fact.name; kind = d.fact.kind }) e
+    by_move r (Some d) e = by_room (is_full_for_step log) (needed_left log d.fact) (record { name = d.fact.name; kind = d.fact.kind }) e
 
-    by_frame : (o : Option Frame) → thread_answer story t o ≡ Ok x → is_full_for_step story ≡ false
+    by_frame : (o : Option Frame) → thread_answer log t o ≡ Ok x → is_full_for_step log ≡ false
     by_frame None e = cc
-    by_frame (Some f) e = by_move (readiness_at (paths_of (world_of story).frames t.exec) t.path) (move_deed (setting_of story) (world_of story) t) e
+    by_frame (Some f) e = by_move (readiness_at (paths_of (world_of log).frames t.exec) t.path) (move_effect (setting_of log) (world_of log) t) e

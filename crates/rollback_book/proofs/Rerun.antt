@@ -15,10 +15,10 @@ use Rattle.saved_steps.specs.World.{Setting, World}
 use Rattle.saved_steps.specs.declared.fact.Fact.{Fact}
 use Rattle.saved_steps.specs.declared.fact.Kind.{Kind}
 use Rattle.depends.specs.Instance.{steps}
-use Rattle.step_history.specs.History.{Past, taken_in}
-use Rattle.book_log.specs.Answers.{outline, entry_for, entry_of, or_no_step, rerun_answer, retold, step_named, steps_named}
+use Rattle.step_history.specs.History.{TakenStep, taken_in}
+use Rattle.book_log.specs.Answers.{outline, entry_for, entry_of, or_no_step, rerun_answer, replayed, step_named, steps_named}
 use Rattle.book_log.specs.Legal.{GoesOnLegally, IsAccepted, IsLegal}
-use Rattle.book_log.specs.Story.{Story, accepted, base_of, remaining, setting_of, past_of, world_of}
+use Rattle.book_log.specs.Log.{Log, appended, base_of, remaining, setting_of, past_of, world_of}
 use Rattle.book_log.specs.declared.begin.Begin.{Begin}
 use Rattle.book_log.specs.declared.entry.Entry.{Entry}
 use Rattle.book_log.specs.declared.entry.Entry.TheVariants.{Define, Start, Step as Stepped, Undo, Rollback, Settle, Hold}
@@ -33,14 +33,14 @@ use Rattle.rollback_book.specs.Rerunning.{CanRetake, IsRetaken, MayDefine, Retak
 
 -- ---- legal logs, entry by entry
 
-accepted_in : (log rest : List Entry) (e : Entry) (before : Story) → GoesOnLegally before (log ++ e ∷ rest) → IsAccepted (of_log before.begin (before.log ++ log)) e
-accepted_in [] rest e before h = subst (λ (l : List Entry). IsAccepted (of_log before.begin l) e) (sym (append-nil before.log)) h.0
-accepted_in (x ∷ log) rest e before h = subst (λ (l : List Entry). IsAccepted (of_log before.begin l) e) (append_assoc before.log (x ∷ []) log) (accepted_in log rest e (accepted before x) h.1)
+accepted_in : (entries rest : List Entry) (e : Entry) (before : Log) → GoesOnLegally before (entries ++ e ∷ rest) → IsAccepted (of_log before.begin (before.entries ++ entries)) e
+accepted_in [] rest e before h = subst (λ (l : List Entry). IsAccepted (of_log before.begin l) e) (sym (append-nil before.entries)) h.0
+accepted_in (x ∷ entries) rest e before h = subst (λ (l : List Entry). IsAccepted (of_log before.begin l) e) (append_assoc before.entries (x ∷ []) entries) (accepted_in entries rest e (appended before x) h.1)
 
 -- an entry of a legal log was accepted at its place
-pub legal_entry : (story : Story) (front back : List Entry) (e : Entry) → IsLegal story → story.log ≡ front ++ e ∷ back → IsAccepted (of_log story.begin front) e
+pub legal_entry : (log : Log) (front back : List Entry) (e : Entry) → IsLegal log → log.entries ≡ front ++ e ∷ back → IsAccepted (of_log log.begin front) e
 unfolding IsLegal
-legal_entry story front back e legal parts = accepted_in front back e (of_log story.begin []) (subst (GoesOnLegally (of_log story.begin [])) parts legal.1)
+legal_entry log front back e legal parts = accepted_in front back e (of_log log.begin []) (subst (GoesOnLegally (of_log log.begin [])) parts legal.1)
 
 -- ---- places
 
@@ -85,15 +85,15 @@ module _ (ss : List Step) (name : StepName) where
 -- ---- runs
 
 module _ (s : Setting) where
-  run_stops : (ns : List Step) (base w : World) (ts : List Past) (n : Step) → run (steps s) base ns ≡ Some (w, ts) → take_step s w n ≡ None → run (steps s) base (ns ++ n ∷ []) ≡ None
+  run_stops : (ns : List Step) (base w : World) (ts : List TakenStep) (n : Step) → run (steps s) base ns ≡ Some (w, ts) → take_step s w n ≡ None → run (steps s) base (ns ++ n ∷ []) ≡ None
   run_stops [] base w ts n h k =
-      let e : base ≡ w = ap (λ (p : World × List Past). p.0) (same_Some _ _ h) in
+      let e : base ≡ w = ap (λ (p : World × List TakenStep). p.0) (same_Some _ _ h) in
       let here : take_step s base n ≡ None = ap (λ (x : World). take_step s x n) e ∙ k in
       rw here refl
   run_stops (m ∷ ns) base w ts n h k =
       let a = and_then_some _ (take_step s base m) (w, ts) h in
-      let b = map_some (λ (q : World × List Past). (q.0, taken_in base m a.0.1 ∷ q.1)) (run (steps s) a.0.0 ns) (w, ts) a.2 in
-      let same : b.0.0 ≡ w = ap (λ (p : World × List Past). p.0) b.2 in
+      let b = map_some (λ (q : World × List TakenStep). (q.0, taken_in base m a.0.1 ∷ q.1)) (run (steps s) a.0.0 ns) (w, ts) a.2 in
+      let same : b.0.0 ≡ w = ap (λ (p : World × List TakenStep). p.0) b.2 in
       let first = a.1 in
       let rest = run_stops ns a.0.0 b.0.0 b.0.1 n b.1 (ap (λ (x : World). take_step s x n) same ∙ k) in
       rw (first, rest) refl
@@ -101,107 +101,107 @@ module _ (s : Setting) where
 -- ---- reruns
 
 -- some remaining steps, run from their base
-pub record IsTried (story : Story) (names : List StepName) (again : Story) : Type 0 where
+pub record IsTried (log : Log) (names : List StepName) (again : Log) : Type 0 where
   pub chosen : List Step
   pub world : World
-  pub past : List Past
-  pub named : steps_named (remaining story) names ≡ Some chosen
-  pub runs : run (steps (setting_of story)) (base_of story) chosen ≡ Some (world, past)
-  pub is : retold story past ≡ again
+  pub past : List TakenStep
+  pub named : steps_named (remaining log) names ≡ Some chosen
+  pub runs : run (steps (setting_of log)) (base_of log) chosen ≡ Some (world, past)
+  pub is : replayed log past ≡ again
 
-pub tried : (story : Story) (names : List StepName) (again : Story) → rerun_answer story names ≡ Ok again → IsTried story names again
+pub tried : (log : Log) (names : List StepName) (again : Log) → rerun_answer log names ≡ Ok again → IsTried log names again
 unfolding rerun_answer
-tried story names again h =
+tried log names again h =
     let o = rerun_split _ again h in
-    let p = map_some (λ (q : World × List Past). retold story q.1) (option_and_then (run (steps (setting_of story)) (base_of story)) (steps_named (remaining story) names)) again o in
-    let c = and_then_some (run (steps (setting_of story)) (base_of story)) (steps_named (remaining story) names) p.0 p.1 in
+    let p = map_some (λ (q : World × List TakenStep). replayed log q.1) (option_and_then (run (steps (setting_of log)) (base_of log)) (steps_named (remaining log) names)) again o in
+    let c = and_then_some (run (steps (setting_of log)) (base_of log)) (steps_named (remaining log) names) p.0 p.1 in
     record { chosen = c.0; world = p.0.0; past = p.0.1; named = c.1; runs = c.2; is = p.2 }
 
-answer_by : (story : Story) (names : List StepName) (chosen : List Step) (o : Option (World × List Past)) → steps_named (remaining story) names ≡ Some chosen → run (steps (setting_of story)) (base_of story) chosen ≡ o
-    → rerun_answer story names ≡ or_no_step (option_map (λ (p : World × List Past). retold story p.1) o)
+answer_by : (log : Log) (names : List StepName) (chosen : List Step) (o : Option (World × List TakenStep)) → steps_named (remaining log) names ≡ Some chosen → run (steps (setting_of log)) (base_of log) chosen ≡ o
+    → rerun_answer log names ≡ or_no_step (option_map (λ (p : World × List TakenStep). replayed log p.1) o)
 unfolding rerun_answer
-answer_by story names chosen o named runs =
-    ap (λ (x : Option (List Step)). or_no_step (option_map (λ (p : World × List Past). retold story p.1) (option_and_then (run (steps (setting_of story)) (base_of story)) x))) named
-    ∙ ap (λ (x : Option (World × List Past)). or_no_step (option_map (λ (p : World × List Past). retold story p.1) x)) runs
+answer_by log names chosen o named runs =
+    ap (λ (x : Option (List Step)). or_no_step (option_map (λ (p : World × List TakenStep). replayed log p.1) (option_and_then (run (steps (setting_of log)) (base_of log)) x))) named
+    ∙ ap (λ (x : Option (World × List TakenStep)). or_no_step (option_map (λ (p : World × List TakenStep). replayed log p.1) x)) runs
 
-no_answer : (story : Story) (names : List StepName) → steps_named (remaining story) names ≡ None → rerun_answer story names ≡ Err NoStep
+no_answer : (log : Log) (names : List StepName) → steps_named (remaining log) names ≡ None → rerun_answer log names ≡ Err NoStep
 unfolding rerun_answer
-no_answer story names h = ap (λ (x : Option (List Step)). or_no_step (option_map (λ (p : World × List Past). retold story p.1) (option_and_then (run (steps (setting_of story)) (base_of story)) x))) h
+no_answer log names h = ap (λ (x : Option (List Step)). or_no_step (option_map (λ (p : World × List TakenStep). replayed log p.1) (option_and_then (run (steps (setting_of log)) (base_of log)) x))) h
 
 -- no steps are taken at first
-none_retold : (story : Story) → rerun_answer story [] ≡ Ok (retold story [])
-none_retold story = answer_by story [] [] (Some (base_of story, [])) refl refl
+none_replayed : (log : Log) → rerun_answer log [] ≡ Ok (replayed log [])
+none_replayed log = answer_by log [] [] (Some (base_of log, [])) refl refl
 
-pub begins : (story : Story) → rerun_answer story [] ≡ Ok (of_log story.begin (outline story.log))
-begins story = none_retold story ∙ ap (λ (l : List Entry). Ok (of_log story.begin l)) (append-nil (outline story.log))
+pub begins : (log : Log) → rerun_answer log [] ≡ Ok (of_log log.begin (outline log.entries))
+begins log = none_replayed log ∙ ap (λ (l : List Entry). Ok (of_log log.begin l)) (append-nil (outline log.entries))
 
-one_retold : (story : Story) (ts : List Past) (t : Past) → retold story (ts ++ t ∷ []) ≡ accepted (retold story ts) (entry_of t)
-one_retold story ts t =
-    ap (λ (l : List Entry). of_log story.begin l)
-    (ap (λ (l : List Entry). outline story.log ++ l) (map-append entry_of ts (t ∷ [])) ∙ sym (append_assoc (outline story.log) (map entry_of ts) (entry_of t ∷ [])))
+one_replayed : (log : Log) (ts : List TakenStep) (t : TakenStep) → replayed log (ts ++ t ∷ []) ≡ appended (replayed log ts) (entry_of t)
+one_replayed log ts t =
+    ap (λ (l : List Entry). of_log log.begin l)
+    (ap (λ (l : List Entry). outline log.entries ++ l) (map-append entry_of ts (t ∷ [])) ∙ sym (append_assoc (outline log.entries) (map entry_of ts) (entry_of t ∷ [])))
 
 -- what an answered rerun has stands in the world of its run
-pub tried_stands : (story : Story) (names : List StepName) (again : Story) → IsLegal story → (a : rerun_answer story names ≡ Ok again) (t : IsTried story names again) → StandsAt again (setting_of story) t.world t.past
-tried_stands story names again legal a t =
-    let exact = reruns_are_exact story names legal in
-    let own = named_chosen (remaining story) names t.chosen t.named in
+pub tried_stands : (log : Log) (names : List StepName) (again : Log) → IsLegal log → (a : rerun_answer log names ≡ Ok again) (t : IsTried log names again) → StandsAt again (setting_of log) t.world t.past
+tried_stands log names again legal a t =
+    let exact = reruns_are_exact log names legal in
+    let own = named_chosen (remaining log) names t.chosen t.named in
     let r = exact.runnable t.chosen t.world t.past own.1 own.0 t.runs in
     let ok : Ok r.0 ≡ Ok again = sym r.1 ∙ a in
     let same : r.0 ≡ again = cc in
     let world : world_of again ≡ t.world = ap world_of (sym same) ∙ r.3 in
     let past : past_of again ≡ t.past = ap past_of (sym same) ∙ r.4 in
-    let lawful = (reruns_are_legal story again names legal a).0 in
-    let begin = ap (λ (x : Story). x.begin) (sym t.is) in
-    stands_in again (setting_of again) (setting_of story) (world_of again) t.world (past_of again) t.past (legal_stands again lawful)
-    (ap₂ (λ (b : Begin) (m : List ℕ → Option Definition). let x : Setting = record { machines = m; table = b.table; schema = b.schema } in x) begin (exact.of_story again a).1)
-    (legal_logs_run again lawful ∙ ap₂ (λ (x : World) (l : List Past). Some (x, l)) world past)
+    let lawful = (reruns_are_legal log again names legal a).0 in
+    let begin = ap (λ (x : Log). x.begin) (sym t.is) in
+    stands_in again (setting_of again) (setting_of log) (world_of again) t.world (past_of again) t.past (legal_stands again lawful)
+    (ap₂ (λ (b : Begin) (m : List ℕ → Option Definition). let x : Setting = record { machines = m; table = b.table; schema = b.schema } in x) begin (exact.in_this_log again a).1)
+    (legal_logs_run again lawful ∙ ap₂ (λ (x : World) (l : List TakenStep). Some (x, l)) world past)
 
 -- what may be entered can be taken
-can_retake : (story : Story) (step : Step) (t : Past) → IsAccepted story (entry_for t step) → CanRetake story step
-can_retake story (started exec machine input) t a = a.0
-can_retake story (moved name) t a = (t.fact.kind, a)
+can_retake : (log : Log) (step : Step) (t : TakenStep) → IsAccepted log (entry_for t step) → CanRetake log step
+can_retake log (started exec machine input) t a = a.0
+can_retake log (moved name) t a = (t.fact.kind, a)
 
-module _ (story : Story) (legal : IsLegal story) (front : List StepName) (again : Story) (a : rerun_answer story front ≡ Ok again) (name : StepName) where
-  at_all : IsTried story front again
-  at_all = tried story front again a
+module _ (log : Log) (legal : IsLegal log) (front : List StepName) (again : Log) (a : rerun_answer log front ≡ Ok again) (name : StepName) where
+  at_all : IsTried log front again
+  at_all = tried log front again a
 
-  there : StandsAt again (setting_of story) at_all.world at_all.past
-  there = tried_stands story front again legal a at_all
+  there : StandsAt again (setting_of log) at_all.world at_all.past
+  there = tried_stands log front again legal a at_all
 
   -- with one more step that can be taken
-  one_more : (step : Step) (v : World) (f : Fact) → step_named name (remaining story) ≡ Some step → take_step (setting_of story) at_all.world step ≡ Some (v, f)
-      → rerun_answer story (front ++ name ∷ []) ≡ Ok (accepted again (entry_of (taken_in at_all.world step f)))
+  one_more : (step : Step) (v : World) (f : Fact) → step_named name (remaining log) ≡ Some step → take_step (setting_of log) at_all.world step ≡ Some (v, f)
+      → rerun_answer log (front ++ name ∷ []) ≡ Ok (appended again (entry_of (taken_in at_all.world step f)))
   one_more step v f named takes =
-      answer_by story (front ++ name ∷ []) (at_all.chosen ++ step ∷ []) (Some (v, at_all.past ++ taken_in at_all.world step f ∷ []))
-      (named_then (remaining story) name front at_all.chosen step at_all.named named)
-      (run_then (steps (setting_of story)) at_all.chosen (base_of story) at_all.world v at_all.past step f at_all.runs takes)
-      ∙ ap (λ (x : Story). Ok x) (one_retold story at_all.past (taken_in at_all.world step f) ∙ ap (λ (x : Story). accepted x (entry_of (taken_in at_all.world step f))) at_all.is)
+      answer_by log (front ++ name ∷ []) (at_all.chosen ++ step ∷ []) (Some (v, at_all.past ++ taken_in at_all.world step f ∷ []))
+      (named_then (remaining log) name front at_all.chosen step at_all.named named)
+      (run_then (steps (setting_of log)) at_all.chosen (base_of log) at_all.world v at_all.past step f at_all.runs takes)
+      ∙ ap (λ (x : Log). Ok x) (one_replayed log at_all.past (taken_in at_all.world step f) ∙ ap (λ (x : Log). appended x (entry_of (taken_in at_all.world step f))) at_all.is)
 
-  pub none_named : step_named name (remaining story) ≡ None → rerun_answer story (front ++ name ∷ []) ≡ Err NoStep
-  none_named h = no_answer story (front ++ name ∷ []) (named_not (remaining story) name front h)
+  pub none_named : step_named name (remaining log) ≡ None → rerun_answer log (front ++ name ∷ []) ≡ Err NoStep
+  none_named h = no_answer log (front ++ name ∷ []) (named_not (remaining log) name front h)
 
-  pub retaken : (step : Step) (later : Story) → step_named name (remaining story) ≡ Some step → IsRetaken again step later → rerun_answer story (front ++ name ∷ []) ≡ Ok later
+  pub retaken : (step : Step) (later : Log) → step_named name (remaining log) ≡ Some step → IsRetaken again step later → rerun_answer log (front ++ name ∷ []) ≡ Ok later
   retaken (started exec machine input) later named r =
-      let can = start_said again (setting_of story) at_all.world at_all.past there (execution exec) machine input (start_name exec) r.0 refl in
-      one_more (started exec machine input) can.after can.fact named can.takes ∙ ap (λ (x : Story). Ok x) (sym r.1)
+      let can = start_said again (setting_of log) at_all.world at_all.past there (execution exec) machine input (start_name exec) r.0 refl in
+      one_more (started exec machine input) can.after can.fact named can.takes ∙ ap (λ (x : Log). Ok x) (sym r.1)
   retaken (moved n) later named r =
-      let can = step_said again (setting_of story) at_all.world at_all.past there n.thread (record { name = n; kind = r.0 }) r.1 refl in
-      one_more (moved n) can.0.after can.0.fact named can.0.takes ∙ ap (λ (k : Kind). Ok (accepted again (Stepped n k))) can.1 ∙ ap (λ (x : Story). Ok x) (sym r.2)
+      let can = step_said again (setting_of log) at_all.world at_all.past there n.thread (record { name = n; kind = r.0 }) r.1 refl in
+      one_more (moved n) can.0.after can.0.fact named can.0.takes ∙ ap (λ (k : Kind). Ok (appended again (Stepped n k))) can.1 ∙ ap (λ (x : Log). Ok x) (sym r.2)
 
   -- the last entry of a rerun was accepted
-  last_accepted : (e : Entry) → rerun_answer story (front ++ name ∷ []) ≡ Ok (accepted again e) → IsAccepted again e
-  last_accepted e h = legal_entry (accepted again e) again.log [] e (reruns_are_legal story (accepted again e) (front ++ name ∷ []) legal h).0 refl
+  last_accepted : (e : Entry) → rerun_answer log (front ++ name ∷ []) ≡ Ok (appended again e) → IsAccepted again e
+  last_accepted e h = legal_entry (appended again e) again.entries [] e (reruns_are_legal log (appended again e) (front ++ name ∷ []) legal h).0 refl
 
-  not_by : (step : Step) (o : Option (World × Fact)) → step_named name (remaining story) ≡ Some step → (CanRetake again step → ⊥) → take_step (setting_of story) at_all.world step ≡ o → rerun_answer story (front ++ name ∷ []) ≡ Err NoStep
+  not_by : (step : Step) (o : Option (World × Fact)) → step_named name (remaining log) ≡ Some step → (CanRetake again step → ⊥) → take_step (setting_of log) at_all.world step ≡ o → rerun_answer log (front ++ name ∷ []) ≡ Err NoStep
   not_by step None named cannot h =
-      answer_by story (front ++ name ∷ []) (at_all.chosen ++ step ∷ []) None (named_then (remaining story) name front at_all.chosen step at_all.named named)
-      (run_stops (setting_of story) at_all.chosen (base_of story) at_all.world at_all.past step at_all.runs h)
+      answer_by log (front ++ name ∷ []) (at_all.chosen ++ step ∷ []) None (named_then (remaining log) name front at_all.chosen step at_all.named named)
+      (run_stops (setting_of log) at_all.chosen (base_of log) at_all.world at_all.past step at_all.runs h)
   not_by step (Some (v, f)) named cannot h =
       let t = taken_in at_all.world step f in
       absurd (cannot (can_retake again step t (last_accepted (entry_of t) (one_more step v f named h))))
 
-  pub not_retaken : (step : Step) → step_named name (remaining story) ≡ Some step → (CanRetake again step → ⊥) → rerun_answer story (front ++ name ∷ []) ≡ Err NoStep
-  not_retaken step named cannot = not_by step (take_step (setting_of story) at_all.world step) named cannot refl
+  pub not_retaken : (step : Step) → step_named name (remaining log) ≡ Some step → (CanRetake again step → ⊥) → rerun_answer log (front ++ name ∷ []) ≡ Err NoStep
+  not_retaken step named cannot = not_by step (take_step (setting_of log) at_all.world step) named cannot refl
 
 -- ---- a front that is refused
 
@@ -213,59 +213,59 @@ named_split ss (n ∷ front) back chosen h =
     let r = named_split ss front back m.0 m.1 in
     (a.0 ∷ r.0, r.1, named_cons ss n front a.0 r.0 a.1 r.2, sym m.2 ∙ ap (λ (l : List Step). a.0 ∷ l) r.3)
 
-run_cons : (s : Setting) (x : Step) (xs : List Step) (base u w : World) (f : Fact) (us : List Past) → take_step s base x ≡ Some (u, f) → run (steps s) u xs ≡ Some (w, us) → run (steps s) base (x ∷ xs) ≡ Some (w, taken_in base x f ∷ us)
+run_cons : (s : Setting) (x : Step) (xs : List Step) (base u w : World) (f : Fact) (us : List TakenStep) → take_step s base x ≡ Some (u, f) → run (steps s) u xs ≡ Some (w, us) → run (steps s) base (x ∷ xs) ≡ Some (w, taken_in base x f ∷ us)
 run_cons s x xs base u w f us h k = rw (h, k) refl
 
-run_split : (s : Setting) (xs ys : List Step) (base v : World) (ts : List Past) → run (steps s) base (xs ++ ys) ≡ Some (v, ts) → (w : World) × (us : List Past) × (run (steps s) base xs ≡ Some (w, us))
+run_split : (s : Setting) (xs ys : List Step) (base v : World) (ts : List TakenStep) → run (steps s) base (xs ++ ys) ≡ Some (v, ts) → (w : World) × (us : List TakenStep) × (run (steps s) base xs ≡ Some (w, us))
 run_split s [] ys base v ts h = (base, [], refl)
 run_split s (x ∷ xs) ys base v ts h =
     let a = and_then_some _ (take_step s base x) (v, ts) h in
-    let b = map_some (λ (q : World × List Past). (q.0, taken_in base x a.0.1 ∷ q.1)) (run (steps s) a.0.0 (xs ++ ys)) (v, ts) a.2 in
+    let b = map_some (λ (q : World × List TakenStep). (q.0, taken_in base x a.0.1 ∷ q.1)) (run (steps s) a.0.0 (xs ++ ys)) (v, ts) a.2 in
     let r = run_split s xs ys a.0.0 b.0.0 b.0.1 b.1 in
     (r.0, taken_in base x a.0.1 ∷ r.1, run_cons s x xs base a.0.0 r.0 a.0.1 r.1 a.1 r.2)
 
 -- the front of an order that is answered is answered
-front_answered : (story : Story) (front back : List StepName) (again : Story) → rerun_answer story (front ++ back) ≡ Ok again → (first : Story) × (rerun_answer story front ≡ Ok first)
-front_answered story front back again a =
-    let t = tried story (front ++ back) again a in
-    let n = named_split (remaining story) front back t.chosen t.named in
-    let r = run_split (setting_of story) n.0 n.1 (base_of story) t.world t.past (ap (run (steps (setting_of story)) (base_of story)) (sym n.3) ∙ t.runs) in
-    (retold story r.1, answer_by story front n.0 (Some (r.0, r.1)) n.2 r.2)
+front_answered : (log : Log) (front back : List StepName) (again : Log) → rerun_answer log (front ++ back) ≡ Ok again → (first : Log) × (rerun_answer log front ≡ Ok first)
+front_answered log front back again a =
+    let t = tried log (front ++ back) again a in
+    let n = named_split (remaining log) front back t.chosen t.named in
+    let r = run_split (setting_of log) n.0 n.1 (base_of log) t.world t.past (ap (run (steps (setting_of log)) (base_of log)) (sym n.3) ∙ t.runs) in
+    (replayed log r.1, answer_by log front n.0 (Some (r.0, r.1)) n.2 r.2)
 
 -- where a front is refused, so is the whole
-pub refused_front : (story : Story) (front back : List StepName) → IsLegal story → rerun_answer story front ≡ Err NoStep → rerun_answer story (front ++ back) ≡ Err NoStep
-refused_front story front back legal h = by_answer (rerun_answer story (front ++ back)) refl
+pub refused_front : (log : Log) (front back : List StepName) → IsLegal log → rerun_answer log front ≡ Err NoStep → rerun_answer log (front ++ back) ≡ Err NoStep
+refused_front log front back legal h = by_answer (rerun_answer log (front ++ back)) refl
   where
-    by_answer : (r : Result Story Refusal) → rerun_answer story (front ++ back) ≡ r → rerun_answer story (front ++ back) ≡ Err NoStep
+    by_answer : (r : Result Log Refusal) → rerun_answer log (front ++ back) ≡ r → rerun_answer log (front ++ back) ≡ Err NoStep
     by_answer (Ok again) e =
-        let k = front_answered story front back again e in
+        let k = front_answered log front back again e in
         let clash = sym h ∙ k.1 in
         cc
-    by_answer (Err f) e = e ∙ ap Err ((reruns_are_exact story (front ++ back) legal).refused f e)
+    by_answer (Err f) e = e ∙ ap Err ((reruns_are_exact log (front ++ back) legal).refused f e)
 
 -- ---- one name more
 
-module _ (story : Story) (legal : IsLegal story) (front : List StepName) (again : Story) (a : rerun_answer story front ≡ Ok again) (name : StepName) where
-  pub goes_on : {T : Type 0} (x : T) (o : Option Step) (later : Story) → step_named name (remaining story) ≡ o → Retakes again o (Ok x) later → rerun_answer story (front ++ name ∷ []) ≡ Ok later
+module _ (log : Log) (legal : IsLegal log) (front : List StepName) (again : Log) (a : rerun_answer log front ≡ Ok again) (name : StepName) where
+  pub goes_on : {T : Type 0} (x : T) (o : Option Step) (later : Log) → step_named name (remaining log) ≡ o → Retakes again o (Ok x) later → rerun_answer log (front ++ name ∷ []) ≡ Ok later
   goes_on x None later named r = absurd r
-  goes_on x (Some step) later named r = retaken story legal front again a name step later named r
+  goes_on x (Some step) later named r = retaken log legal front again a name step later named r
 
-  refused_here : (back : List StepName) (e : Refusal) → e ≡ NoStep → rerun_answer story (front ++ name ∷ []) ≡ Err NoStep → rerun_answer story (front ++ name ∷ back) ≡ Err e
+  refused_here : (back : List StepName) (e : Refusal) → e ≡ NoStep → rerun_answer log (front ++ name ∷ []) ≡ Err NoStep → rerun_answer log (front ++ name ∷ back) ≡ Err e
   refused_here back e same h =
-      ap (rerun_answer story) (sym (append_assoc front (name ∷ []) back)) ∙ refused_front story (front ++ name ∷ []) back legal h ∙ ap Err (sym same)
+      ap (rerun_answer log) (sym (append_assoc front (name ∷ []) back)) ∙ refused_front log (front ++ name ∷ []) back legal h ∙ ap Err (sym same)
 
-  pub ends_here : (T : Type 0) (back : List StepName) (e : Refusal) (o : Option Step) (later : Story) → step_named name (remaining story) ≡ o → Retakes {T = T} again o (Err e) later → (e ≡ Memory) ⊎ (rerun_answer story (front ++ name ∷ back) ≡ Err e)
+  pub ends_here : (T : Type 0) (back : List StepName) (e : Refusal) (o : Option Step) (later : Log) → step_named name (remaining log) ≡ o → Retakes {T = T} again o (Err e) later → (e ≡ Memory) ⊎ (rerun_answer log (front ++ name ∷ back) ≡ Err e)
   ends_here T back e None later named (inl m) = inl m
-  ends_here T back e None later named (inr n) = inr (refused_here back e n (none_named story legal front again a name named))
+  ends_here T back e None later named (inr n) = inr (refused_here back e n (none_named log legal front again a name named))
   ends_here T back e (Some step) later named (inl m) = inl m
-  ends_here T back e (Some step) later named (inr n) = inr (refused_here back e n.0 (not_retaken story legal front again a name step named n.1))
+  ends_here T back e (Some step) later named (inr n) = inr (refused_here back e n.0 (not_retaken log legal front again a name step named n.1))
 
 -- ---- outlines
 
 -- a beginning of a legal log is legal
-front_legal : (front back : List Entry) (before : Story) → GoesOnLegally before (front ++ back) → GoesOnLegally before front
+front_legal : (front back : List Entry) (before : Log) → GoesOnLegally before (front ++ back) → GoesOnLegally before front
 front_legal [] back before h = tt
-front_legal (e ∷ front) back before h = (h.0, front_legal front back (accepted before e) h.1)
+front_legal (e ∷ front) back before h = (h.0, front_legal front back (appended before e) h.1)
 
 pub legal_front : (begin : Begin) (front back : List Entry) → IsLegal (of_log begin (front ++ back)) → IsLegal (of_log begin front)
 unfolding IsLegal

@@ -17,23 +17,23 @@ use Rattle.trace_theory.proofs.Runs.{and_then_some}
 use Rattle.depends.specs.Instance.{steps}
 use Rattle.depends.specs.Laws.{facts_of}
 use Rattle.depends.proofs.Turned.{frame_move}
-use Rattle.saved_steps.specs.Deeds.{Deed, frame_deed, move_deed, next_step}
-use Rattle.saved_steps.specs.Held.{frames_of, paths_of, seen}
+use Rattle.saved_steps.specs.Effects.{Effect, frame_effect, move_effect, next_step}
+use Rattle.saved_steps.specs.Held.{frames_of, paths_of, world_view}
 use Rattle.saved_steps.specs.Steps.{Step, started, moved, name_of, start_name}
 use Rattle.saved_steps.specs.World.{Setting, World, is_same_step}
 use Rattle.saved_steps.specs.declared.fact.Fact.{Fact}
 use Rattle.saved_steps.specs.declared.record.StepRecord.{StepRecord}
-use Rattle.step_history.specs.History.{Past}
+use Rattle.step_history.specs.History.{TakenStep, history_records, history_world}
 use Rattle.book_log.specs.Answers.{Gives, from_step, moved_answer, start_answer, step_answer, step_named, thread_answer, is_full_for_step, needed_left, unless_needed}
 use Rattle.book_log.specs.Legal.{IsLegal}
-use Rattle.book_log.specs.Story.{Story, machine_of, past_of, remaining, setting_of, world_of}
+use Rattle.book_log.specs.Log.{Log, machine_of, past_of, remaining, setting_of, world_of}
 use Rattle.book_log.specs.declared.moved.Moved.{Moved}
 use Rattle.book_log.specs.declared.refusal.Refusal.{Refusal}
 use Rattle.book_log.specs.declared.refusal.Refusal.TheVariants.{NoMachine, ExecTaken, Full}
 use Rattle.book_log.proofs.Counts.{legal_counts}
 use Rattle.book_log.proofs.Standing.{fact_named, names_there}
 use Rattle.book_log.proofs.Reruns.{named_is}
-use Rattle.rollback_book.specs.Book.{Volume, IsTied}
+use Rattle.rollback_book.specs.Book.{BookView, BookInvariant}
 use Rattle.rollback_book.specs.Rerunning.{CanRetake, is_numbered, last_start}
 use Rattle.rollback_book.proofs.Searching.{no_step, step_at}
 use Rattle.rollback_book.proofs.Started.{legal_last, legal_numbered}
@@ -41,7 +41,7 @@ use Rattle.rollback_book.proofs.Tied.{facts_are, stands}
 
 -- ---- a step that remains
 
-named_alike : (s : Setting) (name : StepName) (ts : List Past) → ((t : Past) → In t ts → t.fact.name ≡ name_of t.step) → is_some (step_named name (names_of (steps s) ts)) ≡ is_some (from_step name (facts_of ts))
+named_alike : (s : Setting) (name : StepName) (ts : List TakenStep) → ((t : TakenStep) → In t ts → t.fact.name ≡ name_of t.step) → is_some (step_named name (names_of (steps s) ts)) ≡ is_some (from_step name (facts_of ts))
 named_alike s name [] named = refl
 named_alike s name (t ∷ ts) named =
     let own : is_same_step name t.fact.name ≡ is_same_step name (name_of t.step) = ap (is_same_step name) (named t (inl refl)) in
@@ -50,70 +50,70 @@ named_alike s name (t ∷ ts) named =
     (λ k. let j = own ∙ k in rw (k, j) refl)
     (λ k. let j = own ∙ k in rw (k, j) rest)
 
-module _ (b : Volume) (tied : IsTied b) (name : StepName) where
-  remains_by : is_some (step_named name (remaining b.story)) ≡ is_some (from_step name (facts_of (past_of b.story)))
+module _ (b : BookView) (tied : BookInvariant b) (name : StepName) where
+  remains_by : is_some (step_named name (remaining b.log)) ≡ is_some (from_step name (facts_of (past_of b.log)))
   remains_by =
-      ap (λ (l : List Step). is_some (step_named name l)) (sym (names_there b.story (setting_of b.story) (seen b.history.world) (past_of b.story) (stands b tied)))
-      ∙ named_alike (setting_of b.story) name (past_of b.story) (fact_named b.story (setting_of b.story) (seen b.history.world) (past_of b.story) (stands b tied))
+      ap (λ (l : List Step). is_some (step_named name l)) (sym (names_there b.log (setting_of b.log) (world_view (history_world b.history)) (past_of b.log) (stands b tied)))
+      ∙ named_alike (setting_of b.log) name (past_of b.log) (fact_named b.log (setting_of b.log) (world_view (history_world b.history)) (past_of b.log) (stands b tied))
 
   none_by : (o : Option Step) → is_some o ≡ false → o ≡ None
   none_by None h = refl
   none_by (Some x) h = cc
 
-  pub not_there : position (λ (r : StepRecord). is_same_step r.fact.name name) b.history.records.items ≡ None → step_named name (remaining b.story) ≡ None
+  pub not_there : position (λ (r : StepRecord). is_same_step r.fact.name name) (history_records b.history) ≡ None → step_named name (remaining b.log) ≡ None
   not_there h =
-      none_by (step_named name (remaining b.story))
-      (remains_by ∙ ap (λ (fs : List Fact). is_some (from_step name fs)) (sym (facts_are b tied)) ∙ ap is_some (no_step name b.history.records.items h))
+      none_by (step_named name (remaining b.log))
+      (remains_by ∙ ap (λ (fs : List Fact). is_some (from_step name fs)) (sym (facts_are b tied)) ∙ ap is_some (no_step name (history_records b.history) h))
 
-  pub is_there : (at : ℕ) → position (λ (r : StepRecord). is_same_step r.fact.name name) b.history.records.items ≡ Some at → is_some (step_named name (remaining b.story)) ≡ true
-  is_there at h = remains_by ∙ ap (λ (fs : List Fact). is_some (from_step name fs)) (sym (facts_are b tied)) ∙ ap is_some (step_at name b.history.records.items at h).answer
+  pub is_there : (at : ℕ) → position (λ (r : StepRecord). is_same_step r.fact.name name) (history_records b.history) ≡ Some at → is_some (step_named name (remaining b.log)) ≡ true
+  is_there at h = remains_by ∙ ap (λ (fs : List Fact). is_some (from_step name fs)) (sym (facts_are b tied)) ∙ ap is_some (step_at name (history_records b.history) at h).answer
 
 some_by : {A : Type 0} (o : Option A) → is_some o ≡ true → (x : A) × (o ≡ Some x)
 some_by None h = cc
 some_by (Some x) h = (x, refl)
 
-pub found_some : (b : Volume) (tied : IsTied b) (name : StepName) (o : Option ℕ) → o ≡ position (λ (r : StepRecord). is_same_step r.fact.name name) b.history.records.items → is_some o ≡ true → is_some (step_named name (remaining b.story)) ≡ true
+pub found_some : (b : BookView) (tied : BookInvariant b) (name : StepName) (o : Option ℕ) → o ≡ position (λ (r : StepRecord). is_same_step r.fact.name name) (history_records b.history) → is_some o ≡ true → is_some (step_named name (remaining b.log)) ≡ true
 found_some b tied name None h k = cc
 found_some b tied name (Some at) h k = is_there b tied name at (sym h)
 
 -- ---- a start that remains
 
-pub record IsStartThere (story : Story) (name : StepName) (step : Step) : Type 0 where
+pub record IsStartThere (log : Log) (name : StepName) (step : Step) : Type 0 where
   pub machine : List ℕ
   pub input : Json
   pub is : step ≡ started name.thread.exec machine input
   pub root : name.thread.path ≡ []
-  pub last : last_start name.thread story.log ≡ Some (machine, input)
+  pub last : last_start name.thread log.entries ≡ Some (machine, input)
   pub shallow : depth (data_of input) ≤ 127
 
-pub start_there : (story : Story) → IsLegal story → (name : StepName) → name.no ≡ 0 → (step : Step) → step_named name (remaining story) ≡ Some step → IsStartThere story name step
-start_there story legal name zero_no (started exec machine input) named =
-    let k = named_is name (remaining story) (started exec machine input) named in
+pub start_there : (log : Log) → IsLegal log → (name : StepName) → name.no ≡ 0 → (step : Step) → step_named name (remaining log) ≡ Some step → IsStartThere log name step
+start_there log legal name zero_no (started exec machine input) named =
+    let k = named_is name (remaining log) (started exec machine input) named in
     let thread : execution exec ≡ name.thread = ap (λ (n : StepName). n.thread) k.0 in
     record {
       machine = machine;
       input = input;
       is = ap (λ (t : Thread). started t.exec machine input) thread;
       root = ap (λ (t : Thread). t.path) (sym thread);
-      last = ap (λ (t : Thread). last_start t story.log) (sym thread) ∙ legal_last story legal exec machine input k.1;
-      shallow = (legal_counts story legal).shallow (started exec machine input) k.1;
+      last = ap (λ (t : Thread). last_start t log.entries) (sym thread) ∙ legal_last log legal exec machine input k.1;
+      shallow = (legal_counts log legal).shallow (started exec machine input) k.1;
     }
-start_there story legal name zero_no (moved n) named =
-    let k = named_is name (remaining story) (moved n) named in
-    let least = legal_numbered story legal n k.1 in
+start_there log legal name zero_no (moved n) named =
+    let k = named_is name (remaining log) (moved n) named in
+    let least = legal_numbered log legal n k.1 in
     let same = ap (λ (x : StepName). x.no) k.0 in
     absurd (omega (arith, least, same, zero_no))
 
-pub some_start : (story : Story) → IsLegal story → (name : StepName) → name.no ≡ 0 → is_some (step_named name (remaining story)) ≡ true → (step : Step) × (step_named name (remaining story) ≡ Some step) × IsStartThere story name step
-some_start story legal name zero_no h =
-    let k = some_by (step_named name (remaining story)) h in
-    (k.0, k.1, start_there story legal name zero_no k.0 k.1)
+pub some_start : (log : Log) → IsLegal log → (name : StepName) → name.no ≡ 0 → is_some (step_named name (remaining log)) ≡ true → (step : Step) × (step_named name (remaining log) ≡ Some step) × IsStartThere log name step
+some_start log legal name zero_no h =
+    let k = some_by (step_named name (remaining log)) h in
+    (k.0, k.1, start_there log legal name zero_no k.0 k.1)
 
 -- a step with another number is a move
-pub move_there : (story : Story) (name : StepName) → 1 ≤ name.no → is_some (step_named name (remaining story)) ≡ true → step_named name (remaining story) ≡ Some (moved name)
-move_there story name least h =
-    let k = some_by (step_named name (remaining story)) h in
-    k.1 ∙ ap (λ (s : Step). Some s) (is_move k.0 (named_is name (remaining story) k.0 k.1).0)
+pub move_there : (log : Log) (name : StepName) → 1 ≤ name.no → is_some (step_named name (remaining log)) ≡ true → step_named name (remaining log) ≡ Some (moved name)
+move_there log name least h =
+    let k = some_by (step_named name (remaining log)) h in
+    k.1 ∙ ap (λ (s : Step). Some s) (is_move k.0 (named_is name (remaining log) k.0 k.1).0)
   where
     is_move : (s : Step) → name_of s ≡ name → s ≡ moved name
     is_move (started exec machine input) e = let z = ap (λ (n : StepName). n.no) e in absurd (omega (arith, z, least))
@@ -139,45 +139,45 @@ start_cases true false true n m h = cc
 start_cases true false false n m h = cc
 start_cases false there full n m h = cc
 
-pub start_named : (story : Story) (exec : Thread) (machine : List ℕ) (name : StepName) → start_answer story exec machine ≡ Ok name → start_answer story exec machine ≡ Ok (start_name exec.exec)
+pub start_named : (log : Log) (exec : Thread) (machine : List ℕ) (name : StepName) → start_answer log exec machine ≡ Ok name → start_answer log exec machine ≡ Ok (start_name exec.exec)
 unfolding start_answer
-start_named story exec machine name h =
-    h ∙ ap Ok (sym (start_cases (is_some (machine_of story machine)) (is_some ((world_of story).frames exec)) (is_full_for_step story) (start_name exec.exec) name h))
+start_named log exec machine name h =
+    h ∙ ap Ok (sym (start_cases (is_some (machine_of log machine)) (is_some ((world_of log).frames exec)) (is_full_for_step log) (start_name exec.exec) name h))
 
 -- ---- moves
 
-moved_told : (story : Story) (r : Readiness) (o : Option Deed) (x : Moved) → moved_answer story r o ≡ Ok x → (d : Deed) × (o ≡ Some d) × (d.fact.name ≡ x.name)
-moved_told story r None x h = cc
-moved_told story r (Some d) x h = by_room (is_full_for_step story) (needed_left story d.fact) h
+moved_told : (log : Log) (r : Readiness) (o : Option Effect) (x : Moved) → moved_answer log r o ≡ Ok x → (d : Effect) × (o ≡ Some d) × (d.fact.name ≡ x.name)
+moved_told log r None x h = cc
+moved_told log r (Some d) x h = by_room (is_full_for_step log) (needed_left log d.fact) h
   where
-    by_room : (full : Bool) (o : Option Fact) → unless_needed o (cond full (Err Full) (Ok (record { name = d.fact.name; kind = d.fact.kind }))) ≡ Ok x → (e : Deed) × (Some d ≡ Some e) × (e.fact.name ≡ x.name)
+    by_room : (full : Bool) (o : Option Fact) → unless_needed o (cond full (Err Full) (Ok (record { name = d.fact.name; kind = d.fact.kind }))) ≡ Ok x → (e : Effect) × (Some d ≡ Some e) × (e.fact.name ≡ x.name)
     by_room full (Some y) k = cc
     by_room true None k = cc
     by_room false None k = let f : record { name = d.fact.name; kind = d.fact.kind } ≡ x = cc in (d, refl, ap (λ (y : Moved). y.name) f)
 
-thread_told : (story : Story) (t : Thread) (o : Option Frame) (x : Moved) → (world_of story).frames t ≡ o → thread_answer story t o ≡ Ok x → (f : Frame) × ((world_of story).frames t ≡ Some f) × (x.name ≡ next_step t f)
-thread_told story t None x e h = cc
-thread_told story t (Some f) x e h =
-    let d = moved_told story (readiness_at (paths_of (world_of story).frames t.exec) t.path) (move_deed (setting_of story) (world_of story) t) x h in
-    let g = and_then_some (frame_deed (setting_of story) (world_of story) t) ((world_of story).frames t) d.0 d.1 in
+thread_told : (log : Log) (t : Thread) (o : Option Frame) (x : Moved) → (world_of log).frames t ≡ o → thread_answer log t o ≡ Ok x → (f : Frame) × ((world_of log).frames t ≡ Some f) × (x.name ≡ next_step t f)
+thread_told log t None x e h = cc
+thread_told log t (Some f) x e h =
+    let d = moved_told log (readiness_at (paths_of (world_of log).frames t.exec) t.path) (move_effect (setting_of log) (world_of log) t) x h in
+    let g = and_then_some (frame_effect (setting_of log) (world_of log) t) ((world_of log).frames t) d.0 d.1 in
     let same : f ≡ g.0 = same_Some f g.0 (sym e ∙ g.1) in
-    (f, e, sym d.2 ∙ (frame_move (setting_of story) (world_of story) t g.0 d.0 g.2).named ∙ ap (next_step t) (sym same))
+    (f, e, sym d.2 ∙ (frame_move (setting_of log) (world_of log) t g.0 d.0 g.2).named ∙ ap (next_step t) (sym same))
 
 -- a thread's step is the next after its frame
-pub step_is_next : (story : Story) (t : Thread) (x : Moved) → step_answer story t ≡ Ok x → (f : Frame) × ((world_of story).frames t ≡ Some f) × (x.name ≡ next_step t f)
+pub step_is_next : (log : Log) (t : Thread) (x : Moved) → step_answer log t ≡ Ok x → (f : Frame) × ((world_of log).frames t ≡ Some f) × (x.name ≡ next_step t f)
 unfolding step_answer
-step_is_next story t x h = thread_told story t ((world_of story).frames t) x refl h
+step_is_next log t x h = thread_told log t ((world_of log).frames t) x refl h
 
-module _ (b : Volume) (name : StepName) where
+module _ (b : BookView) (name : StepName) where
   -- a move that can be taken has the next number
-  retake_next : world_of b.story ≡ seen b.history.world → CanRetake b.story (moved name) → is_numbered (frames_of b.history.world name.thread) name.no ≡ true
+  retake_next : world_of b.log ≡ world_view (history_world b.history) → CanRetake b.log (moved name) → is_numbered (frames_of (history_world b.history) name.thread) name.no ≡ true
   retake_next world can =
-      let k = step_is_next b.story name.thread (record { name = name; kind = can.0 }) can.1 in
+      let k = step_is_next b.log name.thread (record { name = name; kind = can.0 }) can.1 in
       let n : name.no ≡ k.0.count + 1 = ap (λ (x : StepName). x.no) k.2 in
-      let there : frames_of b.history.world name.thread ≡ Some k.0 = ap (λ (w : World). w.frames name.thread) (sym world) ∙ k.1 in
+      let there : frames_of (history_world b.history) name.thread ≡ Some k.0 = ap (λ (w : World). w.frames name.thread) (sym world) ∙ k.1 in
       ap (λ (o : Option Frame). is_numbered o name.no) there ∙ eq-eqb k.0.count (name.no - 1) (omega (arith, n))
 
-  pub no_retake : world_of b.story ≡ seen b.history.world → is_numbered (frames_of b.history.world name.thread) name.no ≡ false → CanRetake b.story (moved name) → ⊥
+  pub no_retake : world_of b.log ≡ world_view (history_world b.history) → is_numbered (frames_of (history_world b.history) name.thread) name.no ≡ false → CanRetake b.log (moved name) → ⊥
   no_retake world other can = let clash = sym (retake_next world can) ∙ other in cc
 
   numbered_by : 1 ≤ name.no → (o : Option Frame) → is_numbered o name.no ≡ true → (f : Frame) × (o ≡ Some f) × (f.count + 1 ≡ name.no)
@@ -185,11 +185,11 @@ module _ (b : Volume) (name : StepName) where
   numbered_by least (Some f) h = let k = eqb-true f.count (name.no - 1) h in (f, refl, omega (arith, k, least))
 
   -- where the number is the next, the step of the thread is this one
-  pub next_is : 1 ≤ name.no → world_of b.story ≡ seen b.history.world → is_numbered (frames_of b.history.world name.thread) name.no ≡ true → (x : Moved) → step_answer b.story name.thread ≡ Ok x → x ≡ record { name = name; kind = x.kind }
+  pub next_is : 1 ≤ name.no → world_of b.log ≡ world_view (history_world b.history) → is_numbered (frames_of (history_world b.history) name.thread) name.no ≡ true → (x : Moved) → step_answer b.log name.thread ≡ Ok x → x ≡ record { name = name; kind = x.kind }
   next_is least world h x a =
-      let k = step_is_next b.story name.thread x a in
-      let n = numbered_by least (frames_of b.history.world name.thread) h in
-      let there : frames_of b.history.world name.thread ≡ Some k.0 = ap (λ (w : World). w.frames name.thread) (sym world) ∙ k.1 in
+      let k = step_is_next b.log name.thread x a in
+      let n = numbered_by least (frames_of (history_world b.history) name.thread) h in
+      let there : frames_of (history_world b.history) name.thread ≡ Some k.0 = ap (λ (w : World). w.frames name.thread) (sym world) ∙ k.1 in
       let same : k.0 ≡ n.0 = same_Some k.0 n.0 (sym there ∙ n.1) in
       let no : k.0.count + 1 ≡ name.no = ap (λ (f : Frame). f.count + 1) same ∙ n.2 in
       ap (λ (m : StepName). let y : Moved = record { name = m; kind = x.kind } in y)

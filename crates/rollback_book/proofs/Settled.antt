@@ -1,4 +1,4 @@
--- What a book holds of the steps that were settled says of its story why a step is absent; and a book after a settlement.
+-- What a book holds of the steps that were settled says of its log why a step is absent; and a book after a settlement.
 use Rattle.std.proofs.Common.{◌≡◌, ◌≤◌, arith, ℕ, Bool, true, false, cond, List, [], ◌∷◌, ◌++◌, length, length-append, map, refl, ap, ap₂, sym, subst, ◌∙◌, Err, inl, inr, None, Some, Result, Ok}
 use Rattle.std.specs.Prelude.{◌||◌, ◌⊎◌}
 use Rattle.std.specs.List.{list_any}
@@ -9,15 +9,15 @@ use Rattle.step_names.specs.declared.step.StepName.{StepName}
 use Rattle.step_names.proofs.OrderLaws as order
 use Rattle.settled_names.specs.Names.{HasRoomFor, Names, is_among}
 use Rattle.trace_theory.proofs.Lists.{by_bool}
-use Rattle.saved_steps.specs.Held.{seen}
+use Rattle.saved_steps.specs.Held.{world_view}
 use Rattle.saved_steps.specs.Steps.{Step, name_of}
 use Rattle.saved_steps.specs.World.{Setting, World, is_same_step}
 use Rattle.saved_steps.specs.declared.record.StepRecord.{StepRecord}
-use Rattle.step_history.specs.History.{Past, IsHistory}
+use Rattle.step_history.specs.History.{TakenStep, IsHistory, history_records, history_world}
 use Rattle.step_history.specs.declared.history.History.{History}
 use Rattle.book_log.specs.Answers.{Gives, GivesOr, absent, is_full_for_define, is_settled, settle_answer}
 use Rattle.book_log.specs.Legal.{IsAccepted}
-use Rattle.book_log.specs.Story.{Story, accepted, base_of, settled, remaining, held, setting_of, past_of}
+use Rattle.book_log.specs.Log.{Log, appended, base_of, settled, remaining, held, setting_of, past_of}
 use Rattle.book_log.specs.declared.entry.Entry.{Entry}
 use Rattle.book_log.specs.declared.entry.Entry.TheVariants.{Define, Start, Step as Stepped, Undo, Rollback, Settle, Hold as HoldEntry}
 use Rattle.book_log.specs.declared.refusal.Refusal.{Refusal}
@@ -27,8 +27,8 @@ use Rattle.book_log.proofs.LegalRuns.{accepted_is_legal}
 use Rattle.book_log.proofs.HoldSaid.{held_next}
 use Rattle.book_log.proofs.Settling.{room_settles, settle_free, settle_room}
 use Rattle.book_log.proofs.Standing.{base_settled, settled_next, stands_settled, step_same, step_itself}
-use Rattle.rollback_book.specs.Book.{Volume, IsTied}
-use Rattle.rollback_book.specs.Making.{CanEnter, Fits, HasLogRoom, OrMemory}
+use Rattle.rollback_book.specs.Book.{BookView, BookInvariant}
+use Rattle.rollback_book.specs.Making.{CanEnter, CanEnterChange, HasLogRoom, OrMemory}
 use Rattle.rollback_book.specs.declared.making.Entered.TheVariants as told
 use Rattle.rollback_book.specs.declared.making.MadeChange.TheVariants as made
 use Rattle.rollback_book.specs.Settling.{absent_in}
@@ -51,13 +51,13 @@ among_is : (ss : List Step) (name : StepName) → is_among name (map name_of ss)
 among_is [] name = refl
 among_is (s ∷ ss) name = ap₂ (λ (a b : Bool). a || b) (same_either (name_of s) name) (among_is ss name)
 
-module _ (b : Volume) (tied : IsTied b) where
-  pub absent_is : (name : StepName) → absent_in b.settled.items name ≡ absent b.story name
+module _ (b : BookView) (tied : BookInvariant b) where
+  pub absent_is : (name : StepName) → absent_in b.settled.items name ≡ absent b.log name
   unfolding absent_in is_settled
-  absent_is name = ap (λ (x : Bool). cond x Settled NoStep) (ap (is_among name) tied.names ∙ among_is (settled b.story) name)
+  absent_is name = ap (λ (x : Bool). cond x Settled NoStep) (ap (is_among name) tied.names ∙ among_is (settled b.log) name)
 
   -- the same names, with more room
-  pub tied_names : (names : Names) → names.items ≡ b.settled.items → IsTied (record { story = b.story; history = b.history; places = b.places; capacity = b.capacity; settled = names; held = b.held })
+  pub tied_names : (names : Names) → names.items ≡ b.settled.items → BookInvariant (record { log = b.log; history = b.history; places = b.places; capacity = b.capacity; settled = names; held = b.held })
   tied_names names same = record {
     legal = tied.legal;
     history = tied.history;
@@ -72,31 +72,31 @@ module _ (b : Volume) (tied : IsTied b) where
 
   -- ---- a settlement
 
-  pub tied_settled : (h : History) (names : Names) (capacity : ℕ) → IsAccepted b.story Settle → HasLogRoom b → b.capacity ≤ capacity
-      → h.records.items ≡ [] → ((s : Setting) (base : World) (ts : List Past) → IsHistory s base ts b.history → IsHistory s (seen b.history.world) [] h)
-      → names.items ≡ b.settled.items ++ map (λ (r : StepRecord). r.fact.name) b.history.records.items
-      → IsTied (record { story = accepted b.story Settle; history = h; places = b.places; capacity = capacity; settled = names; held = b.held })
+  pub tied_settled : (h : History) (names : Names) (capacity : ℕ) → IsAccepted b.log Settle → HasLogRoom b → b.capacity ≤ capacity
+      → (history_records h) ≡ [] → ((s : Setting) (base : World) (ts : List TakenStep) → IsHistory s base ts b.history → IsHistory s (world_view (history_world b.history)) [] h)
+      → names.items ≡ b.settled.items ++ map (λ (r : StepRecord). r.fact.name) (history_records b.history)
+      → BookInvariant (record { log = appended b.log Settle; history = h; places = b.places; capacity = capacity; settled = names; held = b.held })
   tied_settled h names capacity a log_room grown none settles named =
-      let s = setting_of b.story in
-      let w = seen b.history.world in
-      let ts = past_of b.story in
+      let s = setting_of b.log in
+      let w = world_view (history_world b.history) in
+      let ts = past_of b.log in
       let there = stands b tied in
-      let free = room_for_define b.story (settle_room b.story a) in
+      let free = room_for_define b.log (settle_room b.log a) in
       let count = many b tied in
-      let logged = length-append b.story.log (Settle ∷ []) in
+      let logged = length-append b.log.entries (Settle ∷ []) in
       let empty = ap length none in
-      let all : names.items ≡ map name_of (settled (accepted b.story Settle)) =
-      named ∙ ap₂ (λ (x y : List StepName). x ++ y) tied.names (names_are b tied) ∙ sym (map-append name_of (settled b.story) (remaining b.story)) ∙ ap (map name_of) (sym (settled_next b.story Settle)) in
-      let unheld = none_kept b.story b.history.records.items b.held (settle_free b.story a) tied.held in
-      let holds : IsHoldOf (accepted b.story Settle) h.records.items b.held = subst (IsHoldOf (accepted b.story Settle) h.records.items) (sym unheld) (held_next b.story Settle) in
-      tied_by (record { story = accepted b.story Settle; history = h; places = b.places; capacity = capacity; settled = names; held = b.held }) s w w [] (accepted_is_legal b.story Settle tied.legal a)
-      (stands_settled b.story s w ts there) (base_settled b.story s w ts there) (settles s (base_of b.story) ts tied.history) tied.machines all holds
+      let all : names.items ≡ map name_of (settled (appended b.log Settle)) =
+      named ∙ ap₂ (λ (x y : List StepName). x ++ y) tied.names (names_are b tied) ∙ sym (map-append name_of (settled b.log) (remaining b.log)) ∙ ap (map name_of) (sym (settled_next b.log Settle)) in
+      let unheld = none_kept b.log (history_records b.history) b.held (settle_free b.log a) tied.held in
+      let holds : IsHoldOf (appended b.log Settle) (history_records h) b.held = subst (IsHoldOf (appended b.log Settle) (history_records h)) (sym unheld) (held_next b.log Settle) in
+      tied_by (record { log = appended b.log Settle; history = h; places = b.places; capacity = capacity; settled = names; held = b.held }) s w w [] (accepted_is_legal b.log Settle tied.legal a)
+      (stands_settled b.log s w ts there) (base_settled b.log s w ts there) (settles s (base_of b.log) ts tied.history) tied.machines all holds
       (omega (arith, log_room, grown, logged, empty)) (omega (arith, empty)) (omega (arith, free, count, logged, empty))
 
-  pub tied_after : (entry : Entry) (h : History) (names : Names) (capacity : ℕ) → IsAccepted b.story entry → Fits b entry made.Settle → HasLogRoom b → b.capacity ≤ capacity
-      → h.records.items ≡ [] → ((s : Setting) (base : World) (ts : List Past) → IsHistory s base ts b.history → IsHistory s (seen b.history.world) [] h)
-      → names.items ≡ b.settled.items ++ map (λ (r : StepRecord). r.fact.name) b.history.records.items
-      → IsTied (record { story = accepted b.story entry; history = h; places = b.places; capacity = capacity; settled = names; held = b.held })
+  pub tied_after : (entry : Entry) (h : History) (names : Names) (capacity : ℕ) → IsAccepted b.log entry → CanEnterChange b entry made.Settle → HasLogRoom b → b.capacity ≤ capacity
+      → (history_records h) ≡ [] → ((s : Setting) (base : World) (ts : List TakenStep) → IsHistory s base ts b.history → IsHistory s (world_view (history_world b.history)) [] h)
+      → names.items ≡ b.settled.items ++ map (λ (r : StepRecord). r.fact.name) (history_records b.history)
+      → BookInvariant (record { log = appended b.log entry; history = h; places = b.places; capacity = capacity; settled = names; held = b.held })
   tied_after (Define n machine) h names capacity a fits log_room grown none settles named = absurd fits
   tied_after (Start exec machine input) h names capacity a fits log_room grown none settles named = absurd fits
   tied_after (Stepped n kind) h names capacity a fits log_room grown none settles named = absurd fits
@@ -106,7 +106,7 @@ module _ (b : Volume) (tied : IsTied b) where
   tied_after Settle h names capacity a fits log_room grown none settles named = tied_settled h names capacity a log_room grown none settles named
 
 -- there is room for the names of a settlement that fits
-pub names_fit : (b : Volume) (entry : Entry) → Fits b entry made.Settle → HasRoomFor b.settled (length b.history.records.items)
+pub names_fit : (b : BookView) (entry : Entry) → CanEnterChange b entry made.Settle → HasRoomFor b.settled (length (history_records b.history))
 names_fit b (Define n machine) fits = absurd fits
 names_fit b (Start exec machine input) fits = absurd fits
 names_fit b (Stepped n kind) fits = absurd fits
@@ -117,19 +117,19 @@ names_fit b Settle fits = fits
 
 -- ---- what is answered
 
-pub settle_full : (story : Story) → held story ≡ None → is_full_for_define story ≡ true → settle_answer story ≡ Err Full
+pub settle_full : (log : Log) → held log ≡ None → is_full_for_define log ≡ true → settle_answer log ≡ Err Full
 unfolding settle_answer
-settle_full story free h = rw (free, h) refl
+settle_full log free h = rw (free, h) refl
 
 -- while something is held, nothing is settled
-pub settle_held : (story : Story) (name : StepName) → held story ≡ Some name → settle_answer story ≡ Err (Held name)
+pub settle_held : (log : Log) (name : StepName) → held log ≡ Some name → settle_answer log ≡ Err (Held name)
 unfolding settle_answer
-settle_held story name h = rw h refl
+settle_held log name h = rw h refl
 
 -- a settlement for which everything is made
-pub settle_ready : (before after : Volume) → after.story ≡ before.story → held before.story ≡ None → is_full_for_define before.story ≡ false → HasRoomFor after.settled (length after.history.records.items) → HasLogRoom after
+pub settle_ready : (before after : BookView) → after.log ≡ before.log → held before.log ≡ None → is_full_for_define before.log ≡ false → HasRoomFor after.settled (length (history_records after.history)) → HasLogRoom after
     → CanEnter after (record { entry = Settle; answer = told.Settled; change = made.Settle })
-settle_ready before after same unheld free names room = record { accepted = ap settle_answer same ∙ room_settles before.story unheld free; fits = names; room = room }
+settle_ready before after same unheld free names room = record { is_accepted = ap settle_answer same ∙ room_settles before.log unheld free; fits = names; room = room }
 
 -- an answer that is given
 pub settle_given : (answer r : Result (Unit {0}) Refusal) (lacks : Type 0) → answer ≡ r → GivesOr lacks r answer

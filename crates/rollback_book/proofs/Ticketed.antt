@@ -10,71 +10,72 @@ use Rattle.branch_tree.specs.declared.readiness.Readiness.{Readiness}
 use Rattle.step_history.specs.Frame.{Frame}
 use Rattle.step_history.specs.FrameSame.{same_frame, frame_exact}
 use Rattle.step_history.specs.Prepared.{Prepared}
-use Rattle.step_history.specs.Turn.{standing}
+use Rattle.step_history.specs.Turn.{located}
 use Rattle.step_history.proofs.Movable.{frames_stand}
 use Rattle.step_history.proofs.Worked.{is_over, work_move}
 use Rattle.step_names.specs.Thread.{Thread}
 use Rattle.step_names.specs.declared.step.StepName.{StepName}
-use Rattle.saved_steps.specs.Deeds.{frame_deed, next_step}
+use Rattle.saved_steps.specs.Effects.{frame_effect, next_step}
 use Rattle.saved_steps.specs.Held.{frames_of, paths_of}
 use Rattle.saved_steps.specs.World.{World}
 use Rattle.saved_steps.specs.declared.next.Next.TheVariants.{Work}
-use Rattle.saved_steps.proofs.Moves.{work_is_deed}
-use Rattle.book_log.specs.Answers.{has_move, is_full_for_step, step_answer}
-use Rattle.book_log.specs.Story.{Story, base_of, held, machine_of, past_of, setting_of, world_of}
+use Rattle.saved_steps.proofs.Moves.{work_is_effect}
+use Rattle.book_log.specs.Answers.{is_enabled, is_full_for_step, step_answer}
+use Rattle.book_log.specs.Log.{Log, base_of, held, machine_of, past_of, setting_of, world_of}
 use Rattle.book_log.specs.declared.refusal.Refusal.{Refusal}
 use Rattle.book_log.specs.declared.refusal.Refusal.TheVariants.{NoMachine, MachineTaken, BadMachine, ExecTaken, NoThread, NotReady, NoStep, HasDependents, Stale, Full, Memory, Settled, Held}
-use Rattle.rollback_book.specs.Book.{Volume, IsTied, place_in, placed}
+use Rattle.rollback_book.specs.Book.{BookView, BookInvariant, place_in, placed}
 use Rattle.rollback_book.specs.Commits.{IsFresh, IsSource}
 use Rattle.rollback_book.specs.Ready.{HasRoomUnlessHeld, IsNextOf}
 use Rattle.rollback_book.specs.Tickets.{IsTicketed, IsTicketRefusal, readiness_in}
 use Rattle.rollback_book.proofs.Moving.{few_steps, moves_where, next_is, ready_to, step_full, told_there}
 use Rattle.rollback_book.proofs.Tied.{world_is}
 use Rattle.rollback_book.proofs.Whole.{legal_whole}
+use Rattle.step_history.specs.History.{history_world}
 
-module _ (b : Volume) (tied : IsTied b) (t : Thread) where
-  pub frame_there : (o : Option Frame) → o ≡ frames_of b.history.world t → (world_of b.story).frames t ≡ o
+module _ (b : BookView) (tied : BookInvariant b) (t : Thread) where
+  pub frame_there : (o : Option Frame) → o ≡ frames_of (history_world b.history) t → (world_of b.log).frames t ≡ o
   frame_there o h = ap (λ (w : World). w.frames t) (world_is b tied) ∙ sym h
 
-  pub readiness_told : (readiness : Readiness) → readiness ≡ readiness_at (paths_of (frames_of b.history.world) t.exec) t.path → readiness ≡ readiness_in b.story t
+  pub readiness_told : (readiness : Readiness) → readiness ≡ readiness_at (paths_of (frames_of (history_world b.history)) t.exec) t.path → readiness ≡ readiness_in b.log t
   readiness_told readiness h = h ∙ sym (told_there b tied t)
 
-  module _ (f : Frame) (there : Some f ≡ frames_of b.history.world t) where
-    pub no_ticket : (readiness : Readiness) → readiness ≡ readiness_at (paths_of (frames_of b.history.world) t.exec) t.path → first.has_move readiness ≡ false
-        → IsTicketRefusal b.story t (NotReady readiness)
+  module _ (f : Frame) (there : Some f ≡ frames_of (history_world b.history) t) where
+    pub no_ticket : (readiness : Readiness) → readiness ≡ readiness_at (paths_of (frames_of (history_world b.history)) t.exec) t.path → first.is_enabled readiness ≡ false
+        → IsTicketRefusal b.log t (NotReady readiness)
     no_ticket readiness h stuck =
-        (subst IsSome (sym (frame_there (Some f) there)) refl, moves_where b tied t ∙ sym (ap first.has_move h) ∙ stuck, readiness_told readiness h)
+        (subst IsSome (sym (frame_there (Some f) there)) refl, moves_where b tied t ∙ sym (ap first.is_enabled h) ∙ stuck, readiness_told readiness h)
 
-    pub ticketed : (machine : Definition) (readiness : Readiness) → readiness ≡ readiness_at (paths_of (frames_of b.history.world) t.exec) t.path → first.has_move readiness ≡ true
-        → Some machine ≡ placed (place_in b.places f.level.machine) → IsTicketed b.story t machine f
+    pub ticketed : (machine : Definition) (readiness : Readiness) → readiness ≡ readiness_at (paths_of (frames_of (history_world b.history)) t.exec) t.path → first.is_enabled readiness ≡ true
+        → Some machine ≡ placed (place_in b.places f.level.machine) → IsTicketed b.log t machine f
     ticketed machine readiness h moves known =
-        let p = frames_stand (setting_of b.story) (base_of b.story) (past_of b.story) b.history t f (legal_whole b.story tied.legal) tied.history (sym there) in
-        let own : machine_of b.story f.level.machine ≡ Some machine = sym (tied.machines f.level.machine) ∙ sym known in
+        let p = frames_stand (setting_of b.log) (base_of b.log) (past_of b.log) b.history t f (legal_whole b.log tied.legal) tied.history (sym there) in
+        let own : machine_of b.log f.level.machine ≡ Some machine = sym (tied.machines f.level.machine) ∙ sym known in
         record {
-          moving = record { frame = frame_there (Some f) there; known = own; moves = moves_where b tied t ∙ sym (ap first.has_move h) ∙ moves };
-          stands = subst IsSome (ap (option_and_then (λ (d : Definition). standing d f)) own) p.stands;
+          moving = record { frame = frame_there (Some f) there; known = own; moves = moves_where b tied t ∙ sym (ap first.is_enabled h) ∙ moves };
+          stands = subst IsSome (ap (option_and_then (λ (d : Definition). located d f)) own) p.stands;
           few = few_steps b tied t f (sym there);
         }
 
-pub fresh_by : (story : Story) (t : Thread) (p : Prepared) (f : Frame) → (world_of story).frames t ≡ Some f → IsSource story p f → first.has_move (readiness_in story t) ≡ true → IsFresh story t p
-fresh_by story t p f there source begins =
-    record { begins = begins; frame = there ∙ ap Some source.0; machine = subst (λ (g : Frame). machine_of story g.level.machine ≡ Some p.machine) source.0 source.1 }
+pub fresh_by : (log : Log) (t : Thread) (p : Prepared) (f : Frame) → (world_of log).frames t ≡ Some f → IsSource log p f → first.is_enabled (readiness_in log t) ≡ true → IsFresh log t p
+fresh_by log t p f there source begins =
+    record { begins = begins; frame = there ∙ ap Some source.0; machine = subst (λ (g : Frame). machine_of log g.level.machine ≡ Some p.machine) source.0 source.1 }
 
 -- a turn that is fresh is what its thread's next step is to do
-pub commit_next : (b : Volume) (tied : IsTied b) (t : Thread) (p : Prepared) (name : StepName) → IsFresh b.story t p → HasRoomUnlessHeld b.story → name ≡ next_step t p.frame
+pub commit_next : (b : BookView) (tied : BookInvariant b) (t : Thread) (p : Prepared) (name : StepName) → IsFresh b.log t p → HasRoomUnlessHeld b.log → name ≡ next_step t p.frame
     → IsNextOf b t name (Work p)
 commit_next b tied t p name fresh free named =
     let f = p.frame in
-    let there : frames_of b.history.world t ≡ Some f = sym (ap (λ (w : World). w.frames t) (world_is b tied)) ∙ fresh.frame in
-    let ready = ready_to b tied t f there p.machine (sym (ap first.has_move (told_there b tied t)) ∙ fresh.begins) free (tied.machines f.level.machine ∙ fresh.machine) in
+    let there : frames_of (history_world b.history) t ≡ Some f = sym (ap (λ (w : World). w.frames t) (world_is b tied)) ∙ fresh.frame in
+    let ready = ready_to b tied t f there p.machine (sym (ap first.is_enabled (told_there b tied t)) ∙ fresh.begins) free (tied.machines f.level.machine ∙ fresh.machine) in
     next_is b tied t f there p.machine name (Work p) ready named
-    (λ s base ts is own. work_move s b.history.world t f p.machine (is_over s base ts b.history is) there own p work_is_deed p.ready (ready.begins p.ready) refl refl)
+    (λ s base ts is own. work_move s (history_world b.history) t f p.machine (is_over s base ts b.history is) there own p work_is_effect p.ready (ready.begins p.ready) refl refl)
 
 -- and it is refused where there is no room and nothing is held
-pub commit_full : (b : Volume) (tied : IsTied b) (t : Thread) (p : Prepared) → IsFresh b.story t p → held b.story ≡ None → is_full_for_step b.story ≡ true → step_answer b.story t ≡ Err Full
+pub commit_full : (b : BookView) (tied : BookInvariant b) (t : Thread) (p : Prepared) → IsFresh b.log t p → held b.log ≡ None → is_full_for_step b.log ≡ true → step_answer b.log t ≡ Err Full
 commit_full b tied t p fresh unheld full =
-    let there : frames_of b.history.world t ≡ Some p.frame = sym (ap (λ (w : World). w.frames t) (world_is b tied)) ∙ fresh.frame in
-    step_full b tied t p.frame there unheld (sym (ap first.has_move (told_there b tied t)) ∙ fresh.begins) full
+    let there : frames_of (history_world b.history) t ≡ Some p.frame = sym (ap (λ (w : World). w.frames t) (world_is b tied)) ∙ fresh.frame in
+    step_full b tied t p.frame there unheld (sym (ap first.is_enabled (told_there b tied t)) ∙ fresh.begins) full
 
 -- ---- what is compared
 
@@ -91,14 +92,14 @@ unlike f g ne is h e =
     cc
 
 -- the book's machine of a frame's level is the one of which a turn was prepared, just where these two are compared equal
-module _ (b : Volume) (tied : IsTied b) (p : Prepared) (f : Frame) (machine : Definition) (known : Some machine ≡ placed (place_in b.places f.level.machine)) where
-  found : machine_of b.story f.level.machine ≡ Some machine
+module _ (b : BookView) (tied : BookInvariant b) (p : Prepared) (f : Frame) (machine : Definition) (known : Some machine ≡ placed (place_in b.places f.level.machine)) where
+  found : machine_of b.log f.level.machine ≡ Some machine
   found = sym (tied.machines f.level.machine) ∙ sym known
 
-  pub source_by : (other : Definition) (same : Bool) → same ≡ same_definition machine other → other ≡ p.machine → f ≡ p.frame → same ≡ true → IsSource b.story p f
+  pub source_by : (other : Definition) (same : Bool) → same ≡ same_definition machine other → other ≡ p.machine → f ≡ p.frame → same ≡ true → IsSource b.log p f
   source_by other same is own frame h = (frame, found ∙ ap Some ((definition_exact machine other).0 (sym is ∙ h) ∙ own))
 
-  pub no_source : (other : Definition) (same : Bool) → same ≡ same_definition machine other → other ≡ p.machine → same ≡ false → IsSource b.story p f → ⊥
+  pub no_source : (other : Definition) (same : Bool) → same ≡ same_definition machine other → other ≡ p.machine → same ≡ false → IsSource b.log p f → ⊥
   no_source other same is own h source =
       let one : machine ≡ p.machine = same_Some machine p.machine (sym found ∙ source.1) in
       let clash : true ≡ false = sym ((definition_exact machine other).1 (one ∙ sym own)) ∙ sym is ∙ h in
@@ -106,25 +107,25 @@ module _ (b : Volume) (tied : IsTied b) (p : Prepared) (f : Frame) (machine : De
 
 -- ---- who has a move
 
-no_frame : (story : Story) (t : Thread) → (world_of story).frames t ≡ None → has_move story t ≡ false
-no_frame story t h = ap (λ (o : Option Frame). is_some (option_and_then (frame_deed (setting_of story) (world_of story) t) o)) h
+no_frame : (log : Log) (t : Thread) → (world_of log).frames t ≡ None → is_enabled log t ≡ false
+no_frame log t h = ap (λ (o : Option Frame). is_some (option_and_then (frame_effect (setting_of log) (world_of log) t) o)) h
 
 -- such a thread is refused a ticket for memory alone
-pub memory_alone : (story : Story) (t : Thread) (e : Refusal) → has_move story t ≡ true → IsTicketRefusal story t e → e ≡ Memory
-memory_alone story t Memory moves h = refl
-memory_alone story t NoThread moves h =
-    let clash : true ≡ false = sym moves ∙ no_frame story t h in
+pub memory_alone : (log : Log) (t : Thread) (e : Refusal) → is_enabled log t ≡ true → IsTicketRefusal log t e → e ≡ Memory
+memory_alone log t Memory moves h = refl
+memory_alone log t NoThread moves h =
+    let clash : true ≡ false = sym moves ∙ no_frame log t h in
     cc
-memory_alone story t (NotReady readiness) moves h =
+memory_alone log t (NotReady readiness) moves h =
     let clash : true ≡ false = sym moves ∙ h.1 in
     cc
-memory_alone story t NoMachine moves h = absurd h
-memory_alone story t MachineTaken moves h = absurd h
-memory_alone story t (BadMachine fault) moves h = absurd h
-memory_alone story t ExecTaken moves h = absurd h
-memory_alone story t NoStep moves h = absurd h
-memory_alone story t (HasDependents step) moves h = absurd h
-memory_alone story t (Stale entries) moves h = absurd h
-memory_alone story t Full moves h = absurd h
-memory_alone story t Settled moves h = absurd h
-memory_alone story t (Held step) moves h = absurd h
+memory_alone log t NoMachine moves h = absurd h
+memory_alone log t MachineTaken moves h = absurd h
+memory_alone log t (BadMachine fault) moves h = absurd h
+memory_alone log t ExecTaken moves h = absurd h
+memory_alone log t NoStep moves h = absurd h
+memory_alone log t (HasDependents step) moves h = absurd h
+memory_alone log t (Stale entries) moves h = absurd h
+memory_alone log t Full moves h = absurd h
+memory_alone log t Settled moves h = absurd h
+memory_alone log t (Held step) moves h = absurd h

@@ -1,4 +1,4 @@
--- A book as its contracts see it: its story, and what it holds for that.
+-- A book as its contracts see it: its log, and what it holds for that.
 use Rattle.std.specs.Prelude.{◌≡◌, ◌+◌, ◌≤◌, ℕ, List, length, map, position, Option, Some, None, Ok, vec_capacity}
 use Rattle.std.specs.Global.{Vec}
 use Rattle.std.specs.Ordering.{nat_cmp}
@@ -7,12 +7,12 @@ use Rattle.std.specs.BTreeMap.{BTreeMap, is_at}
 use Rattle.std.specs.Map.{lookup}
 use Rattle.asl_tree.specs.Definition.{Definition}
 use Rattle.depends.specs.Plans.{first_dependent}
-use Rattle.saved_steps.specs.Held.{seen}
+use Rattle.saved_steps.specs.Held.{world_view}
 use Rattle.saved_steps.specs.Steps.{name_of}
 use Rattle.saved_steps.specs.World.{is_same_step}
 use Rattle.settled_names.specs.Names.{Names}
 use Rattle.step_names.specs.declared.step.StepName.{StepName}
-use Rattle.step_history.specs.History.{IsHistory}
+use Rattle.step_history.specs.History.{IsHistory, history_records, history_world}
 use Rattle.step_history.specs.declared.history.History.{History}
 use Rattle.book_log.specs.Answers.{undo_answer, most_steps, most_places}
 use Rattle.book_log.specs.Legal.{IsLegal}
@@ -20,7 +20,7 @@ use Rattle.book_log.specs.declared.begin.Begin.{Begin}
 use Rattle.book_log.specs.declared.entry.Entry.{Entry}
 use Rattle.rollback_book.specs.Holding.{IsHoldOf}
 use Rattle.rollback_book.specs.declared.hold.Hold.{Hold}
-use Rattle.book_log.specs.Story.{Story, base_of, settled, machine_of, past_of, run_of, setting_of}
+use Rattle.book_log.specs.Log.{Log, base_of, settled, machine_of, past_of, run_of, setting_of}
 
 -- places of machines, each with its name: a place may be empty
 abbrev pub Places : Type 0
@@ -34,10 +34,10 @@ abbrev pub placed : Option (Option Definition) → Option Definition
 placed None = None
 placed (Some place) = place
 
--- The story is what a book is; it holds the history of its remaining steps, places for machines, room for so many entries, the
+-- The log is what a book is; it holds the history of its remaining steps, places for machines, room for so many entries, the
 -- names of the steps that were settled, and what is left of a hold.
-pub record Volume : Type 0 where
-  pub story : Story
+pub record BookView : Type 0 where
+  pub log : Log
   pub history : History
   pub places : Places
   pub capacity : ℕ
@@ -45,29 +45,29 @@ pub record Volume : Type 0 where
   pub held : Option Hold
 
 -- a book of these fields
-abbrev pub volume : Begin → BTreeMap (List ℕ) (Option Definition) → History → Vec Entry → Names → Option Hold → Volume
-volume begin machines history log settled held = record { story = record { begin = begin; log = log.items }; history = history; places = machines.entries; capacity = vec_capacity log; settled = settled; held = held }
+abbrev pub book_view : Begin → BTreeMap (List ℕ) (Option Definition) → History → Vec Entry → Names → Option Hold → BookView
+book_view begin machines history entries settled held = record { log = record { begin = begin; entries = entries.items }; history = history; places = machines.entries; capacity = vec_capacity entries; settled = settled; held = held }
 
--- what a book holds belongs to its story
-pub record IsTied (b : Volume) : Type 0 where
-  pub legal : IsLegal b.story
+-- what a book holds belongs to its log
+pub record BookInvariant (b : BookView) : Type 0 where
+  pub legal : IsLegal b.log
   -- the history is the run of the remaining steps from their base
-  pub history : IsHistory (setting_of b.story) (base_of b.story) (past_of b.story) b.history
-  pub run : run_of b.story ≡ Some (seen b.history.world, past_of b.story)
-  pub machines : (name : List ℕ) → placed (place_in b.places name) ≡ machine_of b.story name
-  pub names : b.settled.items ≡ map name_of (settled b.story)
-  pub held : IsHoldOf b.story b.history.records.items b.held
+  pub history : IsHistory (setting_of b.log) (base_of b.log) (past_of b.log) b.history
+  pub run : run_of b.log ≡ Some (world_view (history_world b.history), past_of b.log)
+  pub machines : (name : List ℕ) → placed (place_in b.places name) ≡ machine_of b.log name
+  pub names : b.settled.items ≡ map name_of (settled b.log)
+  pub held : IsHoldOf b.log (history_records b.history) b.held
   -- there is room for the entry of each remaining step's undoing
-  pub room : length b.story.log + length b.history.records.items ≤ b.capacity
-  pub few : length b.history.records.items ≤ most_steps
-  pub bounded : length b.story.log + length b.history.records.items ≤ most_places
+  pub room : length b.log.entries + length (history_records b.history) ≤ b.capacity
+  pub few : length (history_records b.history) ≤ most_steps
+  pub bounded : length b.log.entries + length (history_records b.history) ≤ most_places
 
 -- the step of this name stands at a place
-abbrev pub IsAt : Volume → StepName → ℕ → Type 0
-IsAt b name at = position (λ r. is_same_step r.fact.name name) b.history.records.items ≡ Some at
+abbrev pub IsAt : BookView → StepName → ℕ → Type 0
+IsAt b name at = position (λ r. is_same_step r.fact.name name) (history_records b.history) ≡ Some at
 
 -- it may be undone there
-pub record IsFreePlace (b : Volume) (name : StepName) (at : ℕ) : Type 0 where
+pub record IsFreePlace (b : BookView) (name : StepName) (at : ℕ) : Type 0 where
   pub there : IsAt b name at
-  pub free : first_dependent (map (λ r. r.fact) b.history.records.items) at ≡ None
-  pub answer : undo_answer b.story name ≡ Ok name
+  pub free : first_dependent (map (λ r. r.fact) (history_records b.history)) at ≡ None
+  pub answer : undo_answer b.log name ≡ Ok name

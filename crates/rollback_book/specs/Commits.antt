@@ -7,7 +7,7 @@ use Rattle.step_history.specs.Phase.TheVariants.{Ready}
 use Rattle.step_history.specs.Prepared.{Prepared}
 use Rattle.step_names.specs.Thread.{Thread}
 use Rattle.book_log.specs.Answers.{step_answer}
-use Rattle.book_log.specs.Story.{Story, accepted, machine_of, world_of}
+use Rattle.book_log.specs.Log.{Log, appended, machine_of, world_of}
 use Rattle.book_log.specs.declared.entry.Entry.TheVariants.{Step as Stepped}
 use Rattle.book_log.specs.declared.moved.Moved.{Moved}
 use Rattle.rollback_book.specs.Making.{IsMoveRefusal}
@@ -22,35 +22,35 @@ is_ready Ready = true
 is_ready _ = false
 
 -- the book's machine of this frame's level is the one of which the turn was prepared, and so is the frame
-abbrev pub IsSource : Story → Prepared → Frame → Type 0
-IsSource story p f = (f ≡ p.frame) × (machine_of story f.level.machine ≡ Some p.machine)
+abbrev pub IsSource : Log → Prepared → Frame → Type 0
+IsSource log p f = (f ≡ p.frame) × (machine_of log f.level.machine ≡ Some p.machine)
 
 -- the thread has the frame, and the book the machine, of which the turn was prepared, and the thread may begin
-pub record IsFresh (story : Story) (t : Thread) (p : Prepared) : Type 0 where
-  pub begins : first.has_move (readiness_in story t) ≡ true
-  pub frame : (world_of story).frames t ≡ Some p.frame
-  pub machine : machine_of story p.frame.level.machine ≡ Some p.machine
+pub record IsFresh (log : Log) (t : Thread) (p : Prepared) : Type 0 where
+  pub begins : first.is_enabled (readiness_in log t) ≡ true
+  pub frame : (world_of log).frames t ≡ Some p.frame
+  pub machine : machine_of log p.frame.level.machine ≡ Some p.machine
 
 -- Why a turn is stale: the thread is gone; it isn't ready, or it is as it was prepared of and is a branch that may not begin now; it
 -- has made another number of moves; or as many, and its frame or the machine is another.
-abbrev pub IsStale : Story → Thread → Prepared → Staleness → Type 0
-IsStale story t p stale.Gone = (world_of story).frames t ≡ None
-IsStale story t p (stale.NotReady readiness) =
-    (f : Frame) × ((world_of story).frames t ≡ Some f) × ((is_ready f.phase ≡ false) ⊎ (IsSource story p f × (first.has_move (readiness_in story t) ≡ false))) × (readiness ≡ readiness_in story t)
-IsStale story t p (stale.Moved count) = (f : Frame) × ((world_of story).frames t ≡ Some f) × (is_ready f.phase ≡ true) × (count ≡ f.count) × (f.count ≡ p.frame.count → ⊥)
-IsStale story t p stale.Other = (f : Frame) × ((world_of story).frames t ≡ Some f) × (is_ready f.phase ≡ true) × (f.count ≡ p.frame.count) × (IsSource story p f → ⊥)
+abbrev pub IsStale : Log → Thread → Prepared → Staleness → Type 0
+IsStale log t p stale.Gone = (world_of log).frames t ≡ None
+IsStale log t p (stale.NotReady readiness) =
+    (f : Frame) × ((world_of log).frames t ≡ Some f) × ((is_ready f.phase ≡ false) ⊎ (IsSource log p f × (first.is_enabled (readiness_in log t) ≡ false))) × (readiness ≡ readiness_in log t)
+IsStale log t p (stale.Moved count) = (f : Frame) × ((world_of log).frames t ≡ Some f) × (is_ready f.phase ≡ true) × (count ≡ f.count) × (f.count ≡ p.frame.count → ⊥)
+IsStale log t p stale.Other = (f : Frame) × ((world_of log).frames t ≡ Some f) × (is_ready f.phase ≡ true) × (f.count ≡ p.frame.count) × (IsSource log p f → ⊥)
 
-abbrev pub IsStaleness : Story → Thread → Prepared → Option Staleness → Type 0
-IsStaleness story t p None = IsFresh story t p
-IsStaleness story t p (Some why) = IsStale story t p why
+abbrev pub IsStaleness : Log → Thread → Prepared → Option Staleness → Type 0
+IsStaleness log t p None = IsFresh log t p
+IsStaleness log t p (Some why) = IsStale log t p why
 
 -- A turn that is fresh is the thread's step, and is refused as that is; one that isn't is handed back, with the reason.
-abbrev pub AnswersCommit : Story → Thread → Prepared → Result Moved CommitRefusal → Type 0
-AnswersCommit story t p (Ok moved) = IsFresh story t p × (step_answer story t ≡ Ok moved)
-AnswersCommit story t p (Err (Stale why prepared)) = IsStale story t p why × (prepared ≡ p)
-AnswersCommit story t p (Err (Refused e)) = IsFresh story t p × IsMoveRefusal story t e
+abbrev pub AnswersCommit : Log → Thread → Prepared → Result Moved CommitRefusal → Type 0
+AnswersCommit log t p (Ok moved) = IsFresh log t p × (step_answer log t ≡ Ok moved)
+AnswersCommit log t p (Err (Stale why prepared)) = IsStale log t p why × (prepared ≡ p)
+AnswersCommit log t p (Err (Refused e)) = IsFresh log t p × IsMoveRefusal log t e
 
 -- the log has the step more, or is the same where it is refused
-abbrev pub Commits : Story → Result Moved CommitRefusal → Story → Type 0
-Commits before (Ok moved) after = after ≡ accepted before (Stepped moved.name moved.kind)
+abbrev pub Commits : Log → Result Moved CommitRefusal → Log → Type 0
+Commits before (Ok moved) after = after ≡ appended before (Stepped moved.name moved.kind)
 Commits before (Err e) after = after ≡ before

@@ -7,29 +7,29 @@ use Rattle.saved_steps.specs.declared.record.StepRecord.{StepRecord}
 use Rattle.saved_steps.specs.declared.fact.Fact.{Fact}
 use Rattle.step_index.specs.Held.{Held, AreLeft, IsLeftAt, count_left}
 use Rattle.step_index.specs.Walks.{IsFirstFrom, needed_by}
-use Rattle.step_history.specs.History.{Past}
+use Rattle.step_history.specs.History.{TakenStep}
 use Rattle.step_names.specs.declared.step.StepName.{StepName}
-use Rattle.book_log.specs.Story.{Story, held, left_of, past_of, consequences_of}
+use Rattle.book_log.specs.Log.{Log, held, left_of, past_of, consequences_of}
 use Rattle.book_log.specs.declared.refusal.Refusal.{Refusal}
 use Rattle.book_log.specs.declared.refusal.Refusal.TheVariants as refusal
 use Rattle.rollback_book.specs.declared.hold.Hold.{Hold}
 
 -- of each remaining step, whether it is one of these
-abbrev pub marks_by : List Past → List Past → List Bool
+abbrev pub marks_by : List TakenStep → List TakenStep → List Bool
 marks_by left past = map (λ t. list_any (λ x. is_same_step (name_of x.step) (name_of t.step)) left) past
 
 -- nothing is held; or this step is, and what is left is marked
-abbrev pub IsHoldOf : Story → List StepRecord → Option Hold → Type 0
-IsHoldOf story rs None = held story ≡ None
-IsHoldOf story rs (Some h) = (held story ≡ Some h.step) × AreLeft rs h.left × (h.left.marks ≡ marks_by (left_of story) (past_of story))
+abbrev pub IsHoldOf : Log → List StepRecord → Option Hold → Type 0
+IsHoldOf log rs None = held log ≡ None
+IsHoldOf log rs (Some h) = (held log ≡ Some h.step) × AreLeft rs h.left × (h.left.marks ≡ marks_by (left_of log) (past_of log))
 
 -- it would be so of a step and its consequences
-abbrev pub IsHoldFor : Story → List StepRecord → StepName → Hold → Type 0
-IsHoldFor story rs name h = (h.step ≡ name) × AreLeft rs h.left × (h.left.marks ≡ marks_by (consequences_of story name) (past_of story))
+abbrev pub IsHoldFor : Log → List StepRecord → StepName → Hold → Type 0
+IsHoldFor log rs name h = (h.step ≡ name) × AreLeft rs h.left × (h.left.marks ≡ marks_by (consequences_of log name) (past_of log))
 
 -- why nothing more can be held, and nothing settled: this step is held, or memory is wanting to tell it
-abbrev pub IsHoldRefusal : Story → Refusal → Type 0
-IsHoldRefusal story e = (name : StepName) × (held story ≡ Some name) × ((e ≡ refusal.Held name) ⊎ (e ≡ refusal.Memory))
+abbrev pub IsHoldRefusal : Log → Refusal → Type 0
+IsHoldRefusal log e = (name : StepName) × (held log ≡ Some name) × ((e ≡ refusal.Held name) ⊎ (e ≡ refusal.Memory))
 
 -- the earliest place that is left and on whose step a later one of this fact would depend directly
 abbrev pub IsFirstNeeded : List StepRecord → Held → Fact → Option ℕ → Type 0

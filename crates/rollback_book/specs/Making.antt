@@ -6,25 +6,25 @@ use Rattle.serde_json.specs.View.{view}
 use Rattle.asl_tree.specs.Definition.{Definition}
 use Rattle.asl_machine.specs.Profile.{Defines}
 use Rattle.depends.specs.Plans.{plan}
-use Rattle.saved_steps.specs.Deeds as deeds
+use Rattle.saved_steps.specs.Effects as effects
 use Rattle.saved_steps.specs.Made.{CanApply, IsMadeFor}
 use Rattle.saved_steps.specs.Steps.{Step, started, moved}
 use Rattle.saved_steps.specs.declared.made.Made.{Made as MadeStep}
-use Rattle.step_history.specs.History.{Past, HasRoom}
+use Rattle.step_history.specs.History.{TakenStep, HasRoom, history_records, history_world}
 use Rattle.settled_names.specs.Names.{HasRoomFor}
 use Rattle.saved_steps.specs.declared.record.StepRecord.{StepRecord}
 use Rattle.step_names.specs.Thread.{Thread}
 use Rattle.step_names.specs.declared.step.StepName.{StepName}
 use Rattle.book_log.specs.Answers.{IsDefineRefusal, HoldLacks, SettleLacks, StepLacks, hold_answer, settle_answer, start_answer, step_answer, plan_answer}
 use Rattle.book_log.specs.Legal.{IsAccepted}
-use Rattle.book_log.specs.Story.{Story, consequences_of, facts_of, setting_of, world_of}
+use Rattle.book_log.specs.Log.{Log, consequences_of, facts_of, setting_of, world_of}
 use Rattle.book_log.specs.declared.entry.Entry.{Entry}
 use Rattle.book_log.specs.declared.entry.Entry.TheVariants.{Define, Start, Step as Stepped, Settle, Hold}
 use Rattle.book_log.specs.declared.moved.Moved.{Moved}
 use Rattle.book_log.specs.declared.refusal.Refusal.{Refusal}
 use Rattle.book_log.specs.declared.refusal.Refusal.TheVariants.{Memory}
-use Rattle.rollback_book.specs.Book.{Volume, place_in}
-use Rattle.rollback_book.specs.Commuting.{IsAllowedOrder}
+use Rattle.rollback_book.specs.Book.{BookView, place_in}
+use Rattle.rollback_book.specs.Commuting.{IsBackwardOrderOf}
 use Rattle.std.specs.List.{list_any}
 use Rattle.step_index.specs.Held.{AreLeft}
 use Rattle.rollback_book.specs.Holding.{HasHeldRoom, IsHoldFor}
@@ -41,8 +41,8 @@ use Rattle.rollback_book.specs.declared.room.PlanRoom.{PlanRoom}
 -- ---- what is answered
 
 -- what is entered for a command, and what its caller is told
-abbrev pub Tells : Made → Entry → Entered → Type 0
-Tells m entry told = (m.entry ≡ entry) × (m.answer ≡ told)
+abbrev pub EntersWith : Made → Entry → Entered → Type 0
+EntersWith m entry told = (m.entry ≡ entry) × (m.answer ≡ told)
 
 -- where it isn't refused, want of memory may be told
 abbrev pub OrMemory : {T : Type 0} → Result T Refusal → Refusal → Type 0
@@ -50,37 +50,37 @@ OrMemory (Ok x) e = e ≡ Memory
 OrMemory (Err f) e = e ≡ f
 
 abbrev pub AnswersStart : Result StepName Refusal → Entry → Result Made Refusal → Type 0
-AnswersStart answer entry (Ok m) = (name : StepName) × (answer ≡ Ok name) × Tells m entry (entered.Started name)
+AnswersStart answer entry (Ok m) = (name : StepName) × (answer ≡ Ok name) × EntersWith m entry (entered.Started name)
 AnswersStart answer entry (Err e) = OrMemory answer e
 
 abbrev pub AnswersStep : Result Moved Refusal → Result Made Refusal → Type 0
-AnswersStep answer (Ok m) = (moved : Moved) × (answer ≡ Ok moved) × Tells m (Stepped moved.name moved.kind) (entered.Stepped moved)
+AnswersStep answer (Ok m) = (moved : Moved) × (answer ≡ Ok moved) × EntersWith m (Stepped moved.name moved.kind) (entered.Stepped moved)
 AnswersStep answer (Err e) = OrMemory answer e
 
 -- a move is refused as it is answered, or memory is wanting where something is held
-abbrev pub IsMoveRefusal : Story → Thread → Refusal → Type 0
-IsMoveRefusal story t e = OrMemory (step_answer story t) e ⊎ ((e ≡ Memory) × StepLacks story t)
+abbrev pub IsMoveRefusal : Log → Thread → Refusal → Type 0
+IsMoveRefusal log t e = OrMemory (step_answer log t) e ⊎ ((e ≡ Memory) × StepLacks log t)
 
-abbrev pub AnswersMove : Story → Thread → Result Made Refusal → Type 0
-AnswersMove story t (Ok m) = AnswersStep (step_answer story t) (Ok m)
-AnswersMove story t (Err e) = IsMoveRefusal story t e
+abbrev pub AnswersMove : Log → Thread → Result Made Refusal → Type 0
+AnswersMove log t (Ok m) = AnswersStep (step_answer log t) (Ok m)
+AnswersMove log t (Err e) = IsMoveRefusal log t e
 
-abbrev pub AnswersSettle : Story → Result Made Refusal → Type 0
-AnswersSettle story (Ok m) = (settle_answer story ≡ Ok tt) × Tells m Settle entered.Settled
-AnswersSettle story (Err e) = OrMemory (settle_answer story) e ⊎ ((e ≡ Memory) × SettleLacks story)
+abbrev pub AnswersSettle : Log → Result Made Refusal → Type 0
+AnswersSettle log (Ok m) = (settle_answer log ≡ Ok tt) × EntersWith m Settle entered.Settled
+AnswersSettle log (Err e) = OrMemory (settle_answer log) e ⊎ ((e ≡ Memory) × SettleLacks log)
 
-abbrev pub AnswersHold : Story → StepName → Result Made Refusal → Type 0
-AnswersHold story name (Ok m) = (count : ℕ) × (hold_answer story name ≡ Ok count) × Tells m (Hold name count) (entered.Held count)
-AnswersHold story name (Err e) = OrMemory (hold_answer story name) e ⊎ ((e ≡ Memory) × HoldLacks story name)
+abbrev pub AnswersHold : Log → StepName → Result Made Refusal → Type 0
+AnswersHold log name (Ok m) = (count : ℕ) × (hold_answer log name ≡ Ok count) × EntersWith m (Hold name count) (entered.Held count)
+AnswersHold log name (Err e) = OrMemory (hold_answer log name) e ⊎ ((e ≡ Memory) × HoldLacks log name)
 
 -- the command that a change is, with its answer, or why it is refused
-abbrev pub Answers : Story → Change → Result Made Refusal → Type 0
-Answers story (change.Define name d) (Ok m) = (machine : Definition) × Defines (view d.now) machine × Tells m (Define name.now machine) entered.Defined
-Answers story (change.Define name d) (Err e) = IsDefineRefusal story name.now (view d.now) e
-Answers story (change.Start exec machine input) result = AnswersStart (start_answer story exec.now machine.now) (Start exec.now machine.now input) result
-Answers story (change.Step thread) result = AnswersMove story thread.now result
-Answers story change.Settle result = AnswersSettle story result
-Answers story (change.Hold step) result = AnswersHold story step.now result
+abbrev pub Answers : Log → Change → Result Made Refusal → Type 0
+Answers log (change.Define name d) (Ok m) = (machine : Definition) × Defines (view d.now) machine × EntersWith m (Define name.now machine) entered.Defined
+Answers log (change.Define name d) (Err e) = IsDefineRefusal log name.now (view d.now) e
+Answers log (change.Start exec machine input) result = AnswersStart (start_answer log exec.now machine.now) (Start exec.now machine.now input) result
+Answers log (change.Step thread) result = AnswersMove log thread.now result
+Answers log change.Settle result = AnswersSettle log result
+Answers log (change.Hold step) result = AnswersHold log step.now result
 
 -- a start's execution has no branches, and its input nests at most 127 deep
 abbrev pub IsProper : Change → Type 0
@@ -93,33 +93,33 @@ IsProper (change.Hold step) = Unit {0}
 -- ---- what can be entered
 
 -- everything is made for this step, which can be taken
-pub record IsStepFor (b : Volume) (step : Step) (m : MadeStep) : Type 0 where
-  pub deed : deeds.Deed
-  pub is : deeds.deed (setting_of b.story) (world_of b.story) step ≡ Some deed
-  pub made : IsMadeFor m deed
-  pub ready : CanApply b.history.world m
+pub record IsStepFor (b : BookView) (step : Step) (m : MadeStep) : Type 0 where
+  pub effect : effects.Effect
+  pub is : effects.effect_of (setting_of b.log) (world_of b.log) step ≡ Some effect
+  pub made : IsMadeFor m effect
+  pub ready : CanApply (history_world b.history) m
   pub room : HasRoom b.history
   pub held_room : HasHeldRoom b.held
 
 -- a definition has an empty place, a step can be applied, there is room for the names of what is settled, and what is held is
 -- marked
-abbrev pub Fits : Volume → Entry → MadeChange → Type 0
-Fits b (Define name machine) (made.Define place shared) = (place ≡ name) × (shared ≡ machine) × (place_in b.places name ≡ Some None)
-Fits b (Start exec machine input) (made.Step m) = IsStepFor b (started exec.exec machine input) m
-Fits b (Stepped name kind) (made.Step m) = IsStepFor b (moved name) m
-Fits b Settle made.Settle = HasRoomFor b.settled (length b.history.records.items)
-Fits b (Hold name count) (made.Hold h) = IsHoldFor b.story b.history.records.items name h
-Fits b _ _ = ⊥
+abbrev pub CanEnterChange : BookView → Entry → MadeChange → Type 0
+CanEnterChange b (Define name machine) (made.Define place shared) = (place ≡ name) × (shared ≡ machine) × (place_in b.places name ≡ Some None)
+CanEnterChange b (Start exec machine input) (made.Step m) = IsStepFor b (started exec.exec machine input) m
+CanEnterChange b (Stepped name kind) (made.Step m) = IsStepFor b (moved name) m
+CanEnterChange b Settle made.Settle = HasRoomFor b.settled (length (history_records b.history))
+CanEnterChange b (Hold name count) (made.Hold h) = IsHoldFor b.log (history_records b.history) name h
+CanEnterChange b _ _ = ⊥
 
 -- there is room for one more entry, and for that of its undoing
-abbrev pub HasLogRoom : Volume → Type 0
-HasLogRoom b = length b.story.log + length b.history.records.items + 2 ≤ b.capacity
+abbrev pub HasLogRoom : BookView → Type 0
+HasLogRoom b = length b.log.entries + length (history_records b.history) + 2 ≤ b.capacity
 
 -- The command is accepted, everything is made for it, and there is room for its entry and that of its undoing: the book is as it was
 -- left when this was made.
-pub record CanEnter (b : Volume) (m : Made) : Type 0 where
-  pub accepted : IsAccepted b.story m.entry
-  pub fits : Fits b m.entry m.change
+pub record CanEnter (b : BookView) (m : Made) : Type 0 where
+  pub is_accepted : IsAccepted b.log m.entry
+  pub fits : CanEnterChange b m.entry m.change
   pub room : HasLogRoom b
 
 -- everything is made to hold the steps at these places
@@ -129,27 +129,27 @@ IsMadeHold name rs places m =
     × ((k : ℕ) (mark : Bool) → slice_get h.left.marks k ≡ Some mark → mark ≡ list_any (λ p. p == k) places)
 
 -- everything is made to hold so many steps
-abbrev pub MakesHold : Story → List StepRecord → StepName → Made → Type 0
-MakesHold story rs name m =
-    (h : holds.Hold) × (m ≡ record { entry = Hold name (length (consequences_of story name)); answer = entered.Held (length (consequences_of story name)); change = made.Hold h }) × IsHoldFor story rs name h
+abbrev pub MakesHold : Log → List StepRecord → StepName → Made → Type 0
+MakesHold log rs name m =
+    (h : holds.Hold) × (m ≡ record { entry = Hold name (length (consequences_of log name)); answer = entered.Held (length (consequences_of log name)); change = made.Hold h }) × IsHoldFor log rs name h
 
 -- ---- rollback
 
 -- The names are the step and its consequences after so many entries, the latest first, and the places are theirs.
-pub record IsPlanned (story : Story) (r : PlanRoom) : Type 0 where
-  pub names : plan_answer story r.step ≡ Ok r.names
+pub record IsPlanned (log : Log) (r : PlanRoom) : Type 0 where
+  pub names : plan_answer log r.step ≡ Ok r.names
   pub kept : r.undone ≡ r.names
-  pub entries : length story.log ≡ r.entries
+  pub entries : length log.entries ≡ r.entries
   -- the step stands at this place
   pub at : ℕ
-  pub there : option_map (λ f. f.name) (slice_get (facts_of story) at) ≡ Some r.step
-  pub places : r.places ≡ plan (facts_of story) at
+  pub there : option_map (λ f. f.name) (slice_get (facts_of log) at) ≡ Some r.step
+  pub places : r.places ≡ plan (facts_of log) at
   -- the steps of these names may be undone one by one in this order
-  pub order : (xs : List Past) × IsAllowedOrder story r.names xs
+  pub order : (xs : List TakenStep) × IsBackwardOrderOf log r.names xs
 
 -- The room was planned when the book had its first entries, as many as the room counts.
-pub record WasPlanned (story : Story) (r : PlanRoom) : Type 0 where
+pub record WasPlanned (log : Log) (r : PlanRoom) : Type 0 where
   pub front : List Entry
   pub later : List Entry
-  pub parts : story.log ≡ front ++ later
-  pub planned : IsPlanned (record { begin = story.begin; log = front }) r
+  pub parts : log.entries ≡ front ++ later
+  pub planned : IsPlanned (record { begin = log.begin; entries = front }) r

@@ -8,7 +8,7 @@ use Rattle.saved_steps.specs.declared.fact.Kind.{Kind}
 use Rattle.step_names.specs.Thread.{Thread, execution}
 use Rattle.book_log.specs.Answers.{start_answer, step_answer}
 use Rattle.book_log.specs.Legal.{IsAccepted}
-use Rattle.book_log.specs.Story.{Story, accepted}
+use Rattle.book_log.specs.Log.{Log, appended}
 use Rattle.book_log.specs.declared.refusal.Refusal.{Refusal}
 use Rattle.book_log.specs.declared.refusal.Refusal.TheVariants.{NoStep, Memory}
 use Rattle.book_log.specs.declared.entry.Entry.{Entry}
@@ -35,24 +35,24 @@ or_earlier None earlier = earlier
 -- what the last start of the execution has
 abbrev pub last_start : Thread → List Entry → Option Origin
 last_start t [] = None
-last_start t (e ∷ log) = or_earlier (last_start t log) (start_in t e)
+last_start t (e ∷ entries) = or_earlier (last_start t entries) (start_in t e)
 
 -- the step is accepted
-abbrev pub CanRetake : Story → Step → Type 0
-CanRetake story (started exec machine input) = start_answer story (execution exec) machine ≡ Ok (start_name exec)
-CanRetake story (moved name) = (kind : Kind) × (step_answer story name.thread ≡ Ok (record { name = name; kind = kind }))
+abbrev pub CanRetake : Log → Step → Type 0
+CanRetake log (started exec machine input) = start_answer log (execution exec) machine ≡ Ok (start_name exec)
+CanRetake log (moved name) = (kind : Kind) × (step_answer log name.thread ≡ Ok (record { name = name; kind = kind }))
 
--- and the story has it more
-abbrev pub IsRetaken : Story → Step → Story → Type 0
-IsRetaken story (started exec machine input) later = (start_answer story (execution exec) machine ≡ Ok (start_name exec)) × (later ≡ accepted story (Start (execution exec) machine input))
-IsRetaken story (moved name) later = (kind : Kind) × (step_answer story name.thread ≡ Ok (record { name = name; kind = kind })) × (later ≡ accepted story (Stepped name kind))
+-- and the log has it more
+abbrev pub IsRetaken : Log → Step → Log → Type 0
+IsRetaken log (started exec machine input) later = (start_answer log (execution exec) machine ≡ Ok (start_name exec)) × (later ≡ appended log (Start (execution exec) machine input))
+IsRetaken log (moved name) later = (kind : Kind) × (step_answer log name.thread ≡ Ok (record { name = name; kind = kind })) × (later ≡ appended log (Stepped name kind))
 
 -- it is taken; or there is none, or it can't be taken, or memory was refused
-abbrev pub Retakes : {T : Type 0} → Story → Option Step → Result T Refusal → Story → Type 0
-Retakes story None (Ok x) later = ⊥
-Retakes story None (Err e) later = (e ≡ Memory) ⊎ (e ≡ NoStep)
-Retakes story (Some step) (Ok x) later = IsRetaken story step later
-Retakes story (Some step) (Err e) later = (e ≡ Memory) ⊎ ((e ≡ NoStep) × (CanRetake story step → ⊥))
+abbrev pub Retakes : {T : Type 0} → Log → Option Step → Result T Refusal → Log → Type 0
+Retakes log None (Ok x) later = ⊥
+Retakes log None (Err e) later = (e ≡ Memory) ⊎ (e ≡ NoStep)
+Retakes log (Some step) (Ok x) later = IsRetaken log step later
+Retakes log (Some step) (Err e) later = (e ≡ Memory) ⊎ ((e ≡ NoStep) × (CanRetake log step → ⊥))
 
 -- the next move after this frame has this number
 abbrev pub is_numbered : Option Frame → ℕ → Bool
@@ -60,11 +60,11 @@ is_numbered None number = false
 is_numbered (Some f) number = f.count == number - 1
 
 -- where the entry is a definition, it is accepted
-abbrev pub MayDefine : Story → Entry → Type 0
-MayDefine story (Define name machine) = IsAccepted story (Define name machine)
-MayDefine story (Start exec machine input) = Unit {0}
-MayDefine story (Stepped name kind) = Unit {0}
-MayDefine story (Undo name) = Unit {0}
-MayDefine story (Rollback name undone) = Unit {0}
-MayDefine story Settle = Unit {0}
-MayDefine story (Hold name count) = Unit {0}
+abbrev pub MayDefine : Log → Entry → Type 0
+MayDefine log (Define name machine) = IsAccepted log (Define name machine)
+MayDefine log (Start exec machine input) = Unit {0}
+MayDefine log (Stepped name kind) = Unit {0}
+MayDefine log (Undo name) = Unit {0}
+MayDefine log (Rollback name undone) = Unit {0}
+MayDefine log Settle = Unit {0}
+MayDefine log (Hold name count) = Unit {0}

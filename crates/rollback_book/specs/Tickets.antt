@@ -5,40 +5,40 @@ use Rattle.branch_tree.specs.Ready.{readiness_at}
 use Rattle.branch_tree.specs.declared.readiness.Readiness.{Readiness}
 use Rattle.saved_steps.specs.Held.{paths_of}
 use Rattle.step_history.specs.Frame.{Frame}
-use Rattle.step_history.specs.Turn.{standing}
+use Rattle.step_history.specs.Turn.{located}
 use Rattle.step_names.specs.Thread.{Thread}
-use Rattle.book_log.specs.Answers.{has_move}
-use Rattle.book_log.specs.Story.{Story, machine_of, world_of}
+use Rattle.book_log.specs.Answers.{is_enabled}
+use Rattle.book_log.specs.Log.{Log, machine_of, world_of}
 use Rattle.book_log.specs.declared.refusal.Refusal.{Refusal}
 use Rattle.book_log.specs.declared.refusal.Refusal.TheVariants.{NoThread, NotReady, Memory}
 use Rattle.rollback_book.specs.declared.ticket.Ticket.{Ticket}
 
 -- what a thread can do next
-abbrev pub readiness_in : Story → Thread → Readiness
-readiness_in story t = readiness_at (paths_of (world_of story).frames t.exec) t.path
+abbrev pub readiness_in : Log → Thread → Readiness
+readiness_in log t = readiness_at (paths_of (world_of log).frames t.exec) t.path
 
 -- the thread has this frame, of this machine, and a move
-pub record IsMoving (story : Story) (t : Thread) (machine : Definition) (f : Frame) : Type 0 where
-  pub frame : (world_of story).frames t ≡ Some f
-  pub known : machine_of story f.level.machine ≡ Some machine
-  pub moves : has_move story t ≡ true
+pub record IsMoving (log : Log) (t : Thread) (machine : Definition) (f : Frame) : Type 0 where
+  pub frame : (world_of log).frames t ≡ Some f
+  pub known : machine_of log f.level.machine ≡ Some machine
+  pub moves : is_enabled log t ≡ true
 
 -- a ticket is refused where there is no such thread, or it has no move; else memory alone may be wanting
-abbrev pub IsTicketRefusal : Story → Thread → Refusal → Type 0
-IsTicketRefusal story t NoThread = (world_of story).frames t ≡ None
-IsTicketRefusal story t (NotReady readiness) = IsSome ((world_of story).frames t) × (has_move story t ≡ false) × (readiness ≡ readiness_in story t)
-IsTicketRefusal story t Memory = has_move story t ≡ true
-IsTicketRefusal story t _ = ⊥
+abbrev pub IsTicketRefusal : Log → Thread → Refusal → Type 0
+IsTicketRefusal log t NoThread = (world_of log).frames t ≡ None
+IsTicketRefusal log t (NotReady readiness) = IsSome ((world_of log).frames t) × (is_enabled log t ≡ false) × (readiness ≡ readiness_in log t)
+IsTicketRefusal log t Memory = is_enabled log t ≡ true
+IsTicketRefusal log t _ = ⊥
 
 -- the thread's name, its frame and the machine of that frame's level
-abbrev pub AnswersTicket : Story → Thread → Result Ticket Refusal → Type 0
-AnswersTicket story t (Ok ticket) = (ticket.thread ≡ t) × IsMoving story t ticket.machine ticket.frame
-AnswersTicket story t (Err e) = IsTicketRefusal story t e
+abbrev pub AnswersTicket : Log → Thread → Result Ticket Refusal → Type 0
+AnswersTicket log t (Ok ticket) = (ticket.thread ≡ t) × IsMoving log t ticket.machine ticket.frame
+AnswersTicket log t (Err e) = IsTicketRefusal log t e
 
 -- ---- inside
 
 -- the thread's next move can be prepared, or its branches can be taken out
-pub record IsTicketed (story : Story) (t : Thread) (machine : Definition) (f : Frame) : Type 0 where
-  pub moving : IsMoving story t machine f
-  pub stands : IsSome (standing machine f)
+pub record IsTicketed (log : Log) (t : Thread) (machine : Definition) (f : Frame) : Type 0 where
+  pub moving : IsMoving log t machine f
+  pub stands : IsSome (located machine f)
   pub few : f.count + 1 < 2 ^ 32

@@ -2,10 +2,10 @@
 ghost use Rattle.std.specs.Prelude.{◌≡◌, ◌^◌, ◌<◌, ◌⊎◌, [], map, length, IfOk, IsOk, MatchResult, Some, None, Ok, Err};
 ghost use Rattle.item_store.specs.Listing.{IsListing, items_left};
 ghost use Rattle.saved_steps.specs.Steps.{name_of};
-ghost use Rattle.step_history.specs.History.{AreRecordsOf};
+ghost use Rattle.step_history.specs.History.{AreRecordsOf, history_items};
 ghost use Rattle.book_log.specs.Answers.{absent, undo_answer};
 ghost use Rattle.book_log.specs.Beginning.{table_of};
-ghost use Rattle.book_log.specs.Story.{accepted, past_of, remaining, world_of};
+ghost use Rattle.book_log.specs.Log.{appended, past_of, remaining, world_of};
 ghost use Rattle.rollback_book.specs.Book.{IsAt, IsFreePlace};
 ghost use Rattle.rollback_book.specs.Calls.{IsLogOf, MakesRoom, PlansRollback, RollsBack, Shows, Undoes};
 ghost use Rattle.rollback_book.specs.Making.{IsPlanned, WasPlanned};
@@ -28,22 +28,22 @@ use step_names::{StepName, ThreadName};
 
 /// Executions of state machines over one table, and the steps that were taken and not taken back.
 ///
-/// Contracts see the story: what the book began with, and the log of the commands that it accepted. The remaining steps, and the
-/// executions and items that these give when they are run from the start, are functions of the story. Beside it stand the room and
+/// Contracts see the log: what the book began with, and the log of the commands that it accepted. The remaining steps, and the
+/// executions and items that these give when they are run from the start, are functions of the log. Beside it stand the room and
 /// the places that commands need, of which only the conditions of `enter` speak.
 #[derive(Drop)]
 pub struct Book {
     pub(crate) begin: Begin,
     pub(crate) machines: Machines,
     pub(crate) history: History,
-    pub(crate) log: Vec<Entry>,
+    pub(crate) entries: Vec<Entry>,
     pub(crate) settled: SettledNames,
     /// Of a hold that stands, which steps are left.
     pub(crate) held: Option<Hold>,
 }
 
 impl Model for Book {
-    ghost use Rattle.rollback_book.specs.Book.{Volume, IsTied, volume};
+    ghost use Rattle.rollback_book.specs.Book.{BookView, BookInvariant, book_view};
     ghost use Rattle.asl_tree.specs.TreeCode.{definition_code};
     ghost use Rattle.book_log.specs.contracts.begin.Begin as begin_row;
     ghost use Rattle.book_log.specs.contracts.entry.Entry as entry_row;
@@ -51,13 +51,13 @@ impl Model for Book {
     ghost use Rattle.rollback_book.specs.contracts.hold.Hold as hold_row;
     ghost use Rattle.std.specs.Coded.{codes};
 
-    ghost Value = { Volume };
+    ghost Value = { BookView };
 
     ghost coded = { Prim.hlevel (codes, begin_row.the_row.coded, entry_row.the_row.coded, history_row.the_row.coded, hold_row.the_row.coded, definition_code) };
 
-    ghost view = { λ b. volume b.begin b.machines b.history b.log b.settled b.held };
+    ghost view = { λ b. book_view b.begin b.machines b.history b.entries b.settled b.held };
 
-    ghost invariant = { λ b. IsTied (volume b.begin b.machines b.history b.log b.settled b.held) };
+    ghost invariant = { λ b. BookInvariant (book_view b.begin b.machines b.history b.entries b.settled b.held) };
 }
 
 impl Book {
@@ -69,7 +69,7 @@ impl Book {
     /// The fault of the first item that is none, and `Memory`.
     pub fn open(alloc: Global, begin: Begin) -> Result<Book, ItemFault>
         ensures { MatchResult result
-            (λ book. (book.story ≡ record { begin = begin; log = [] }) × IsOk (table_of begin))
+            (λ book. (book.log ≡ record { begin = begin; entries = [] }) × IsOk (table_of begin))
             (λ e. (e ≡ ItemFault.Memory) ⊎ (table_of begin ≡ Err e)) }
     {
         match first_store(alloc, &begin) {
@@ -77,7 +77,7 @@ impl Book {
                 begin,
                 machines: BTreeMap::new(alloc),
                 history: History::new(alloc, items),
-                log: Vec::new(alloc),
+                entries: Vec::new(alloc),
                 settled: SettledNames::new(alloc),
                 held: None,
             }),
@@ -100,7 +100,7 @@ impl Book {
     pub fn can_undo(&self, room: Room) -> Result<FreeRoom, Refusal>
         ensures { MatchResult result
             (λ free. (free.room.step ≡ room.step) × IsFreePlace self.now free.room.step free.at)
-            (λ e. undo_answer self.now.story room.step ≡ Err e) }
+            (λ e. undo_answer self.now.log room.step ≡ Err e) }
     {
         let Some(at) = self.history.find(&room.step) else {
             let gone = self.absent(&room.step);
@@ -119,7 +119,7 @@ impl Book {
     pub fn undo_found(&mut self, free: FreeRoom) -> StepName
         requires { IsFreePlace self.old free.room.step free.at }
         ensures name { result ≡ free.room.step }
-        ensures story { self.new.story ≡ accepted self.old.story (Entry.Undo free.room.step) }
+        ensures log { self.new.log ≡ appended self.old.log (Entry.Undo free.room.step) }
     {
         let FreeRoom { room, at } = free;
         let Room { step, spare } = room;
@@ -130,7 +130,7 @@ impl Book {
 
     /// Takes a step back on which no remaining step depends directly, and answers its name. Takes no memory.
     pub fn undo(&mut self, room: Room) -> Result<StepName, Refusal>
-        ensures { Undoes self.old.story self.new.story room.step result }
+        ensures { Undoes self.old.log self.new.log room.step result }
     {
         let free = self.can_undo(room)?;
         Ok(self.undo_found(free))
@@ -138,7 +138,7 @@ impl Book {
 
     /// Plans the rollback of a step: it and its consequences, the latest first. Takes memory for their names, twice, and places.
     pub fn plan_room(&self, alloc: Global, step: &StepName) -> Result<PlanRoom, Refusal>
-        ensures { PlansRollback self.now.story step.now result }
+        ensures { PlansRollback self.now.log step.now result }
     {
         let Some(at) = self.history.find(step) else {
             return Err(self.absent(step));
@@ -156,11 +156,11 @@ impl Book {
     ///
     /// `Stale` where commands were accepted since the plan was made.
     pub fn rollback(&mut self, room: PlanRoom) -> Result<StepNames, Refusal>
-        requires { WasPlanned self.old.story room }
-        ensures { RollsBack self.old.story self.new.story room result }
+        requires { WasPlanned self.old.log room }
+        ensures { RollsBack self.old.log self.new.log room result }
     {
-        if self.log.len() != room.entries {
-            return Err(Refusal::Stale(self.log.len()));
+        if self.entries.len() != room.entries {
+            return Err(Refusal::Stale(self.entries.len()));
         }
         let PlanRoom {
             step,
@@ -171,13 +171,13 @@ impl Book {
         } = room;
         self.history.rollback(&places);
         take_out(&mut self.held, places.places());
-        push_with_room(&mut self.log, Entry::Rollback { step, undone });
+        push_with_room(&mut self.entries, Entry::Rollback { step, undone });
         Ok(names)
     }
 
     /// The frame of a thread. Takes no memory, and time logarithmic in the number of executions.
     pub fn show(&self, thread: &ThreadName) -> Result<&Frame, Refusal>
-        ensures { Shows self.now.story thread.now result }
+        ensures { Shows self.now.log thread.now result }
     {
         match self.history.frame(thread) {
             Some(frame) => Ok(frame),
@@ -187,7 +187,7 @@ impl Book {
 
     /// The items of the table in the order of their keys. Takes no memory.
     pub fn items(&self) -> Items<'_>
-        ensures items { IsListing (world_of self.now.story).items (items_left result) }
+        ensures items { IsListing (world_of self.now.log).items (items_left result) }
         ensures fits { length (items_left result) < 2 ^ 63 }
     {
         self.history.items().items()
@@ -195,22 +195,22 @@ impl Book {
 
     /// The remaining steps in the order in which they were taken, each with what its undoing gives back. Takes no memory.
     pub fn history(&self) -> &StepRecords
-        ensures names { map (λ r. r.fact.name) result.now.items ≡ map name_of (remaining self.now.story) }
-        ensures saved { AreRecordsOf self.now.history.world.items result.now.items (past_of self.now.story) }
+        ensures names { map (λ r. r.fact.name) result.now.items ≡ map name_of (remaining self.now.log) }
+        ensures saved { AreRecordsOf (history_items self.now.history) result.now.items (past_of self.now.log) }
     {
         self.history.records()
     }
 
     /// What the book began with, and the commands that it accepted, each with its reply. Takes no memory.
     pub fn entries(&self) -> (&Begin, &[Entry])
-        ensures { IsLogOf self.now.story result.0.now result.1.now }
+        ensures { IsLogOf self.now.log result.0.now result.1.now }
     {
-        (&self.begin, self.log.as_slice())
+        (&self.begin, self.entries.as_slice())
     }
 
     /// Why a step that doesn't remain can't be taken back.
     pub(crate) fn absent(&self, name: &StepName) -> Refusal
-        ensures { result ≡ absent self.now.story name.now }
+        ensures { result ≡ absent self.now.log name.now }
     {
         absent_in(&self.settled, name)
     }
@@ -218,7 +218,7 @@ impl Book {
     /// The plan of the step at a place.
     fn plan_at(&self, alloc: Global, step: &StepName, at: usize) -> Result<PlanRoom, AllocError>
         requires { IsAt self.now step.now at }
-        ensures { IfOk result (λ r. (r.step ≡ step.now) × IsPlanned self.now.story r) }
+        ensures { IfOk result (λ r. (r.step ≡ step.now) × IsPlanned self.now.log r) }
     {
         let places = self.history.plan(alloc, at)?;
         let names = names_at(alloc, self.history.records(), places.places())?;
@@ -228,17 +228,17 @@ impl Book {
             names,
             undone,
             places,
-            entries: self.log.len(),
+            entries: self.entries.len(),
         })
     }
 
     /// Takes back the step at a place.
     pub(crate) fn take_back(&mut self, at: usize, step: StepName)
         requires { IsFreePlace self.old step at }
-        ensures { self.new.story ≡ accepted self.old.story (Entry.Undo step) }
+        ensures { self.new.log ≡ appended self.old.log (Entry.Undo step) }
     {
         self.history.undo(at);
         take_out(&mut self.held, &[at]);
-        push_with_room(&mut self.log, Entry::Undo { step });
+        push_with_room(&mut self.entries, Entry::Undo { step });
     }
 }

@@ -7,7 +7,7 @@ use crate::book::Book;
 use crate::hold::is_full_unheld;
 use crate::machines::machine_in;
 use crate::making::{Entered, Made};
-use crate::stepping::{has_move, next_name};
+use crate::stepping::{is_enabled, next_name};
 use book_log::{Moved, Refusal};
 use branch_tree::Readiness;
 use saved_steps::Next;
@@ -60,8 +60,8 @@ impl Book {
         thread: &ThreadName,
         prepared: Prepared,
     ) -> Result<Moved, CommitRefusal>
-        ensures answer { AnswersCommit self.old.story thread.now prepared result }
-        ensures story { Commits self.old.story result self.new.story }
+        ensures answer { AnswersCommit self.old.log thread.now prepared result }
+        ensures log { Commits self.old.log result self.new.log }
     {
         if let Some(why) = self.staleness(thread, &prepared) {
             return Err(CommitRefusal::Stale(why, prepared));
@@ -79,7 +79,7 @@ impl Book {
 
     /// Why a turn isn't the thread's next, if it isn't.
     fn staleness(&self, thread: &ThreadName, prepared: &Prepared) -> Option<Staleness>
-        ensures { IsStaleness self.now.story thread.now prepared.now result }
+        ensures { IsStaleness self.now.log thread.now prepared.now result }
     {
         let Some((frame, readiness)) = self.history.look_up(thread) else {
             return Some(Staleness::Gone);
@@ -93,7 +93,7 @@ impl Book {
         if !self.is_source(prepared, frame) {
             return Some(Staleness::Other);
         }
-        if !has_move(readiness) {
+        if !is_enabled(readiness) {
             return Some(Staleness::NotReady(readiness));
         }
         None
@@ -101,8 +101,8 @@ impl Book {
 
     /// Whether a turn was prepared of this frame, in the book's machine of its level.
     fn is_source(&self, prepared: &Prepared, frame: &Frame) -> bool
-        ensures same { result ≡ true → IsSource self.now.story prepared.now frame.now }
-        ensures other { result ≡ false → IsSource self.now.story prepared.now frame.now → ⊥ }
+        ensures same { result ≡ true → IsSource self.now.log prepared.now frame.now }
+        ensures other { result ≡ false → IsSource self.now.log prepared.now frame.now → ⊥ }
     {
         if frame != prepared.frame() {
             return false;
@@ -120,12 +120,12 @@ impl Book {
         thread: &ThreadName,
         prepared: Prepared,
     ) -> Result<Made, Refusal>
-        requires { IsFresh self.old.story thread.now prepared }
-        ensures answer { AnswersMove self.old.story thread.now result }
+        requires { IsFresh self.old.log thread.now prepared }
+        ensures answer { AnswersMove self.old.log thread.now result }
         ensures ready { IfOk result (λ m. CanEnter self.new m) }
-        ensures story { self.new.story ≡ self.old.story }
+        ensures log { self.new.log ≡ self.old.log }
     {
-        if is_full_unheld(&self.held, self.log.len(), self.history.len()) {
+        if is_full_unheld(&self.held, self.entries.len(), self.history.len()) {
             drop(prepared);
             return Err(Refusal::Full);
         }

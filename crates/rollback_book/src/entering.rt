@@ -4,18 +4,19 @@ ghost use Rattle.json_tree.specs.Data.{depth, most_levels};
 ghost use Rattle.json_tree.specs.View.{data_of};
 ghost use Rattle.serde_json.specs.View.{view};
 ghost use Rattle.asl_tree.specs.Definition.{Definition};
-ghost use Rattle.asl_tree.specs.Levels.{IsWhole};
+ghost use Rattle.asl_tree.specs.Levels.{IsWellFormedThroughout};
 ghost use Rattle.asl_machine.specs.Profile.{Defines};
-ghost use Rattle.saved_steps.specs.Held.{frames_of, seen};
-ghost use Rattle.saved_steps.specs.Made.{Suits};
+ghost use Rattle.saved_steps.specs.Held.{frames_of, world_view};
+ghost use Rattle.saved_steps.specs.Made.{CanMake};
 ghost use Rattle.saved_steps.specs.Steps.{start_name};
 ghost use Rattle.book_log.specs.Answers.{IsDefineRefusal, is_full_for_define, start_answer};
 ghost use Rattle.book_log.specs.Legal.{IsAccepted};
-ghost use Rattle.book_log.specs.Story.{accepted, machine_of, world_of};
+ghost use Rattle.book_log.specs.Log.{appended, machine_of, world_of};
 ghost use Rattle.rollback_book.specs.Book.{place_in};
 ghost use Rattle.rollback_book.specs.Calls.{Starts};
-ghost use Rattle.rollback_book.specs.Making.{Answers, AnswersStart, CanEnter, Fits, HasLogRoom, IsProper, OrMemory, Tells};
+ghost use Rattle.rollback_book.specs.Making.{Answers, AnswersStart, CanEnter, CanEnterChange, HasLogRoom, IsProper, OrMemory, EntersWith};
 ghost use Rattle.rollback_book.specs.Ready.{IsMadeIn, IsStartOf};
+ghost use Rattle.step_history.specs.History.{history_world};
 
 use crate::book::Book;
 use crate::checks::{is_full_for_define, is_full_for_step, read_machine};
@@ -40,9 +41,9 @@ impl Book {
     /// `MachineTaken`, `BadMachine`, `Full` and `Memory`, in this order.
     pub fn define(&mut self, alloc: Global, name: &Text, definition: &Value) -> Result<(), Refusal>
         ensures ok { OnOk result ((machine : Definition) × Defines (view definition.now) machine
-            × (self.new.story ≡ accepted self.old.story (Entry.Define name.now machine))) }
-        ensures refused { IfErr result (IsDefineRefusal self.old.story name.now (view definition.now)) }
-        ensures err { OnErr result (self.new.story ≡ self.old.story) }
+            × (self.new.log ≡ appended self.old.log (Entry.Define name.now machine))) }
+        ensures refused { IfErr result (IsDefineRefusal self.old.log name.now (view definition.now)) }
+        ensures err { OnErr result (self.new.log ≡ self.old.log) }
     {
         let made = self.ready_define(alloc, name, definition)?;
         let _ = self.enter(made);
@@ -64,7 +65,7 @@ impl Book {
     ) -> Result<StepName, Refusal>
         requires execution { exec.now.path ≡ [] }
         requires shallow { depth (data_of input) ≤ most_levels }
-        ensures { Starts self.old.story self.new.story exec.now machine.now input result }
+        ensures { Starts self.old.log self.new.log exec.now machine.now input result }
     {
         let made = self.ready_start(alloc, exec, machine, input)?;
         let Entered::Started(name) = self.enter(made) else {
@@ -73,13 +74,13 @@ impl Book {
         Ok(name)
     }
 
-    /// Makes everything that a command needs, so that to enter it takes no memory and is not refused. The story is the same
+    /// Makes everything that a command needs, so that to enter it takes no memory and is not refused. The log is the same
     /// then.
     pub fn ready_entry(&mut self, alloc: Global, change: Change<'_>) -> Result<Made, Refusal>
         requires { IsProper change }
-        ensures answer { Answers self.old.story change.entry result }
+        ensures answer { Answers self.old.log change.entry result }
         ensures ready { IfOk result (λ m. CanEnter self.new m) }
-        ensures story { self.new.story ≡ self.old.story }
+        ensures log { self.new.log ≡ self.old.log }
     {
         match change {
             Change::Define { name, definition } => self.ready_define(alloc, name, definition),
@@ -98,7 +99,7 @@ impl Book {
     pub fn enter(&mut self, made: Made) -> Entered
         requires { CanEnter self.old made }
         ensures answer { result ≡ made.answer }
-        ensures story { self.new.story ≡ accepted self.old.story made.entry }
+        ensures log { self.new.log ≡ appended self.old.log made.entry }
     {
         let Made {
             entry,
@@ -115,24 +116,24 @@ impl Book {
     }
 
     fn enter_define(&mut self, entry: Entry, name: Text, machine: SharedMachine)
-        requires accepted { IsAccepted self.old.story entry }
-        requires fits { Fits self.old entry (MadeChange.Define name machine) }
+        requires is_accepted { IsAccepted self.old.log entry }
+        requires fits { CanEnterChange self.old entry (MadeChange.Define name machine) }
         requires room { HasLogRoom self.old }
-        ensures { self.new.story ≡ accepted self.old.story entry }
+        ensures { self.new.log ≡ appended self.old.log entry }
     {
         fill_place(&mut self.machines, &name, machine);
-        push_with_room(&mut self.log, entry);
+        push_with_room(&mut self.entries, entry);
     }
 
     fn enter_step(&mut self, entry: Entry, step: saved_steps::Made)
-        requires accepted { IsAccepted self.old.story entry }
-        requires fits { Fits self.old entry (MadeChange.Step step) }
+        requires is_accepted { IsAccepted self.old.log entry }
+        requires fits { CanEnterChange self.old entry (MadeChange.Step step) }
         requires room { HasLogRoom self.old }
-        ensures { self.new.story ≡ accepted self.old.story entry }
+        ensures { self.new.log ≡ appended self.old.log entry }
     {
         self.history.apply(step);
         add_unheld(&mut self.held);
-        push_with_room(&mut self.log, entry);
+        push_with_room(&mut self.entries, entry);
     }
 
     // ---- definitions
@@ -144,10 +145,10 @@ impl Book {
         definition: &Value,
     ) -> Result<Made, Refusal>
         ensures answer { MatchResult result
-            (λ m. (machine : Definition) × Defines (view definition.now) machine × Tells m (Entry.Define name.now machine) Entered.Defined)
-            (IsDefineRefusal self.old.story name.now (view definition.now)) }
+            (λ m. (machine : Definition) × Defines (view definition.now) machine × EntersWith m (Entry.Define name.now machine) Entered.Defined)
+            (IsDefineRefusal self.old.log name.now (view definition.now)) }
         ensures ready { IfOk result (λ m. CanEnter self.new m) }
-        ensures story { self.new.story ≡ self.old.story }
+        ensures log { self.new.log ≡ self.old.log }
     {
         if self.has_machine(name) {
             return Err(Refusal::MachineTaken);
@@ -158,7 +159,7 @@ impl Book {
 
     /// Whether a machine is defined under a name.
     fn has_machine(&self, name: &Text) -> bool
-        ensures { result ≡ is_some (machine_of self.now.story name.now) }
+        ensures { result ≡ is_some (machine_of self.now.log name.now) }
     {
         machine_in(&self.machines, name).is_some()
     }
@@ -169,14 +170,14 @@ impl Book {
         name: &Text,
         machine: Machine,
     ) -> Result<Made, Refusal>
-        requires free { machine_of self.old.story name.now ≡ None }
-        requires whole { IsWhole machine }
-        ensures made { IfOk result (λ m. Tells m (Entry.Define name.now machine) Entered.Defined) }
-        ensures refused { IfErr result (λ e. ((e ≡ Refusal.Full) × IsTrue (is_full_for_define self.old.story)) ⊎ (e ≡ Refusal.Memory)) }
+        requires free { machine_of self.old.log name.now ≡ None }
+        requires whole { IsWellFormedThroughout machine }
+        ensures made { IfOk result (λ m. EntersWith m (Entry.Define name.now machine) Entered.Defined) }
+        ensures refused { IfErr result (λ e. ((e ≡ Refusal.Full) × IsTrue (is_full_for_define self.old.log)) ⊎ (e ≡ Refusal.Memory)) }
         ensures ready { IfOk result (λ m. CanEnter self.new m) }
-        ensures story { self.new.story ≡ self.old.story }
+        ensures log { self.new.log ≡ self.old.log }
     {
-        if is_full_for_define(self.log.len(), self.history.len()) {
+        if is_full_for_define(self.entries.len(), self.history.len()) {
             drop(machine);
             return Err(Refusal::Full);
         }
@@ -192,12 +193,12 @@ impl Book {
 
     /// Makes a place for a machine, and room for its entry and that of its undoing.
     pub(crate) fn make_place(&mut self, name: &Text) -> Result<(), AllocError>
-        requires { machine_of self.old.story name.now ≡ None }
+        requires { machine_of self.old.log name.now ≡ None }
         ensures place { OnOk result (place_in self.new.places name.now ≡ Some None) }
         ensures room { OnOk result (HasLogRoom self.new) }
-        ensures story { self.new.story ≡ self.old.story }
+        ensures log { self.new.log ≡ self.old.log }
     {
-        reserve_entries(&mut self.log, self.history.len())?;
+        reserve_entries(&mut self.entries, self.history.len())?;
         make_place(&mut self.machines, name)
     }
 
@@ -212,9 +213,9 @@ impl Book {
     ) -> Result<Made, Refusal>
         requires execution { exec.now.path ≡ [] }
         requires shallow { depth (data_of input) ≤ most_levels }
-        ensures answer { AnswersStart (start_answer self.old.story exec.now machine.now) (Entry.Start exec.now machine.now input) result }
+        ensures answer { AnswersStart (start_answer self.old.log exec.now machine.now) (Entry.Start exec.now machine.now input) result }
         ensures ready { IfOk result (λ m. CanEnter self.new m) }
-        ensures story { self.new.story ≡ self.old.story }
+        ensures log { self.new.log ≡ self.old.log }
     {
         let frame = match self.start_frame(alloc, exec, machine, &input) {
             Ok(frame) => frame,
@@ -250,7 +251,7 @@ impl Book {
         requires { exec.now.path ≡ [] }
         ensures answer { MatchResult result
             (λ f. IsStartOf self.now exec.now machine.now input.now f)
-            (λ e. OrMemory (start_answer self.now.story exec.now machine.now) e) }
+            (λ e. OrMemory (start_answer self.now.log exec.now machine.now) e) }
     {
         let shared = self.check_start(exec, machine)?;
         match first_frame(alloc, machine, shared.machine(), input) {
@@ -262,11 +263,11 @@ impl Book {
     /// The machine of a start that may be taken.
     fn check_start(&self, exec: &ThreadName, machine: &Text) -> Result<&SharedMachine, Refusal>
         ensures answer { MatchResult result
-            (λ _. start_answer self.now.story exec.now machine.now ≡ Ok (start_name exec.now.exec))
-            (λ e. start_answer self.now.story exec.now machine.now ≡ Err e) }
-        ensures machine { IfOk result (λ m. machine_of self.now.story machine.now ≡ Some m.now) }
-        ensures absent { OnOk result (frames_of self.now.history.world exec.now ≡ None) }
-        ensures world { OnOk result (world_of self.now.story ≡ seen self.now.history.world) }
+            (λ _. start_answer self.now.log exec.now machine.now ≡ Ok (start_name exec.now.exec))
+            (λ e. start_answer self.now.log exec.now machine.now ≡ Err e) }
+        ensures machine { IfOk result (λ m. machine_of self.now.log machine.now ≡ Some m.now) }
+        ensures absent { OnOk result (frames_of (history_world self.now.history) exec.now ≡ None) }
+        ensures world { OnOk result (world_of self.now.log ≡ world_view (history_world self.now.history)) }
     {
         let Some(shared) = machine_in(&self.machines, machine) else {
             return Err(Refusal::NoMachine);
@@ -274,7 +275,7 @@ impl Book {
         if self.has_frame(exec) {
             return Err(Refusal::ExecTaken);
         }
-        if is_full_for_step(self.log.len(), self.history.len()) {
+        if is_full_for_step(self.entries.len(), self.history.len()) {
             return Err(Refusal::Full);
         }
         Ok(shared)
@@ -282,7 +283,7 @@ impl Book {
 
     /// Whether a thread has a frame.
     fn has_frame(&self, thread: &ThreadName) -> bool
-        ensures { result ≡ is_some (frames_of self.now.history.world thread.now) }
+        ensures { result ≡ is_some (frames_of (history_world self.now.history) thread.now) }
     {
         self.history.frame(thread).is_some()
     }
@@ -294,12 +295,12 @@ impl Book {
         name: &StepName,
         next: Next,
     ) -> Result<saved_steps::Made, AllocError>
-        requires { Suits self.old.history.world name.now next }
+        requires { CanMake (history_world self.old.history) name.now next }
         ensures step { IfOk result (λ m. IsMadeIn self.old self.new name.now next m) }
         ensures room { OnOk result (HasLogRoom self.new) }
-        ensures story { self.new.story ≡ self.old.story }
+        ensures log { self.new.log ≡ self.old.log }
     {
-        if reserve_entries(&mut self.log, self.history.len()).is_err() {
+        if reserve_entries(&mut self.entries, self.history.len()).is_err() {
             drop(next);
             return Err(AllocError);
         }

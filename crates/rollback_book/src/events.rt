@@ -6,7 +6,7 @@ ghost use Rattle.json_tree.specs.Data.{depth, most_levels};
 ghost use Rattle.json_tree.specs.View.{data_of};
 ghost use Rattle.step_names.specs.Order.{thread_cmp};
 ghost use Rattle.saved_steps.specs.First.{NoneFreeBefore};
-ghost use Rattle.book_log.specs.Story.{Story, held, left_of, world_of};
+ghost use Rattle.book_log.specs.Log.{Log, held, left_of, world_of};
 ghost use Rattle.rollback_book.specs.Calls.{FindsFirst, Holds, IsLatestLeft, IsLogOf, MakesRoom, PlansRollback, RollsBack, Shows, Starts, Steps, Undoes};
 ghost use Rattle.rollback_book.specs.Commits.{AnswersCommit, Commits};
 ghost use Rattle.rollback_book.specs.Making.{WasPlanned};
@@ -28,7 +28,7 @@ use step_names::{StepName, ThreadName};
 /// out, so what is in a log stays there.
 pub trait Events {
     /// What it began with, and the commands that it accepted.
-    ghost story: { Self → Story };
+    ghost log: { Self → Log };
 
     /// As `Book::start`.
     fn start(
@@ -40,11 +40,11 @@ pub trait Events {
     ) -> Result<StepName, Refusal>
         requires execution { exec.now.path ≡ [] }
         requires shallow { depth (data_of input) ≤ most_levels }
-        ensures { Starts (story self.old) (story self.new) exec.now machine.now input result };
+        ensures { Starts (log self.old) (log self.new) exec.now machine.now input result };
 
     /// As `Book::step`.
     fn step(&mut self, alloc: Global, thread: &ThreadName) -> Result<Moved, Refusal>
-        ensures { Steps (story self.old) (story self.new) thread.now result };
+        ensures { Steps (log self.old) (log self.new) thread.now result };
 
     /// As `Book::commit`.
     fn commit(
@@ -53,24 +53,24 @@ pub trait Events {
         thread: &ThreadName,
         prepared: Prepared,
     ) -> Result<Moved, CommitRefusal>
-        ensures answer { AnswersCommit (story self.old) thread.now prepared result }
-        ensures story { Commits (story self.old) result (story self.new) };
+        ensures answer { AnswersCommit (log self.old) thread.now prepared result }
+        ensures log { Commits (log self.old) result (log self.new) };
 
     /// As `Book::hold`.
     fn hold(&mut self, alloc: Global, step: &StepName) -> Result<usize, Refusal>
-        ensures { Holds (story self.old) (story self.new) step.now result };
+        ensures { Holds (log self.old) (log self.new) step.now result };
 
     /// As `Book::held`.
     fn held(&self) -> Option<&StepName>
-        ensures { option_copied result ≡ held (story self.now) };
+        ensures { option_copied result ≡ held (log self.now) };
 
     /// As `Book::held_left`.
     fn held_left(&self) -> usize
-        ensures { result ≡ length (left_of (story self.now)) };
+        ensures { result ≡ length (left_of (log self.now)) };
 
     /// As `Book::last_left`.
     fn last_left(&self) -> Option<&StepName>
-        ensures { IsLatestLeft (story self.now) (option_copied result) };
+        ensures { IsLatestLeft (log self.now) (option_copied result) };
 
     /// As `Book::room`.
     fn room(&self, alloc: Global, step: &StepName) -> Result<Room, Refusal>
@@ -78,16 +78,16 @@ pub trait Events {
 
     /// As `Book::undo`.
     fn undo(&mut self, room: Room) -> Result<StepName, Refusal>
-        ensures { Undoes (story self.old) (story self.new) room.step result };
+        ensures { Undoes (log self.old) (log self.new) room.step result };
 
     /// As `Book::plan_room`.
     fn plan_room(&self, alloc: Global, step: &StepName) -> Result<PlanRoom, Refusal>
-        ensures { PlansRollback (story self.now) step.now result };
+        ensures { PlansRollback (log self.now) step.now result };
 
     /// As `Book::rollback`.
     fn rollback(&mut self, room: PlanRoom) -> Result<StepNames, Refusal>
-        requires { WasPlanned (story self.old) room }
-        ensures { RollsBack (story self.old) (story self.new) room result };
+        requires { WasPlanned (log self.old) room }
+        ensures { RollsBack (log self.old) (log self.new) room result };
 
     /// As `Book::first_ready`.
     fn first_ready(
@@ -95,7 +95,7 @@ pub trait Events {
         alloc: Global,
         outside: &BTreeSet<ThreadName>,
     ) -> Result<Option<ThreadName>, Refusal>
-        ensures { FindsFirst (story self.now) (contains thread_cmp outside.now) result };
+        ensures { FindsFirst (log self.now) (contains thread_cmp outside.now) result };
 
     /// As `Book::first_ready_from`.
     fn first_ready_from(
@@ -104,24 +104,24 @@ pub trait Events {
         from: &String,
         outside: &BTreeSet<ThreadName>,
     ) -> Result<Option<ThreadName>, Refusal>
-        requires { NoneFreeBefore (world_of (story self.now)).frames (contains thread_cmp outside.now) (string_bytes from.now) }
-        ensures { FindsFirst (story self.now) (contains thread_cmp outside.now) result };
+        requires { NoneFreeBefore (world_of (log self.now)).frames (contains thread_cmp outside.now) (string_bytes from.now) }
+        ensures { FindsFirst (log self.now) (contains thread_cmp outside.now) result };
 
     /// As `Book::ticket`.
     fn ticket(&self, thread: &ThreadName) -> Result<Ticket, Refusal>
-        ensures { AnswersTicket (story self.now) thread.now result };
+        ensures { AnswersTicket (log self.now) thread.now result };
 
     /// As `Book::show`.
     fn show(&self, thread: &ThreadName) -> Result<&Frame, Refusal>
-        ensures { Shows (story self.now) thread.now result };
+        ensures { Shows (log self.now) thread.now result };
 
     /// As `Book::entries`.
     fn entries(&self) -> (&Begin, &[Entry])
-        ensures { IsLogOf (story self.now) result.0.now result.1.now };
+        ensures { IsLogOf (log self.now) result.0.now result.1.now };
 }
 
 impl Events for Book {
-    ghost story = { λ b. b.story };
+    ghost log = { λ b. b.log };
 
     fn start(
         &mut self,

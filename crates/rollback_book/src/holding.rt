@@ -3,12 +3,13 @@ ghost use Rattle.std.specs.List.{All};
 ghost use Rattle.std.specs.Prelude.{◌≡◌, ◌<◌, IfOk, MatchResult, None, OnOk, length, option_copied};
 ghost use Rattle.book_log.specs.Answers.{is_full_for_step};
 ghost use Rattle.book_log.specs.Legal.{IsAccepted};
-ghost use Rattle.book_log.specs.Story.{accepted, held, left_of};
+ghost use Rattle.book_log.specs.Log.{appended, held, left_of};
 ghost use Rattle.rollback_book.specs.Book.{IsAt};
 ghost use Rattle.rollback_book.specs.Calls.{Holds, IsLatestLeft};
 ghost use Rattle.rollback_book.specs.Holding.{IsHoldRefusal};
-ghost use Rattle.rollback_book.specs.Making.{AnswersHold, CanEnter, Fits, HasLogRoom, IsMadeHold, MakesHold};
+ghost use Rattle.rollback_book.specs.Making.{AnswersHold, CanEnter, CanEnterChange, HasLogRoom, IsMadeHold, MakesHold};
 ghost use Rattle.rollback_book.specs.declared.making.MadeChange.TheVariants as made;
+ghost use Rattle.step_history.specs.History.{history_records};
 
 use crate::book::Book;
 use crate::checks::{is_full_for_define, is_full_for_step};
@@ -31,7 +32,7 @@ impl Book {
     /// `NoStep` and `Settled`, `Held`, `Full` and `Memory`, in this order; `Memory` may stand for `Held`, since the name that it
     /// tells is a copy.
     pub fn hold(&mut self, alloc: Global, step: &StepName) -> Result<usize, Refusal>
-        ensures { Holds self.old.story self.new.story step.now result }
+        ensures { Holds self.old.log self.new.log step.now result }
     {
         let made = self.ready_hold(alloc, step)?;
         let Entered::Held(count) = self.enter(made) else {
@@ -42,7 +43,7 @@ impl Book {
 
     /// The step of the hold that stands, if one does. Takes no memory.
     pub fn held(&self) -> Option<&StepName>
-        ensures { option_copied result ≡ held self.now.story }
+        ensures { option_copied result ≡ held self.now.log }
     {
         match &self.held {
             Some(hold) => Some(&hold.step),
@@ -52,7 +53,7 @@ impl Book {
 
     /// How many steps are left of a hold: none without one. Takes no memory.
     pub fn held_left(&self) -> usize
-        ensures { result ≡ length (left_of self.now.story) }
+        ensures { result ≡ length (left_of self.now.log) }
     {
         match &self.held {
             Some(hold) => hold.left.len(),
@@ -62,7 +63,7 @@ impl Book {
 
     /// The latest step that is left of a hold: none without one. It can be undone. Takes no memory.
     pub fn last_left(&self) -> Option<&StepName>
-        ensures { IsLatestLeft self.now.story (option_copied result) }
+        ensures { IsLatestLeft self.now.log (option_copied result) }
     {
         let Some(hold) = &self.held else {
             return None;
@@ -75,14 +76,14 @@ impl Book {
 
     /// Whether no step can be taken more.
     pub(crate) fn is_full(&self) -> bool
-        ensures { result ≡ is_full_for_step self.now.story }
+        ensures { result ≡ is_full_for_step self.now.log }
     {
-        is_full_for_step(self.log.len(), self.history.len())
+        is_full_for_step(self.entries.len(), self.history.len())
     }
 
     /// Refuses where something is held.
     pub(crate) fn check_unheld(&self) -> Result<(), Refusal>
-        ensures { MatchResult result (λ _. held self.now.story ≡ None) (IsHoldRefusal self.now.story) }
+        ensures { MatchResult result (λ _. held self.now.log ≡ None) (IsHoldRefusal self.now.log) }
     {
         match self.held() {
             Some(name) => Err(Refusal::Held(name.copy()?)),
@@ -92,9 +93,9 @@ impl Book {
 
     /// Makes everything that a hold needs.
     pub(crate) fn ready_hold(&mut self, alloc: Global, step: &StepName) -> Result<Made, Refusal>
-        ensures answer { AnswersHold self.old.story step.now result }
+        ensures answer { AnswersHold self.old.log step.now result }
         ensures ready { IfOk result (λ m. CanEnter self.new m) }
-        ensures story { self.new.story ≡ self.old.story }
+        ensures log { self.new.log ≡ self.old.log }
     {
         let Some(at) = self.history.find(step) else {
             return Err(self.absent(step));
@@ -102,7 +103,7 @@ impl Book {
         if let Err(refusal) = self.check_unheld() {
             return Err(refusal);
         }
-        if is_full_for_define(self.log.len(), self.history.len()) {
+        if is_full_for_define(self.entries.len(), self.history.len()) {
             return Err(Refusal::Full);
         }
         match self.make_hold(alloc, step, at) {
@@ -114,11 +115,11 @@ impl Book {
     /// Makes what the hold of the step at a place needs, and room for its entry and that of an undoing.
     fn make_hold(&mut self, alloc: Global, step: &StepName, at: usize) -> Result<Made, AllocError>
         requires { IsAt self.old step.now at }
-        ensures made { IfOk result (MakesHold self.old.story self.new.history.records.items step.now) }
+        ensures made { IfOk result (MakesHold self.old.log (history_records self.new.history) step.now) }
         ensures room { OnOk result (HasLogRoom self.new) }
-        ensures story { self.new.story ≡ self.old.story }
+        ensures log { self.new.log ≡ self.old.log }
     {
-        reserve_entries(&mut self.log, self.history.len())?;
+        reserve_entries(&mut self.entries, self.history.len())?;
         let plan = self.history.plan(alloc, at)?;
         match made_of_plan(alloc, step, self.history.records(), &plan) {
             Ok(made) => Ok(made),
@@ -127,13 +128,13 @@ impl Book {
     }
 
     pub(crate) fn enter_hold(&mut self, entry: Entry, hold: Hold)
-        requires accepted { IsAccepted self.old.story entry }
-        requires fits { Fits self.old entry (made.Hold hold) }
+        requires is_accepted { IsAccepted self.old.log entry }
+        requires fits { CanEnterChange self.old entry (made.Hold hold) }
         requires room { HasLogRoom self.old }
-        ensures { self.new.story ≡ accepted self.old.story entry }
+        ensures { self.new.log ≡ appended self.old.log entry }
     {
         self.held = Some(hold);
-        push_with_room(&mut self.log, entry);
+        push_with_room(&mut self.entries, entry);
     }
 }
 

@@ -11,13 +11,13 @@ use step_index::StepRecords;
 use step_names::StepName;
 
 /// Makes room for one more entry, and for those of the undoing of it and of so many steps.
-pub fn reserve_entries(log: &mut Vec<Entry>, steps: usize) -> Result<(), AllocError>
+pub fn reserve_entries(entries: &mut Vec<Entry>, steps: usize) -> Result<(), AllocError>
     requires { steps ≤ most_steps }
-    ensures items { log.new.items ≡ log.old.items }
-    ensures kept { vec_capacity log.old ≤ vec_capacity log.new }
-    ensures room { OnOk result (length log.new.items + steps + 2 ≤ vec_capacity log.new) }
+    ensures items { entries.new.items ≡ entries.old.items }
+    ensures kept { vec_capacity entries.old ≤ vec_capacity entries.new }
+    ensures room { OnOk result (length entries.new.items + steps + 2 ≤ vec_capacity entries.new) }
 {
-    log.reserve(steps + 2)
+    entries.reserve(steps + 2)
 }
 
 /// Adds an element where there is room for it. Takes no memory.

@@ -1,8 +1,8 @@
 // Steps taken back one by one in an order, or none of them: the order is looked at whole before anything is changed.
 ghost use Rattle.std.specs.Prelude.{◌≡◌, ◌⊎◌, ◌∷◌, ◌++◌, [], map, reverse, None, Some, Ok, Err, IfOk, IfErr, MatchResult, OnOk, OnErr};
 ghost use Rattle.book_log.specs.Answers.{from_step, found_answer, order_answer, undo_answer};
-ghost use Rattle.book_log.specs.Story.{Story, accepted};
-ghost use Rattle.rollback_book.specs.Commuting.{HasConsequences, IsOnlyResult, UndoesAllowed};
+ghost use Rattle.book_log.specs.Log.{Log, appended};
+ghost use Rattle.rollback_book.specs.Commuting.{HasConsequences, IsOnlyResult, UndoesBackward};
 ghost use Rattle.rollback_book.specs.Ordering.{left_by, order_refusal};
 ghost use Rattle.rollback_book.specs.Settling.{absent_in};
 
@@ -25,12 +25,12 @@ impl Book {
     /// That of the first name that can't be undone at its turn, `NoStep`, `Settled` or `HasDependents`; and `Memory`.
     pub fn undo_order(&mut self, alloc: Global, steps: &[StepName]) -> Result<(), Refusal>
         ensures answer { MatchResult result
-            (λ _. order_answer self.old.story steps.now ≡ Ok self.new.story)
-            (λ e. (e ≡ Refusal.Memory) ⊎ (order_answer self.old.story steps.now ≡ Err e)) }
-        ensures allowed { UndoesAllowed self.old.story steps.now result self.new.story }
-        ensures whole { OnOk result (HasConsequences self.old.story steps.now) }
-        ensures one { OnOk result (IsOnlyResult self.old.story steps.now self.new.story) }
-        ensures err { OnErr result (self.new.story ≡ self.old.story) }
+            (λ _. order_answer self.old.log steps.now ≡ Ok self.new.log)
+            (λ e. (e ≡ Refusal.Memory) ⊎ (order_answer self.old.log steps.now ≡ Err e)) }
+        ensures allowed { UndoesBackward self.old.log steps.now result self.new.log }
+        ensures whole { OnOk result (HasConsequences self.old.log steps.now) }
+        ensures one { OnOk result (IsOnlyResult self.old.log steps.now self.new.log) }
+        ensures err { OnErr result (self.new.log ≡ self.old.log) }
     {
         match look_at_order(alloc, &self.settled, self.history.records(), steps) {
             Ok(()) => self.take_back_in_order(alloc, steps),
@@ -40,10 +40,10 @@ impl Book {
 
     /// Takes back steps that can be undone one by one in this order.
     fn take_back_in_order(&mut self, alloc: Global, steps: &[StepName]) -> Result<(), Refusal>
-        requires { (after : Story) × (order_answer self.old.story steps.now ≡ Ok after) }
-        ensures ok { OnOk result (order_answer self.old.story steps.now ≡ Ok self.new.story) }
+        requires { (after : Log) × (order_answer self.old.log steps.now ≡ Ok after) }
+        ensures ok { OnOk result (order_answer self.old.log steps.now ≡ Ok self.new.log) }
         ensures memory { IfErr result (λ e. e ≡ Refusal.Memory) }
-        ensures err { OnErr result (self.new.story ≡ self.old.story) }
+        ensures err { OnErr result (self.new.log ≡ self.old.log) }
     {
         let Ok(names) = last_first(alloc, steps) else {
             return Err(Refusal::Memory);
@@ -54,8 +54,8 @@ impl Book {
 
     /// Takes back the steps of these names, the last of them first.
     fn take_back_each(&mut self, names: Vec<StepName>)
-        requires { (after : Story) × (order_answer self.old.story (reverse names.items) ≡ Ok after) }
-        ensures { order_answer self.old.story (reverse names.items) ≡ Ok self.new.story }
+        requires { (after : Log) × (order_answer self.old.log (reverse names.items) ≡ Ok after) }
+        ensures { order_answer self.old.log (reverse names.items) ≡ Ok self.new.log }
     {
         let mut names = names;
         while let Some(step) = names.pop() {
@@ -65,8 +65,8 @@ impl Book {
 
     /// Takes back the step of a name.
     fn take_back_named(&mut self, step: StepName)
-        requires { undo_answer self.old.story step ≡ Ok step }
-        ensures { self.new.story ≡ accepted self.old.story (Entry.Undo step) }
+        requires { undo_answer self.old.log step ≡ Ok step }
+        ensures { self.new.log ≡ appended self.old.log (Entry.Undo step) }
     {
         let Some(at) = self.history.find(&step) else {
             unreachable!()
@@ -178,7 +178,8 @@ fn copy_of_access(access: &Option<Access>) -> Result<Option<Access>, AllocError>
 /// Takes the step of a name out of those that are left, where it may be undone among them.
 fn take_out(settled: &SettledNames, left: &mut StepRecords, name: &StepName) -> Result<(), Refusal>
     ensures { MatchResult result
-        (λ _. (found_answer (absent_in settled.now.items name.now) name.now (from_step name.now (map (λ r. r.fact) left.old.items)) ≡ Ok name.now) × (map (λ r. r.fact) left.new.items ≡ left_by name.now (map (λ r. r.fact) left.old.items)))
+        (λ _. (found_answer (absent_in settled.now.items name.now) name.now (from_step name.now (map (λ r. r.fact) left.old.items)) ≡ Ok name.now)
+        × (map (λ r. r.fact) left.new.items ≡ left_by name.now (map (λ r. r.fact) left.old.items)))
         (λ e. (e ≡ Refusal.Memory) ⊎ (found_answer (absent_in settled.now.items name.now) name.now (from_step name.now (map (λ r. r.fact) left.old.items)) ≡ Err e)) }
 {
     let Some(at) = left.find(name) else {

@@ -3,13 +3,14 @@ ghost use Rattle.std.specs.Prelude.{◌≡◌, ◌⊎◌, ◌≤◌, ◌++◌, �
 ghost use Rattle.std.specs.List.{list_any};
 ghost use Rattle.json_tree.specs.Data.{depth, most_levels};
 ghost use Rattle.json_tree.specs.View.{data_of};
-ghost use Rattle.saved_steps.specs.Held.{frames_of, seen};
+ghost use Rattle.saved_steps.specs.Held.{frames_of, world_view};
 ghost use Rattle.saved_steps.specs.Steps.{started, moved};
 ghost use Rattle.book_log.specs.Answers.{defines, is_settlement, outline, rerun_answer, step_named};
 ghost use Rattle.book_log.specs.Legal.{IsAccepted, IsLegal};
-ghost use Rattle.book_log.specs.Story.{accepted, remaining, world_of};
+ghost use Rattle.book_log.specs.Log.{appended, remaining, world_of};
 ghost use Rattle.rollback_book.specs.Commuting.{CannotRun, IsRerunOf};
 ghost use Rattle.rollback_book.specs.Rerunning.{MayDefine, Retakes, is_numbered, last_start, start_in};
+ghost use Rattle.step_history.specs.History.{history_world};
 
 use crate::book::Book;
 use crate::making::{Entered, Made, MadeChange};
@@ -32,12 +33,12 @@ impl Book {
     /// `NoStep` where a name doesn't remain, isn't the next of its thread at its turn, or has no move then; and `Memory`.
     pub fn rerun(&self, alloc: Global, steps: &[StepName]) -> Result<Book, Refusal>
         ensures answer { MatchResult result
-            (λ b. rerun_answer self.now.story steps.now ≡ Ok b.story)
-            (λ e. (e ≡ Refusal.Memory) ⊎ (rerun_answer self.now.story steps.now ≡ Err e)) }
-        ensures ok { IfOk result (λ b. IsRerunOf self.now.story steps.now b.story) }
-        ensures err { IfErr result (λ e. (e ≡ Refusal.Memory) ⊎ ((e ≡ Refusal.NoStep) × CannotRun self.now.story steps.now)) }
+            (λ b. rerun_answer self.now.log steps.now ≡ Ok b.log)
+            (λ e. (e ≡ Refusal.Memory) ⊎ (rerun_answer self.now.log steps.now ≡ Err e)) }
+        ensures ok { IfOk result (λ b. IsRerunOf self.now.log steps.now b.log) }
+        ensures err { IfErr result (λ e. (e ≡ Refusal.Memory) ⊎ ((e ≡ Refusal.NoStep) × CannotRun self.now.log steps.now)) }
     {
-        let mut again = Book::outlining(alloc, &self.begin, self.log.as_slice())?;
+        let mut again = Book::outlining(alloc, &self.begin, self.entries.as_slice())?;
         for name in steps {
             match self.take_again(alloc, &mut again, name) {
                 Ok(()) => {}
@@ -48,16 +49,16 @@ impl Book {
     }
 
     /// A book with a copy of a beginning, what a log has up to its last settlement, and the machines that it defines after that.
-    fn outlining(alloc: Global, begin: &Begin, log: &[Entry]) -> Result<Book, Refusal>
-        requires { IsLegal (record { begin = begin.now; log = log.now }) }
-        ensures ok { IfOk result (λ b. b.story ≡ record { begin = begin.now; log = outline log.now }) }
+    fn outlining(alloc: Global, begin: &Begin, entries: &[Entry]) -> Result<Book, Refusal>
+        requires { IsLegal (record { begin = begin.now; entries = entries.now }) }
+        ensures ok { IfOk result (λ b. b.log ≡ record { begin = begin.now; entries = outline entries.now }) }
         ensures err { IfErr result (λ e. e ≡ Refusal.Memory) }
     {
         let begin = copy_begin(begin)?;
         let Ok(mut book) = Book::open(alloc, begin) else {
             return Err(Refusal::Memory);
         };
-        match book.outline(alloc, log) {
+        match book.outline(alloc, entries) {
             Ok(()) => Ok(book),
             Err(refusal) => {
                 drop(book);
@@ -67,41 +68,41 @@ impl Book {
     }
 
     /// Enters what a log has up to its last settlement, and defines the machines that it defines after that.
-    fn outline(&mut self, alloc: Global, log: &[Entry]) -> Result<(), Refusal>
-        requires empty { self.old.story.log ≡ [] }
-        requires legal { IsLegal (record { begin = self.old.story.begin; log = log.now }) }
-        ensures ok { OnOk result (self.new.story ≡ record { begin = self.old.story.begin; log = outline log.now }) }
+    fn outline(&mut self, alloc: Global, entries: &[Entry]) -> Result<(), Refusal>
+        requires empty { self.old.log.entries ≡ [] }
+        requires legal { IsLegal (record { begin = self.old.log.begin; entries = entries.now }) }
+        ensures ok { OnOk result (self.new.log ≡ record { begin = self.old.log.begin; entries = outline entries.now }) }
         ensures err { IfErr result (λ e. e ≡ Refusal.Memory) }
     {
-        let settled = settled_end(log);
-        self.enter_each(alloc, log, settled)?;
-        self.define_each(log, settled)?;
+        let settled = settled_end(entries);
+        self.enter_each(alloc, entries, settled)?;
+        self.define_each(entries, settled)?;
         Ok(())
     }
 
     /// Enters the first entries of a log, so many, as they stand there.
-    fn enter_each(&mut self, alloc: Global, log: &[Entry], end: usize) -> Result<(), Refusal>
-        requires empty { self.old.story.log ≡ [] }
-        requires legal { IsLegal (record { begin = self.old.story.begin; log = log.now }) }
-        requires end { end ≤ length log.now }
-        ensures ok { OnOk result (self.new.story ≡ record { begin = self.old.story.begin; log = take end log.now }) }
+    fn enter_each(&mut self, alloc: Global, entries: &[Entry], end: usize) -> Result<(), Refusal>
+        requires empty { self.old.log.entries ≡ [] }
+        requires legal { IsLegal (record { begin = self.old.log.begin; entries = entries.now }) }
+        requires end { end ≤ length entries.now }
+        ensures ok { OnOk result (self.new.log ≡ record { begin = self.old.log.begin; entries = take end entries.now }) }
         ensures err { IfErr result (λ e. e ≡ Refusal.Memory) }
     {
-        for entry in &log[..end] {
+        for entry in &entries[..end] {
             self.enter_again(alloc, entry)?;
         }
         Ok(())
     }
 
     /// Defines the machines of a log from an entry on, in a book that has the outline up to it.
-    fn define_each(&mut self, log: &[Entry], from: usize) -> Result<(), AllocError>
-        requires from { from ≤ length log.now }
-        requires outlined { self.old.story.log ≡ outline (take from log.now) }
-        requires legal { IsLegal (record { begin = self.old.story.begin; log = log.now }) }
-        requires unsettled { list_any is_settlement (drop from log.now) ≡ false }
-        ensures { OnOk result (self.new.story ≡ record { begin = self.old.story.begin; log = outline log.now }) }
+    fn define_each(&mut self, entries: &[Entry], from: usize) -> Result<(), AllocError>
+        requires from { from ≤ length entries.now }
+        requires outlined { self.old.log.entries ≡ outline (take from entries.now) }
+        requires legal { IsLegal (record { begin = self.old.log.begin; entries = entries.now }) }
+        requires unsettled { list_any is_settlement (drop from entries.now) ≡ false }
+        ensures { OnOk result (self.new.log ≡ record { begin = self.old.log.begin; entries = outline entries.now }) }
     {
-        for entry in &log[from..] {
+        for entry in &entries[from..] {
             self.define_again(entry)?;
         }
         Ok(())
@@ -109,8 +110,8 @@ impl Book {
 
     /// Defines the machine of an entry, where it defines one.
     fn define_again(&mut self, entry: &Entry) -> Result<(), AllocError>
-        requires { MayDefine self.old.story entry.now }
-        ensures { OnOk result (self.new.story ≡ record { begin = self.old.story.begin; log = self.old.story.log ++ defines (entry.now ∷ []) }) }
+        requires { MayDefine self.old.log entry.now }
+        ensures { OnOk result (self.new.log ≡ record { begin = self.old.log.begin; entries = self.old.log.entries ++ defines (entry.now ∷ []) }) }
     {
         match entry {
             Entry::Define { name, machine } => self.share_machine(name, machine),
@@ -124,8 +125,8 @@ impl Book {
         name: &Text,
         machine: &SharedMachine,
     ) -> Result<(), AllocError>
-        requires { IsAccepted self.old.story (Entry.Define name.now machine.now) }
-        ensures { OnOk result (self.new.story ≡ accepted self.old.story (Entry.Define name.now machine.now)) }
+        requires { IsAccepted self.old.log (Entry.Define name.now machine.now) }
+        ensures { OnOk result (self.new.log ≡ appended self.old.log (Entry.Define name.now machine.now)) }
     {
         let made = share_define(name, machine)?;
         if self.make_place(name).is_err() {
@@ -138,7 +139,7 @@ impl Book {
 
     /// Takes the remaining step of a name in another book.
     fn take_again(&self, alloc: Global, again: &mut Book, name: &StepName) -> Result<(), Refusal>
-        ensures { Retakes again.old.story (step_named name.now (remaining self.now.story)) result again.new.story }
+        ensures { Retakes again.old.log (step_named name.now (remaining self.now.log)) result again.new.log }
     {
         let Some(_) = self.history.find(name) else {
             return Err(Refusal::NoStep);
@@ -152,10 +153,10 @@ impl Book {
     /// Starts an execution in another book as it was started here.
     fn start_again(&self, alloc: Global, again: &mut Book, name: &StepName) -> Result<(), Refusal>
         requires start { name.now.no ≡ 0 }
-        requires remains { IsSome (step_named name.now (remaining self.now.story)) }
-        ensures { Retakes again.old.story (step_named name.now (remaining self.now.story)) result again.new.story }
+        requires remains { IsSome (step_named name.now (remaining self.now.log)) }
+        ensures { Retakes again.old.log (step_named name.now (remaining self.now.log)) result again.new.log }
     {
-        let Some((machine, input)) = last_start(self.log.as_slice(), &name.thread) else {
+        let Some((machine, input)) = last_start(self.entries.as_slice(), &name.thread) else {
             unreachable!()
         };
         let Ok(input) = input.copy() else {
@@ -174,7 +175,7 @@ impl Book {
     ) -> Result<(), Refusal>
         requires execution { exec.now.path ≡ [] }
         requires shallow { depth (data_of input) ≤ most_levels }
-        ensures { Retakes self.old.story (Some (started exec.now.exec machine.now input)) result self.new.story }
+        ensures { Retakes self.old.log (Some (started exec.now.exec machine.now input)) result self.new.log }
     {
         match self.start(alloc, exec, machine, input) {
             Ok(name) => {
@@ -188,7 +189,7 @@ impl Book {
     /// Takes the next step of a thread, where this is its name.
     fn step_to(&mut self, alloc: Global, name: &StepName) -> Result<(), Refusal>
         requires { 1 ≤ name.now.no }
-        ensures { Retakes self.old.story (Some (moved name.now)) result self.new.story }
+        ensures { Retakes self.old.log (Some (moved name.now)) result self.new.log }
     {
         if !self.is_next(name) {
             return Err(Refusal::NoStep);
@@ -205,8 +206,8 @@ impl Book {
     /// Whether the next move of a step's thread would have its number.
     fn is_next(&self, name: &StepName) -> bool
         requires { 1 ≤ name.now.no }
-        ensures number { result ≡ is_numbered (frames_of self.now.history.world name.now.thread) name.now.no }
-        ensures world { world_of self.now.story ≡ seen self.now.history.world }
+        ensures number { result ≡ is_numbered (frames_of (history_world self.now.history) name.now.thread) name.now.no }
+        ensures world { world_of self.now.log ≡ world_view (history_world self.now.history) }
     {
         is_numbered(self.history.frame(&name.thread), name.no)
     }
@@ -237,14 +238,14 @@ fn or_no_step(refusal: Refusal) -> Refusal
 }
 
 /// How many entries there are up to the last settlement, with it.
-fn settled_end(log: &[Entry]) -> usize
-    ensures within { result ≤ length log.now }
-    ensures whole { outline (take result log.now) ≡ take result log.now }
-    ensures last { list_any is_settlement (drop result log.now) ≡ false }
+fn settled_end(entries: &[Entry]) -> usize
+    ensures within { result ≤ length entries.now }
+    ensures whole { outline (take result entries.now) ≡ take result entries.now }
+    ensures last { list_any is_settlement (drop result entries.now) ≡ false }
 {
-    let mut end = log.len();
+    let mut end = entries.len();
     while 0 < end {
-        if is_settlement(&log[end - 1]) {
+        if is_settlement(&entries[end - 1]) {
             return end;
         }
         end -= 1;
@@ -259,13 +260,13 @@ fn is_settlement(entry: &Entry) -> bool
 }
 
 /// With what the last start of an execution started it.
-fn last_start<'a>(log: &'a [Entry], exec: &ThreadName) -> Option<(&'a Text, &'a Json)>
-    ensures { option_map (λ p. (p.0.now, p.1.now)) result ≡ last_start exec.now log.now }
+fn last_start<'a>(entries: &'a [Entry], exec: &ThreadName) -> Option<(&'a Text, &'a Json)>
+    ensures { option_map (λ p. (p.0.now, p.1.now)) result ≡ last_start exec.now entries.now }
 {
-    let mut later = log.len();
+    let mut later = entries.len();
     while 0 < later {
         let at = later - 1;
-        if let Some(origin) = start_in(&log[at], exec) {
+        if let Some(origin) = start_in(&entries[at], exec) {
             return Some(origin);
         }
         later = at;

@@ -4,9 +4,10 @@ ghost use Rattle.settled_names.specs.Names.{HasRoomFor};
 ghost use Rattle.saved_steps.specs.declared.fact.Kind.{Kind};
 ghost use Rattle.step_names.specs.declared.step.StepName.{StepName};
 ghost use Rattle.book_log.specs.Legal.{IsAccepted};
-ghost use Rattle.book_log.specs.Story.{accepted};
+ghost use Rattle.book_log.specs.Log.{appended};
 ghost use Rattle.rollback_book.specs.Calls.{Settles};
-ghost use Rattle.rollback_book.specs.Making.{AnswersSettle, CanEnter, Fits, HasLogRoom};
+ghost use Rattle.rollback_book.specs.Making.{AnswersSettle, CanEnter, CanEnterChange, HasLogRoom};
+ghost use Rattle.step_history.specs.History.{history_records};
 
 use crate::book::Book;
 use crate::checks::is_full_for_define;
@@ -25,7 +26,7 @@ impl Book {
     ///
     /// `Held`, `Full` and `Memory`, in this order; `Memory` may stand for `Held`, since the name that it tells is a copy.
     pub fn settle(&mut self, _alloc: Global) -> Result<(), Refusal>
-        ensures { Settles self.old.story self.new.story result }
+        ensures { Settles self.old.log self.new.log result }
     {
         let made = self.ready_settle()?;
         let _ = self.enter(made);
@@ -34,14 +35,14 @@ impl Book {
 
     /// Makes everything that a settlement needs.
     pub(crate) fn ready_settle(&mut self) -> Result<Made, Refusal>
-        ensures answer { AnswersSettle self.old.story result }
+        ensures answer { AnswersSettle self.old.log result }
         ensures ready { IfOk result (λ m. CanEnter self.new m) }
-        ensures story { self.new.story ≡ self.old.story }
+        ensures log { self.new.log ≡ self.old.log }
     {
         if let Err(refusal) = self.check_unheld() {
             return Err(refusal);
         }
-        if is_full_for_define(self.log.len(), self.history.len()) {
+        if is_full_for_define(self.entries.len(), self.history.len()) {
             return Err(Refusal::Full);
         }
         if self.make_settling().is_err() {
@@ -56,31 +57,31 @@ impl Book {
 
     /// Makes room for the names of the remaining steps, for an entry and for that of an undoing.
     fn make_settling(&mut self) -> Result<(), AllocError>
-        ensures names { OnOk result (HasRoomFor self.new.settled (length self.new.history.records.items)) }
+        ensures names { OnOk result (HasRoomFor self.new.settled (length (history_records self.new.history))) }
         ensures room { OnOk result (HasLogRoom self.new) }
-        ensures story { self.new.story ≡ self.old.story }
+        ensures log { self.new.log ≡ self.old.log }
     {
         let steps = self.history.len();
-        reserve_entries(&mut self.log, steps)?;
+        reserve_entries(&mut self.entries, steps)?;
         self.settled.reserve(steps)
     }
 
     pub(crate) fn enter_settle(&mut self, entry: Entry)
-        requires accepted { IsAccepted self.old.story entry }
-        requires fits { Fits self.old entry MadeChange.Settle }
+        requires is_accepted { IsAccepted self.old.log entry }
+        requires fits { CanEnterChange self.old entry MadeChange.Settle }
         requires room { HasLogRoom self.old }
-        ensures { self.new.story ≡ accepted self.old.story entry }
+        ensures { self.new.log ≡ appended self.old.log entry }
     {
         self.history.settle(&mut self.settled);
-        push_with_room(&mut self.log, entry);
+        push_with_room(&mut self.entries, entry);
     }
 
     // ---- commands of a log
 
     /// Enters a command as an entry has it, where it is accepted.
     pub(crate) fn enter_again(&mut self, alloc: Global, entry: &Entry) -> Result<(), Refusal>
-        requires { IsAccepted self.old.story entry.now }
-        ensures ok { OnOk result (self.new.story ≡ accepted self.old.story entry.now) }
+        requires { IsAccepted self.old.log entry.now }
+        ensures ok { OnOk result (self.new.log ≡ appended self.old.log entry.now) }
         ensures err { IfErr result (λ e. e ≡ Refusal.Memory) }
     {
         match entry {
@@ -106,8 +107,8 @@ impl Book {
         machine: &Text,
         input: &Json,
     ) -> Result<(), Refusal>
-        requires { IsAccepted self.old.story (Entry.Start exec.now machine.now input.now) }
-        ensures ok { OnOk result (self.new.story ≡ accepted self.old.story (Entry.Start exec.now machine.now input.now)) }
+        requires { IsAccepted self.old.log (Entry.Start exec.now machine.now input.now) }
+        ensures ok { OnOk result (self.new.log ≡ appended self.old.log (Entry.Start exec.now machine.now input.now)) }
         ensures err { IfErr result (λ e. e ≡ Refusal.Memory) }
     {
         let input = input.copy()?;
@@ -117,8 +118,8 @@ impl Book {
 
     /// Takes a step that can be taken.
     fn step_as(&mut self, alloc: Global, name: &StepName) -> Result<(), Refusal>
-        requires { (kind : Kind) × IsAccepted self.old.story (Entry.Step name.now kind) }
-        ensures ok { (kind : Kind) → IsAccepted self.old.story (Entry.Step name.now kind) → OnOk result (self.new.story ≡ accepted self.old.story (Entry.Step name.now kind)) }
+        requires { (kind : Kind) × IsAccepted self.old.log (Entry.Step name.now kind) }
+        ensures ok { (kind : Kind) → IsAccepted self.old.log (Entry.Step name.now kind) → OnOk result (self.new.log ≡ appended self.old.log (Entry.Step name.now kind)) }
         ensures err { IfErr result (λ e. e ≡ Refusal.Memory) }
     {
         drop(self.step(alloc, &name.thread)?);
@@ -127,8 +128,8 @@ impl Book {
 
     /// Takes back a step that can be taken back.
     fn undo_as(&mut self, alloc: Global, step: &StepName) -> Result<(), Refusal>
-        requires { IsAccepted self.old.story (Entry.Undo step.now) }
-        ensures ok { OnOk result (self.new.story ≡ accepted self.old.story (Entry.Undo step.now)) }
+        requires { IsAccepted self.old.log (Entry.Undo step.now) }
+        ensures ok { OnOk result (self.new.log ≡ appended self.old.log (Entry.Undo step.now)) }
         ensures err { IfErr result (λ e. e ≡ Refusal.Memory) }
     {
         let room = self.room(alloc, step)?;
@@ -138,8 +139,8 @@ impl Book {
 
     /// Holds a step that remains, with its consequences.
     fn hold_as(&mut self, alloc: Global, step: &StepName) -> Result<(), Refusal>
-        requires { (count : ℕ) × IsAccepted self.old.story (Entry.Hold step.now count) }
-        ensures ok { (count : ℕ) → IsAccepted self.old.story (Entry.Hold step.now count) → OnOk result (self.new.story ≡ accepted self.old.story (Entry.Hold step.now count)) }
+        requires { (count : ℕ) × IsAccepted self.old.log (Entry.Hold step.now count) }
+        ensures ok { (count : ℕ) → IsAccepted self.old.log (Entry.Hold step.now count) → OnOk result (self.new.log ≡ appended self.old.log (Entry.Hold step.now count)) }
         ensures err { IfErr result (λ e. e ≡ Refusal.Memory) }
     {
         self.hold(alloc, step)?;
@@ -148,8 +149,8 @@ impl Book {
 
     /// Takes back a step that remains, with its consequences.
     fn roll_back_as(&mut self, alloc: Global, step: &StepName) -> Result<(), Refusal>
-        requires { (undone : List StepName) × IsAccepted self.old.story (Entry.Rollback step.now undone) }
-        ensures ok { (undone : List StepName) → IsAccepted self.old.story (Entry.Rollback step.now undone) → OnOk result (self.new.story ≡ accepted self.old.story (Entry.Rollback step.now undone)) }
+        requires { (undone : List StepName) × IsAccepted self.old.log (Entry.Rollback step.now undone) }
+        ensures ok { (undone : List StepName) → IsAccepted self.old.log (Entry.Rollback step.now undone) → OnOk result (self.new.log ≡ appended self.old.log (Entry.Rollback step.now undone)) }
         ensures err { IfErr result (λ e. e ≡ Refusal.Memory) }
     {
         let room = self.plan_room(alloc, step)?;

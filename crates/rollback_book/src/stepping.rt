@@ -2,13 +2,13 @@
 ghost use Rattle.std.specs.Prelude.{◌≡◌, ◌+◌, ◌<◌, ◌^◌, IfOk, MatchResult, Err};
 ghost use Rattle.std.specs.BTreeSet.{contains};
 ghost use Rattle.std.specs.String.{string_bytes};
-ghost use Rattle.branch_tree.specs.First.{has_move};
+ghost use Rattle.branch_tree.specs.First.{is_enabled};
 ghost use Rattle.step_names.specs.Order.{thread_cmp};
-ghost use Rattle.saved_steps.specs.Deeds.{next_step};
+ghost use Rattle.saved_steps.specs.Effects.{next_step};
 ghost use Rattle.saved_steps.specs.First.{NoneFreeBefore};
 ghost use Rattle.saved_steps.specs.Made.{fact_made};
 ghost use Rattle.book_log.specs.Answers.{step_answer};
-ghost use Rattle.book_log.specs.Story.{world_of};
+ghost use Rattle.book_log.specs.Log.{world_of};
 ghost use Rattle.rollback_book.specs.Calls.{FindsFirst, Steps};
 ghost use Rattle.rollback_book.specs.Making.{AnswersMove, CanEnter, IsMoveRefusal};
 ghost use Rattle.rollback_book.specs.Ready.{HasRoomUnlessHeld, IsHeldBack, IsNextOf, IsReadyTo, MayEnter};
@@ -27,8 +27,8 @@ use step_history::turns::Frame;
 use step_names::{StepName, ThreadName};
 
 /// Whether a thread has a move.
-pub(crate) fn has_move(readiness: Readiness) -> bool
-    ensures { result ≡ has_move readiness }
+pub(crate) fn is_enabled(readiness: Readiness) -> bool
+    ensures { result ≡ is_enabled readiness }
 {
     matches!(
         readiness,
@@ -75,7 +75,7 @@ impl Book {
     ///
     /// `NoThread`, `NotReady`, `Held`, `Full` and `Memory`, in this order; while something is held `Memory` may stand for the two before it.
     pub fn step(&mut self, alloc: Global, thread: &ThreadName) -> Result<Moved, Refusal>
-        ensures { Steps self.old.story self.new.story thread.now result }
+        ensures { Steps self.old.log self.new.log thread.now result }
     {
         let made = self.ready_step(alloc, thread)?;
         let Entered::Stepped(moved) = self.enter(made) else {
@@ -86,9 +86,9 @@ impl Book {
 
     /// Makes everything that the next step of a thread needs.
     pub(crate) fn ready_step(&mut self, alloc: Global, thread: &ThreadName) -> Result<Made, Refusal>
-        ensures answer { AnswersMove self.old.story thread.now result }
+        ensures answer { AnswersMove self.old.log thread.now result }
         ensures ready { IfOk result (λ m. CanEnter self.new m) }
-        ensures story { self.new.story ≡ self.old.story }
+        ensures log { self.new.log ≡ self.old.log }
     {
         let (name, next) = self.next_of(alloc, thread)?;
         self.ready_next(alloc, name, next)
@@ -102,9 +102,9 @@ impl Book {
         next: Next,
     ) -> Result<Made, Refusal>
         requires { IsNextOf self.old name.thread name next }
-        ensures answer { AnswersMove self.old.story name.thread result }
+        ensures answer { AnswersMove self.old.log name.thread result }
         ensures ready { IfOk result (λ m. CanEnter self.new m) }
-        ensures story { self.new.story ≡ self.old.story }
+        ensures log { self.new.log ≡ self.old.log }
     {
         let Ok(step) = self.make_step(alloc, &name, next) else {
             drop(name);
@@ -125,10 +125,10 @@ impl Book {
     /// must be room. Where nothing is held that there is room is known. Takes memory for what is known of the step, while something
     /// is held.
     fn check_made(&self, step: &saved_steps::Made) -> Result<(), Refusal>
-        requires { HasRoomUnlessHeld self.now.story }
+        requires { HasRoomUnlessHeld self.now.log }
         ensures { MatchResult result
-            (λ _. MayEnter self.now.story (fact_made step.now))
-            (IsHeldBack self.now.story (fact_made step.now)) }
+            (λ _. MayEnter self.now.log (fact_made step.now))
+            (IsHeldBack self.now.log (fact_made step.now)) }
     {
         let Some(hold) = &self.held else {
             return Ok(());
@@ -154,7 +154,7 @@ impl Book {
         alloc: Global,
         outside: &BTreeSet<ThreadName>,
     ) -> Result<Option<ThreadName>, Refusal>
-        ensures { FindsFirst self.now.story (contains thread_cmp outside.now) result }
+        ensures { FindsFirst self.now.log (contains thread_cmp outside.now) result }
     {
         self.first_ready_from(alloc, &String::new(alloc), outside)
     }
@@ -171,8 +171,8 @@ impl Book {
         from: &String,
         outside: &BTreeSet<ThreadName>,
     ) -> Result<Option<ThreadName>, Refusal>
-        requires { NoneFreeBefore (world_of self.now.story).frames (contains thread_cmp outside.now) (string_bytes from.now) }
-        ensures { FindsFirst self.now.story (contains thread_cmp outside.now) result }
+        requires { NoneFreeBefore (world_of self.now.log).frames (contains thread_cmp outside.now) (string_bytes from.now) }
+        ensures { FindsFirst self.now.log (contains thread_cmp outside.now) result }
     {
         match self.history.first_ready(alloc, from, outside) {
             Ok(found) => Ok(found),
@@ -184,7 +184,7 @@ impl Book {
     fn next_of(&self, alloc: Global, thread: &ThreadName) -> Result<(StepName, Next), Refusal>
         ensures { MatchResult result
             (λ p. IsNextOf self.now thread.now p.0 p.1)
-            (IsMoveRefusal self.now.story thread.now) }
+            (IsMoveRefusal self.now.log thread.now) }
     {
         let (machine, frame) = self.check_step(thread)?;
         let Ok(name) = next_name(thread, frame) else {
@@ -205,15 +205,15 @@ impl Book {
     fn check_step(&self, thread: &ThreadName) -> Result<(&SharedMachine, &Frame), Refusal>
         ensures { MatchResult result
             (λ p. IsReadyTo self.now thread.now p.0.now p.1.now)
-            (λ e. step_answer self.now.story thread.now ≡ Err e) }
+            (λ e. step_answer self.now.log thread.now ≡ Err e) }
     {
         let Some((frame, readiness)) = self.history.look_up(thread) else {
             return Err(Refusal::NoThread);
         };
-        if !has_move(readiness) {
+        if !is_enabled(readiness) {
             return Err(Refusal::NotReady(readiness));
         }
-        if is_full_unheld(&self.held, self.log.len(), self.history.len()) {
+        if is_full_unheld(&self.held, self.entries.len(), self.history.len()) {
             return Err(Refusal::Full);
         }
         let Some(machine) = machine_in(&self.machines, &frame.level.machine) else {

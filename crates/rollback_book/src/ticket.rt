@@ -1,6 +1,6 @@
 // A ticket: what a thread's next move is prepared of, apart from the book.
 ghost use Rattle.std.specs.Prelude.{◌≡◌, ◌+◌, ◌<◌, ◌^◌, IfOk, IsSome};
-ghost use Rattle.step_history.specs.Turn.{standing};
+ghost use Rattle.step_history.specs.Turn.{located};
 
 use asl_machine::SharedMachine;
 use std::alloc::AllocError;
@@ -14,7 +14,7 @@ pub struct Ticket {
     thread: ThreadName,
     frame: Frame,
     machine: SharedMachine,
-    pub ghost stands: { IsSome (standing machine frame) },
+    pub ghost stands: { IsSome (located machine frame) },
     pub ghost countable: { frame.count + 1 < 2 ^ 32 },
 }
 
@@ -25,7 +25,7 @@ impl Ticket {
         frame: &Frame,
         machine: &SharedMachine,
     ) -> Result<Ticket, AllocError>
-        requires stands { IsSome (standing machine.now frame.now) }
+        requires stands { IsSome (located machine.now frame.now) }
         requires few { frame.now.count + 1 < 2 ^ 32 }
         ensures thread { IfOk result (λ k. k.thread ≡ thread.now) }
         ensures frame { IfOk result (λ k. k.frame ≡ frame.now) }

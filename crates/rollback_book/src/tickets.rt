@@ -4,7 +4,7 @@ ghost use Rattle.rollback_book.specs.Tickets.{AnswersTicket, IsTicketRefusal, Is
 
 use crate::book::Book;
 use crate::machines::machine_in;
-use crate::stepping::has_move;
+use crate::stepping::is_enabled;
 use crate::ticket::Ticket;
 use asl_machine::SharedMachine;
 use book_log::Refusal;
@@ -20,7 +20,7 @@ impl Book {
     ///
     /// `NoThread`, `NotReady` and `Memory`, in this order.
     pub fn ticket(&self, thread: &ThreadName) -> Result<Ticket, Refusal>
-        ensures { AnswersTicket self.now.story thread.now result }
+        ensures { AnswersTicket self.now.log thread.now result }
     {
         let (machine, frame) = self.moving(thread)?;
         match Ticket::new(thread, frame, machine) {
@@ -32,13 +32,13 @@ impl Book {
     /// The machine and the frame of a thread that has a move.
     fn moving(&self, thread: &ThreadName) -> Result<(&SharedMachine, &Frame), Refusal>
         ensures { MatchResult result
-            (λ p. IsTicketed self.now.story thread.now p.0.now p.1.now)
-            (IsTicketRefusal self.now.story thread.now) }
+            (λ p. IsTicketed self.now.log thread.now p.0.now p.1.now)
+            (IsTicketRefusal self.now.log thread.now) }
     {
         let Some((frame, readiness)) = self.history.look_up(thread) else {
             return Err(Refusal::NoThread);
         };
-        if !has_move(readiness) {
+        if !is_enabled(readiness) {
             return Err(Refusal::NotReady(readiness));
         }
         let Some(machine) = machine_in(&self.machines, &frame.level.machine) else {

@@ -8,34 +8,34 @@ use Rattle.operator_line.specs.OpenFault.{OpenFault}
 use Rattle.operator_line.specs.OpenFault.TheVariants as open_fault
 use Rattle.operator_line.specs.declared.serving.ServeFault.{ServeFault}
 use Rattle.operator_line.specs.declared.serving.ServeFault.TheVariants as serve_fault
-use Rattle.rollback_run.specs.declared.fault.Fault.{Fault}
-use Rattle.rollback_run.specs.declared.fault.Fault.TheVariants.{Damaged, Gap, Store, Input, Output, Memory}
+use Rattle.rollback_run.specs.declared.fault.ExitCause.{ExitCause}
+use Rattle.rollback_run.specs.declared.fault.ExitCause.TheVariants.{Damaged, Gap, Store, Input, Output, Memory}
 
 -- ---- which fault it is
 
-abbrev pub of_journal : JournalFault → Fault
+abbrev pub of_journal : JournalFault → ExitCause
 of_journal (journal_fault.Store cause) = Store
 of_journal (journal_fault.Gap position) = Gap position
 of_journal journal_fault.Memory = Memory
 
-abbrev pub of_open : OpenFault → Fault
+abbrev pub of_open : OpenFault → ExitCause
 of_open (open_fault.Damaged line) = Damaged line
 of_open (open_fault.Journal fault) = of_journal fault
 of_open open_fault.Memory = Memory
 
-abbrev pub of_serve : ServeFault → Fault
+abbrev pub of_serve : ServeFault → ExitCause
 of_serve serve_fault.Read = Input
 of_serve serve_fault.Write = Output
 of_serve serve_fault.Journal = Store
 of_serve serve_fault.Memory = Memory
 
-abbrev pub served : Result Unit ServeFault → Result Unit Fault
+abbrev pub served : Result Unit ServeFault → Result Unit ExitCause
 served (Ok done) = Ok done
 served (Err fault) = Err (of_serve fault)
 
 -- ---- how it is told
 
-abbrev pub fault_text : Fault → List ℕ
+abbrev pub fault_text : ExitCause → List ℕ
 fault_text (Damaged line) = codes "rollback: damaged " ++ (decimal line ++ 10 ∷ [])
 fault_text (Gap position) = codes "rollback: gap " ++ (decimal position ++ 10 ∷ [])
 fault_text Store = codes "rollback: store\n"
@@ -51,7 +51,7 @@ pub record IsBegun (text : List ℕ) (old new : Option (List ℕ)) : Type 0 wher
   pub appended : Appends old new written
 
 -- an outcome that is a fault is told, perhaps not to its end, and nothing else is
-abbrev pub IsTold : Result Unit Fault → Option (List ℕ) → Option (List ℕ) → Type 0
+abbrev pub IsTold : Result Unit ExitCause → Option (List ℕ) → Option (List ℕ) → Type 0
 IsTold (Ok done) old new = Keeps old new
 IsTold (Err fault) old new = IsBegun (fault_text fault) old new
 
@@ -59,7 +59,7 @@ abbrev pub usage_text : List ℕ
 usage_text = codes "usage: rollback [--journal FILE | --check FILE]\n"
 
 -- 3 where the journal gives no book, 4 where the streams or memory fail
-abbrev pub fault_status : Fault → ℕ
+abbrev pub fault_status : ExitCause → ℕ
 fault_status (Damaged line) = 3
 fault_status (Gap position) = 3
 fault_status Store = 3
@@ -67,6 +67,6 @@ fault_status Input = 4
 fault_status Output = 4
 fault_status Memory = 4
 
-abbrev pub outcome_status : Result Unit Fault → ℕ
+abbrev pub outcome_status : Result Unit ExitCause → ℕ
 outcome_status (Ok done) = 0
 outcome_status (Err fault) = fault_status fault

@@ -4,7 +4,7 @@ use Rattle.std.specs.Fmt.{decimal}
 use Rattle.std.specs.Io.KnownBytes.{Appends, Keeps}
 use Rattle.sqlite.specs.State.{State, HasCleanDisk}
 use Rattle.sqlite.specs.declared.error.Error.{Error}
-use Rattle.operator_line.specs.Story.{Story, remaining}
+use Rattle.operator_line.specs.Log.{Log, remaining}
 use Rattle.book_journal.specs.Faults.{fault_of}
 use Rattle.book_journal.specs.Kept.{lines_in, IsOpened}
 use Rattle.operator_line.specs.Opening.{OpensTo, RefusesOpen}
@@ -12,9 +12,9 @@ use Rattle.operator_line.specs.OpenFault.{OpenFault}
 use Rattle.operator_line.specs.Serving.{Serves}
 use Rattle.operator_line.specs.declared.serving.ServeFault.{ServeFault}
 use Rattle.rollback_run.specs.Faults.{of_journal, of_open, outcome_status, served, usage_text, IsBegun, IsTold}
-use Rattle.rollback_run.specs.declared.fault.Fault.{Fault}
-use Rattle.rollback_run.specs.declared.fault.Fault.TheVariants as fault
-use Rattle.rollback_run.specs.declared.fault.Fault.TheVariants.{Output}
+use Rattle.rollback_run.specs.declared.fault.ExitCause.{ExitCause}
+use Rattle.rollback_run.specs.declared.fault.ExitCause.TheVariants as fault
+use Rattle.rollback_run.specs.declared.fault.ExitCause.TheVariants.{Output}
 use Rattle.rollback_run.specs.declared.mode.Mode.{Mode}
 use Rattle.rollback_run.specs.declared.mode.Mode.TheVariants.{InMemory, Journal, Check}
 use Rattle.rollback_run.specs.declared.mode.ModeRefusal.{ModeRefusal}
@@ -23,9 +23,9 @@ use Rattle.rollback_run.specs.declared.mode.ModeRefusal.TheVariants.{Shown, Usag
 -- ---- what a check prints
 
 -- how many lines the journal of a book has, and how many steps remain
-abbrev pub sizes_of : Option Story → ℕ × ℕ
+abbrev pub sizes_of : Option Log → ℕ × ℕ
 sizes_of None = (0, 0)
-sizes_of (Some story) = (length story.log + 1, length (remaining story))
+sizes_of (Some log) = (length log.entries + 1, length (remaining log))
 
 abbrev pub sizes_text : ℕ × ℕ → List ℕ
 sizes_text sizes = codes "ok " ++ (decimal sizes.0 ++ 32 ∷ (decimal sizes.1 ++ 10 ∷ []))
@@ -34,7 +34,7 @@ sizes_text sizes = codes "ok " ++ (decimal sizes.0 ++ 32 ∷ (decimal sizes.1 ++
 
 module _ {Held : Type 0} (show : Held → State) where
   -- The connection's journal was opened, and its lines give this book. Of a disk that failed nothing is said.
-  pub record Gives (connection : Held) (book : Option Story) : Type 0 where
+  pub record Gives (connection : Held) (book : Option Log) : Type 0 where
     pub journal : Held
     pub loaded : Held
     pub is_opened : HasCleanDisk (show journal) → IsOpened (show connection) (show journal)
@@ -48,38 +48,38 @@ module _ {Held : Type 0} (show : Held → State) where
     pub refuses : HasCleanDisk (show left) → RefusesOpen (lines_in (show journal)) reason
 
   -- the database refuses to open a journal, or the journal gives no book
-  abbrev pub GivesNone : Held → Fault → Type 0
+  abbrev pub GivesNone : Held → ExitCause → Type 0
   GivesNone connection fault =
       ((cause : Error) × (fault ≡ of_journal (fault_of cause))) ⊎ ((reason : OpenFault) × (fault ≡ of_open reason) × Refuses connection reason)
 
-  abbrev pub Opens : Result Held Error → Option Story → Type 0
+  abbrev pub Opens : Result Held Error → Option Log → Type 0
   Opens (Ok connection) book = Gives connection book
   Opens (Err cause) book = ⊥
 
-  abbrev pub OpensNone : Result Held Error → Fault → Type 0
+  abbrev pub OpensNone : Result Held Error → ExitCause → Type 0
   OpensNone (Ok connection) fault = GivesNone connection fault
   OpensNone (Err cause) fault = fault ≡ of_journal (fault_of cause)
 
 -- ---- what is done with the book
 
 -- What was written answers the input from this book on, as far as the end says that it was served, and this is the book then.
-pub record IsServed (outcome : Result Unit Fault) (book after : Option Story) (input old new : Option (List ℕ)) : Type 0 where
+pub record IsServed (outcome : Result Unit ExitCause) (book after : Option Log) (input old new : Option (List ℕ)) : Type 0 where
   pub end : Result Unit ServeFault
   pub answers : IfSome input (λ text. Serves end text book after old new)
   pub told : outcome ≡ served end
 
 -- The sizes are printed, or can't be: then a beginning of them is.
-abbrev pub IsPrinted : Result Unit Fault → List ℕ → Option (List ℕ) → Option (List ℕ) → Type 0
+abbrev pub IsPrinted : Result Unit ExitCause → List ℕ → Option (List ℕ) → Option (List ℕ) → Type 0
 IsPrinted (Ok done) text old new = Appends old new text
 IsPrinted (Err why) text old new = (why ≡ Output) × IsBegun text old new
 
 -- nothing is read for a check, and the book is as it was
-pub record IsChecked (outcome : Result Unit Fault) (book after : Option Story) (input left old new : Option (List ℕ)) : Type 0 where
+pub record IsChecked (outcome : Result Unit ExitCause) (book after : Option Log) (input left old new : Option (List ℕ)) : Type 0 where
   pub printed : IsPrinted outcome (sizes_text (sizes_of book)) old new
   pub unread : left ≡ input
   pub same : after ≡ book
 
-abbrev pub IsDone : Mode → Result Unit Fault → Option Story → Option Story → Option (List ℕ) → Option (List ℕ) → Option (List ℕ) → Option (List ℕ) → Type 0
+abbrev pub IsDone : Mode → Result Unit ExitCause → Option Log → Option Log → Option (List ℕ) → Option (List ℕ) → Option (List ℕ) → Option (List ℕ) → Type 0
 IsDone InMemory outcome book after input left old new = IsServed outcome book after input old new
 IsDone (Journal file) outcome book after input left old new = IsServed outcome book after input old new
 IsDone (Check file) outcome book after input left old new = IsChecked outcome book after input left old new
@@ -90,32 +90,32 @@ is_check (Journal file) = false
 is_check (Check file) = true
 
 -- the connection is left to be closed where the input was served to its end on a file's journal
-abbrev pub is_left : Mode → Result Unit Fault → Bool
+abbrev pub is_left : Mode → Result Unit ExitCause → Bool
 is_left (Journal file) (Ok done) = true
 is_left mode outcome = false
 
 -- the mode is done of this book
-pub record IsRun (mode : Mode) (outcome : Result Unit Fault) (book : Option Story) (input left old new : Option (List ℕ)) : Type 0 where
-  pub after : Option Story
+pub record IsRun (mode : Mode) (outcome : Result Unit ExitCause) (book : Option Log) (input left old new : Option (List ℕ)) : Type 0 where
+  pub after : Option Log
   pub is_done : IsDone mode outcome book after input left old new
 
 -- ---- the whole run
 
 module _ {Held : Type 0} (show : Held → State) where
   -- There is a book, of which the mode is done; or there is none for this fault, and then nothing is read or written.
-  abbrev pub HasOutcome : Mode → Result Held Error → Result Unit Fault → Option (List ℕ) → Option (List ℕ) → Option (List ℕ) → Option (List ℕ) → Type 0
+  abbrev pub HasOutcome : Mode → Result Held Error → Result Unit ExitCause → Option (List ℕ) → Option (List ℕ) → Option (List ℕ) → Option (List ℕ) → Type 0
   HasOutcome mode connection outcome input left old new =
-      ((book : Option Story) × Opens show connection book × IsRun mode outcome book input left old new)
-      ⊎ ((fault : Fault) × (outcome ≡ Err fault) × OpensNone show connection fault × (left ≡ input) × Keeps old new)
+      ((book : Option Log) × Opens show connection book × IsRun mode outcome book input left old new)
+      ⊎ ((fault : ExitCause) × (outcome ≡ Err fault) × OpensNone show connection fault × (left ≡ input) × Keeps old new)
 
 -- where all went well, what comes of closing the file
-abbrev pub after_closing : Result Unit Fault → Result Unit Error → Result Unit Fault
+abbrev pub after_closing : Result Unit ExitCause → Result Unit Error → Result Unit ExitCause
 after_closing (Err fault) closed = Err fault
 after_closing (Ok done) (Ok closed) = Ok done
 after_closing (Ok done) (Err cause) = Err (of_journal (fault_of cause))
 
 -- the status and the words on standard error tell how a run ended, and how its file was closed
-pub record IsStatus (outcome : Result Unit Fault) (closed : Result Unit Error) (status : ℕ) (quiet said : Option (List ℕ)) : Type 0 where
+pub record IsStatus (outcome : Result Unit ExitCause) (closed : Result Unit Error) (status : ℕ) (quiet said : Option (List ℕ)) : Type 0 where
   pub status_is : status ≡ outcome_status (after_closing outcome closed)
   pub told : IsTold (after_closing outcome closed) quiet said
 

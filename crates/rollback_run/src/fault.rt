@@ -25,7 +25,7 @@ pub const FAILED: u8 = 4;
 
 /// Why a run fails.
 #[derive(Clone, Copy, Debug, PartialEq, Eq)]
-pub enum Fault {
+pub enum ExitCause {
     /// The journal's line of this number isn't what its place needs, or is refused.
     Damaged(usize),
     /// The journal's number at this position is another.
@@ -40,45 +40,45 @@ pub enum Fault {
     Memory,
 }
 
-impl Fault {
+impl ExitCause {
     /// How a refusal of the journal is told.
-    pub(crate) fn of_journal(fault: JournalFault) -> Fault
+    pub(crate) fn of_journal(fault: JournalFault) -> ExitCause
         ensures { result ≡ of_journal fault }
     {
         match fault {
-            JournalFault::Store(_) => Fault::Store,
-            JournalFault::Gap(position) => Fault::Gap(position),
-            JournalFault::Memory => Fault::Memory,
+            JournalFault::Store(_) => ExitCause::Store,
+            JournalFault::Gap(position) => ExitCause::Gap(position),
+            JournalFault::Memory => ExitCause::Memory,
         }
     }
 
     /// How a refusal to connect is told.
-    pub(crate) fn of_connection(cause: Error) -> Fault
+    pub(crate) fn of_connection(cause: Error) -> ExitCause
         ensures { result ≡ of_journal (fault_of cause) }
     {
-        Fault::of_journal(JournalFault::from(cause))
+        ExitCause::of_journal(JournalFault::from(cause))
     }
 
     /// How a journal is told that gives no book.
-    pub(crate) fn of_open(fault: OpenFault) -> Fault
+    pub(crate) fn of_open(fault: OpenFault) -> ExitCause
         ensures { result ≡ of_open fault }
     {
         match fault {
-            OpenFault::Damaged(line) => Fault::Damaged(line),
-            OpenFault::Journal(fault) => Fault::of_journal(fault),
-            OpenFault::Memory => Fault::Memory,
+            OpenFault::Damaged(line) => ExitCause::Damaged(line),
+            OpenFault::Journal(fault) => ExitCause::of_journal(fault),
+            OpenFault::Memory => ExitCause::Memory,
         }
     }
 
     /// How an end of serving is told.
-    pub(crate) fn of_serve(fault: ServeFault) -> Fault
+    pub(crate) fn of_serve(fault: ServeFault) -> ExitCause
         ensures { result ≡ of_serve fault }
     {
         match fault {
-            ServeFault::Read => Fault::Input,
-            ServeFault::Write => Fault::Output,
-            ServeFault::Journal => Fault::Store,
-            ServeFault::Memory => Fault::Memory,
+            ServeFault::Read => ExitCause::Input,
+            ServeFault::Write => ExitCause::Output,
+            ServeFault::Journal => ExitCause::Store,
+            ServeFault::Memory => ExitCause::Memory,
         }
     }
 
@@ -86,8 +86,8 @@ impl Fault {
         ensures { result ≡ fault_status self }
     {
         match self {
-            Fault::Damaged(_) | Fault::Gap(_) | Fault::Store => REFUSED,
-            Fault::Input | Fault::Output | Fault::Memory => FAILED,
+            ExitCause::Damaged(_) | ExitCause::Gap(_) | ExitCause::Store => REFUSED,
+            ExitCause::Input | ExitCause::Output | ExitCause::Memory => FAILED,
         }
     }
 
@@ -96,18 +96,18 @@ impl Fault {
         ensures { WritesReply result (fault_text self) (W.contents faults.old) (W.contents faults.new) }
     {
         match self {
-            Fault::Damaged(line) => write_number(faults, b"rollback: damaged ", line, b"\n"),
-            Fault::Gap(position) => write_number(faults, b"rollback: gap ", position, b"\n"),
-            Fault::Store => write_all(faults, b"rollback: store\n"),
-            Fault::Input => write_all(faults, b"rollback: input\n"),
-            Fault::Output => write_all(faults, b"rollback: output\n"),
-            Fault::Memory => write_all(faults, b"rollback: memory\n"),
+            ExitCause::Damaged(line) => write_number(faults, b"rollback: damaged ", line, b"\n"),
+            ExitCause::Gap(position) => write_number(faults, b"rollback: gap ", position, b"\n"),
+            ExitCause::Store => write_all(faults, b"rollback: store\n"),
+            ExitCause::Input => write_all(faults, b"rollback: input\n"),
+            ExitCause::Output => write_all(faults, b"rollback: output\n"),
+            ExitCause::Memory => write_all(faults, b"rollback: memory\n"),
         }
     }
 }
 
 /// The status of a run's outcome, which is told where it is a fault. Where even that can't be written, the status alone tells it.
-pub(crate) fn end<W: Write>(outcome: Result<(), Fault>, faults: &mut W) -> u8
+pub(crate) fn end<W: Write>(outcome: Result<(), ExitCause>, faults: &mut W) -> u8
     ensures status { result ≡ outcome_status outcome }
     ensures told { IsTold outcome (W.contents faults.old) (W.contents faults.new) }
 {

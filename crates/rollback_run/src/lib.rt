@@ -6,6 +6,6 @@ mod mode;
 mod running;
 mod writing;
 
-pub use fault::{ENDED, FAILED, Fault, REFUSED, USAGE};
+pub use fault::{ENDED, ExitCause, FAILED, REFUSED, USAGE};
 pub use mode::{Mode, ModeRefusal, mode_of, unread_words};
 pub use running::{finish, refuse, run, run_session};

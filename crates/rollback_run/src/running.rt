@@ -9,7 +9,7 @@ ghost use Rattle.operator_line.specs.Sessions.{told};
 ghost use Rattle.rollback_run.specs.Faults.{of_journal};
 ghost use Rattle.rollback_run.specs.Status.{GivesNone, Gives, HasOutcome, IsChecked, IsDone, IsPrinted, IsRefusal, IsRun, IsServed, IsStatus, Opens, OpensNone, Refuses, after_closing, is_check, is_left, sizes_of, sizes_text};
 
-use crate::fault::{ENDED, FAILED, Fault, USAGE, end};
+use crate::fault::{ENDED, ExitCause, FAILED, USAGE, end};
 use crate::mode::{Mode, ModeRefusal};
 use crate::writing::write_number;
 use book_journal::Journal;
@@ -34,7 +34,7 @@ pub fn run<T: Threads + Wait + Sync, S: Alter + Drop, R: Read, W: Write>(
     connection: Result<Connection<S>, Error>,
     reader: &mut R,
     writer: &mut W,
-) -> (Result<(), Fault>, Option<Connection<S>>)
+) -> (Result<(), ExitCause>, Option<Connection<S>>)
     ensures outcome { HasOutcome (λ held. state S.Store held) mode.now connection result.0 (R.remaining reader.old) (R.remaining reader.new) (W.contents writer.old) (W.contents writer.new) }
     ensures left { is_some result.1 ≡ is_left mode.now result.0 }
 {
@@ -45,18 +45,22 @@ pub fn run<T: Threads + Wait + Sync, S: Alter + Drop, R: Read, W: Write>(
 }
 
 /// The program's status for a run that ended so, and for what closing its file answered. A fault is told on `faults`.
-pub fn finish<W: Write>(outcome: Result<(), Fault>, closed: Result<(), Error>, faults: &mut W) -> u8
+pub fn finish<W: Write>(
+    outcome: Result<(), ExitCause>,
+    closed: Result<(), Error>,
+    faults: &mut W,
+) -> u8
     ensures { IsStatus outcome closed result (W.contents faults.old) (W.contents faults.new) }
 {
     end(after_closing(outcome, closed), faults)
 }
 
 /// Where all went well, what comes of closing the file.
-fn after_closing(outcome: Result<(), Fault>, closed: Result<(), Error>) -> Result<(), Fault>
+fn after_closing(outcome: Result<(), ExitCause>, closed: Result<(), Error>) -> Result<(), ExitCause>
     ensures { result ≡ after_closing outcome closed }
 {
     match (outcome, closed) {
-        (Ok(()), Err(cause)) => Err(Fault::of_connection(cause)),
+        (Ok(()), Err(cause)) => Err(ExitCause::of_connection(cause)),
         (outcome, _) => outcome,
     }
 }
@@ -68,13 +72,13 @@ pub fn refuse<W: Write, E: Write>(refusal: ModeRefusal, writer: &mut W, faults: 
     match refusal {
         ModeRefusal::Shown(text) => match show(writer, text.as_bytes()) {
             Ok(()) => ENDED,
-            Err(_) => end(Err(Fault::Output), faults),
+            Err(_) => end(Err(ExitCause::Output), faults),
         },
         ModeRefusal::Usage => {
             let _ = write_all(faults, USAGE_TEXT);
             USAGE
         }
-        ModeRefusal::Memory => end(Err(Fault::Memory), faults),
+        ModeRefusal::Memory => end(Err(ExitCause::Memory), faults),
     }
 }
 
@@ -91,21 +95,21 @@ fn show<W: Write>(writer: &mut W, text: &[u8]) -> Result<(), ServeFault>
 fn open<S: Alter + Drop>(
     alloc: Global,
     connection: Result<Connection<S>, Error>,
-) -> Result<Session<S>, Fault>
+) -> Result<Session<S>, ExitCause>
     ensures here { IfOk result (λ s. s.is_failed ≡ false) }
     ensures ok { IfOk result (λ s. Opens (λ held. state S.Store held) connection (told s)) }
     ensures err { IfErr result (OpensNone (λ held. state S.Store held) connection) }
 {
     match connection {
         Ok(connection) => open_connected(alloc, connection),
-        Err(cause) => Err(Fault::of_connection(cause)),
+        Err(cause) => Err(ExitCause::of_connection(cause)),
     }
 }
 
 fn open_connected<S: Alter + Drop>(
     alloc: Global,
     connection: Connection<S>,
-) -> Result<Session<S>, Fault>
+) -> Result<Session<S>, ExitCause>
     ensures here { IfOk result (λ s. s.is_failed ≡ false) }
     ensures ok { IfOk result (λ s. Gives (λ held. state S.Store held) connection (told s)) }
     ensures err { IfErr result (GivesNone (λ held. state S.Store held) connection) }
@@ -113,9 +117,9 @@ fn open_connected<S: Alter + Drop>(
     match Journal::open(connection) {
         Ok(journal) => match Session::open(alloc, journal) {
             Ok(session) => Ok(session),
-            Err((fault, _)) => Err(Fault::of_open(fault)),
+            Err((fault, _)) => Err(ExitCause::of_open(fault)),
         },
-        Err((fault, _)) => Err(Fault::of_journal(fault)),
+        Err((fault, _)) => Err(ExitCause::of_journal(fault)),
     }
 }
 
@@ -129,7 +133,7 @@ fn run_owned<T: Threads + Wait + Sync, S: Alter + Drop, R: Read, W: Write>(
     session: Session<S>,
     reader: &mut R,
     writer: &mut W,
-) -> (Result<(), Fault>, Option<Connection<S>>)
+) -> (Result<(), ExitCause>, Option<Connection<S>>)
     requires here { session.is_failed ≡ false }
     ensures run { IsRun mode.now result.0 (told session) (R.remaining reader.old) (R.remaining reader.new) (W.contents writer.old) (W.contents writer.new) }
     ensures left { is_some result.1 ≡ is_left mode.now result.0 }
@@ -143,7 +147,7 @@ fn run_owned<T: Threads + Wait + Sync, S: Alter + Drop, R: Read, W: Write>(
 /// Lets a session go. Its connection is left where it is to be closed.
 fn let_go<S: Alter + Drop>(
     mode: &Mode,
-    outcome: Result<(), Fault>,
+    outcome: Result<(), ExitCause>,
     session: Session<S>,
 ) -> Option<Connection<S>>
     ensures { is_some result ≡ is_left mode.now outcome }
@@ -170,13 +174,15 @@ pub fn run_session<T: Threads + Wait + Sync, S: Alter, R: Read, W: Write>(
     session: &mut Session<S>,
     reader: &mut R,
     writer: &mut W,
-) -> Result<(), Fault>
-    ensures done { session.old.is_failed ≡ false → IsDone mode.now result (told session.old) (told session.new) (R.remaining reader.old) (R.remaining reader.new) (W.contents writer.old) (W.contents writer.new) }
+) -> Result<(), ExitCause>
+    ensures done { session.old.is_failed ≡ false → IsDone mode.now result (told session.old) (told session.new)
+        (R.remaining reader.old) (R.remaining reader.new) (W.contents writer.old) (W.contents writer.new) }
     ensures check { is_check mode.now ≡ true → session.new ≡ session.old }
-    ensures failed { session.old.is_failed ≡ true → (result ≡ Err Fault.Store) × (session.new ≡ session.old) × (R.remaining reader.new ≡ R.remaining reader.old) × (W.contents writer.new ≡ W.contents writer.old) }
+    ensures failed { session.old.is_failed ≡ true → (result ≡ Err ExitCause.Store) × (session.new ≡ session.old)
+        × (R.remaining reader.new ≡ R.remaining reader.old) × (W.contents writer.new ≡ W.contents writer.old) }
 {
     if session.is_failed() {
-        return Err(Fault::Store);
+        return Err(ExitCause::Store);
     }
     match mode {
         Mode::InMemory | Mode::Journal(_) => serve_book(rt, alloc, session, reader, writer),
@@ -190,35 +196,35 @@ fn serve_book<T: Threads + Wait + Sync, S: Alter, R: Read, W: Write>(
     session: &mut Session<S>,
     reader: &mut R,
     writer: &mut W,
-) -> Result<(), Fault>
+) -> Result<(), ExitCause>
     requires here { session.old.is_failed ≡ false }
     ensures { IsServed result (told session.old) (told session.new) (R.remaining reader.old) (W.contents writer.old) (W.contents writer.new) }
 {
     match serve(rt, alloc, reader, writer, session) {
         Ok(()) => Ok(()),
-        Err(fault) => Err(Fault::of_serve(fault)),
+        Err(fault) => Err(ExitCause::of_serve(fault)),
     }
 }
 
 /// How many lines the journal of a book has, and how many steps remain.
 fn sizes(book: Option<&Book>) -> (usize, usize)
-    ensures { result ≡ sizes_of (option_map (λ b. b.now.story) book.entry) }
+    ensures { result ≡ sizes_of (option_map (λ b. b.now.log) book.entry) }
 {
     match book {
         Some(book) => {
-            let (_begin, log) = book.entries();
-            (log.len() + 1, book.history().len())
+            let (_begin, entries) = book.entries();
+            (entries.len() + 1, book.history().len())
         }
         None => (0, 0),
     }
 }
 
-fn print_sizes<W: Write>(writer: &mut W, sizes: (usize, usize)) -> Result<(), Fault>
+fn print_sizes<W: Write>(writer: &mut W, sizes: (usize, usize)) -> Result<(), ExitCause>
     ensures { IsPrinted result (sizes_text sizes) (W.contents writer.old) (W.contents writer.new) }
 {
     match print(writer, sizes) {
         Ok(()) => Ok(()),
-        Err(_) => Err(Fault::Output),
+        Err(_) => Err(ExitCause::Output),
     }
 }
 

@@ -22,12 +22,12 @@ use Rattle.step_names.specs.Under.{is_under}
 use Rattle.step_names.specs.declared.step.StepName.{StepName}
 use Rattle.step_names.proofs.OrderLaws.{thread_itself}
 use Rattle.step_names.proofs.UnderLaws.{under_Decides}
-use Rattle.saved_steps.specs.Deeds.{Deed, deed_of, fork_deed, bounded}
-use Rattle.saved_steps.specs.Held.{placed, tree_in, rows_at, frames_of, paths_of, put_at, with_thread, seen}
-use Rattle.saved_steps.specs.Keeping.{Kept, kept, item_written, undo}
-use Rattle.saved_steps.specs.Made.{is_open, IsOpen, IsParkedSince, plain_fact, fact_made, Makes, IsMadeFor, Stands, KeepsStore}
-use Rattle.saved_steps.specs.Records.{keeps, kept_by, was_below}
-use Rattle.saved_steps.specs.Run.{carried_out, begun_at}
+use Rattle.saved_steps.specs.Effects.{Effect, own_effect, fork_effect, bounded}
+use Rattle.saved_steps.specs.Held.{placed, tree_in, rows_at, frames_of, paths_of, put_at, with_thread, world_view}
+use Rattle.saved_steps.specs.Saving.{SavedState, kept, item_written, undo}
+use Rattle.saved_steps.specs.Made.{is_open, IsOpen, IsParkedSince, plain_fact, fact_made, Makes, IsMadeFor, CanApplyChange, KeepsStore}
+use Rattle.saved_steps.specs.Records.{keeps, saved_by, was_below}
+use Rattle.saved_steps.specs.Run.{after_effect, begun_at}
 use Rattle.saved_steps.specs.Steps.{makes, closes, is_fork, is_close, is_write, is_write_of}
 use Rattle.saved_steps.specs.Undoing.{CanUndo, IsApplied}
 use Rattle.saved_steps.specs.World.{is_same_thread}
@@ -44,8 +44,8 @@ use Rattle.saved_steps.proofs.Threads.{same_by_parts}
 use Rattle.saved_steps.proofs.Under.{rest_is, rest_itself, first_is, under_is, nothing_at_open, nothing_at_other, no_other_branch, told}
 use Rattle.saved_steps.proofs.Undone.{same_world, undone}
 
-deed_is : (d : Deed) (s : Fact) (f : Frame) → s ≡ d.fact → f ≡ d.frame → record { fact = s; frame = f; branches = d.branches; item = d.item } ≡ d
-deed_is d s f e h = ap₂ (λ (x : Fact) (y : Frame). let z : Deed = record { fact = x; frame = y; branches = d.branches; item = d.item } in z) e h
+effect_is : (d : Effect) (s : Fact) (f : Frame) → s ≡ d.fact → f ≡ d.frame → record { fact = s; frame = f; branches = d.branches; item = d.item } ≡ d
+effect_is d s f e h = ap₂ (λ (x : Fact) (y : Frame). let z : Effect = record { fact = x; frame = y; branches = d.branches; item = d.item } in z) e h
 
 pub same_store : (a b : Store) → b ≡ a → KeepsStore a b
 same_store a b e = record {
@@ -55,8 +55,8 @@ same_store a b e = record {
 }
 
 -- what comes back is by the model's own law
-applied : (w v : World) (m : Made) (r : StepRecord) → r.fact ≡ fact_made m → ((d : Deed) → IsMadeFor m d → seen v ≡ carried_out (seen w) d) → kept_by r ≡ kept (seen w) r.fact → CanUndo v r → KeepsStore w.items v.items
-    → (d : Deed) → IsMadeFor m d → ((t : Thread) → makes d.fact t ≡ true → frames_of w t ≡ None) → IsApplied w m v r
+applied : (w v : World) (m : Made) (r : StepRecord) → r.fact ≡ fact_made m → ((d : Effect) → IsMadeFor m d → world_view v ≡ after_effect (world_view w) d) → saved_by r ≡ kept (world_view w) r.fact → CanUndo v r → KeepsStore w.items v.items
+    → (d : Effect) → IsMadeFor m d → ((t : Thread) → makes d.fact t ≡ true → frames_of w t ≡ None) → IsApplied w m v r
 applied w v m r fact world saved undoable store d made nothing = record {
   fact = fact;
   world = world;
@@ -64,8 +64,8 @@ applied w v m r fact world saved undoable store d made nothing = record {
   undoable = undoable;
   back =
       let same : r.fact ≡ d.fact = fact ∙ made.fact in
-      ap (λ x. undo x r.fact (kept_by r)) (world d made) ∙ ap (λ k. undo (carried_out (seen w) d) r.fact k) saved
-      ∙ ap (λ s. undo (carried_out (seen w) d) s (kept (seen w) s)) same ∙ undone (seen w) d nothing;
+      ap (λ x. undo x r.fact (saved_by r)) (world d made) ∙ ap (λ k. undo (after_effect (world_view w) d) r.fact k) saved
+      ∙ ap (λ s. undo (after_effect (world_view w) d) s (kept (world_view w) s)) same ∙ undone (world_view w) d nothing;
   store = store;
 }
 
@@ -78,20 +78,20 @@ cond_under false x y z h = refl
 with_here : (frames : Thread → Option Frame) (a : Thread) (f : Frame) → with_thread frames a f a ≡ Some f
 with_here frames a f = rw (thread_itself a) refl
 
-pub plain : (w v : World) (name : StepName) (bound : ℕ) (f g : Frame) → v.items ≡ w.items → Stands w name (change.Plain f) → frames_of w name.thread ≡ Some g
+pub plain : (w v : World) (name : StepName) (bound : ℕ) (f g : Frame) → v.items ≡ w.items → CanApplyChange w name (change.Plain f) → frames_of w name.thread ≡ Some g
     → ((t : Thread) → frames_of v t ≡ with_thread (frames_of w) name.thread f t)
     → IsApplied w (record { name = name; bound = bound; change = change.Plain f }) v (record { fact = plain_fact name bound kind.Plain; saved = Framed g })
 plain w v name bound f g items stands was now =
     applied w v (record { name = name; bound = bound; change = change.Plain f }) (record { fact = plain_fact name bound kind.Plain; saved = Framed g }) refl
-    (λ d x. subst (λ (e : Deed). seen v ≡ carried_out (seen w) e) (deed_is d (plain_fact name bound kind.Plain) f x.fact x.change)
-    (same_world (seen v) (carried_out (seen w) (record { fact = plain_fact name bound kind.Plain; frame = f; branches = d.branches; item = d.item })) now (λ key. ap (λ (s : Store). items_of s key) items)))
+    (λ d x. subst (λ (e : Effect). world_view v ≡ after_effect (world_view w) e) (effect_is d (plain_fact name bound kind.Plain) f x.fact x.change)
+    (same_world (world_view v) (after_effect (world_view w) (record { fact = plain_fact name bound kind.Plain; frame = f; branches = d.branches; item = d.item })) now (λ key. ap (λ (s : Store). items_of s key) items)))
     (ap (λ (o : Option Frame). keeps o None) (sym was))
     (record {
       record_fits = (refl, refl, subst (λ (o : Option Frame). IsSomeAnd o is_open) was stands.0);
       slot = tt;
       thread = subst (λ (o : Option Frame). IsSomeAnd o is_open) (sym (now name.thread ∙ with_here (frames_of w) name.thread f)) stands.1;
     })
-    (same_store w.items v.items items) (bounded bound (deed_of kind.Plain name f)) (record { fact = refl; change = refl }) (λ t h. cc)
+    (same_store w.items v.items items) (bounded bound (own_effect kind.Plain name f)) (record { fact = refl; change = refl }) (λ t h. cc)
 
 -- ---- a call
 
@@ -99,16 +99,16 @@ item_is : (w k : Bool) (item x now : Option Attributes) → (w ≡ true → x �
 item_is true k item x now h = rw (h refl) refl
 item_is false k item x now h = refl
 
-pub call : (w v : World) (name : StepName) (bound : ℕ) (f g : Frame) (a : Access) (slot : SlotNo) (new old : Option Attributes) → Stands w name (change.Call f a slot new) → frames_of w name.thread ≡ Some g
+pub call : (w v : World) (name : StepName) (bound : ℕ) (f g : Frame) (a : Access) (slot : SlotNo) (new old : Option Attributes) → CanApplyChange w name (change.Call f a slot new) → frames_of w name.thread ≡ Some g
     → ((t : Thread) → frames_of v t ≡ with_thread (frames_of w) name.thread f t)
     → old ≡ item_written (items_of w.items) (Some a) → ((key : Key) → items_of v.items key ≡ cond (is_write_of (Some a) key) new (items_of w.items key)) → KeepsStore w.items v.items
     → IsApplied w (record { name = name; bound = bound; change = change.Call f a slot new }) v (record { fact = record { name = name; kind = kind.Call; access = Some a; bound = bound }; saved = Called g slot old })
 call w v name bound f g a slot new old stands was now was_item items store =
     let s : Fact = record { name = name; kind = kind.Call; access = Some a; bound = bound } in
-    let d0 : Deed = record { fact = s; frame = f; branches = []; item = new } in
+    let d0 : Effect = record { fact = s; frame = f; branches = []; item = new } in
     applied w v (record { name = name; bound = bound; change = change.Call f a slot new }) (record { fact = s; saved = Called g slot old }) refl
-    (λ d x. subst (λ (e : Deed). seen v ≡ carried_out (seen w) e) (deed_is d s f x.fact x.change.0)
-    (same_world (seen v) (carried_out (seen w) (record { fact = s; frame = f; branches = d.branches; item = d.item })) now
+    (λ d x. subst (λ (e : Effect). world_view v ≡ after_effect (world_view w) e) (effect_is d s f x.fact x.change.0)
+    (same_world (world_view v) (after_effect (world_view w) (record { fact = s; frame = f; branches = d.branches; item = d.item })) now
     (λ key. items key ∙ item_is (is_write a.mode) (is_same_key a.key key) d.item new (items_of w.items key) x.change.1)))
     (ap₂ (λ (o : Option Frame) (i : Option Attributes). keeps o i) (sym was) was_item)
     (record {
@@ -129,7 +129,7 @@ begun_frames true rows o f path q e h k = rw (e, k refl) (h q ∙ by q)
     by [] = refl
     by (b ∷ p) = refl
 
-pub begin : (w v : World) (name : StepName) (bound : ℕ) (f : Frame) (rows : Rows) → v.items ≡ w.items → Stands w name (change.Begin f)
+pub begin : (w v : World) (name : StepName) (bound : ℕ) (f : Frame) (rows : Rows) → v.items ≡ w.items → CanApplyChange w name (change.Begin f)
     → ((e : List ℕ) → tree_in v.executions.trees e ≡ cond (bytes_eq name.thread.exec e) (Some rows) (tree_in w.executions.trees e))
     → ((q : Path) → frame_at rows q ≡ alone f q)
     → IsApplied w (record { name = name; bound = bound; change = change.Begin f }) v (record { fact = plain_fact name bound kind.Start; saved = Started })
@@ -142,15 +142,15 @@ begin w v name bound f rows items stands trees tree =
     (λ e. ap (λ (x : List ℕ). tree_in w.executions.trees x) (sym ((bytes_eq-Decides a.exec t.exec).0 e)) ∙ none)
     ∙ ap (λ (s : Bool). cond s (Some f) (frames_of w t)) (sym (same_by_parts a t)) in
     applied w v (record { name = name; bound = bound; change = change.Begin f }) (record { fact = plain_fact name bound kind.Start; saved = Started }) refl
-    (λ d x. subst (λ (e : Deed). seen v ≡ carried_out (seen w) e) (deed_is d (plain_fact name bound kind.Start) f x.fact x.change)
-    (same_world (seen v) (carried_out (seen w) (record { fact = plain_fact name bound kind.Start; frame = f; branches = d.branches; item = d.item })) now (λ key. ap (λ (s : Store). items_of s key) items)))
+    (λ d x. subst (λ (e : Effect). world_view v ≡ after_effect (world_view w) e) (effect_is d (plain_fact name bound kind.Start) f x.fact x.change)
+    (same_world (world_view v) (after_effect (world_view w) (record { fact = plain_fact name bound kind.Start; frame = f; branches = d.branches; item = d.item })) now (λ key. ap (λ (s : Store). items_of s key) items)))
     (ap (λ (o : Option Frame). keeps o None) (sym (ap (λ (o : Option Rows). rows_at o a.path) none)))
     (record {
       record_fits = (refl, refl, stands.1);
       slot = tt;
       thread = subst (λ (o : Option Frame). IsSomeAnd o is_open) (sym (now a ∙ with_here (frames_of w) a f)) stands.2;
     })
-    (same_store w.items v.items items) (bounded bound (deed_of kind.Start name f)) (record { fact = refl; change = refl }) (λ t h. cc)
+    (same_store w.items v.items items) (bounded bound (own_effect kind.Start name f)) (record { fact = refl; change = refl }) (λ t h. cc)
 
 -- ---- what is put at a thread and under it
 
@@ -196,7 +196,7 @@ module _ (w v : World) (m : Made) (r : StepRecord) (name : StepName) (bound : �
   pub fork : IsOpen (frames_of w) name.thread → IsNode f kids → is_parked f.phase ≡ true → f.count ≡ name.no → kids ≡ map leaf branches
       → frames_of w name.thread ≡ Some g → IsTree (paths_of (frames_of w) name.thread.exec)
       → ((t : Thread) → frames_of v t ≡ put_at (frames_of w) name.thread (node_at f kids) t)
-      → fact_made m ≡ plain_fact name bound kind.Fork → ((d : Deed) → IsMadeFor m d → (f ≡ d.frame) × (kids ≡ map leaf d.branches)) → Makes m.change (bounded bound (fork_deed name f branches))
+      → fact_made m ≡ plain_fact name bound kind.Fork → ((d : Effect) → IsMadeFor m d → (f ≡ d.frame) × (kids ≡ map leaf d.branches)) → Makes m.change (bounded bound (fork_effect name f branches))
       → r ≡ record { fact = plain_fact name bound kind.Fork; saved = Forked g }
       → IsApplied w m v r
   fork free node parked count leaves was tree now is_fact is_made makes_it is_record =
@@ -208,8 +208,8 @@ module _ (w v : World) (m : Made) (r : StepRecord) (name : StepName) (bound : �
       λ t. now t ∙ told (frames_of w) a (node_at f kids) f name.no refl (no_other_branch f kids name.no count) (λ b q apart. nothing b q) t in
       applied w v m r (ap (λ (x : StepRecord). x.fact) is_record ∙ sym is_fact)
       (λ d x. let y = is_made d x in
-      subst (λ (e : Deed). seen v ≡ carried_out (seen w) e) (deed_is d s f (sym is_fact ∙ x.fact) y.0)
-      (same_world (seen v) (carried_out (seen w) (record { fact = s; frame = f; branches = d.branches; item = d.item }))
+      subst (λ (e : Effect). world_view v ≡ after_effect (world_view w) e) (effect_is d s f (sym is_fact ∙ x.fact) y.0)
+      (same_world (world_view v) (after_effect (world_view w) (record { fact = s; frame = f; branches = d.branches; item = d.item }))
       (λ t. all t ∙ ap (cond (is_same_thread a t) (Some f)) (cond_under (is_under t a name.no) (option_and_then (node_at f kids) (rest_after a.path t.path)) (begun_at d.branches (rest_after a.path t.path)) (frames_of w t)
       (λ u. begun_is f kids d.branches name.no count y.1 (rest_after a.path t.path) (first_under a t name.no u))))
       (λ key. ap (λ (x : Store). items_of x key) items)))
@@ -219,7 +219,7 @@ module _ (w v : World) (m : Made) (r : StepRecord) (name : StepName) (bound : �
         slot = tt;
         thread = subst (λ (o : Option Frame). IsSomeAnd o (λ x. (is_parked x.phase ≡ true) × (x.count ≡ name.no))) (sym (now a ∙ put_here (frames_of w) a (node_at f kids))) (parked, count);
       }))
-      (same_store w.items v.items items) (bounded bound (fork_deed name f branches)) (record { fact = is_fact; change = makes_it })
+      (same_store w.items v.items items) (bounded bound (fork_effect name f branches)) (record { fact = is_fact; change = makes_it })
       (λ t h. let k = below_at (frames_of w) a t name.no h in k.3 ∙ nothing k.0 k.1)
 
 -- ---- a join, and a terminate
@@ -233,7 +233,7 @@ module _ (w v : World) (m : Made) (r : StepRecord) (name : StepName) (bound : �
   pub close : is_fork k ≡ false → is_close k ≡ true → IsParkedSince (frames_of w) name.thread (name.no - 1) → is_open f
       → ((q : Path) → paths_of (frames_of w) name.thread.exec (name.thread.path ++ q) ≡ node_at g kids.items q) → IsNode g kids.items → IsTree (paths_of (frames_of w) name.thread.exec)
       → ((t : Thread) → frames_of v t ≡ put_at (frames_of w) name.thread (alone f) t)
-      → fact_made m ≡ plain_fact name bound k → ((d : Deed) → IsMadeFor m d → f ≡ d.frame) → Makes m.change (bounded bound (deed_of k name f))
+      → fact_made m ≡ plain_fact name bound k → ((d : Effect) → IsMadeFor m d → f ≡ d.frame) → Makes m.change (bounded bound (own_effect k name f))
       → r ≡ record { fact = plain_fact name bound k; saved = Closed g kids }
       → IsApplied w m v r
   close unforked closing since free was node tree now is_fact is_made makes_it is_record =
@@ -249,15 +249,15 @@ module _ (w v : World) (m : Made) (r : StepRecord) (name : StepName) (bound : �
       let below : (t : Thread) → was_below s g kids.items t ≡ cond (closes s t) (frames_of w t) None =
       λ t. cond_under (closes s t) (option_and_then (node_at g kids.items) (rest_after a.path t.path)) (frames_of w t) None
       (λ h. let x = below_at (frames_of w) a t n (and_parts (is_close k) (is_under t a n) h).1 in ap (option_and_then (node_at g kids.items)) x.2 ∙ sym (x.3 ∙ was (x.0 ∷ x.1))) in
-      let kept_is : record { frame = Some g; item = None; below = was_below s g kids.items } ≡ kept (seen w) s =
-      ap₂ (λ (o : Option Frame) (b : Thread → Option Frame). let x : Kept = record { frame = o; item = None; below = b } in x) (sym was_g) (fun_ext below) in
+      let kept_is : record { frame = Some g; item = None; below = was_below s g kids.items } ≡ kept (world_view w) s =
+      ap₂ (λ (o : Option Frame) (b : Thread → Option Frame). let x : SavedState = record { frame = o; item = None; below = b } in x) (sym was_g) (fun_ext below) in
       let thread : IsOpen (frames_of v) a = subst (λ (o : Option Frame). IsSomeAnd o is_open) (sym (now a ∙ put_here (frames_of w) a (alone f))) free in
       applied w v m r (ap (λ (x : StepRecord). x.fact) is_record ∙ sym is_fact)
-      (λ d x. subst (λ (e : Deed). seen v ≡ carried_out (seen w) e) (deed_is d s f (sym is_fact ∙ x.fact) (is_made d x))
-      (same_world (seen v) (carried_out (seen w) (record { fact = s; frame = f; branches = d.branches; item = d.item }))
+      (λ d x. subst (λ (e : Effect). world_view v ≡ after_effect (world_view w) e) (effect_is d s f (sym is_fact ∙ x.fact) (is_made d x))
+      (same_world (world_view v) (after_effect (world_view w) (record { fact = s; frame = f; branches = d.branches; item = d.item }))
       (λ t. rw (unforked, closing) (all t ∙ ap (cond (is_same_thread a t) (Some f)) (cond_under (is_under t a n) (option_and_then (alone f) (rest_after a.path t.path)) None (frames_of w t) (λ u. alone_is (rest_after a.path t.path) (first_under a t n u)))))
       (λ key. ap (λ (x : Store). items_of x key) items)))
-      (subst (λ (x : StepRecord). kept_by x ≡ kept (seen w) x.fact) (sym is_record) kept_is)
+      (subst (λ (x : StepRecord). saved_by x ≡ kept (world_view w) x.fact) (sym is_record) kept_is)
       (subst (λ (x : StepRecord). CanUndo v x) (sym is_record) (record { record_fits = (closing, refl, node, g_is.0, g_is.1); slot = tt; thread = thread }))
-      (same_store w.items v.items items) (bounded bound (deed_of k name f)) (record { fact = is_fact; change = makes_it })
+      (same_store w.items v.items items) (bounded bound (own_effect k name f)) (record { fact = is_fact; change = makes_it })
       (λ t h. let e : (is_fork k && is_under t a name.no) ≡ true = h in let yes = (and_parts (is_fork k) (is_under t a name.no) e).0 in cc)

@@ -19,7 +19,7 @@ use Rattle.json_tree.specs.declared.tree.Json.{Json}
 use Rattle.branch_tree.specs.Fault.{Fault}
 use Rattle.branch_tree.specs.Frame.{Frame}
 use Rattle.branch_tree.specs.Phase.TheVariants.{Done, Failed}
-use Rattle.branch_tree.specs.First.{IsFirst, is_free, thread_under, path_cmp, has_move}
+use Rattle.branch_tree.specs.First.{IsFirst, is_free, thread_under, path_cmp, is_enabled}
 use Rattle.branch_tree.specs.FlatMap.{FrameMap, IsTree, branch_count}
 use Rattle.branch_tree.specs.Laws.{BelowIsParked}
 use Rattle.branch_tree.specs.Paths.{Path}
@@ -42,12 +42,12 @@ when_so false P Q f h = h
 -- ---- executions that have ended
 
 -- where nothing stands under a root that has no move, no thread is free
-pub none_free : (frames : FrameMap) (f : Frame) (base : Thread) (passed : Thread → Bool) → BelowIsParked → IsTree frames → frames [] ≡ Some f → has_move (readiness_of true frames (Some f)) ≡ false
+pub none_free : (frames : FrameMap) (f : Frame) (base : Thread) (passed : Thread → Bool) → BelowIsParked → IsTree frames → frames [] ≡ Some f → is_enabled (readiness_of true frames (Some f)) ≡ false
     → branch_count f.phase ≡ 0 → IsFirst true frames base passed None
 none_free frames f base passed parked tree root still alone [] named = rw (root, still) refl
 none_free frames f base passed parked tree root still alone (b ∷ p) named = by (frames ((b ∷ p) ++ [])) refl
   where
-    by : (o : Option Frame) → frames ((b ∷ p) ++ []) ≡ o → (has_move (readiness_of (begins_under true frames (place_of (b ∷ p))) (λ q. frames ((b ∷ p) ++ q)) o) && not (passed (thread_under base (b ∷ p)))) ≡ false
+    by : (o : Option Frame) → frames ((b ∷ p) ++ []) ≡ o → (is_enabled (readiness_of (begins_under true frames (place_of (b ∷ p))) (λ q. frames ((b ∷ p) ++ q)) o) && not (passed (thread_under base (b ∷ p)))) ≡ false
     by None e = refl
     by (Some g) e =
         let k = parked frames [] (p ++ []) b g tree e in
@@ -207,8 +207,8 @@ module _ (m : BTreeMap (String Global) (Option Rows)) (passed : Thread → Bool)
     free_here t h =
         let same = same_exec t.exec (string_bytes k) h in
         let tree = tree_here t.exec h in
-        ap (λ (o : Option Rows). has_move (readiness_at (rows_at o) t.path) && not (passed t)) tree
-        ∙ ap (λ (exec : List ℕ). has_move (readiness_at (rows_at v) t.path) && not (passed (record { exec = exec; path = t.path }))) same
+        ap (λ (o : Option Rows). is_enabled (readiness_at (rows_at o) t.path) && not (passed t)) tree
+        ∙ ap (λ (exec : List ℕ). is_enabled (readiness_at (rows_at v) t.path) && not (passed (record { exec = exec; path = t.path }))) same
 
     named_here : (t : Thread) → is_eq (slice_cmp nat_cmp t.exec (string_bytes k)) ≡ true → IsThread t → IsThread (thread_under (execution (string_bytes k)) t.path)
     named_here t h named = subst (λ (exec : List ℕ). IsThread (record { exec = exec; path = t.path })) (same_exec t.exec (string_bytes k) h) named
@@ -291,8 +291,8 @@ module _ (m : BTreeMap (String Global) (Option Rows)) (name awake : List ℕ) wh
   free_there : (passed : Thread → Bool) (v : Option Rows) → tree_in m awake ≡ v → (t : Thread) → t.exec ≡ awake
       → free (frames_in m) passed t ≡ is_free true (rows_at v) (execution awake) passed t.path
   free_there passed v tree t same =
-      ap (λ (o : Option Rows). has_move (readiness_at (rows_at o) t.path) && not (passed t)) (ap (tree_in m) same ∙ tree)
-      ∙ ap (λ (exec : List ℕ). has_move (readiness_at (rows_at v) t.path) && not (passed (record { exec = exec; path = t.path }))) same
+      ap (λ (o : Option Rows). is_enabled (readiness_at (rows_at o) t.path) && not (passed t)) (ap (tree_in m) same ∙ tree)
+      ∙ ap (λ (exec : List ℕ). is_enabled (readiness_at (rows_at v) t.path) && not (passed (record { exec = exec; path = t.path }))) same
 
   named_there : (t : Thread) → t.exec ≡ awake → IsThread t → IsThread (thread_under (execution awake) t.path)
   named_there t same named = subst (λ (exec : List ℕ). IsThread (record { exec = exec; path = t.path })) same named
@@ -342,7 +342,7 @@ of awake t = bytes_eq awake t.exec
 
 -- a thread of another that is not free where these are passed by has no move
 still : (m : BTreeMap (String Global) (Option Rows)) (awake : List ℕ) (passed : Thread → Bool) (t : Thread) → of awake t ≡ false → free (frames_in m) (of awake) t ≡ false → free (frames_in m) passed t ≡ false
-still m awake passed t sleeps h = by (has_move (readiness_at (λ p. frames_in m (record { exec = t.exec; path = p })) t.path)) (rw sleeps at h)
+still m awake passed t sleeps h = by (is_enabled (readiness_at (λ p. frames_in m (record { exec = t.exec; path = p })) t.path)) (rw sleeps at h)
   where
     by : (b : Bool) → (b && true) ≡ false → (b && not (passed t)) ≡ false
     by true e = cc
@@ -352,7 +352,7 @@ pub none_but : (m : BTreeMap (String Global) (Option Rows)) (name awake : List �
 none_but m name awake quiet = none_before m name awake (of awake) quiet there
   where
     there : (t : Thread) → IsThread t → slice_cmp nat_cmp t.exec name ≡ Less → t.exec ≡ awake → free (frames_in m) (of awake) t ≡ false
-    there t named less same = passed_by (has_move (readiness_at (λ p. frames_in m (record { exec = t.exec; path = p })) t.path)) (of awake t) ((bytes_eq-Decides awake t.exec).1 (sym same))
+    there t named less same = passed_by (is_enabled (readiness_at (λ p. frames_in m (record { exec = t.exec; path = p })) t.path)) (of awake t) ((bytes_eq-Decides awake t.exec).1 (sym same))
       where
         passed_by : (b c : Bool) → c ≡ true → (b && not c) ≡ false
         passed_by true true e = refl
@@ -377,7 +377,7 @@ pub kept_quiet : (m n : BTreeMap (String Global) (Option Rows)) (was was_awake i
     → ((e : List ℕ) → bytes_eq [] e ≡ false → IsGoneBy is is_awake e → IsGoneBy was was_awake e × (tree_in n e ≡ tree_in m e)) → AreQuiet n is is_awake
 kept_quiet m n was was_awake is is_awake quiet h passed t named gone =
     let same = h t.exec (named_so t.exec named.named) gone in
-    ap (λ (o : Option Rows). has_move (readiness_at (rows_at o) t.path) && not (passed t)) same.1 ∙ quiet passed t named same.0
+    ap (λ (o : Option Rows). is_enabled (readiness_at (rows_at o) t.path) && not (passed t)) same.1 ∙ quiet passed t named same.0
 
 pub nothing_before : (e : List ℕ) → slice_cmp nat_cmp e [] ≡ Less → ⊥
 nothing_before [] h = cc

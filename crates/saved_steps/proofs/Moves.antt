@@ -12,7 +12,7 @@ use Rattle.item_store.specs.declared.access.AccessMode.{AccessMode}
 use Rattle.item_store.proofs.Slots.{same_key}
 use Rattle.asl_forward.specs.Outcomes.{turn}
 use Rattle.asl_forward.specs.Results.{Work, work_of, after_answer}
-use Rattle.branch_tree.specs.Turn.{Standing, standing}
+use Rattle.branch_tree.specs.Turn.{Location, located}
 use Rattle.branch_tree.specs.Frame.{Frame}
 use Rattle.branch_tree.specs.Phase.TheVariants.{Ready}
 use Rattle.asl_forward.specs.declared.prepared.Outcome.{Outcome}
@@ -21,12 +21,12 @@ use Rattle.asl_forward.specs.declared.prepared.Prepared.{Prepared}
 use Rattle.step_names.specs.Thread.{Thread}
 use Rattle.step_names.specs.declared.step.StepName.{StepName}
 use Rattle.step_names.proofs.OrderLaws.{thread_same}
-use Rattle.saved_steps.specs.Deeds.{Deed, deed, deed_of_turn, turn_deed, first_bound, bounded, if_numbered, called, stands, next_step}
-use Rattle.saved_steps.specs.Held.{frames_of, seen}
-use Rattle.saved_steps.specs.Keeping.{kept, undo, item_written}
-use Rattle.saved_steps.specs.Laws.{changes, with_places, UndoneAtOnce, UndoneLater, TakenAgain, IsOver, StartIsDeed, WorkIsDeed, JoinIsDeed, TerminateIsDeed}
-use Rattle.saved_steps.specs.Made.{deed_of_work}
-use Rattle.saved_steps.specs.Run.{carried_out, begun}
+use Rattle.saved_steps.specs.Effects.{Effect, effect_of, effect_of_turn, turn_effect, first_bound, bounded, if_numbered, called, stands, next_step}
+use Rattle.saved_steps.specs.Held.{frames_of, world_view}
+use Rattle.saved_steps.specs.Saving.{kept, undo, item_written}
+use Rattle.saved_steps.specs.Laws.{changes, with_places, UndoneAtOnce, UndoneLater, TakenAgain, IsOver, StartIsEffect, WorkIsEffect, JoinIsEffect, TerminateIsEffect}
+use Rattle.saved_steps.specs.Made.{effect_of_work}
+use Rattle.saved_steps.specs.Run.{after_effect, begun}
 use Rattle.saved_steps.specs.Steps.{makes, closes, moved, is_write, is_write_of}
 use Rattle.saved_steps.specs.World.{Setting, is_same_thread}
 use Rattle.saved_steps.specs.declared.fact.Access.{Access}
@@ -72,29 +72,29 @@ item_again true new own was now h = sym (h refl)
 item_again false new own was now h = refl
 
 pub taken_again : TakenAgain
-taken_again w x d agree = same_world (carried_out (undo x d.fact (kept w d.fact)) d) x
+taken_again w x d agree = same_world (after_effect (undo x d.fact (kept w d.fact)) d) x
     (λ t. let s = d.fact in
     frame_again (is_same_thread s.name.thread t) (makes s t) (closes s t) (Some d.frame) (begun d t) (w.frames s.name.thread) (w.frames t) (x.frames t) (again t))
     (λ key. item_again (is_write_of d.fact.access key) d.item (item_written w.items d.fact.access) (w.items key) (x.items key) (agree.items key))
   where
-    again : (t : Thread) → (changes d.fact t) ≡ true → x.frames t ≡ (carried_out w d).frames t
+    again : (t : Thread) → (changes d.fact t) ≡ true → x.frames t ≡ (after_effect w d).frames t
     again t h = agree.frames t h
 
 -- ---- a step's next
 
-pub start_is_deed : StartIsDeed
-start_is_deed s w exec machine input d absent known = rw (absent, known) refl
+pub start_is_effect : StartIsEffect
+start_is_effect s w exec machine input d absent known = rw (absent, known) refl
 
--- a deed is of its step's name
+-- an effect is of its step's name
 called_name : (name : StepName) (g : Frame) (items : Table) (access : Option (Key × AccessMode)) → (called name g items access).fact.name ≡ name
 called_name name g items None = refl
 called_name name g items (Some x) = refl
 
-numbered : (number : ℕ) (d : Deed) → d.fact.name.no ≡ number → if_numbered number d ≡ Some d
+numbered : (number : ℕ) (d : Effect) → d.fact.name.no ≡ number → if_numbered number d ≡ Some d
 numbered number d e = rw (eq-eqb d.fact.name.no number e) refl
 
-turned_as : (s : Setting) (w : held.World) (name : StepName) (p : Prepared) (at : Standing) (o : Outcome) → IsOver s w → standing p.machine p.frame ≡ Some at
-    → option_and_then (if_numbered name.no) (deed_of_turn s (seen w) name at p.frame o) ≡ deed_of_work w.items name p o
+turned_as : (s : Setting) (w : held.World) (name : StepName) (p : Prepared) (at : Location) (o : Outcome) → IsOver s w → located p.machine p.frame ≡ Some at
+    → option_and_then (if_numbered name.no) (effect_of_turn s (world_view w) name at p.frame o) ≡ effect_of_work w.items name p o
 turned_as s w name p at (outcome.Next g) over h = numbered name.no _ refl
 turned_as s w name p at (outcome.Fork g branches) over h = numbered name.no _ refl
 turned_as s w name p at (outcome.Call c) over h = rw (h, ← over.table, ← over.schema) (by (work_of at.1))
@@ -106,7 +106,7 @@ turned_as s w name p at (outcome.Call c) over h = rw (h, ← over.table, ← ove
         let o = table.in_form w.items.table w.items.schema (items_of w.items) c in
         numbered name.no (called name (after_answer at.0 x p.frame o.answer) o.items o.access) (ap (λ (n : StepName). n.no) (called_name name (after_answer at.0 x p.frame o.answer) o.items o.access))
 
-there : (d : Option Standing) (f : Frame) (o : Outcome) → option_map (λ at. turn at f) d ≡ Some o → (at : Standing) × (d ≡ Some at) × (turn at f ≡ o)
+there : (d : Option Location) (f : Frame) (o : Outcome) → option_map (λ at. turn at f) d ≡ Some o → (at : Location) × (d ≡ Some at) × (turn at f ≡ o)
 there None f o h = cc
 there (Some at) f o h = (at, refl, same_Some (turn at f) o h)
 
@@ -114,7 +114,7 @@ named : (name : StepName) (f : Frame) → name.no ≡ f.count + 1 → next_step 
 named name f e = ap (λ (n : ℕ). let x : StepName = record { thread = name.thread; no = n } in x) (sym e)
 
 -- the turn of a thread that may begin, told with a bound and by its number
-bounded_as : (n number : ℕ) (o p : Option Deed) → option_and_then (if_numbered number) o ≡ p → option_and_then (if_numbered number) (option_map (bounded n) o) ≡ option_map (bounded n) p
+bounded_as : (n number : ℕ) (o p : Option Effect) → option_and_then (if_numbered number) o ≡ p → option_and_then (if_numbered number) (option_map (bounded n) o) ≡ option_map (bounded n) p
 bounded_as n number None p h = ap (option_map (bounded n)) h
 bounded_as n number (Some d) p h = by (d.fact.name.no == number) ∙ ap (option_map (bounded n)) h
   where
@@ -122,22 +122,22 @@ bounded_as n number (Some d) p h = by (d.fact.name.no == number) ∙ ap (option_
     by true = refl
     by false = refl
 
-ready_deed : (s : Setting) (w : held.World) (name : StepName) (f : Frame) (at : Standing) → frames_of w name.thread ≡ Some f → stands s f ≡ Some at → f.phase ≡ Ready → name.no ≡ f.count + 1
-    → deed s (seen w) (moved name) ≡ option_and_then (if_numbered name.no) (turn_deed (frames_of w) name.thread f (deed_of_turn s (seen w) name at f (turn at f)))
-ready_deed s w name f at frame stand phase number = rw (frame, stand, phase, named name f number) refl
+ready_effect : (s : Setting) (w : held.World) (name : StepName) (f : Frame) (at : Location) → frames_of w name.thread ≡ Some f → stands s f ≡ Some at → f.phase ≡ Ready → name.no ≡ f.count + 1
+    → effect_of s (world_view w) (moved name) ≡ option_and_then (if_numbered name.no) (turn_effect (frames_of w) name.thread f (effect_of_turn s (world_view w) name at f (turn at f)))
+ready_effect s w name f at frame stand phase number = rw (frame, stand, phase, named name f number) refl
 
-pub work_is_deed : WorkIsDeed
-work_is_deed s w name p over frame known number begins =
-    let at = there (standing p.machine p.frame) p.frame p.outcome p.turns in
-    let stands_there : stands s p.frame ≡ Some at.0 = ap (option_and_then (λ d. standing d p.frame)) known ∙ at.1 in
+pub work_is_effect : WorkIsEffect
+work_is_effect s w name p over frame known number begins =
+    let at = there (located p.machine p.frame) p.frame p.outcome p.turns in
+    let stands_there : stands s p.frame ≡ Some at.0 = ap (option_and_then (λ d. located d p.frame)) known ∙ at.1 in
     let n = first_bound (frames_of w) name.thread p.frame in
-    ready_deed s w name p.frame at.0 frame stands_there p.ready number
-    ∙ ap (option_and_then (if_numbered name.no)) (turn_goes (frames_of w) name.thread p.frame (deed_of_turn s (seen w) name at.0 p.frame (turn at.0 p.frame)) begins)
-    ∙ ap (λ (o : Outcome). option_and_then (if_numbered name.no) (option_map (bounded n) (deed_of_turn s (seen w) name at.0 p.frame o))) at.2
-    ∙ bounded_as n name.no (deed_of_turn s (seen w) name at.0 p.frame p.outcome) (deed_of_work w.items name p p.outcome) (turned_as s w name p at.0 p.outcome over at.1)
+    ready_effect s w name p.frame at.0 frame stands_there p.ready number
+    ∙ ap (option_and_then (if_numbered name.no)) (turn_goes (frames_of w) name.thread p.frame (effect_of_turn s (world_view w) name at.0 p.frame (turn at.0 p.frame)) begins)
+    ∙ ap (λ (o : Outcome). option_and_then (if_numbered name.no) (option_map (bounded n) (effect_of_turn s (world_view w) name at.0 p.frame o))) at.2
+    ∙ bounded_as n name.no (effect_of_turn s (world_view w) name at.0 p.frame p.outcome) (effect_of_work w.items name p p.outcome) (turned_as s w name p at.0 p.outcome over at.1)
 
-pub join_is_deed : JoinIsDeed
-join_is_deed s w name f n bound at work ds frame phase stand works fault done number = rw (frame, stand, phase, named name f number, fault, done, works) (numbered name.no _ refl)
+pub join_is_effect : JoinIsEffect
+join_is_effect s w name f n bound at work ds frame phase stand works fault done number = rw (frame, stand, phase, named name f number, fault, done, works) (numbered name.no _ refl)
 
-pub terminate_is_deed : TerminateIsDeed
-terminate_is_deed s w name f n bound at fault frame phase stand failed number = rw (frame, stand, phase, named name f number, failed) (numbered name.no _ refl)
+pub terminate_is_effect : TerminateIsEffect
+terminate_is_effect s w name f n bound at fault frame phase stand failed number = rw (frame, stand, phase, named name f number, failed) (numbered name.no _ refl)

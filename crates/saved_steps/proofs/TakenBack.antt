@@ -19,10 +19,10 @@ use Rattle.branch_tree.specs.Paths.{Path, same_path, rest_after}
 use Rattle.branch_tree.specs.Tree.{Rows, node_at}
 use Rattle.step_names.specs.Thread.{Thread}
 use Rattle.step_names.specs.Under.{is_under}
-use Rattle.saved_steps.specs.Held.{tree_in, rows_at, frames_of, paths_of, put_at, with_thread, seen}
-use Rattle.saved_steps.specs.Keeping.{undo}
+use Rattle.saved_steps.specs.Held.{tree_in, rows_at, frames_of, paths_of, put_at, with_thread, world_view}
+use Rattle.saved_steps.specs.Saving.{undo}
 use Rattle.saved_steps.specs.Made.{is_open, KeepsStore}
-use Rattle.saved_steps.specs.Records.{kept_by}
+use Rattle.saved_steps.specs.Records.{saved_by}
 use Rattle.saved_steps.specs.Steps.{is_fork, is_close, is_write_of}
 use Rattle.saved_steps.specs.Undoing.{CanUndo, IsUndone}
 use Rattle.saved_steps.specs.World.{is_same_thread}
@@ -67,7 +67,7 @@ pub plain : (w v : World) (s : Fact) (f : Frame) → v.items ≡ w.items → Can
     → ((t : Thread) → frames_of v t ≡ with_thread (frames_of w) s.name.thread f t)
     → IsUndone w (record { fact = s; saved = Framed f }) v
 plain w v s f items can now = record {
-  world = same_world (seen v) (undo (seen w) s (kept_by (record { fact = s; saved = Framed f })))
+  world = same_world (world_view v) (undo (world_view w) s (saved_by (record { fact = s; saved = Framed f })))
       (λ t. now t ∙ framed_back s kind.Plain (Some f) None None (frames_of w t) (is_same_thread s.name.thread t) (is_under t s.name.thread s.name.no) (is_under t s.name.thread (s.name.no - 1)) can.record_fits.0 refl refl)
       (λ key. ap (λ (x : Store). items_of x key) items ∙ unwritten s.access can.record_fits.1 key None (items_of w.items key));
   store = same_store w.items v.items items;
@@ -79,7 +79,7 @@ pub call : (w v : World) (s : Fact) (f : Frame) (slot : SlotNo) (old : Option At
     → KeepsStore w.items v.items
     → IsUndone w (record { fact = s; saved = Called f slot old }) v
 call w v s f slot old can now items store = record {
-  world = same_world (seen v) (undo (seen w) s (kept_by (record { fact = s; saved = Called f slot old })))
+  world = same_world (world_view v) (undo (world_view w) s (saved_by (record { fact = s; saved = Called f slot old })))
       (λ t. now t ∙ framed_back s kind.Call (Some f) None None (frames_of w t) (is_same_thread s.name.thread t) (is_under t s.name.thread s.name.no) (is_under t s.name.thread (s.name.no - 1)) can.record_fits.0 refl refl)
       items;
   store = store;
@@ -103,7 +103,7 @@ start w v s items can tree trees =
     λ g was free b r. subst (λ (p : Path). paths_of (frames_of w) a.exec (p ++ b ∷ r) ≡ None) can.record_fits.2 (nothing_at_open (paths_of (frames_of w) a.exec) tree a.path g was free b r) in
     let nothing : (b : ℕ × ℕ) (r : Path) → paths_of (frames_of w) a.exec (b ∷ r) ≡ None = opened (frames_of w a) (λ g was free. below g was free) can.thread in
     record {
-      world = same_world (seen v) (undo (seen w) s (kept_by (record { fact = s; saved = Started })))
+      world = same_world (world_view v) (undo (world_view w) s (saved_by (record { fact = s; saved = Started })))
           (λ t. ap (λ (o : Option Rows). rows_at o t.path) (trees t.exec)
           ∙ removed (bytes_eq a.exec t.exec) (tree_in w.executions.trees t.exec) a.path t.path can.record_fits.2
           (λ e b r. ap (λ (x : List ℕ). rows_at (tree_in w.executions.trees x) (b ∷ r)) (sym ((bytes_eq-Decides a.exec t.exec).0 e)) ∙ nothing b r)
@@ -135,7 +135,7 @@ fork w v s f g kids items can was tree now =
     let g_is : (is_parked g.phase ≡ true) × (g.count ≡ n) = subst (λ (o : Option Frame). IsSomeAnd o (λ x. (is_parked x.phase ≡ true) × (x.count ≡ n))) was_g can.thread in
     let nothing : (b : ℕ × ℕ) (q : Path) → (b.0 == n) ≡ false → paths_of (frames_of w) a.exec (a.path ++ b ∷ q) ≡ None = nothing_at_other (paths_of (frames_of w) a.exec) tree a.path g n was_g g_is.1 in
     record {
-      world = same_world (seen v) (undo (seen w) s (kept_by (record { fact = s; saved = Forked f })))
+      world = same_world (world_view v) (undo (world_view w) s (saved_by (record { fact = s; saved = Forked f })))
           (λ t. now t ∙ told (frames_of w) a (alone f) f n refl (λ b q apart. refl) nothing t
           ∙ ap (cond (is_same_thread a t) (Some f)) (cond_under (is_under t a n) (option_and_then (alone f) (rest_after a.path t.path)) None (frames_of w t) (λ u. alone_below f n (rest_after a.path t.path) (first_under a t n u)))
           ∙ fork_back s (Some f) None (frames_of w t) (is_same_thread a t) (is_under t a n) (is_under t a (n - 1)) can.record_fits.0)
@@ -169,7 +169,7 @@ close w v s f g kids items can was tree now =
     let free : is_open g = subst (λ (o : Option Frame). IsSomeAnd o is_open) was can.thread in
     let nothing : (b : ℕ × ℕ) (q : Path) → paths_of (frames_of w) a.exec (a.path ++ b ∷ q) ≡ None = nothing_at_open (paths_of (frames_of w) a.exec) tree a.path g was free in
     record {
-      world = same_world (seen v) (undo (seen w) s (kept_by (record { fact = s; saved = Closed f kids })))
+      world = same_world (world_view v) (undo (world_view w) s (saved_by (record { fact = s; saved = Closed f kids })))
           (λ t. now t ∙ told (frames_of w) a (node_at f kids.items) f n refl (no_other_branch f kids.items n can.record_fits.4) (λ b q apart. nothing b q) t
           ∙ close_back (is_fork s.kind) (is_close s.kind) (Some f) (option_and_then (node_at f kids.items) (rest_after a.path t.path)) (frames_of w t) (is_same_thread a t) (is_under t a s.name.no) (is_under t a n) (no_fork s.kind can.record_fits.0) can.record_fits.0)
           (λ key. ap (λ (x : Store). items_of x key) items ∙ unwritten s.access can.record_fits.1 key None (items_of w.items key));

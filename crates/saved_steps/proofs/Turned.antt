@@ -28,7 +28,7 @@ use Rattle.asl_forward.specs.Outcomes.{asks, task_turn, forks, fork_of, turn_of,
 use Rattle.asl_forward.specs.Results.{Work, call_fault, on_catch, on_retry, handled, comes_to, after_answer, after_join, after_branch, errors_of, taken_by}
 use Rattle.asl_forward.specs.Planned.{turn_at}
 use Rattle.asl_forward.specs.Processing.{effective, held, passed_on}
-use Rattle.branch_tree.specs.Turn.{Standing, standing, go_on, ends, own_fault, goes_where, choice_frame, next_frame}
+use Rattle.branch_tree.specs.Turn.{Location, located, go_on, ends, own_fault, goes_where, choice_frame, next_frame}
 use Rattle.branch_tree.specs.Fault.{Fault}
 use Rattle.branch_tree.specs.Frame.{Frame}
 use Rattle.branch_tree.specs.Phase.TheVariants.{Parked}
@@ -73,7 +73,7 @@ answer_open level w f (refused error) = handled_open level w.1 f (call_fault err
 pub join_open : (level : Definition) (w : Work) (f : Frame) (ds : List Data) → is_open (after_join level w f ds)
 join_open level w f ds = comes_open level w f (passed_on w.0 (data_of f.raw) (list (items_of ds)))
 
-pub branch_open : (at : Standing) (f : Frame) (fault : Fault) → is_open (after_branch at f fault)
+pub branch_open : (at : Location) (f : Frame) (fault : Fault) → is_open (after_branch at f fault)
 branch_open at f fault = handled_open at.0 (errors_of at.1) f (taken_by at.1 fault)
 
 where_open : (level : Definition) (p : Processing) (f : Frame) (input : Data) (name : Result (List ℕ) (List ℕ)) → is_open (goes_where level p f input name)
@@ -159,8 +159,8 @@ turn_yields level (state.Map s) f =
 
 -- what a turn that was prepared comes to
 pub yields : (d : Definition) (f : Frame) (o : Outcome) → turn_at d f ≡ Some o → Yields f o
-yields d f o h = by (standing d f) h
+yields d f o h = by (located d f) h
   where
-    by : (at : Option Standing) → option_map (λ x. turn x f) at ≡ Some o → Yields f o
+    by : (at : Option Location) → option_map (λ x. turn x f) at ≡ Some o → Yields f o
     by None e = cc
     by (Some at) e = subst (Yields f) (same_Some (turn at f) o e) (turn_yields at.0 at.1 f)

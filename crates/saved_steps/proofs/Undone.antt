@@ -8,9 +8,9 @@ use Rattle.item_store.proofs.Slots.{same_key}
 use Rattle.branch_tree.specs.Frame.{Frame}
 use Rattle.step_names.specs.Thread.{Thread}
 use Rattle.step_names.proofs.OrderLaws.{thread_same}
-use Rattle.saved_steps.specs.Deeds.{Deed}
-use Rattle.saved_steps.specs.Keeping.{kept, item_written, undo}
-use Rattle.saved_steps.specs.Run.{begun, carried_out}
+use Rattle.saved_steps.specs.Effects.{Effect}
+use Rattle.saved_steps.specs.Saving.{kept, item_written, undo}
+use Rattle.saved_steps.specs.Run.{begun, after_effect}
 use Rattle.saved_steps.specs.Steps.{makes, closes, is_write, is_write_of}
 use Rattle.saved_steps.specs.World.{World, is_same_thread}
 use Rattle.saved_steps.specs.declared.fact.Access.{Access}
@@ -36,8 +36,8 @@ item_undone items None new key = refl
 item_undone items (Some a) new key = item_back (is_write a.mode) (is_same_key a.key key) new (items a.key) (items key) (λ e. ap items (same_key a.key key e))
 
 -- where nothing stood under the fork that the step makes, its undoing gives the world before it
-pub undone : (w : World) (d : Deed) → ((t : Thread) → makes d.fact t ≡ true → w.frames t ≡ None) → undo (carried_out w d) d.fact (kept w d.fact) ≡ w
-undone w d nothing = same_world (undo (carried_out w d) d.fact (kept w d.fact)) w
+pub undone : (w : World) (d : Effect) → ((t : Thread) → makes d.fact t ≡ true → w.frames t ≡ None) → undo (after_effect w d) d.fact (kept w d.fact) ≡ w
+undone w d nothing = same_world (undo (after_effect w d) d.fact (kept w d.fact)) w
     (λ t. frame_back (is_same_thread d.fact.name.thread t) (makes d.fact t) (closes d.fact t) (w.frames d.fact.name.thread) (Some d.frame) (begun d t) (w.frames t)
     (λ e. ap w.frames (thread_same d.fact.name.thread t e)) (nothing t))
     (λ key. item_undone w.items d.fact.access d.item key)

@@ -1,7 +1,7 @@
 -- The world as it is held, in trees and slots, and as the model sees it.
 use Rattle.std.specs.Prelude.{Option}
 use Rattle.branch_tree.specs.Frame.{Frame}
-use Rattle.item_store.specs.Store.{items_of}
+use Rattle.item_store.specs.Store.{Store, items_of}
 use Rattle.step_names.specs.Thread.{Thread}
 use Rattle.saved_steps.specs.World as model
 use Rattle.saved_steps.specs.declared.world.World.{World}
@@ -11,6 +11,10 @@ pub use Rattle.saved_steps.specs.Places.{placed, tree_in, rows_at, frames_in, pa
 abbrev pub frames_of : World → Thread → Option Frame
 frames_of w = frames_in w.executions.trees
 
+-- the items of the table, as they are held
+abbrev pub store_of : World → Store
+store_of w = w.items
+
 -- the world as the model sees it
-abbrev pub seen : World → model.World
-seen w = record { frames = frames_of w; items = items_of w.items }
+abbrev pub world_view : World → model.World
+world_view w = record { frames = frames_of w; items = items_of w.items }

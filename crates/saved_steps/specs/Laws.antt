@@ -5,19 +5,19 @@ use Rattle.json_tree.specs.Data.{Data}
 use Rattle.json_tree.specs.declared.tree.Json.{Json}
 use Rattle.branch_tree.specs.Definition.{Definition}
 use Rattle.asl_forward.specs.Results.{Work, work_of, after_branch, after_join}
-use Rattle.branch_tree.specs.Turn.{Standing, first_frame}
+use Rattle.branch_tree.specs.Turn.{Location, first_frame}
 use Rattle.branch_tree.specs.Fault.{Fault}
 use Rattle.branch_tree.specs.Frame.{Frame}
 use Rattle.branch_tree.specs.Phase.TheVariants.{Parked}
 use Rattle.asl_forward.specs.declared.prepared.Prepared.{Prepared}
 use Rattle.step_names.specs.Thread.{Thread, execution}
 use Rattle.step_names.specs.declared.step.StepName.{StepName}
-use Rattle.saved_steps.specs.Deeds.{Deed, deed, stands, waits, kids, first_fault, outputs}
-use Rattle.saved_steps.specs.Held.{frames_of, seen}
-use Rattle.saved_steps.specs.Keeping.{kept, undo}
+use Rattle.saved_steps.specs.Effects.{Effect, effect_of, stands, waits, kids, first_fault, outputs}
+use Rattle.saved_steps.specs.Held.{frames_of, world_view}
+use Rattle.saved_steps.specs.Saving.{kept, undo}
 use Rattle.branch_tree.specs.FlatMap.{is_parked}
-use Rattle.saved_steps.specs.Made.{is_open, deed_of_next}
-use Rattle.saved_steps.specs.Run.{carried_out}
+use Rattle.saved_steps.specs.Made.{is_open, effect_of_next}
+use Rattle.saved_steps.specs.Run.{after_effect}
 use Rattle.saved_steps.specs.Steps.{Step, started, moved, start_name, makes, closes, writes_key}
 use Rattle.saved_steps.specs.Undoing.{IsRecord, StandsAfter}
 use Rattle.saved_steps.specs.World as model
@@ -50,15 +50,15 @@ NothingMade w s = (t : Thread) → makes s t ≡ true → w.frames t ≡ None
 
 -- a step that is undone right after it was taken leaves no change
 abbrev pub UndoneAtOnce : Type 0
-UndoneAtOnce = (w : model.World) (d : Deed) → NothingMade w d.fact → undo (carried_out w d) d.fact (kept w d.fact) ≡ w
+UndoneAtOnce = (w : model.World) (d : Effect) → NothingMade w d.fact → undo (after_effect w d) d.fact (kept w d.fact) ≡ w
 
 -- Undone later, it gives its places what they had, and leaves what other steps did elsewhere.
 abbrev pub UndoneLater : Type 0
 UndoneLater = (w x : model.World) (s : Fact) → NothingMade w s → undo x s (kept w s) ≡ with_places s x w
 
--- and where its places are as it left them, its deed done again gives the world that there was
+-- and where its places are as it left them, its effect done again gives the world that there was
 abbrev pub TakenAgain : Type 0
-TakenAgain = (w x : model.World) (d : Deed) → AgreeAt d.fact (carried_out w d) x → carried_out (undo x d.fact (kept w d.fact)) d ≡ x
+TakenAgain = (w x : model.World) (d : Effect) → AgreeAt d.fact (after_effect w d) x → after_effect (undo x d.fact (kept w d.fact)) d ≡ x
 
 -- ---- a step's next is what its thread's move does
 
@@ -67,27 +67,27 @@ pub record IsOver (s : Setting) (w : World) : Type 0 where
   pub table : w.items.table ≡ s.table
   pub schema : w.items.schema ≡ s.schema
 
-abbrev pub StartIsDeed : Type 0
-StartIsDeed = (s : Setting) (w : World) (exec machine : List ℕ) (input : Json) (d : Definition) → frames_of w (execution exec) ≡ None → s.machines machine ≡ Some d
-    → deed s (seen w) (started exec machine input) ≡ deed_of_next w (start_name exec) (next.Begin (first_frame machine d input))
+abbrev pub StartIsEffect : Type 0
+StartIsEffect = (s : Setting) (w : World) (exec machine : List ℕ) (input : Json) (d : Definition) → frames_of w (execution exec) ≡ None → s.machines machine ≡ Some d
+    → effect_of s (world_view w) (started exec machine input) ≡ effect_of_next w (start_name exec) (next.Begin (first_frame machine d input))
 
 -- a turn that was prepared from the frame, in its machine, of a thread that may begin
-abbrev pub WorkIsDeed : Type 0
-WorkIsDeed = (s : Setting) (w : World) (name : StepName) (p : Prepared) → IsOver s w → frames_of w name.thread ≡ Some p.frame → s.machines p.frame.level.machine ≡ Some p.machine
-    → name.no ≡ p.frame.count + 1 → waits (frames_of w) name.thread p.frame ≡ false → deed s (seen w) (moved name) ≡ deed_of_next w name (next.Work p)
+abbrev pub WorkIsEffect : Type 0
+WorkIsEffect = (s : Setting) (w : World) (name : StepName) (p : Prepared) → IsOver s w → frames_of w name.thread ≡ Some p.frame → s.machines p.frame.level.machine ≡ Some p.machine
+    → name.no ≡ p.frame.count + 1 → waits (frames_of w) name.thread p.frame ≡ false → effect_of s (world_view w) (moved name) ≡ effect_of_next w name (next.Work p)
 
 -- a frame after its branches' outputs, where none has failed
-abbrev pub JoinIsDeed : Type 0
-JoinIsDeed = (s : Setting) (w : World) (name : StepName) (f : Frame) (n bound : ℕ) (at : Standing) (work : Work) (ds : List Data)
+abbrev pub JoinIsEffect : Type 0
+JoinIsEffect = (s : Setting) (w : World) (name : StepName) (f : Frame) (n bound : ℕ) (at : Location) (work : Work) (ds : List Data)
     → frames_of w name.thread ≡ Some f → f.phase ≡ Parked n bound → stands s f ≡ Some at → work_of at.1 ≡ Some work
-    → first_fault (kids (seen w) name.thread f n) ≡ None → outputs (kids (seen w) name.thread f n) ≡ Some ds → name.no ≡ f.count + 1
-    → deed s (seen w) (moved name) ≡ deed_of_next w name (next.Join (after_join at.0 work f ds))
+    → first_fault (kids (world_view w) name.thread f n) ≡ None → outputs (kids (world_view w) name.thread f n) ≡ Some ds → name.no ≡ f.count + 1
+    → effect_of s (world_view w) (moved name) ≡ effect_of_next w name (next.Join (after_join at.0 work f ds))
 
 -- a frame after the error of the first branch that has failed
-abbrev pub TerminateIsDeed : Type 0
-TerminateIsDeed = (s : Setting) (w : World) (name : StepName) (f : Frame) (n bound : ℕ) (at : Standing) (fault : Fault)
-    → frames_of w name.thread ≡ Some f → f.phase ≡ Parked n bound → stands s f ≡ Some at → first_fault (kids (seen w) name.thread f n) ≡ Some fault → name.no ≡ f.count + 1
-    → deed s (seen w) (moved name) ≡ deed_of_next w name (next.Terminate (after_branch at f fault))
+abbrev pub TerminateIsEffect : Type 0
+TerminateIsEffect = (s : Setting) (w : World) (name : StepName) (f : Frame) (n bound : ℕ) (at : Location) (fault : Fault)
+    → frames_of w name.thread ≡ Some f → f.phase ≡ Parked n bound → stands s f ≡ Some at → first_fault (kids (world_view w) name.thread f n) ≡ Some fault → name.no ≡ f.count + 1
+    → effect_of s (world_view w) (moved name) ≡ effect_of_next w name (next.Terminate (after_branch at f fault))
 
 -- ---- where a step leaves its thread
 
@@ -100,9 +100,9 @@ Leaves kind.Fork name f = (is_parked f.phase ≡ true) × (f.count ≡ name.no)
 Leaves kind.Join name f = is_open f
 Leaves kind.Terminate name f = is_open f
 
-abbrev pub DeedsLeave : Type 0
-DeedsLeave = (s : Setting) (w : model.World) (step : Step) (d : Deed) → deed s w step ≡ Some d → Leaves d.fact.kind d.fact.name d.frame
+abbrev pub EffectsLeave : Type 0
+EffectsLeave = (s : Setting) (w : model.World) (step : Step) (d : Effect) → effect_of s w step ≡ Some d → Leaves d.fact.kind d.fact.name d.frame
 
--- In the world after a deed its thread stands where a record of that step needs it to be.
+-- In the world after an effect its thread stands where a record of that step needs it to be.
 abbrev pub LeftToUndo : Type 0
-LeftToUndo = (w : World) (x : model.World) (d : Deed) (r : StepRecord) → seen w ≡ carried_out x d → r.fact ≡ d.fact → Leaves d.fact.kind d.fact.name d.frame → IsRecord r → StandsAfter w r.fact r.saved
+LeftToUndo = (w : World) (x : model.World) (d : Effect) (r : StepRecord) → world_view w ≡ after_effect x d → r.fact ≡ d.fact → Leaves d.fact.kind d.fact.name d.frame → IsRecord r → StandsAfter w r.fact r.saved

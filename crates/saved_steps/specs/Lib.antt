@@ -1,7 +1,7 @@
 pub mod Answering
-pub mod Deeds
+pub mod Effects
 pub mod Held
-pub mod Keeping
+pub mod Saving
 pub mod Laws
 pub mod Made
 pub mod Places

@@ -7,7 +7,7 @@ use Rattle.item_store.specs.Table.{in_form}
 use Rattle.item_store.specs.declared.slot.SlotNo.{SlotNo}
 use Rattle.branch_tree.specs.Frame.{Frame}
 use Rattle.asl_forward.specs.Results.{work_of}
-use Rattle.branch_tree.specs.Turn.{standing}
+use Rattle.branch_tree.specs.Turn.{located}
 use Rattle.asl_forward.specs.declared.prepared.Outcome.{Outcome}
 use Rattle.asl_forward.specs.declared.prepared.Outcome.TheVariants as outcome
 use Rattle.asl_forward.specs.declared.prepared.Prepared.{Prepared}
@@ -15,7 +15,7 @@ use Rattle.branch_tree.specs.FlatMap.{is_parked}
 use Rattle.branch_tree.specs.Tree.{leaf, IsNode}
 use Rattle.step_names.specs.Thread.{Thread}
 use Rattle.step_names.specs.declared.step.StepName.{StepName}
-use Rattle.saved_steps.specs.Deeds.{Deed, deed_of, fork_deed, call_deed, bounded, first_bound}
+use Rattle.saved_steps.specs.Effects.{Effect, own_effect, fork_effect, call_effect, bounded, first_bound}
 use Rattle.saved_steps.specs.Held.{frames_of}
 use Rattle.saved_steps.specs.Steps.{is_write}
 use Rattle.saved_steps.specs.declared.fact.Fact.{Fact}
@@ -31,18 +31,18 @@ use Rattle.saved_steps.specs.declared.world.World.{World}
 -- ---- a step's next
 
 -- a call's access, answer and item are decided by the items that are there
-abbrev pub deed_of_work : Store → StepName → Prepared → Outcome → Option Deed
-deed_of_work items name p (outcome.Next g) = Some (deed_of kind.Plain name g)
-deed_of_work items name p (outcome.Fork g branches) = Some (fork_deed name g branches)
-deed_of_work items name p (outcome.Call c) =
-    option_and_then (λ at. option_map (λ work. call_deed name at.0 work p.frame (in_form items.table items.schema (items_of items) c)) (work_of at.1)) (standing p.machine p.frame)
+abbrev pub effect_of_work : Store → StepName → Prepared → Outcome → Option Effect
+effect_of_work items name p (outcome.Next g) = Some (own_effect kind.Plain name g)
+effect_of_work items name p (outcome.Fork g branches) = Some (fork_effect name g branches)
+effect_of_work items name p (outcome.Call c) =
+    option_and_then (λ at. option_map (λ work. call_effect name at.0 work p.frame (in_form items.table items.schema (items_of items) c)) (work_of at.1)) (located p.machine p.frame)
 
 -- what the step of this name does, with this next
-abbrev pub deed_of_next : World → StepName → Next → Option Deed
-deed_of_next w name (Begin f) = Some (deed_of kind.Start name f)
-deed_of_next w name (Work p) = option_map (bounded (first_bound (frames_of w) name.thread p.frame)) (deed_of_work w.items name p p.outcome)
-deed_of_next w name (Join f) = Some (deed_of kind.Join name f)
-deed_of_next w name (Terminate f) = Some (deed_of kind.Terminate name f)
+abbrev pub effect_of_next : World → StepName → Next → Option Effect
+effect_of_next w name (Begin f) = Some (own_effect kind.Start name f)
+effect_of_next w name (Work p) = option_map (bounded (first_bound (frames_of w) name.thread p.frame)) (effect_of_work w.items name p p.outcome)
+effect_of_next w name (Join f) = Some (own_effect kind.Join name f)
+effect_of_next w name (Terminate f) = Some (own_effect kind.Terminate name f)
 
 -- ---- where a thread is
 
@@ -61,11 +61,11 @@ IsParkedSince frames t step = IsSomeAnd (frames t) (λ f. (is_parked f.phase ≡
 
 -- The execution isn't there, or the thread stands as the step finds it: open before its work, or parked since its step before
 -- this one. A step's number is one more than its thread's count.
-abbrev pub Suits : World → StepName → Next → Type 0
-Suits w name (Begin f) = (frames_of w name.thread ≡ None) × (name.thread.path ≡ []) × is_open f
-Suits w name (Work p) = IsOpen (frames_of w) name.thread × (name.no ≡ p.frame.count + 1)
-Suits w name (Join f) = IsParkedSince (frames_of w) name.thread (name.no - 1) × is_open f
-Suits w name (Terminate f) = IsParkedSince (frames_of w) name.thread (name.no - 1) × is_open f
+abbrev pub CanMake : World → StepName → Next → Type 0
+CanMake w name (Begin f) = (frames_of w name.thread ≡ None) × (name.thread.path ≡ []) × is_open f
+CanMake w name (Work p) = IsOpen (frames_of w) name.thread × (name.no ≡ p.frame.count + 1)
+CanMake w name (Join f) = IsParkedSince (frames_of w) name.thread (name.no - 1) × is_open f
+CanMake w name (Terminate f) = IsParkedSince (frames_of w) name.thread (name.no - 1) × is_open f
 
 -- ---- a step that is made
 
@@ -83,7 +83,7 @@ fact_of_change name bound (change.Terminate f) = plain_fact name bound kind.Term
 abbrev pub fact_made : Made → Fact
 fact_made m = fact_of_change m.name m.bound m.change
 
-abbrev pub Makes : Change → Deed → Type 0
+abbrev pub Makes : Change → Effect → Type 0
 Makes (change.Begin f) d = f ≡ d.frame
 Makes (change.Plain f) d = f ≡ d.frame
 Makes (change.Call f access slot new) d = (f ≡ d.frame) × (is_write access.mode ≡ true → new ≡ d.item)
@@ -91,23 +91,23 @@ Makes (change.Fork f kids) d = (f ≡ d.frame) × (kids.items ≡ map leaf d.bra
 Makes (change.Join f) d = f ≡ d.frame
 Makes (change.Terminate f) d = f ≡ d.frame
 
--- everything is made for this deed
-pub record IsMadeFor (m : Made) (d : Deed) : Type 0 where
+-- everything is made for this effect
+pub record IsMadeFor (m : Made) (d : Effect) : Type 0 where
   pub fact : fact_made m ≡ d.fact
   pub change : Makes m.change d
 
-abbrev pub Stands : World → StepName → Change → Type 0
-Stands w name (change.Begin f) = (get_by_text w.executions.trees name.thread.exec ≡ Some None) × (name.thread.path ≡ []) × is_open f
-Stands w name (change.Plain f) = IsOpen (frames_of w) name.thread × is_open f
-Stands w name (change.Call f access slot new) = IsOpen (frames_of w) name.thread × is_open f × (slot_key w.items slot ≡ Some access.key)
-Stands w name (change.Fork f kids) =
+abbrev pub CanApplyChange : World → StepName → Change → Type 0
+CanApplyChange w name (change.Begin f) = (get_by_text w.executions.trees name.thread.exec ≡ Some None) × (name.thread.path ≡ []) × is_open f
+CanApplyChange w name (change.Plain f) = IsOpen (frames_of w) name.thread × is_open f
+CanApplyChange w name (change.Call f access slot new) = IsOpen (frames_of w) name.thread × is_open f × (slot_key w.items slot ≡ Some access.key)
+CanApplyChange w name (change.Fork f kids) =
     IsOpen (frames_of w) name.thread × IsNode f kids.items × (is_parked f.phase ≡ true) × (f.count ≡ name.no) × ((branches : List Frame) × (kids.items ≡ map leaf branches))
-Stands w name (change.Join f) = IsParkedSince (frames_of w) name.thread (name.no - 1) × is_open f
-Stands w name (change.Terminate f) = IsParkedSince (frames_of w) name.thread (name.no - 1) × is_open f
+CanApplyChange w name (change.Join f) = IsParkedSince (frames_of w) name.thread (name.no - 1) × is_open f
+CanApplyChange w name (change.Terminate f) = IsParkedSince (frames_of w) name.thread (name.no - 1) × is_open f
 
 -- the world has the places of a step that is made, as it was when they were made
 abbrev pub CanApply : World → Made → Type 0
-CanApply w m = Stands w m.name m.change
+CanApply w m = CanApplyChange w m.name m.change
 
 -- a slot of the first store is the same key's in the second, of the same table
 pub record KeepsStore (a b : Store) : Type 0 where
@@ -116,13 +116,13 @@ pub record KeepsStore (a b : Store) : Type 0 where
   pub schema : b.schema ≡ a.schema
 
 -- in a world everything is made for a step that is to do what `does` says
-pub record IsMadeBy (v : World) (name : StepName) (does : Option Deed) (m : Made) : Type 0 where
+pub record IsMadeBy (v : World) (name : StepName) (does : Option Effect) (m : Made) : Type 0 where
   pub named : m.name ≡ name
   pub ready : CanApply v m
-  pub deed : Deed
-  pub is : does ≡ Some deed
-  pub made : IsMadeFor m deed
+  pub effect_of : Effect
+  pub is : does ≡ Some effect_of
+  pub made : IsMadeFor m effect_of
 
 -- in the second world everything is made for a step that is to be taken in the first
 abbrev pub IsMadeOf : World → World → StepName → Next → Made → Type 0
-IsMadeOf w v name next m = IsMadeBy v name (deed_of_next w name next) m
+IsMadeOf w v name next m = IsMadeBy v name (effect_of_next w name next) m

@@ -5,7 +5,7 @@ use Rattle.item_store.specs.Deciding.{Attributes}
 use Rattle.branch_tree.specs.Frame.{Frame}
 use Rattle.branch_tree.specs.Paths.{Path, rest_after}
 use Rattle.step_names.specs.Thread.{Thread}
-use Rattle.saved_steps.specs.Deeds.{Deed, deed}
+use Rattle.saved_steps.specs.Effects.{Effect, effect_of}
 use Rattle.saved_steps.specs.Steps.{Step, makes, closes, writes_key}
 use Rattle.saved_steps.specs.World.{Setting, World, is_same_thread}
 use Rattle.saved_steps.specs.declared.fact.Fact.{Fact}
@@ -17,25 +17,25 @@ begun_at branches (Some []) = None
 begun_at branches None = None
 
 -- the frame with which a thread under a fork begins: that of its branch; nothing stands under a branch yet
-abbrev pub begun : Deed → Thread → Option Frame
+abbrev pub begun : Effect → Thread → Option Frame
 begun d t = begun_at d.branches (rest_after d.fact.name.thread.path t.path)
 
--- the frames, with the deed's in place of those of its thread and of the threads under the fork that it makes or closes
-abbrev pub frames_after : (Thread → Option Frame) → Deed → Thread → Option Frame
+-- the frames, with the effect's in place of those of its thread and of the threads under the fork that it makes or closes
+abbrev pub frames_after : (Thread → Option Frame) → Effect → Thread → Option Frame
 frames_after frames d t =
     if is_same_thread d.fact.name.thread t then Some d.frame else
     if makes d.fact t then begun d t else
     if closes d.fact t then None else frames t
 
-abbrev pub items_after : (Key → Option Attributes) → Deed → Key → Option Attributes
+abbrev pub items_after : (Key → Option Attributes) → Effect → Key → Option Attributes
 items_after items d key = if writes_key d.fact key then d.item else items key
 
-abbrev pub carried_out : World → Deed → World
-carried_out w d = record { frames = frames_after w.frames d; items = items_after w.items d }
+abbrev pub after_effect : World → Effect → World
+after_effect w d = record { frames = frames_after w.frames d; items = items_after w.items d }
 
 -- the world after a step, and what is known of the step
 abbrev pub take_step : Setting → World → Step → Option (World × Fact)
-take_step s w step = option_map (λ d. (carried_out w d, d.fact)) (deed s w step)
+take_step s w step = option_map (λ d. (after_effect w d, d.fact)) (effect_of s w step)
 
 -- the steps taken one after another: the world after them, and the fact of each; none where one of them can't be taken
 abbrev pub run : Setting → World → List Step → Option (World × List Fact)

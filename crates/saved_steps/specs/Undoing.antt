@@ -4,12 +4,12 @@ use Rattle.item_store.specs.Store.{Store, slot_key}
 use Rattle.item_store.specs.declared.slot.SlotNo.{SlotNo}
 use Rattle.branch_tree.specs.FlatMap.{is_parked}
 use Rattle.branch_tree.specs.Tree.{IsNode}
-use Rattle.saved_steps.specs.Deeds.{Deed}
-use Rattle.saved_steps.specs.Held.{frames_of, seen}
-use Rattle.saved_steps.specs.Keeping.{kept, undo}
+use Rattle.saved_steps.specs.Effects.{Effect}
+use Rattle.saved_steps.specs.Held.{frames_of, world_view}
+use Rattle.saved_steps.specs.Saving.{kept, undo}
 use Rattle.saved_steps.specs.Made.{is_open, IsOpen, IsParkedSince, fact_made, IsMadeFor, KeepsStore}
-use Rattle.saved_steps.specs.Records.{kept_by}
-use Rattle.saved_steps.specs.Run.{carried_out}
+use Rattle.saved_steps.specs.Records.{saved_by}
+use Rattle.saved_steps.specs.Run.{after_effect}
 use Rattle.saved_steps.specs.Steps.{is_close}
 use Rattle.saved_steps.specs.declared.fact.Access.{Access}
 use Rattle.saved_steps.specs.declared.fact.Fact.{Fact}
@@ -21,16 +21,16 @@ use Rattle.saved_steps.specs.declared.record.StepRecord.{StepRecord}
 use Rattle.saved_steps.specs.declared.world.World.{World}
 
 -- what is saved fits the step: of its kind, and a frame that stood there before such a step
-abbrev pub Fits : Fact → Saved → Type 0
-Fits s Started = (s.kind ≡ kind.Start) × (s.access ≡ None) × (s.name.thread.path ≡ [])
-Fits s (Framed f) = (s.kind ≡ kind.Plain) × (s.access ≡ None) × is_open f
-Fits s (Called f slot old) = (s.kind ≡ kind.Call) × is_open f
-Fits s (Forked f) = (s.kind ≡ kind.Fork) × (s.access ≡ None) × is_open f
-Fits s (Closed f kids) = (is_close s.kind ≡ true) × (s.access ≡ None) × IsNode f kids.items × (is_parked f.phase ≡ true) × (f.count ≡ s.name.no - 1)
+abbrev pub IsSavedOf : Fact → Saved → Type 0
+IsSavedOf s Started = (s.kind ≡ kind.Start) × (s.access ≡ None) × (s.name.thread.path ≡ [])
+IsSavedOf s (Framed f) = (s.kind ≡ kind.Plain) × (s.access ≡ None) × is_open f
+IsSavedOf s (Called f slot old) = (s.kind ≡ kind.Call) × is_open f
+IsSavedOf s (Forked f) = (s.kind ≡ kind.Fork) × (s.access ≡ None) × is_open f
+IsSavedOf s (Closed f kids) = (is_close s.kind ≡ true) × (s.access ≡ None) × IsNode f kids.items × (is_parked f.phase ≡ true) × (f.count ≡ s.name.no - 1)
 
 -- a record as a step leaves it
 abbrev pub IsRecord : StepRecord → Type 0
-IsRecord r = Fits r.fact r.saved
+IsRecord r = IsSavedOf r.fact r.saved
 
 -- the slot of the key of an access
 abbrev pub IsSlotOf : Store → Option Access → SlotNo → Type 0
@@ -58,17 +58,17 @@ pub record CanUndo (w : World) (r : StepRecord) : Type 0 where
   pub slot : HasSlot w.items r.fact r.saved
   pub thread : StandsAfter w r.fact r.saved
 
--- The first world becomes the second where a step is applied: what its deed makes of it. The record has the step's fact and what
+-- The first world becomes the second where a step is applied: what its effect makes of it. The record has the step's fact and what
 -- that keeps, it can be undone, and undone it gives the first world.
 pub record IsApplied (w : World) (m : Made) (v : World) (r : StepRecord) : Type 0 where
   pub fact : r.fact ≡ fact_made m
-  pub world : (d : Deed) → IsMadeFor m d → seen v ≡ carried_out (seen w) d
-  pub saved : kept_by r ≡ kept (seen w) r.fact
+  pub world : (d : Effect) → IsMadeFor m d → world_view v ≡ after_effect (world_view w) d
+  pub saved : saved_by r ≡ kept (world_view w) r.fact
   pub undoable : CanUndo v r
-  pub back : undo (seen v) r.fact (kept_by r) ≡ seen w
+  pub back : undo (world_view v) r.fact (saved_by r) ≡ world_view w
   pub store : KeepsStore w.items v.items
 
 -- the first world becomes the second where a record is undone
 pub record IsUndone (w : World) (r : StepRecord) (v : World) : Type 0 where
-  pub world : seen v ≡ undo (seen w) r.fact (kept_by r)
+  pub world : world_view v ≡ undo (world_view w) r.fact (saved_by r)
   pub store : KeepsStore w.items v.items

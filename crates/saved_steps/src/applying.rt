@@ -2,7 +2,7 @@
 ghost use Rattle.std.specs.Prelude.{◌≡◌, None, Some, if◌then◌else◌};
 ghost use Rattle.attr_values.specs.declared.key.Key as keys;
 ghost use Rattle.item_store.specs.Store.{items_of, slot_key};
-ghost use Rattle.saved_steps.specs.Keeping.{item_written};
+ghost use Rattle.saved_steps.specs.Saving.{item_written};
 ghost use Rattle.saved_steps.specs.Made.{CanApply, KeepsStore, plain_fact};
 ghost use Rattle.saved_steps.specs.Steps.{is_write_of};
 ghost use Rattle.saved_steps.specs.Undoing.{IsApplied};

@@ -5,8 +5,8 @@ ghost use Rattle.step_names.specs.Thread.{Thread};
 ghost use Rattle.asl_forward.specs.Planned.{asks_table};
 ghost use Rattle.saved_steps.specs.Answering.{change_from};
 ghost use Rattle.saved_steps.specs.Held.{frames_of};
-ghost use Rattle.saved_steps.specs.Deeds.{bounded, first_bound};
-ghost use Rattle.saved_steps.specs.Made.{Suits, IsMadeOf, IsMadeBy, KeepsStore, deed_of_work};
+ghost use Rattle.saved_steps.specs.Effects.{bounded, first_bound};
+ghost use Rattle.saved_steps.specs.Made.{CanMake, IsMadeOf, IsMadeBy, KeepsStore, effect_of_work};
 
 use crate::answering::{Answered, Touch, answer};
 use crate::made::{Change, Made};
@@ -45,7 +45,7 @@ impl World {
     /// branches of a fork, and the names that the step's fact keeps. The world then shows the same frames and items, also
     /// where memory is refused.
     pub fn make(&mut self, alloc: Global, name: &StepName, next: Next) -> Result<Made, AllocError>
-        requires { Suits self.old name.now next }
+        requires { CanMake self.old name.now next }
         ensures made { IfOk result (λ m. IsMadeOf self.old self.new name.now next m) }
         ensures frames { (t : Thread) → frames_of self.new t ≡ frames_of self.old t }
         ensures items { items_of self.new.items ≡ items_of self.old.items }
@@ -81,7 +81,7 @@ impl World {
         name: StepName,
         frame: Frame,
     ) -> Result<Made, AllocError>
-        requires { Suits self.old name (Next.Begin frame) }
+        requires { CanMake self.old name (Next.Begin frame) }
         ensures made { IfOk result (λ m. IsMadeOf self.old self.new name (Next.Begin frame) m) }
         ensures frames { (t : Thread) → frames_of self.new t ≡ frames_of self.old t }
         ensures items { self.new.items ≡ self.old.items }
@@ -121,8 +121,8 @@ impl World {
         bound: u32,
         prepared: Prepared,
     ) -> Result<Made, AllocError>
-        requires { Suits self.old name (Next.Work prepared) }
-        ensures made { IfOk result (λ m. IsMadeBy self.new name (option_map (bounded bound) (deed_of_work self.old.items name prepared prepared.outcome)) m) }
+        requires { CanMake self.old name (Next.Work prepared) }
+        ensures made { IfOk result (λ m. IsMadeBy self.new name (option_map (bounded bound) (effect_of_work self.old.items name prepared prepared.outcome)) m) }
         ensures frames { (t : Thread) → frames_of self.new t ≡ frames_of self.old t }
         ensures items { items_of self.new.items ≡ items_of self.old.items }
         ensures store { KeepsStore self.old.items self.new.items }
@@ -160,9 +160,9 @@ impl World {
         bound: u32,
         prepared: Prepared,
     ) -> Result<Made, AllocError>
-        requires suits { Suits self.old name (Next.Work prepared) }
+        requires suits { CanMake self.old name (Next.Work prepared) }
         requires asks { IsTrue (asks_table prepared.outcome) }
-        ensures made { IfOk result (λ m. IsMadeBy self.new name (option_map (bounded bound) (deed_of_work self.old.items name prepared prepared.outcome)) m) }
+        ensures made { IfOk result (λ m. IsMadeBy self.new name (option_map (bounded bound) (effect_of_work self.old.items name prepared prepared.outcome)) m) }
         ensures frames { (t : Thread) → frames_of self.new t ≡ frames_of self.old t }
         ensures items { items_of self.new.items ≡ items_of self.old.items }
         ensures store { KeepsStore self.old.items self.new.items }

@@ -7,9 +7,9 @@ use Rattle.json_tree.specs.declared.tree.Json.{Json}
 use Rattle.step_names.specs.Thread.{Thread}
 use Rattle.step_names.specs.declared.step.StepName.{StepName}
 use Rattle.rollback_book.specs.Fact.{Fact}
-use Rattle.book_log.specs.Answers.{Gives, GivesOr, HoldLacks, StepLacks, absent, found_answer, free_answer, from_step, has_move, hold_answer, start_answer, step_answer, undo_answer}
+use Rattle.book_log.specs.Answers.{Gives, GivesOr, HoldLacks, StepLacks, absent, found_answer, free_answer, from_step, is_enabled, hold_answer, start_answer, step_answer, undo_answer}
 use Rattle.book_log.specs.Legal.{IsAccepted, IsLegal}
-use Rattle.book_log.specs.Story.{Story, accepted, facts_of}
+use Rattle.book_log.specs.Log.{Log, appended, facts_of}
 use Rattle.book_log.specs.declared.entry.Entry.{Entry}
 use Rattle.book_log.specs.declared.entry.Entry.TheVariants.{Start, Step as Stepped, Undo, Hold}
 use Rattle.book_log.specs.declared.moved.Moved.{Moved}
@@ -30,7 +30,7 @@ use Rattle.shared_book.specs.Numbers.{IsForeign, IsKnown, last_of}
 use Rattle.shared_book.specs.Away.{Away, is_among}
 use Rattle.shared_book.specs.Views.{PassView, Extends, IsCounted}
 use Rattle.shared_book.specs.Calls.{GivesAfter, GivesReceipt, IsCause, IsNotAdmitted, IsRefusedFor, MaySee}
-use Rattle.shared_book.specs.Claims.{IsClaim, IsFree, thread_of}
+use Rattle.shared_book.specs.Claims.{IsClaim, IsClaimable, thread_of}
 use Rattle.shared_book.specs.Commits.{GivesTurn}
 use Rattle.shared_book.specs.declared.receipt.Receipt.{Receipt}
 use Rattle.shared_book.specs.declared.refusal.SharedRefusal.{SharedRefusal}
@@ -39,8 +39,8 @@ use Rattle.shared_book.specs.declared.refusal.SharedRefusal.TheVariants.{Refused
 -- ---- accepted
 
 -- a receipt of an entry that is accepted after this log: one that the pass keeps, and one that its caller is given
-pub given : (begun before : Story) (entries : List Entry) (had : PassView) (e kept told : Entry) (n : ℕ) (items : List Receipt)
-    → Extends begun before → entries ≡ before.log → IsLegal before → IsAccepted before e
+pub given : (begun before : Log) (entries : List Entry) (had : PassView) (e kept told : Entry) (n : ℕ) (items : List Receipt)
+    → Extends begun before → entries ≡ before.entries → IsLegal before → IsAccepted before e
     → IsKnown entries had.seen (last_of had.receipts) → n ≡ length entries + 1
     → kept ≡ e → told ≡ e → items ≡ had.receipts ++ record { number = n; entry = kept } ∷ []
     → GivesReceipt begun had (record { seen = n; receipts = items; parts = had.parts }) (record { number = n; entry = told })
@@ -48,15 +48,15 @@ given begun before entries had e kept told n items goes is legal may known numbe
     record {
       before = before;
       goes = goes;
-      legal = subst (λ (x : Entry). IsLegal (accepted before x)) (sym told_is) (accepted_is_legal before e legal may);
+      legal = subst (λ (x : Entry). IsLegal (appended before x)) (sym told_is) (accepted_is_legal before e legal may);
       known = subst (λ (l : List Entry). IsKnown l had.seen (last_of had.receipts)) is known;
       number = number ∙ ap (λ (l : List Entry). length l + 1) is;
       now = ap (λ (l : List Receipt). record { seen = n; receipts = l; parts = had.parts }) (now ∙ ap (λ (x : Entry). had.receipts ++ record { number = n; entry = x } ∷ []) (kept_is ∙ sym told_is));
     }
 
 -- and the log before it is this one
-pub given_after : (begun before : Story) (entries : List Entry) (had : PassView) (e kept told : Entry) (n : ℕ) (items : List Receipt)
-    → Extends begun before → entries ≡ before.log → IsLegal before → IsAccepted before e
+pub given_after : (begun before : Log) (entries : List Entry) (had : PassView) (e kept told : Entry) (n : ℕ) (items : List Receipt)
+    → Extends begun before → entries ≡ before.entries → IsLegal before → IsAccepted before e
     → IsKnown entries had.seen (last_of had.receipts) → n ≡ length entries + 1
     → kept ≡ e → told ≡ e → items ≡ had.receipts ++ record { number = n; entry = kept } ∷ []
     → GivesAfter begun before had (record { seen = n; receipts = items; parts = had.parts }) (record { number = n; entry = told })
@@ -65,8 +65,8 @@ given_after begun before entries had e kept told n items goes is legal may known
     (given begun before entries had e kept told n items goes is legal may known number kept_is told_is now, refl)
 
 -- the same of a turn that was still its thread's
-pub given_turn : (begun before : Story) (entries : List Entry) (had : PassView) (e kept told : Entry) (n : ℕ) (items : List Receipt) (t : Thread) (p : Prepared)
-    → Extends begun before → entries ≡ before.log → IsLegal before → IsAccepted before e
+pub given_turn : (begun before : Log) (entries : List Entry) (had : PassView) (e kept told : Entry) (n : ℕ) (items : List Receipt) (t : Thread) (p : Prepared)
+    → Extends begun before → entries ≡ before.entries → IsLegal before → IsAccepted before e
     → IsKnown entries had.seen (last_of had.receipts) → n ≡ length entries + 1
     → kept ≡ e → told ≡ e → items ≡ had.receipts ++ record { number = n; entry = kept } ∷ [] → IsFresh before t p
     → GivesTurn begun t p had (record { seen = n; receipts = items; parts = had.parts }) (record { number = n; entry = told })
@@ -74,23 +74,23 @@ unfolding given
 given_turn begun before entries had e kept told n items t p goes is legal may known number kept_is told_is now fresh =
     (given begun before entries had e kept told n items goes is legal may known number kept_is told_is now, fresh)
 
-pub start_accepted : (story : Story) (exec : Thread) (machine : List ℕ) (input : Json) (name : StepName) → Gives (Ok name) (start_answer story exec machine) → exec.path ≡ [] → depth (data_of input) ≤ most_levels → IsAccepted story (Start exec machine input)
-start_accepted story exec machine input name gives root shallow = (start_named story exec machine name (given_ok (start_answer story exec machine) name gives), root, shallow)
+pub start_accepted : (log : Log) (exec : Thread) (machine : List ℕ) (input : Json) (name : StepName) → Gives (Ok name) (start_answer log exec machine) → exec.path ≡ [] → depth (data_of input) ≤ most_levels → IsAccepted log (Start exec machine input)
+start_accepted log exec machine input name gives root shallow = (start_named log exec machine name (given_ok (start_answer log exec machine) name gives), root, shallow)
 
-pub turn_of : (story : Story) (t : Thread) (m : Moved) → step_answer story t ≡ Ok m → m.name.thread ≡ t
-turn_of story t m answer = ap (λ (n : StepName). n.thread) (step_is_next story t m answer).2
+pub turn_of : (log : Log) (t : Thread) (m : Moved) → step_answer log t ≡ Ok m → m.name.thread ≡ t
+turn_of log t m answer = ap (λ (n : StepName). n.thread) (step_is_next log t m answer).2
 
-pub turn_accepted : (story : Story) (t : Thread) (m : Moved) → step_answer story t ≡ Ok m → IsAccepted story (Stepped m.name m.kind)
-turn_accepted story t m answer = ap (step_answer story) (turn_of story t m answer) ∙ answer
+pub turn_accepted : (log : Log) (t : Thread) (m : Moved) → step_answer log t ≡ Ok m → IsAccepted log (Stepped m.name m.kind)
+turn_accepted log t m answer = ap (step_answer log) (turn_of log t m answer) ∙ answer
 
-pub step_of : (story : Story) (t : Thread) (m : Moved) → GivesOr (StepLacks story t) (Ok m) (step_answer story t) → m.name.thread ≡ t
-step_of story t m gives = turn_of story t m (given_ok (step_answer story t) m (ok_gives (StepLacks story t) (step_answer story t) m gives))
+pub step_of : (log : Log) (t : Thread) (m : Moved) → GivesOr (StepLacks log t) (Ok m) (step_answer log t) → m.name.thread ≡ t
+step_of log t m gives = turn_of log t m (given_ok (step_answer log t) m (ok_gives (StepLacks log t) (step_answer log t) m gives))
 
-pub step_accepted : (story : Story) (t : Thread) (m : Moved) → GivesOr (StepLacks story t) (Ok m) (step_answer story t) → IsAccepted story (Stepped m.name m.kind)
-step_accepted story t m gives = turn_accepted story t m (given_ok (step_answer story t) m (ok_gives (StepLacks story t) (step_answer story t) m gives))
+pub step_accepted : (log : Log) (t : Thread) (m : Moved) → GivesOr (StepLacks log t) (Ok m) (step_answer log t) → IsAccepted log (Stepped m.name m.kind)
+step_accepted log t m gives = turn_accepted log t m (given_ok (step_answer log t) m (ok_gives (StepLacks log t) (step_answer log t) m gives))
 
-pub hold_accepted : (story : Story) (name : StepName) (count : ℕ) → GivesOr (HoldLacks story name) (Ok count) (hold_answer story name) → IsAccepted story (Hold name count)
-hold_accepted story name count gives = given_ok (hold_answer story name) count (ok_gives (HoldLacks story name) (hold_answer story name) count gives)
+pub hold_accepted : (log : Log) (name : StepName) (count : ℕ) → GivesOr (HoldLacks log name) (Ok count) (hold_answer log name) → IsAccepted log (Hold name count)
+hold_accepted log name count gives = given_ok (hold_answer log name) count (ok_gives (HoldLacks log name) (hold_answer log name) count gives)
 
 free_is : (name n : StepName) (o : Option Fact) → free_answer name o ≡ Ok n → n ≡ name
 free_is name n None h = cc
@@ -100,24 +100,24 @@ found_is : (gone : Refusal) (name n : StepName) (o : Option (Fact × List Fact))
 found_is gone name n None h = cc
 found_is gone name n (Some p) h = free_is name n _ h
 
-undo_is : (story : Story) (name n : StepName) → undo_answer story name ≡ Ok n → n ≡ name
+undo_is : (log : Log) (name n : StepName) → undo_answer log name ≡ Ok n → n ≡ name
 unfolding undo_answer
-undo_is story name n h = found_is (absent story name) name n (from_step name (facts_of story)) h
+undo_is log name n h = found_is (absent log name) name n (from_step name (facts_of log)) h
 
-pub undo_accepted : (story : Story) (name n : StepName) → Ok n ≡ undo_answer story name → IsAccepted story (Undo name)
-undo_accepted story name n h = sym h ∙ ap Ok (undo_is story name n (sym h))
+pub undo_accepted : (log : Log) (name n : StepName) → Ok n ≡ undo_answer log name → IsAccepted log (Undo name)
+undo_accepted log name n h = sym h ∙ ap Ok (undo_is log name n (sym h))
 
 -- the log has one entry more, and one receipt more was handed out
-pub counted_more : (begun story now : Story) (first total all : ℕ) (e : Entry) → IsCounted begun story first total → now ≡ accepted story e → all ≡ total + 1 → IsCounted begun now first all
-counted_more begun story now first total all e counted is more =
-    let long = length-append story.log (e ∷ []) in
+pub counted_more : (begun log now : Log) (first total all : ℕ) (e : Entry) → IsCounted begun log first total → now ≡ appended log e → all ≡ total + 1 → IsCounted begun now first all
+counted_more begun log now first total all e counted is more =
+    let long = length-append log.entries (e ∷ []) in
     let so_far = counted.counted in
-    subst (λ (s : Story). IsCounted begun s first all) (sym is)
+    subst (λ (s : Log). IsCounted begun s first all) (sym is)
     (record {
       goes = record {
         begin = counted.goes.begin;
         more = counted.goes.more ++ e ∷ [];
-        log = ap (λ (l : List Entry). l ++ e ∷ []) counted.goes.log ∙ append_assoc begun.log counted.goes.more (e ∷ []);
+        entries = ap (λ (l : List Entry). l ++ e ∷ []) counted.goes.entries ∙ append_assoc begun.entries counted.goes.more (e ∷ []);
       };
       is_first = counted.is_first;
       counted = omega (arith, long, so_far, more);
@@ -125,17 +125,17 @@ counted_more begun story now first total all e counted is more =
 
 -- ---- refused
 
-pub cause : {T : Type 0} (begun : Story) (answer : Story → Result T Refusal) (had : PassView) (at : Story) (e : Refusal) (result : Result T Refusal) → MaySee begun had at → answer at ≡ result → Gives (Err e) result → IsCause begun answer had e
+pub cause : {T : Type 0} (begun : Log) (answer : Log → Result T Refusal) (had : PassView) (at : Log) (e : Refusal) (result : Result T Refusal) → MaySee begun had at → answer at ≡ result → Gives (Err e) result → IsCause begun answer had e
 cause begun answer had at e (Ok x) may is (inl h) = cc
 cause begun answer had at e (Ok x) may is (inr h) = inl cc
 cause begun answer had at e (Err f) may is h = inr (at, may, is ∙ sym h)
 
 -- also where want of memory may stand for any answer
-pub lacking_cause : {T : Type 0} (lacks : Type 0) (begun : Story) (answer : Story → Result T Refusal) (had : PassView) (at : Story) (e : Refusal) (result : Result T Refusal) → MaySee begun had at → answer at ≡ result → GivesOr lacks (Err e) result → IsCause begun answer had e
+pub lacking_cause : {T : Type 0} (lacks : Type 0) (begun : Log) (answer : Log → Result T Refusal) (had : PassView) (at : Log) (e : Refusal) (result : Result T Refusal) → MaySee begun had at → answer at ≡ result → GivesOr lacks (Err e) result → IsCause begun answer had e
 lacking_cause lacks begun answer had at e result may is (inl h) = cause begun answer had at e result may is h
 lacking_cause lacks begun answer had at e result may is (inr h) = inl cc
 
-pub not_admitted : (begun at : Story) (entries : List Entry) (had : PassView) (Cause : Refusal → Type 0) (e : SharedRefusal) → Extends begun at → entries ≡ at.log → IsLegal at → IsNotAdmitted entries had.seen (last_of had.receipts) e → Cause Memory → IsRefusedFor begun had Cause e
+pub not_admitted : (begun at : Log) (entries : List Entry) (had : PassView) (Cause : Refusal → Type 0) (e : SharedRefusal) → Extends begun at → entries ≡ at.entries → IsLegal at → IsNotAdmitted entries had.seen (last_of had.receipts) e → Cause Memory → IsRefusedFor begun had Cause e
 not_admitted begun at entries had Cause (Refused e) goes is legal not memory = subst Cause (sym not) memory
 not_admitted begun at entries had Cause (ForeignPass number there) goes is legal not memory =
     (at, goes, legal, subst (λ (l : List Entry). IsForeign l had.seen (last_of had.receipts) number there) is not)
@@ -147,7 +147,7 @@ and_first true c h = refl
 and_first false c h = h
 
 -- the least thread's ticket, and that it is refused for memory alone
-module _ (at : Story) (away : Away) (t : Thread) (first : IsFirstToMove at (is_among away.outside) (Some t)) where
+module _ (at : Log) (away : Away) (t : Thread) (first : IsFirstToMove at (is_among away.outside) (Some t)) where
   pub claimed : (k : Ticket) → AnswersTicket at t (Ok k) → IsClaim at away (Some k)
   claimed k answer =
       record {
@@ -156,7 +156,7 @@ module _ (at : Story) (away : Away) (t : Thread) (first : IsFirstToMove at (is_a
       }
 
   pub not_claimed : (e : Refusal) → AnswersTicket at t (Err e) → e ≡ Memory
-  not_claimed e answer = memory_alone at t e (and_first (has_move at t) (not (is_among away.outside t)) first.1) answer
+  not_claimed e answer = memory_alone at t e (and_first (is_enabled at t) (not (is_among away.outside t)) first.1) answer
 
 and_not : (b c : Bool) → (b && not c) ≡ true → c ≡ false
 and_not true true h = cc
@@ -164,11 +164,11 @@ and_not true false h = refl
 and_not false c h = cc
 
 -- it can be claimed
-pub free_to_claim : (at : Story) (away : Away) (found : Option Ticket) → IsClaim at away found → IsFree away (thread_of found)
+pub free_to_claim : (at : Log) (away : Away) (found : Option Ticket) → IsClaim at away found → IsClaimable away (thread_of found)
 free_to_claim at away None claim = tt
-free_to_claim at away (Some k) claim = and_not (has_move at k.thread) (is_among away.outside k.thread) claim.least.1
+free_to_claim at away (Some k) claim = and_not (is_enabled at k.thread) (is_among away.outside k.thread) claim.least.1
 
 -- ---- rollback
 
-pub planned_now : (story : Story) (r : PlanRoom) → IsPlanned story r → WasPlanned story r
-planned_now story r planned = record { front = story.log; later = []; parts = sym (append-nil story.log); planned = planned }
+pub planned_now : (log : Log) (r : PlanRoom) → IsPlanned log r → WasPlanned log r
+planned_now log r planned = record { front = log.entries; later = []; parts = sym (append-nil log.entries); planned = planned }

@@ -4,10 +4,10 @@ use Rattle.std.specs.Prelude.{if◌then◌else◌, nat_le, nat_lt}
 use Rattle.std.proofs.lemmas.Bool.Decides.{nat_tests}
 use Rattle.std.proofs.lemmas.List.{take_more}
 use borrow.Author.Tests.{ltb-true}
-use Rattle.book_log.specs.Story.{Story}
+use Rattle.book_log.specs.Log.{Log}
 use Rattle.book_log.specs.declared.entry.Entry.{Entry}
-use Rattle.shared_book.specs.Closed.{all_receipts, times, AllStand, once_within, IsClosed, IsSettled}
-use Rattle.shared_book.specs.Numbers.{Stands}
+use Rattle.shared_book.specs.Closed.{all_receipts, times, AllAreLogged, once_within, IsClosed, IsSettled}
+use Rattle.shared_book.specs.Numbers.{IsLogged}
 use Rattle.shared_book.specs.Views.{PassView, IsCounted}
 use Rattle.shared_book.specs.declared.receipt.Receipt.{Receipt}
 
@@ -79,7 +79,7 @@ at_number a m rs k all few (inr out) =
     let h = row_counts a m rs all in let f = outside a m rs k out in omega (arith, h, f, out, few)
 
 -- the passes' receipts are no more than were handed out, and each number has one: so each has one, and no more
-pub closed : (begun now : Story) (first total : ℕ) (ps : List PassView) → IsSettled now.log first ps → IsCounted begun now first total → length (all_receipts ps) ≤ total → IsClosed begun now (all_receipts ps)
+pub closed : (begun now : Log) (first total : ℕ) (ps : List PassView) → IsSettled now.entries first ps → IsCounted begun now first total → length (all_receipts ps) ≤ total → IsClosed begun now (all_receipts ps)
 closed begun now first total ps settled counted few =
     let rs = all_receipts ps in
     let all : (j : ℕ) → first ≤ j → j < first + total → 0 < times j rs = λ j low high. settled.all j low (omega (arith, high, counted.counted)) in
@@ -96,20 +96,20 @@ closed begun now first total ps settled counted few =
 
 -- ---- the receipts of passes, one more after another
 
-pub all_stand_more : (log : List Entry) (xs ys : List Receipt) → AllStand log xs → AllStand log ys → AllStand log (xs ++ ys)
-all_stand_more log [] ys a b = b
-all_stand_more log (x ∷ xs) ys a b = (a.0, all_stand_more log xs ys a.1 b)
+pub all_stand_more : (entries : List Entry) (xs ys : List Receipt) → AllAreLogged entries xs → AllAreLogged entries ys → AllAreLogged entries (xs ++ ys)
+all_stand_more entries [] ys a b = b
+all_stand_more entries (x ∷ xs) ys a b = (a.0, all_stand_more entries xs ys a.1 b)
 
 pub all_receipts_more : (ps : List PassView) (p : PassView) → all_receipts (ps ++ p ∷ []) ≡ all_receipts ps ++ p.receipts
 all_receipts_more [] p = append-nil p.receipts
 all_receipts_more (x ∷ ps) p = ap (λ (l : List Receipt). x.receipts ++ l) (all_receipts_more ps p) ∙ sym (append_assoc x.receipts (all_receipts ps) p.receipts)
 
-pub stand_more : (log : List Entry) (rs : List Receipt) (i : ℕ) (d : Receipt) → i < length rs → AllStand log (take i rs) → Stands log (get_or rs i d) → AllStand log (take (i + 1) rs)
-stand_more log rs i d inside all one = rw (take_more rs i d inside) (all_stand_more log (take i rs) (get_or rs i d ∷ []) all (one, tt))
+pub stand_more : (entries : List Entry) (rs : List Receipt) (i : ℕ) (d : Receipt) → i < length rs → AllAreLogged entries (take i rs) → IsLogged entries (get_or rs i d) → AllAreLogged entries (take (i + 1) rs)
+stand_more entries rs i d inside all one = rw (take_more rs i d inside) (all_stand_more entries (take i rs) (get_or rs i d ∷ []) all (one, tt))
 
-pub stand_all_more : (log : List Entry) (ps : List PassView) (i : ℕ) (d : PassView) → i < length ps → AllStand log (all_receipts (take i ps)) → AllStand log (get_or ps i d).receipts → AllStand log (all_receipts (take (i + 1) ps))
-stand_all_more log ps i d inside all one =
-    rw (take_more ps i d inside, all_receipts_more (take i ps) (get_or ps i d)) (all_stand_more log (all_receipts (take i ps)) (get_or ps i d).receipts all one)
+pub stand_all_more : (entries : List Entry) (ps : List PassView) (i : ℕ) (d : PassView) → i < length ps → AllAreLogged entries (all_receipts (take i ps)) → AllAreLogged entries (get_or ps i d).receipts → AllAreLogged entries (all_receipts (take (i + 1) ps))
+stand_all_more entries ps i d inside all one =
+    rw (take_more ps i d inside, all_receipts_more (take i ps) (get_or ps i d)) (all_stand_more entries (all_receipts (take i ps)) (get_or ps i d).receipts all one)
 
 pub length_all_more : (ps : List PassView) (p : PassView) → length (all_receipts (ps ++ p ∷ [])) ≡ length (all_receipts ps) + length p.receipts
 length_all_more ps p = ap length (all_receipts_more ps p) ∙ length-append (all_receipts ps) p.receipts

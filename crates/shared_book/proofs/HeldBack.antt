@@ -5,7 +5,7 @@ use Rattle.step_names.specs.Thread.{Thread}
 use Rattle.step_names.specs.declared.step.StepName.{StepName}
 use Rattle.book_log.specs.Answers.{GivesOr, StepLacks, step_answer}
 use Rattle.book_log.specs.Legal.{IsLegal}
-use Rattle.book_log.specs.Story.{Story, accepted}
+use Rattle.book_log.specs.Log.{Log, appended}
 use Rattle.book_log.specs.declared.entry.Entry.{Entry}
 use Rattle.book_log.specs.declared.moved.Moved.{Moved}
 use Rattle.book_log.specs.declared.refusal.Refusal.{Refusal}
@@ -28,38 +28,38 @@ moves_more : (es : List Entry) (e : Entry) → AreMoves es → IsMove e → AreM
 moves_more [] e all move = (move, tt)
 moves_more (x ∷ es) e all move = (all.0, moves_more es e all.1 move)
 
-was_more : (story : Story) (t : Thread) (e : Entry) → IsMove e → WasRefused story t → WasRefused (accepted story e) t
-was_more story t e move w = record {
+was_more : (log : Log) (t : Thread) (e : Entry) → IsMove e → WasRefused log t → WasRefused (appended log e) t
+was_more log t e move w = record {
   before = w.before;
   since = w.since ++ e ∷ [];
-  parts = ap (λ (s : Story). accepted s e) w.parts ∙ ap (λ (l : List Entry). let s : Story = record { begin = w.before.begin; log = l } in s) (append_assoc w.before.log w.since (e ∷ []));
+  parts = ap (λ (s : Log). appended s e) w.parts ∙ ap (λ (l : List Entry). let s : Log = record { begin = w.before.begin; entries = l } in s) (append_assoc w.before.entries w.since (e ∷ []));
   legal = w.legal;
   moves = moves_more w.since e w.moves move;
   step = w.step;
   refused = w.refused;
 }
 
-pub were_more : (story now : Story) (a : Away) (e : Entry) → IsMove e → now ≡ accepted story e → WereRefused story a → WereRefused now a
-were_more story now a e move is all = λ t h. subst (λ (s : Story). WasRefused s t) (sym is) (was_more story t e move (all t h))
+pub were_more : (log now : Log) (a : Away) (e : Entry) → IsMove e → now ≡ appended log e → WereRefused log a → WereRefused now a
+were_more log now a e move is all = λ t h. subst (λ (s : Log). WasRefused s t) (sym is) (was_more log t e move (all t h))
 
--- the same story
-pub were_same : (story now : Story) (a : Away) → now ≡ story → WereRefused story a → WereRefused now a
-were_same story now a is all = subst (λ (s : Story). WereRefused s a) (sym is) all
+-- the same log
+pub were_same : (log now : Log) (a : Away) → now ≡ log → WereRefused log a → WereRefused now a
+were_same log now a is all = subst (λ (s : Log). WereRefused s a) (sym is) all
 
 -- ---- who is passed by
 
-pub were_fewer : (story : Story) (a b : Away) → PassesNoOther a b → WereRefused story a → WereRefused story b
-were_fewer story a b fewer all = λ t h. all t (fewer t h)
+pub were_fewer : (log : Log) (a b : Away) → PassesNoOther a b → WereRefused log a → WereRefused log b
+were_fewer log a b fewer all = λ t h. all t (fewer t h)
 
-were_either : (story : Story) (a : Away) (t u : Thread) → WasRefused story u → WereRefused story a → (is_passed a t ≡ true) ⊎ (t ≡ u) → WasRefused story t
-were_either story a t u was all (inl h) = all t h
-were_either story a t u was all (inr h) = subst (WasRefused story) (sym h) was
+were_either : (log : Log) (a : Away) (t u : Thread) → WasRefused log u → WereRefused log a → (is_passed a t ≡ true) ⊎ (t ≡ u) → WasRefused log t
+were_either log a t u was all (inl h) = all t h
+were_either log a t u was all (inr h) = subst (WasRefused log) (sym h) was
 
-pub were_one : (story : Story) (a b : Away) (u : Thread) → ((t : Thread) → is_passed b t ≡ true → (is_passed a t ≡ true) ⊎ (t ≡ u)) → WasRefused story u → WereRefused story a → WereRefused story b
-were_one story a b u more was all = λ t h. were_either story a t u was all (more t h)
+pub were_one : (log : Log) (a b : Away) (u : Thread) → ((t : Thread) → is_passed b t ≡ true → (is_passed a t ≡ true) ⊎ (t ≡ u)) → WasRefused log u → WereRefused log a → WereRefused log b
+were_one log a b u more was all = λ t h. were_either log a t u was all (more t h)
 
-pub were_none : (story : Story) (a : Away) → ((t : Thread) → is_passed a t ≡ false) → WereRefused story a
-were_none story a none = λ t h. let clash : true ≡ false = sym h ∙ none t in cc
+pub were_none : (log : Log) (a : Away) → ((t : Thread) → is_passed a t ≡ false) → WereRefused log a
+were_none log a none = λ t h. let clash : true ≡ false = sym h ∙ none t in cc
 
 -- ---- who is refused for a hold
 
@@ -78,11 +78,11 @@ held_is Full h = cc
 held_is Memory h = cc
 held_is Settled h = cc
 
-was_now : (story : Story) (t : Thread) (step : StepName) → IsLegal story → step_answer story t ≡ Err (Held step) → WasRefused story t
-was_now story t step legal refused = record {
-  before = story;
+was_now : (log : Log) (t : Thread) (step : StepName) → IsLegal log → step_answer log t ≡ Err (Held step) → WasRefused log t
+was_now log t step legal refused = record {
+  before = log;
   since = [];
-  parts = ap (λ (l : List Entry). let s : Story = record { begin = story.begin; log = l } in s) (sym (append-nil story.log));
+  parts = ap (λ (l : List Entry). let s : Log = record { begin = log.begin; entries = l } in s) (sym (append-nil log.entries));
   legal = legal;
   moves = tt;
   step = step;
@@ -95,26 +95,26 @@ held_given lacks (Ok x) step (inl (inr h)) = cc
 held_given lacks (Err f) step (inl h) = sym h
 held_given lacks answer step (inr h) = let clash = h.0 in cc
 
-pub held_step : (story : Story) (t : Thread) (e : Refusal) → IsLegal story → GivesOr (StepLacks story t) (Err e) (step_answer story t) → is_held (shared.Refused e) ≡ true → WasRefused story t
-held_step story t e legal gives h =
+pub held_step : (log : Log) (t : Thread) (e : Refusal) → IsLegal log → GivesOr (StepLacks log t) (Err e) (step_answer log t) → is_held (shared.Refused e) ≡ true → WasRefused log t
+held_step log t e legal gives h =
     let k = held_is e h in
-    was_now story t k.0 legal (held_given (StepLacks story t) (step_answer story t) k.0 (subst (λ (x : Refusal). GivesOr (StepLacks story t) (Err x) (step_answer story t)) k.1 gives))
+    was_now log t k.0 legal (held_given (StepLacks log t) (step_answer log t) k.0 (subst (λ (x : Refusal). GivesOr (StepLacks log t) (Err x) (step_answer log t)) k.1 gives))
 
 held_or : (answer : Result Moved Refusal) (step : StepName) (lacks : Type 0) → OrMemory answer (Held step) ⊎ ((Held step ≡ Memory) × lacks) → answer ≡ Err (Held step)
 held_or (Ok x) step lacks (inl h) = cc
 held_or (Err f) step lacks (inl h) = ap Err (sym h)
 held_or answer step lacks (inr h) = let clash = h.0 in cc
 
-pub held_turn : (story : Story) (t : Thread) (p : Prepared) (r : CommitRefusal) → IsLegal story → AnswersCommit story t p (Err r) → is_turn_held (shared_refusal r) ≡ true → WasRefused story t
-held_turn story t p (Stale why prepared) legal answer h = cc
-held_turn story t p (Refused e) legal answer h =
+pub held_turn : (log : Log) (t : Thread) (p : Prepared) (r : CommitRefusal) → IsLegal log → AnswersCommit log t p (Err r) → is_turn_held (shared_refusal r) ≡ true → WasRefused log t
+held_turn log t p (Stale why prepared) legal answer h = cc
+held_turn log t p (Refused e) legal answer h =
     let k = held_is e h in
-    was_now story t k.0 legal (held_or (step_answer story t) k.0 (StepLacks story t) (subst (λ (x : Refusal). OrMemory (step_answer story t) x ⊎ ((x ≡ Memory) × StepLacks story t)) k.1 answer.1))
+    was_now log t k.0 legal (held_or (step_answer log t) k.0 (StepLacks log t) (subst (λ (x : Refusal). OrMemory (step_answer log t) x ⊎ ((x ≡ Memory) × StepLacks log t)) k.1 answer.1))
 
 -- a pass that isn't let in is not so refused
-pub not_held : (log : List Entry) (seen : ℕ) (last : Option Receipt) (e : SharedRefusal) → IsNotAdmitted log seen last e → is_held e ≡ false
-not_held log seen last (shared.Refused e) h = ap tells_hold h
-not_held log seen last (shared.ForeignPass number there) h = refl
+pub not_held : (entries : List Entry) (seen : ℕ) (last : Option Receipt) (e : SharedRefusal) → IsNotAdmitted entries seen last e → is_held e ≡ false
+not_held entries seen last (shared.Refused e) h = ap tells_hold h
+not_held entries seen last (shared.ForeignPass number there) h = refl
 
-pub never_held : (log : List Entry) (seen : ℕ) (last : Option Receipt) (e : SharedRefusal) (story : Story) (t : Thread) → IsNotAdmitted log seen last e → is_held e ≡ true → WasRefused story t
-never_held log seen last e story t h held = let clash : true ≡ false = sym held ∙ not_held log seen last e h in cc
+pub never_held : (entries : List Entry) (seen : ℕ) (last : Option Receipt) (e : SharedRefusal) (log : Log) (t : Thread) → IsNotAdmitted entries seen last e → is_held e ≡ true → WasRefused log t
+never_held entries seen last e log t h held = let clash : true ≡ false = sym held ∙ not_held entries seen last e h in cc

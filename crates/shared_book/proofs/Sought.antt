@@ -11,7 +11,7 @@ use Rattle.std.proofs.lemmas.Map.Text.{is_eq-slice_cmp}
 use Rattle.std.proofs.lemmas.Slice.Eq.{bytes_eq-Decides}
 use Rattle.book_log.specs.Frame.{Frame}
 use Rattle.book_log.specs.Laws.{LeavesOthers}
-use Rattle.book_log.specs.Story.{Story, world_of}
+use Rattle.book_log.specs.Log.{Log, world_of}
 use Rattle.rollback_book.specs.First.{IsFirstReady, NoneFreeBefore, free}
 use Rattle.step_names.specs.Order.{thread_cmp}
 use Rattle.step_names.specs.Thread.{Thread, IsThread}
@@ -52,8 +52,8 @@ stayed exec was not_before e less = (less, by (bytes_eq exec e) refl)
 
 -- ---- before an empty name there is nothing
 
-pub none_before_first : (story : Story) (away : Away) (name : List ℕ) → name ≡ [] → NoneBefore story away name
-none_before_first story away name first t named less = absurd (nothing_before t.exec (subst (λ (x : List ℕ). slice_cmp nat_cmp t.exec x ≡ Less) first less))
+pub none_before_first : (log : Log) (away : Away) (name : List ℕ) → name ≡ [] → NoneBefore log away name
+none_before_first log away name first t named less = absurd (nothing_before t.exec (subst (λ (x : List ℕ). slice_cmp nat_cmp t.exec x ≡ Less) first less))
 
 -- ---- other threads are left out
 
@@ -66,33 +66,33 @@ fewer true true now more h = ap not (more refl)
 fewer true false now more h = cc
 fewer false was now more h = refl
 
-module _ (story : Story) (was now : Away) where
-  more_outside : (name : List ℕ) → ((t : Thread) → is_among was.outside t ≡ true → is_among now.outside t ≡ true) → NoneBefore story was name → NoneBefore story now name
+module _ (log : Log) (was now : Away) where
+  more_outside : (name : List ℕ) → ((t : Thread) → is_among was.outside t ≡ true → is_among now.outside t ≡ true) → NoneBefore log was name → NoneBefore log now name
   more_outside name more none t named less = fewer _ (is_among was.outside t) (is_among now.outside t) (more t) (none t named less)
 
   -- a thread that was found is the first
-  none_before_it : (t : Thread) → IsFirstReady (world_of story).frames (is_among was.outside) (Some t) → NoneBefore story was t.exec
+  none_before_it : (t : Thread) → IsFirstReady (world_of log).frames (is_among was.outside) (Some t) → NoneBefore log was t.exec
   none_before_it t first u named less = first.2 u named (rw less refl)
 
   pub sought : (found : Option Thread) (from to : List ℕ) → ((t : Thread) → is_among was.outside t ≡ true → is_among now.outside t ≡ true)
-      → IsFirstReady (world_of story).frames (is_among was.outside) found → NoneBefore story was from → IsSought found from to → NoneBefore story now to
+      → IsFirstReady (world_of log).frames (is_among was.outside) found → NoneBefore log was from → IsSought found from to → NoneBefore log now to
   sought None from to more first none is = λ t named less. fewer _ (is_among was.outside t) (is_among now.outside t) (more t) (first t named)
-  sought (Some t) from to more first none (inl is) = subst (NoneBefore story now) (sym is) (more_outside t.exec more (none_before_it t first))
-  sought (Some t) from to more first none (inr (inl is)) = none_before_first story now to is
-  sought (Some t) from to more first none (inr (inr is)) = subst (NoneBefore story now) (sym is) (more_outside from more none)
+  sought (Some t) from to more first none (inl is) = subst (NoneBefore log now) (sym is) (more_outside t.exec more (none_before_it t first))
+  sought (Some t) from to more first none (inr (inl is)) = none_before_first log now to is
+  sought (Some t) from to more first none (inr (inr is)) = subst (NoneBefore log now) (sym is) (more_outside from more none)
 
   -- a thread of an execution isn't left out any more
   pub given_back : (exec from to : List ℕ) → ((t : Thread) → bytes_eq exec t.exec ≡ false → is_among now.outside t ≡ is_among was.outside t)
-      → GoesBack exec from to → NoneBefore story was from → NoneBefore story now to
+      → GoesBack exec from to → NoneBefore log was from → NoneBefore log now to
   given_back exec from to others back none t named less =
       let k = back t.exec less in
       fewer _ (is_among was.outside t) (is_among now.outside t) (λ h. others t k.1 ∙ h) (none t named k.0)
 
 -- ---- an execution has changed
 
-pub none_elsewhere : (before after now : Story) (away : Away) (exec from to : List ℕ) → LeavesOthers exec before after → now ≡ after → GoesBack exec from to → NoneBefore before away from → NoneBefore now away to
+pub none_elsewhere : (before after now : Log) (away : Away) (exec from to : List ℕ) → LeavesOthers exec before after → now ≡ after → GoesBack exec from to → NoneBefore before away from → NoneBefore now away to
 none_elsewhere before after now away exec from to leaves is back none =
-    subst (λ (s : Story). NoneBefore s away to) (sym is) moved
+    subst (λ (s : Log). NoneBefore s away to) (sym is) moved
   where
     moved : NoneBefore after away to
     moved t named less =
@@ -101,9 +101,9 @@ none_elsewhere before after now away exec from to leaves is back none =
         fun_ext (λ p. leaves (record { exec = t.exec; path = p }) k.1) in
         rw same (none t named k.0)
 
--- the same story
-pub none_there_still : (story now : Story) (away : Away) (name : List ℕ) → now ≡ story → NoneBefore story away name → NoneBefore now away name
-none_there_still story now away name is none = subst (λ (s : Story). NoneBefore s away name) (sym is) none
+-- the same log
+pub none_there_still : (log now : Log) (away : Away) (name : List ℕ) → now ≡ log → NoneBefore log away name → NoneBefore now away name
+none_there_still log now away name is none = subst (λ (s : Log). NoneBefore s away name) (sym is) none
 
 -- ---- claims
 

@@ -10,7 +10,7 @@ use Rattle.step_names.specs.Thread.{Thread}
 use Rattle.step_names.specs.declared.step.StepName.{StepName}
 use Rattle.book_log.specs.Answers.{step_answer}
 use Rattle.book_log.specs.Legal.{IsLegal}
-use Rattle.book_log.specs.Story.{Story}
+use Rattle.book_log.specs.Log.{Log}
 use Rattle.book_log.specs.declared.entry.Entry.{Entry}
 use Rattle.book_log.specs.declared.entry.Entry.TheVariants.{Start, Step as Stepped}
 use Rattle.book_log.specs.declared.refusal.Refusal.TheVariants.{Held}
@@ -80,19 +80,19 @@ AreMoves [] = Unit {0}
 AreMoves (e ∷ es) = IsMove e × AreMoves es
 
 -- at some legal beginning of the log the thread's move was refused for a hold, and since then only starts and steps came
-pub record WasRefused (story : Story) (t : Thread) : Type 0 where
-  pub before : Story
+pub record WasRefused (log : Log) (t : Thread) : Type 0 where
+  pub before : Log
   pub since : List Entry
-  pub parts : story ≡ record { begin = before.begin; log = before.log ++ since }
+  pub parts : log ≡ record { begin = before.begin; entries = before.entries ++ since }
   pub legal : IsLegal before
   pub moves : AreMoves since
   pub step : StepName
   pub refused : step_answer before t ≡ Err (Held step)
 
 -- so it was of each thread that is passed by
-abbrev pub WereRefused : Story → Away → Type 0
-WereRefused story a = (t : Thread) → is_passed a t ≡ true → WasRefused story t
+abbrev pub WereRefused : Log → Away → Type 0
+WereRefused log a = (t : Thread) → is_passed a t ≡ true → WasRefused log t
 
-pub record AreAway (story : Story) (a : Away) : Type 0 where
+pub record AreAway (log : Log) (a : Away) : Type 0 where
   pub claimed : AreOutside a
-  pub passed : WereRefused story a
+  pub passed : WereRefused log a

@@ -7,7 +7,7 @@ use Rattle.rollback_book.specs.Frame.{Frame}
 use Rattle.book_log.specs.Legal.{IsLegal}
 use Rattle.rollback_book.specs.Calls.{IsLatestLeft}
 use Rattle.book_log.specs.Answers.{undo_answer}
-use Rattle.book_log.specs.Story.{Story, accepted, left_of, world_of}
+use Rattle.book_log.specs.Log.{Log, appended, left_of, world_of}
 use Rattle.book_log.specs.declared.entry.Entry.{Entry}
 use Rattle.book_log.specs.declared.entry.Entry.TheVariants.{Step as Stepped, Undo, Rollback, Hold}
 use Rattle.book_log.specs.declared.refusal.Refusal.{Refusal}
@@ -21,49 +21,49 @@ use Rattle.shared_book.specs.declared.refusal.SharedRefusal.TheVariants.{Refused
 
 -- The log with the receipt's entry is legal, and the receipt has its number. The pass has then seen so far, and holds this receipt
 -- after those that it held.
-pub record GivesReceipt (begun : Story) (had has : PassView) (r : Receipt) : Type 0 where
-  pub before : Story
+pub record GivesReceipt (begun : Log) (had has : PassView) (r : Receipt) : Type 0 where
+  pub before : Log
   pub goes : Extends begun before
-  pub legal : IsLegal (accepted before r.entry)
-  pub known : IsKnown before.log had.seen (last_of had.receipts)
-  pub number : r.number ≡ length before.log + 1
+  pub legal : IsLegal (appended before r.entry)
+  pub known : IsKnown before.entries had.seen (last_of had.receipts)
+  pub number : r.number ≡ length before.entries + 1
   pub now : has ≡ record { seen = r.number; receipts = had.receipts ++ r ∷ []; parts = had.parts }
 
 -- so, and the log before the receipt's entry is this one
-abbrev pub GivesAfter : Story → Story → PassView → PassView → Receipt → Type 0
+abbrev pub GivesAfter : Log → Log → PassView → PassView → Receipt → Type 0
 GivesAfter begun at had has r = (given : GivesReceipt begun had has r) × (given.before ≡ at)
 
 -- a legal log that the pass can have seen
-pub record MaySee (begun : Story) (had : PassView) (at : Story) : Type 0 where
+pub record MaySee (begun : Log) (had : PassView) (at : Log) : Type 0 where
   pub goes : Extends begun at
   pub legal : IsLegal at
-  pub known : IsKnown at.log had.seen (last_of had.receipts)
+  pub known : IsKnown at.entries had.seen (last_of had.receipts)
 
 -- it has seen all of it now
-pub record Sees (begun : Story) (had has : PassView) (at : Story) : Type 0 where
+pub record Sees (begun : Log) (had has : PassView) (at : Log) : Type 0 where
   pub may : MaySee begun had at
-  pub now : has ≡ record { seen = length at.log; receipts = had.receipts; parts = had.parts }
+  pub now : has ≡ record { seen = length at.entries; receipts = had.receipts; parts = had.parts }
 
 -- the pass has seen a log now of which this holds
-abbrev pub IsShown : Story → PassView → PassView → (Story → Type 0) → Type 0
-IsShown begun had has P = (at : Story) × Sees begun had has at × P at
+abbrev pub IsShown : Log → PassView → PassView → (Log → Type 0) → Type 0
+IsShown begun had has P = (at : Log) × Sees begun had has at × P at
 
 -- ---- refusals
 
 -- the log is none that the pass can have seen
-abbrev pub IsForeignTo : Story → PassView → ℕ → Option Entry → Type 0
-IsForeignTo begun had number there = (at : Story) × Extends begun at × IsLegal at × IsForeign at.log had.seen (last_of had.receipts) number there
+abbrev pub IsForeignTo : Log → PassView → ℕ → Option Entry → Type 0
+IsForeignTo begun had number there = (at : Log) × Extends begun at × IsLegal at × IsForeign at.entries had.seen (last_of had.receipts) number there
 
 -- refused as foreign, or by the book for a cause of which this holds
-abbrev pub IsRefusedFor : Story → PassView → (Refusal → Type 0) → SharedRefusal → Type 0
+abbrev pub IsRefusedFor : Log → PassView → (Refusal → Type 0) → SharedRefusal → Type 0
 IsRefusedFor begun had Cause (Refused e) = Cause e
 IsRefusedFor begun had Cause (ForeignPass number there) = IsForeignTo begun had number there
 
 -- for memory, or as the call is answered at a log that the pass can have seen
-abbrev pub IsCause : {T : Type 0} → Story → (Story → Result T Refusal) → PassView → Refusal → Type 0
-IsCause begun answer had e = (e ≡ Memory) ⊎ ((at : Story) × MaySee begun had at × (answer at ≡ Err e))
+abbrev pub IsCause : {T : Type 0} → Log → (Log → Result T Refusal) → PassView → Refusal → Type 0
+IsCause begun answer had e = (e ≡ Memory) ⊎ ((at : Log) × MaySee begun had at × (answer at ≡ Err e))
 
-abbrev pub IsRefused : {T : Type 0} → Story → (Story → Result T Refusal) → PassView → SharedRefusal → Type 0
+abbrev pub IsRefused : {T : Type 0} → Log → (Log → Result T Refusal) → PassView → SharedRefusal → Type 0
 IsRefused begun answer had = IsRefusedFor begun had (IsCause begun answer had)
 
 -- refused as foreign for what stands at this number, or for memory
@@ -73,8 +73,8 @@ IsTurnedAway n entry (ForeignPass number there) = (number ≡ n) × (there ≡ e
 
 -- at this log a pass isn't let in, as foreign or for memory
 abbrev pub IsNotAdmitted : List Entry → ℕ → Option Receipt → SharedRefusal → Type 0
-IsNotAdmitted log seen last (Refused e) = e ≡ Memory
-IsNotAdmitted log seen last (ForeignPass number there) = IsForeign log seen last number there
+IsNotAdmitted entries seen last (Refused e) = e ≡ Memory
+IsNotAdmitted entries seen last (ForeignPass number there) = IsForeign entries seen last number there
 
 -- ---- held back
 
@@ -108,20 +108,20 @@ IsRollbackOf step _ = ⊥
 -- ---- what is left of a hold
 
 -- the undoing of the latest step that is left
-abbrev pub IsLatestUndone : Story → Entry → Type 0
+abbrev pub IsLatestUndone : Log → Entry → Type 0
 IsLatestUndone at (Undo name) = IsLatestLeft at (Some name)
 IsLatestUndone at _ = ⊥
 
 -- a receipt as of every call, whose entry takes back the latest step that was left before it
-abbrev pub GivesLatest : Story → PassView → PassView → Receipt → Type 0
+abbrev pub GivesLatest : Log → PassView → PassView → Receipt → Type 0
 GivesLatest begun had has r = (given : GivesReceipt begun had has r) × IsLatestUndone given.before r.entry
 
 -- for memory, or since nothing is left at a log that the pass can have seen
-abbrev pub IsLatestCause : Story → PassView → Refusal → Type 0
-IsLatestCause begun had e = (e ≡ Memory) ⊎ ((e ≡ NoStep) × ((at : Story) × MaySee begun had at × (left_of at ≡ [])))
+abbrev pub IsLatestCause : Log → PassView → Refusal → Type 0
+IsLatestCause begun had e = (e ≡ Memory) ⊎ ((e ≡ NoStep) × ((at : Log) × MaySee begun had at × (left_of at ≡ [])))
 
 -- an undoing is refused for memory, or as the log has it at this log
-abbrev pub IsUndoCause : Story → StepName → Refusal → Type 0
+abbrev pub IsUndoCause : Log → StepName → Refusal → Type 0
 IsUndoCause at step e = (e ≡ Memory) ⊎ (undo_answer at step ≡ Err e)
 
 -- ---- frames
@@ -130,5 +130,5 @@ abbrev pub or_no_thread : Option Frame → Result Frame Refusal
 or_no_thread (Some f) = Ok f
 or_no_thread None = Err NoThread
 
-abbrev pub frame_answer : Story → Thread → Result Frame Refusal
-frame_answer story thread = or_no_thread ((world_of story).frames thread)
+abbrev pub frame_answer : Log → Thread → Result Frame Refusal
+frame_answer log thread = or_no_thread ((world_of log).frames thread)

@@ -1,8 +1,8 @@
 -- A book that was closed, and why one isn't.
 use Rattle.std.specs.Prelude.{◌≡◌, ℕ, ◌+◌, ◌<◌, ◌≤◌, ◌==◌, Bool, ◌&&◌, ◌||◌, if◌then◌else◌, nat_le, nat_lt, List, [], ◌∷◌, ◌++◌, length, Option, Some, slice_get}
-use Rattle.book_log.specs.Story.{Story}
+use Rattle.book_log.specs.Log.{Log}
 use Rattle.book_log.specs.declared.entry.Entry.{Entry}
-use Rattle.shared_book.specs.Numbers.{IsForeign, Stands}
+use Rattle.shared_book.specs.Numbers.{IsForeign, IsLogged}
 use Rattle.shared_book.specs.Views.{PassView, Extends}
 use Rattle.shared_book.specs.declared.receipt.Receipt.{Receipt}
 use Rattle.shared_book.specs.declared.refusal.CloseReason.{CloseReason}
@@ -22,9 +22,9 @@ times k (r ∷ rs) = (if r.number == k then 1 else 0) + times k rs
 abbrev pub is_marked : Bool → ℕ → List Receipt → Bool
 is_marked was k rs = was || nat_lt 0 (times k rs)
 
-abbrev pub AllStand : List Entry → List Receipt → Type 0
-AllStand log [] = Unit {0}
-AllStand log (r ∷ rs) = Stands log r × AllStand log rs
+abbrev pub AllAreLogged : List Entry → List Receipt → Type 0
+AllAreLogged entries [] = Unit {0}
+AllAreLogged entries (r ∷ rs) = IsLogged entries r × AllAreLogged entries rs
 
 -- 1 from a on and below b, and else 0
 abbrev pub once_within : ℕ → ℕ → ℕ → ℕ
@@ -32,25 +32,25 @@ once_within a b k = if nat_le a k && nat_lt k b then 1 else 0
 
 -- The book went on from where it was shared, so its earlier entries stayed. Each receipt's entry stands in the log at its number, and
 -- each number since then has one receipt.
-pub record IsClosed (begun now : Story) (rs : List Receipt) : Type 0 where
+pub record IsClosed (begun now : Log) (rs : List Receipt) : Type 0 where
   pub goes : Extends begun now
-  pub stand : AllStand now.log rs
-  pub as_many : length begun.log + length rs ≡ length now.log
-  pub once : (k : ℕ) → times k rs ≡ once_within (length begun.log + 1) (length now.log + 1) k
+  pub stand : AllAreLogged now.entries rs
+  pub as_many : length begun.entries + length rs ≡ length now.entries
+  pub once : (k : ℕ) → times k rs ≡ once_within (length begun.entries + 1) (length now.entries + 1) k
 
 -- one of the receipts, or how many entries were seen, isn't of this log
 abbrev pub IsForeignAmong : List Entry → ℕ → List Receipt → ℕ → Option Entry → Type 0
-IsForeignAmong log seen rs number there = (j : ℕ) × IsForeign log seen (slice_get rs j) number there
+IsForeignAmong entries seen rs number there = (j : ℕ) × IsForeign entries seen (slice_get rs j) number there
 
 -- so it is in one of the passes
 abbrev pub SomeForeign : List Entry → List PassView → ℕ → Option Entry → Type 0
-SomeForeign log ps number there = (i : ℕ) × (p : PassView) × (slice_get ps i ≡ Some p) × IsForeignAmong log p.seen p.receipts number there
+SomeForeign entries ps number there = (i : ℕ) × (p : PassView) × (slice_get ps i ≡ Some p) × IsForeignAmong entries p.seen p.receipts number there
 
 -- a pass is of another book, or an entry from this number on has no receipt
 abbrev pub IsUnsettled : ℕ → List Entry → List PassView → CloseReason → Type 0
-IsUnsettled first log ps (Missing number) = (first ≤ number) × (number ≤ length log) × (times number (all_receipts ps) ≡ 0)
-IsUnsettled first log ps (ForeignPass number there) = SomeForeign log ps number there
-IsUnsettled first log ps Memory = Unit {0}
+IsUnsettled first entries ps (Missing number) = (first ≤ number) × (number ≤ length entries) × (times number (all_receipts ps) ≡ 0)
+IsUnsettled first entries ps (ForeignPass number there) = SomeForeign entries ps number there
+IsUnsettled first entries ps Memory = Unit {0}
 
 -- for what stands at this number, or for memory
 abbrev pub IsForeignReason : ℕ → Option Entry → CloseReason → Type 0
@@ -59,6 +59,6 @@ IsForeignReason n entry Memory = Unit {0}
 IsForeignReason n entry (Missing number) = ⊥
 
 -- the passes are of this log, and each number from first on has a receipt
-pub record IsSettled (log : List Entry) (first : ℕ) (ps : List PassView) : Type 0 where
-  pub stand : AllStand log (all_receipts ps)
-  pub all : (k : ℕ) → first ≤ k → k < length log + 1 → 0 < times k (all_receipts ps)
+pub record IsSettled (entries : List Entry) (first : ℕ) (ps : List PassView) : Type 0 where
+  pub stand : AllAreLogged entries (all_receipts ps)
+  pub all : (k : ℕ) → first ≤ k → k < length entries + 1 → 0 < times k (all_receipts ps)

@@ -1,7 +1,7 @@
 -- What a caller that commits a turn is promised: a receipt of its thread's step, or why there is none.
 use Rattle.std.specs.Prelude.{◌≡◌, ◌⊎◌, Bool, false, if◌then◌else◌, Err}
 use Rattle.step_names.specs.Thread.{Thread}
-use Rattle.book_log.specs.Story.{Story}
+use Rattle.book_log.specs.Log.{Log}
 use Rattle.book_log.specs.declared.refusal.Refusal.{Refusal}
 use Rattle.book_log.specs.declared.refusal.Refusal.TheVariants.{Memory}
 use Rattle.rollback_book.specs.Prepared.{Prepared}
@@ -17,16 +17,16 @@ use Rattle.shared_book.specs.declared.refusal.SharedCommitRefusal.TheVariants.{S
 use Rattle.shared_book.specs.declared.refusal.SharedRefusal.TheVariants as shared
 
 -- a receipt as of every call, where the turn was still its thread's before the receipt's entry
-abbrev pub GivesTurn : Story → Thread → Prepared → PassView → PassView → Receipt → Type 0
+abbrev pub GivesTurn : Log → Thread → Prepared → PassView → PassView → Receipt → Type 0
 GivesTurn begun t p had has r = (given : GivesReceipt begun had has r) × IsFresh given.before t p
 
 -- for memory, or as the book refuses a turn that is its thread's at a log that the pass can have seen
-abbrev pub IsTurnCause : Story → Thread → Prepared → PassView → Refusal → Type 0
-IsTurnCause begun t p had e = (e ≡ Memory) ⊎ ((at : Story) × MaySee begun had at × AnswersCommit at t p (Err (book.Refused e)))
+abbrev pub IsTurnCause : Log → Thread → Prepared → PassView → Refusal → Type 0
+IsTurnCause begun t p had e = (e ≡ Memory) ⊎ ((at : Log) × MaySee begun had at × AnswersCommit at t p (Err (book.Refused e)))
 
 -- handed back as the book does at a log that the pass can have seen; or refused as every call is
-abbrev pub IsNotTaken : Story → Thread → Prepared → PassView → SharedCommitRefusal → Type 0
-IsNotTaken begun t p had (Stale why prepared) = (at : Story) × MaySee begun had at × AnswersCommit at t p (Err (book.Stale why prepared))
+abbrev pub IsNotTaken : Log → Thread → Prepared → PassView → SharedCommitRefusal → Type 0
+IsNotTaken begun t p had (Stale why prepared) = (at : Log) × MaySee begun had at × AnswersCommit at t p (Err (book.Stale why prepared))
 IsNotTaken begun t p had (Refused e) = IsRefusedFor begun had (IsTurnCause begun t p had) e
 
 -- refused since the step would depend on what a hold has left

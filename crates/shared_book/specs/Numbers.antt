@@ -5,23 +5,23 @@ use Rattle.shared_book.specs.declared.receipt.Receipt.{Receipt}
 
 -- the entry of a number, counted from 1
 abbrev pub entry_at : List Entry → ℕ → Option Entry
-entry_at log number = if number == 0 then None else slice_get log (number - 1)
+entry_at entries number = if number == 0 then None else slice_get entries (number - 1)
 
 abbrev pub last_of : List Receipt → Option Receipt
 last_of receipts = slice_get receipts (length receipts - 1)
 
 -- the receipt's entry stands at its number
-abbrev pub Stands : List Entry → Receipt → Type 0
-Stands log r = entry_at log r.number ≡ Some r.entry
+abbrev pub IsLogged : List Entry → Receipt → Type 0
+IsLogged entries r = entry_at entries r.number ≡ Some r.entry
 
-abbrev pub LastStands : List Entry → Option Receipt → Type 0
-LastStands log None = Unit {0}
-LastStands log (Some r) = Stands log r
+abbrev pub LastIsLogged : List Entry → Option Receipt → Type 0
+LastIsLogged entries None = Unit {0}
+LastIsLogged entries (Some r) = IsLogged entries r
 
 -- who has seen so many entries, and holds this last receipt, can have seen the log
-pub record IsKnown (log : List Entry) (seen : ℕ) (last : Option Receipt) : Type 0 where
-  pub long : seen ≤ length log
-  pub stands : LastStands log last
+pub record IsKnown (entries : List Entry) (seen : ℕ) (last : Option Receipt) : Type 0 where
+  pub long : seen ≤ length entries
+  pub stands : LastIsLogged entries last
 
 -- at the last receipt's number stands another entry, or none
 abbrev pub IsOther : Option Receipt → ℕ → Option Entry → Type 0
@@ -29,6 +29,6 @@ IsOther None number there = ⊥
 IsOther (Some r) number there = (r.number ≡ number) × (there ≢ Some r.entry)
 
 -- the log is shorter than what was seen, or another entry stands at the last receipt's number
-pub record IsForeign (log : List Entry) (seen : ℕ) (last : Option Receipt) (number : ℕ) (there : Option Entry) : Type 0 where
-  pub is_there : entry_at log number ≡ there
-  pub why : ((number ≡ seen) × (length log < seen)) ⊎ IsOther last number there
+pub record IsForeign (entries : List Entry) (seen : ℕ) (last : Option Receipt) (number : ℕ) (there : Option Entry) : Type 0 where
+  pub is_there : entry_at entries number ≡ there
+  pub why : ((number ≡ seen) × (length entries < seen)) ⊎ IsOther last number there

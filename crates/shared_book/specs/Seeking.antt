@@ -5,13 +5,13 @@ use Rattle.std.specs.Ordering.{nat_cmp}
 use Rattle.std.specs.Str.{bytes_eq}
 use Rattle.std.specs.declared.cmp.Ordering.TheVariants.{Less}
 use Rattle.step_names.specs.Thread.{Thread}
-use Rattle.book_log.specs.Story.{Story, world_of}
+use Rattle.book_log.specs.Log.{Log, world_of}
 use Rattle.rollback_book.specs.First.{NoneFreeBefore}
 use Rattle.shared_book.specs.Away.{Away, is_among}
 
 -- no thread of an execution before this name can be claimed
-abbrev pub NoneBefore : Story → Away → List ℕ → Type 0
-NoneBefore story away name = NoneFreeBefore (world_of story).frames (is_among away.outside) name
+abbrev pub NoneBefore : Log → Away → List ℕ → Type 0
+NoneBefore log away name = NoneFreeBefore (world_of log).frames (is_among away.outside) name
 
 -- before the name there is only what was before it, and not this execution
 abbrev pub GoesBack : List ℕ → List ℕ → List ℕ → Type 0

@@ -1,6 +1,6 @@
 -- What contracts see of a pass and of what lies under the lock.
 use Rattle.std.specs.Prelude.{◌≡◌, ℕ, ◌+◌, ◌-◌, ◌/◌, List, [], ◌++◌, length}
-use Rattle.book_log.specs.Story.{Story, accepted}
+use Rattle.book_log.specs.Log.{Log, appended}
 use Rattle.book_log.specs.declared.entry.Entry.{Entry}
 use Rattle.shared_book.specs.Away.{Away, claimed_alone}
 use Rattle.shared_book.specs.declared.receipt.Receipt.{Receipt}
@@ -18,29 +18,29 @@ first_half had = record { seen = had.seen; receipts = had.receipts; parts = had.
 abbrev pub second_half : PassView → PassView
 second_half had = record { seen = had.seen; receipts = []; parts = had.parts / 2 }
 
--- the story of the book, the number of its first entry since it was shared, and the threads that a claim leaves out
+-- the log of the book, the number of its first entry since it was shared, and the threads that a claim leaves out
 pub record DeskView : Type 0 where
-  pub story : Story
+  pub log : Log
   pub first : ℕ
   pub claims : Away
 
--- a story that began so, and went on
-pub record Extends (begun now : Story) : Type 0 where
+-- a log that began so, and went on
+pub record Extends (begun now : Log) : Type 0 where
   pub begin : now.begin ≡ begun.begin
   pub more : List Entry
-  pub log : now.log ≡ begun.log ++ more
+  pub entries : now.entries ≡ begun.entries ++ more
 
--- the story goes on from where the book was shared, by as many entries as receipts were handed out
-pub record IsCounted (begun story : Story) (first total : ℕ) : Type 0 where
-  pub goes : Extends begun story
-  pub is_first : first ≡ length begun.log + 1
-  pub counted : first + total ≡ length story.log + 1
+-- the log goes on from where the book was shared, by as many entries as receipts were handed out
+pub record IsCounted (begun log : Log) (first total : ℕ) : Type 0 where
+  pub goes : Extends begun log
+  pub is_first : first ≡ length begun.entries + 1
+  pub counted : first + total ≡ length log.entries + 1
 
 abbrev pub with_claims : DeskView → Away → DeskView
-with_claims d claims = record { story = d.story; first = d.first; claims = claims }
+with_claims d claims = record { log = d.log; first = d.first; claims = claims }
 
 abbrev pub with_entry : DeskView → Entry → DeskView
-with_entry d e = record { story = accepted d.story e; first = d.first; claims = d.claims }
+with_entry d e = record { log = appended d.log e; first = d.first; claims = d.claims }
 
 -- an entry that takes steps back, after which none is passed by
 abbrev pub with_undoing : DeskView → Entry → DeskView

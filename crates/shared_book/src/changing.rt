@@ -35,7 +35,7 @@ impl<B: Events, L: Sharing> Desk<B, L> {
         requires shallow { depth (data_of input) ≤ most_levels }
         ensures receipt { IfOk result (GivesReceipt L.begun pass.old pass.new) }
         ensures entry { IfOk result (λ r. r.entry ≡ Entry.Start exec.now machine.now input) }
-        ensures log { IfOk result (λ r. self.new ≡ with_entry self.old r.entry) }
+        ensures entries { IfOk result (λ r. self.new ≡ with_entry self.old r.entry) }
         ensures err { IfErr result (λ e. IsRefused L.begun (λ at. start_answer at exec.now machine.now) pass.old e × (pass.new ≡ pass.old) × (self.new ≡ self.old)) }
     {
         let (_, entries) = self.book.entries();
@@ -76,7 +76,7 @@ impl<B: Events, L: Sharing> Desk<B, L> {
     ) -> Result<Receipt, SharedRefusal>
         ensures receipt { IfOk result (GivesReceipt L.begun pass.old pass.new) }
         ensures entry { IfOk result (λ r. IsStepOf thread.now r.entry) }
-        ensures log { IfOk result (λ r. self.new ≡ with_entry self.old r.entry) }
+        ensures entries { IfOk result (λ r. self.new ≡ with_entry self.old r.entry) }
         ensures err { IfErr result (λ e. IsRefused L.begun (λ at. step_answer at thread.now) pass.old e × (pass.new ≡ pass.old) × (self.new ≡ after_refusal self.old thread.now e)) }
     {
         match self.take_step(alloc, pass, thread) {
@@ -96,9 +96,9 @@ impl<B: Events, L: Sharing> Desk<B, L> {
     ) -> Result<Receipt, SharedRefusal>
         ensures receipt { IfOk result (GivesReceipt L.begun pass.old pass.new) }
         ensures entry { IfOk result (λ r. IsStepOf thread.now r.entry) }
-        ensures log { IfOk result (λ r. self.new ≡ with_entry self.old r.entry) }
+        ensures entries { IfOk result (λ r. self.new ≡ with_entry self.old r.entry) }
         ensures err { IfErr result (λ e. IsRefused L.begun (λ at. step_answer at thread.now) pass.old e × (pass.new ≡ pass.old) × (self.new ≡ self.old)) }
-        ensures held { IfErr result (λ e. is_held e ≡ true → WasRefused self.old.story thread.now) }
+        ensures held { IfErr result (λ e. is_held e ≡ true → WasRefused self.old.log thread.now) }
     {
         let (_, entries) = self.book.entries();
         let number = admit(entries, pass.seen, &mut pass.receipts)?;
@@ -131,11 +131,11 @@ impl<B: Events, L: Sharing> Desk<B, L> {
         step: &StepName,
     ) -> Result<Receipt, SharedRefusal>
         ensures receipt { IfOk result (GivesReceipt L.begun pass.old pass.new) }
-        ensures after { IfOk result (GivesAfter L.begun self.old.story pass.old pass.new) }
+        ensures after { IfOk result (GivesAfter L.begun self.old.log pass.old pass.new) }
         ensures entry { IfOk result (λ r. r.entry ≡ Entry.Undo step.now) }
-        ensures log { IfOk result (λ r. self.new ≡ with_undoing self.old r.entry) }
+        ensures entries { IfOk result (λ r. self.new ≡ with_undoing self.old r.entry) }
         ensures err { IfErr result (λ e. IsRefused L.begun (λ at. undo_answer at step.now) pass.old e × (pass.new ≡ pass.old) × (self.new ≡ self.old)) }
-        ensures cause { IfErr result (IsRefusedFor L.begun pass.old (IsUndoCause self.old.story step.now)) }
+        ensures cause { IfErr result (IsRefusedFor L.begun pass.old (IsUndoCause self.old.log step.now)) }
     {
         let (_, entries) = self.book.entries();
         let number = admit(entries, pass.seen, &mut pass.receipts)?;
@@ -172,7 +172,7 @@ impl<B: Events, L: Sharing> Desk<B, L> {
         pass: &mut Pass<L>,
     ) -> Result<Receipt, SharedRefusal>
         ensures receipt { IfOk result (GivesLatest L.begun pass.old pass.new) }
-        ensures log { IfOk result (λ r. self.new ≡ with_undoing self.old r.entry) }
+        ensures entries { IfOk result (λ r. self.new ≡ with_undoing self.old r.entry) }
         ensures err { IfErr result (λ e. IsRefusedFor L.begun pass.old (IsLatestCause L.begun pass.old) e × (pass.new ≡ pass.old) × (self.new ≡ self.old)) }
     {
         let (_, entries) = self.book.entries();
@@ -198,7 +198,7 @@ impl<B: Events, L: Sharing> Desk<B, L> {
     ) -> Result<Receipt, SharedRefusal>
         ensures receipt { IfOk result (GivesReceipt L.begun pass.old pass.new) }
         ensures entry { IfOk result (λ r. IsRollbackOf step.now r.entry) }
-        ensures log { IfOk result (λ r. self.new ≡ with_undoing self.old r.entry) }
+        ensures entries { IfOk result (λ r. self.new ≡ with_undoing self.old r.entry) }
         ensures err { IfErr result (λ e. IsRefused L.begun (λ at. plan_answer at step.now) pass.old e × (pass.new ≡ pass.old) × (self.new ≡ self.old)) }
     {
         let (_, entries) = self.book.entries();
@@ -234,7 +234,7 @@ impl<B: Events, L: Sharing> Desk<B, L> {
     ) -> Result<Receipt, SharedRefusal>
         ensures receipt { IfOk result (GivesReceipt L.begun pass.old pass.new) }
         ensures entry { IfOk result (λ r. IsHoldOf step.now r.entry) }
-        ensures log { IfOk result (λ r. self.new ≡ with_undoing self.old r.entry) }
+        ensures entries { IfOk result (λ r. self.new ≡ with_undoing self.old r.entry) }
         ensures err { IfErr result (λ e. IsRefused L.begun (λ at. hold_answer at step.now) pass.old e × (pass.new ≡ pass.old) × (self.new ≡ self.old)) }
     {
         let (_, entries) = self.book.entries();

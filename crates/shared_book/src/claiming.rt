@@ -1,11 +1,11 @@
 // Which threads callers claim, as tickets, and how a claim ends.
 ghost use Rattle.std.specs.Prelude.{◌≡◌, length, IfOk, IfErr, MatchResult, OnErr, OnOk, true};
 ghost use Rattle.book_log.specs.declared.refusal.Refusal.TheVariants.{Memory};
-ghost use Rattle.book_log.specs.Story.{world_of};
+ghost use Rattle.book_log.specs.Log.{world_of};
 ghost use Rattle.rollback_book.specs.First.{IsFirstReady};
 ghost use Rattle.shared_book.specs.Away.{AreAway, AreOutside, LeavesOutMore, PassesNoOther, WasRefused, claim_ended, claimed_with, is_among, passed_by};
 ghost use Rattle.shared_book.specs.Calls.{IsRefusedFor, Sees, after_refusal, is_held};
-ghost use Rattle.shared_book.specs.Claims.{IsClaim, IsFree, IsOffer, thread_of, thread_offered};
+ghost use Rattle.shared_book.specs.Claims.{IsClaim, IsClaimable, IsOffer, thread_of, thread_offered};
 ghost use Rattle.shared_book.specs.Commits.{after_turn, is_turn_held};
 ghost use Rattle.shared_book.specs.Views.{with_claims};
 
@@ -38,10 +38,10 @@ impl<B: Events, L: Sharing> Desk<B, L> {
         alloc: Global,
         pass: &mut Pass<L>,
     ) -> Result<Option<Ticket>, SharedRefusal>
-        ensures claim { IfOk result (IsClaim self.old.story self.old.claims) }
-        ensures away { OnOk result (AreAway self.old.story self.old.claims) }
+        ensures claim { IfOk result (IsClaim self.old.log self.old.claims) }
+        ensures away { OnOk result (AreAway self.old.log self.old.claims) }
         ensures claimed { IfOk result (λ found. self.new ≡ with_claims self.old (claimed_with self.old.claims (thread_of found))) }
-        ensures seen { OnOk result (Sees L.begun pass.old pass.new self.old.story) }
+        ensures seen { OnOk result (Sees L.begun pass.old pass.new self.old.log) }
         ensures err { IfErr result (λ e. IsRefusedFor L.begun pass.old (λ cause. cause ≡ Memory) e × (pass.new ≡ pass.old) × (self.new ≡ self.old)) }
     {
         let (_, entries) = self.book.entries();
@@ -67,10 +67,10 @@ impl<B: Events, L: Sharing> Desk<B, L> {
         alloc: Global,
         pass: &mut Pass<L>,
     ) -> Result<Offer, SharedRefusal>
-        ensures offer { IfOk result (IsOffer self.old.story self.old.claims) }
-        ensures away { OnOk result (AreAway self.old.story self.old.claims) }
+        ensures offer { IfOk result (IsOffer self.old.log self.old.claims) }
+        ensures away { OnOk result (AreAway self.old.log self.old.claims) }
         ensures claimed { IfOk result (λ offer. self.new ≡ with_claims self.old (claimed_with self.old.claims (thread_offered offer))) }
-        ensures seen { OnOk result (Sees L.begun pass.old pass.new self.old.story) }
+        ensures seen { OnOk result (Sees L.begun pass.old pass.new self.old.log) }
         ensures err { IfErr result (λ e. IsRefusedFor L.begun pass.old (λ cause. cause ≡ Memory) e × (pass.new ≡ pass.old) × (self.new ≡ self.old)) }
     {
         match self.claim(alloc, pass) {
@@ -98,7 +98,7 @@ impl<B: Events, L: Sharing> Desk<B, L> {
 
     /// Passes a claimed thread by, whose move is refused for a hold.
     fn pass_by(&mut self, thread: &ThreadName)
-        requires { WasRefused self.old.story thread.now }
+        requires { WasRefused self.old.log thread.now }
         ensures { self.new ≡ with_claims self.old (passed_by self.old.claims thread.now) }
     {
         self.claims.pass_by(thread);
@@ -106,7 +106,7 @@ impl<B: Events, L: Sharing> Desk<B, L> {
 
     /// What becomes of a thread's claim after the refusal of its step.
     pub(crate) fn note_refusal(&mut self, thread: &ThreadName, refusal: &SharedRefusal)
-        requires { is_held refusal.now ≡ true → WasRefused self.old.story thread.now }
+        requires { is_held refusal.now ≡ true → WasRefused self.old.log thread.now }
         ensures { self.new ≡ after_refusal self.old thread.now refusal.now }
     {
         if refusal.is_held() {
@@ -116,7 +116,7 @@ impl<B: Events, L: Sharing> Desk<B, L> {
 
     /// What becomes of it after the refusal of its turn.
     pub(crate) fn end_refused(&mut self, thread: &ThreadName, refusal: &SharedCommitRefusal)
-        requires { is_turn_held refusal.now ≡ true → WasRefused self.old.story thread.now }
+        requires { is_turn_held refusal.now ≡ true → WasRefused self.old.log thread.now }
         ensures { self.new ≡ after_turn self.old thread.now refusal.now }
     {
         if refusal.is_held() {
@@ -128,9 +128,9 @@ impl<B: Events, L: Sharing> Desk<B, L> {
 
     /// The ticket of the least thread that has a move, and is neither claimed nor passed by.
     fn first_ticket(&self, alloc: Global) -> Result<Option<Ticket>, Refusal>
-        ensures found { MatchResult result (IsClaim self.now.story self.now.claims) (λ e. e ≡ Memory) }
+        ensures found { MatchResult result (IsClaim self.now.log self.now.claims) (λ e. e ≡ Memory) }
         ensures claimed { AreOutside self.now.claims }
-        ensures ready { IfOk result (λ found. IsFirstReady (world_of self.now.story).frames (is_among self.now.claims.outside) (thread_of found)) }
+        ensures ready { IfOk result (λ found. IsFirstReady (world_of self.now.log).frames (is_among self.now.claims.outside) (thread_of found)) }
     {
         let outside = self.claims.outside();
         let thread = match self
@@ -157,7 +157,7 @@ impl<B: Events, L: Sharing> Desk<B, L> {
 
 /// Puts the thread of a ticket among those that are claimed.
 fn note(claims: &mut Claims, found: &Option<Ticket>) -> Result<(), AllocError>
-    requires { IsFree claims.old (thread_of found.now) }
+    requires { IsClaimable claims.old (thread_of found.now) }
     ensures ok { OnOk result (claims.new ≡ claimed_with claims.old (thread_of found.now)) }
     ensures passed { OnOk result (PassesNoOther claims.old claims.new) }
     ensures more { OnOk result (LeavesOutMore claims.old claims.new) }

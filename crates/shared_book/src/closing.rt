@@ -2,8 +2,8 @@
 ghost use Rattle.std.specs.Prelude.{◌≡◌, ◌+◌, ◌≤◌, length, MatchResult, IfOk, IfErr};
 ghost use Rattle.std.specs.Option.{option_copied};
 ghost use Rattle.book_log.specs.Legal.{IsLegal};
-ghost use Rattle.book_log.specs.Story.{Story};
-ghost use Rattle.shared_book.specs.Closed.{AllStand, IsClosed, IsForeignAmong, IsForeignReason, IsSettled, IsUnsettled, SomeForeign, all_receipts};
+ghost use Rattle.book_log.specs.Log.{Log};
+ghost use Rattle.shared_book.specs.Closed.{AllAreLogged, IsClosed, IsForeignAmong, IsForeignReason, IsSettled, IsUnsettled, SomeForeign, all_receipts};
 ghost use Rattle.shared_book.specs.Views.{Extends};
 
 use crate::admitting::{Foreign, known};
@@ -41,8 +41,8 @@ pub fn close<B: Events, L: Sharing>(
     shared: Shared<B, L>,
     passes: Vec<Pass<L>>,
 ) -> Result<B, CloseRefusal<B, L>>
-    ensures closed { IfOk result (λ b. IsLegal (B.story b) × IsClosed L.begun (B.story b) (all_receipts passes.items)) }
-    ensures refused { IfErr result (λ e. (e.passes.items ≡ passes.items) × ((at : Story) × Extends L.begun at × IsLegal at × IsUnsettled (length L.begun.log + 1) at.log passes.items e.reason)) }
+    ensures closed { IfOk result (λ b. IsLegal (B.log b) × IsClosed L.begun (B.log b) (all_receipts passes.items)) }
+    ensures refused { IfErr result (λ e. (e.passes.items ≡ passes.items) × ((at : Log) × Extends L.begun at × IsLegal at × IsUnsettled (length L.begun.entries + 1) at.entries passes.items e.reason)) }
 {
     let Shared { desk } = shared;
     let desk = desk.into_inner();
@@ -61,7 +61,7 @@ pub fn close<B: Events, L: Sharing>(
 /// Whether each receipt stands in the log.
 #[tactic(auto, using(crate::proofs::Counts::stand_more))]
 fn among<'a>(entries: &'a [Entry], seen: usize, receipts: &[Receipt]) -> Result<(), Foreign<'a>>
-    ensures { MatchResult result (λ _. AllStand entries.now receipts.now) (λ f. IsForeignAmong entries.now seen receipts.now f.number (option_copied f.there)) }
+    ensures { MatchResult result (λ _. AllAreLogged entries.now receipts.now) (λ f. IsForeignAmong entries.now seen receipts.now f.number (option_copied f.there)) }
 {
     for receipt in receipts {
         known(entries, seen, Some(receipt))?;
@@ -72,7 +72,7 @@ fn among<'a>(entries: &'a [Entry], seen: usize, receipts: &[Receipt]) -> Result<
 /// Whether the receipts of each pass stand in the log.
 #[tactic(auto, using(crate::proofs::Counts::stand_all_more))]
 fn all_among<'a, L: Ledger>(entries: &'a [Entry], passes: &[Pass<L>]) -> Result<(), Foreign<'a>>
-    ensures { MatchResult result (λ _. AllStand entries.now (all_receipts passes.now)) (λ f. SomeForeign entries.now passes.now f.number (option_copied f.there)) }
+    ensures { MatchResult result (λ _. AllAreLogged entries.now (all_receipts passes.now)) (λ f. SomeForeign entries.now passes.now f.number (option_copied f.there)) }
 {
     for pass in passes {
         among(entries, pass.seen(), pass.receipts())?;
@@ -111,11 +111,11 @@ impl<B: Events, L: Sharing> Desk<B, L> {
     /// Whether the passes have a receipt for each entry since the book was shared, and none of another book.
     fn settle(&self, alloc: Global, passes: &[Pass<L>]) -> Result<(), CloseReason>
         ensures settled { MatchResult result
-            (λ _. IsSettled self.now.story.log self.now.first passes.now)
-            (IsUnsettled self.now.first self.now.story.log passes.now) }
-        ensures first { self.now.first ≡ length L.begun.log + 1 }
-        ensures goes { Extends L.begun self.now.story }
-        ensures legal { IsLegal self.now.story }
+            (λ _. IsSettled self.now.log.entries self.now.first passes.now)
+            (IsUnsettled self.now.first self.now.log.entries passes.now) }
+        ensures first { self.now.first ≡ length L.begun.entries + 1 }
+        ensures goes { Extends L.begun self.now.log }
+        ensures legal { IsLegal self.now.log }
     {
         let (_, entries) = self.book.entries();
         if let Err(foreign) = all_among(entries, passes) {
@@ -130,9 +130,9 @@ impl<B: Events, L: Sharing> Desk<B, L> {
 
     /// The book, where the passes have these receipts.
     fn finish(self, passes: Vec<Pass<L>>) -> B
-        requires { IsSettled self.story.log self.first passes.items }
-        ensures legal { IsLegal (B.story result) }
-        ensures closed { IsClosed L.begun (B.story result) (all_receipts passes.items) }
+        requires { IsSettled self.log.entries self.first passes.items }
+        ensures legal { IsLegal (B.log result) }
+        ensures closed { IsClosed L.begun (B.log result) (all_receipts passes.items) }
     {
         let Desk {
             book,

@@ -28,7 +28,7 @@ impl<B: Events, L: Sharing> Desk<B, L> {
     ) -> Result<Receipt, SharedCommitRefusal>
         ensures receipt { IfOk result (GivesTurn L.begun ticket.thread prepared pass.old pass.new) }
         ensures entry { IfOk result (λ r. IsStepOf ticket.thread r.entry) }
-        ensures log { IfOk result (λ r. self.new ≡ with_claims (with_entry self.old r.entry) (claim_ended self.old.claims ticket.thread)) }
+        ensures entries { IfOk result (λ r. self.new ≡ with_claims (with_entry self.old r.entry) (claim_ended self.old.claims ticket.thread)) }
         ensures err { IfErr result (λ e. IsNotTaken L.begun ticket.thread prepared pass.old e × (pass.new ≡ pass.old) × (self.new ≡ after_turn self.old ticket.thread e)) }
     {
         match self.take_turn(alloc, pass, ticket.thread(), prepared) {
@@ -52,9 +52,9 @@ impl<B: Events, L: Sharing> Desk<B, L> {
     ) -> Result<Receipt, SharedCommitRefusal>
         ensures receipt { IfOk result (GivesTurn L.begun thread.now prepared pass.old pass.new) }
         ensures entry { IfOk result (λ r. IsStepOf thread.now r.entry) }
-        ensures log { IfOk result (λ r. self.new ≡ with_entry self.old r.entry) }
+        ensures entries { IfOk result (λ r. self.new ≡ with_entry self.old r.entry) }
         ensures err { IfErr result (λ e. IsNotTaken L.begun thread.now prepared pass.old e × (pass.new ≡ pass.old) × (self.new ≡ self.old)) }
-        ensures held { IfErr result (λ e. is_turn_held e ≡ true → WasRefused self.old.story thread.now) }
+        ensures held { IfErr result (λ e. is_turn_held e ≡ true → WasRefused self.old.log thread.now) }
     {
         let (_, entries) = self.book.entries();
         let number = match admit(entries, pass.seen, &mut pass.receipts) {

@@ -36,16 +36,17 @@ impl<B: Events, L: Sharing> Model for Desk<B, L> {
 
     ghost coded = { Prim.hlevel (codes, begin_row.the_row.coded, entry_row.the_row.coded) };
 
-    ghost view = { λ d. record { story = B.story d.book; first = d.first; claims = d.claims } };
+    ghost view = { λ d. record { log = B.log d.book; first = d.first; claims = d.claims } };
 
-    ghost invariant = { λ d. IsCounted L.begun (B.story d.book) d.first d.calls.total × (d.spare.amount ≡ 0) × WereRefused (B.story d.book) d.claims × NoneBefore (B.story d.book) d.claims (string_bytes d.cursor.name) };
+    ghost invariant = { λ d. IsCounted L.begun (B.log d.book) d.first d.calls.total × (d.spare.amount ≡ 0)
+        × WereRefused (B.log d.book) d.claims × NoneBefore (B.log d.book) d.claims (string_bytes d.cursor.name) };
 }
 
 impl<B: Events, L: Sharing> Desk<B, L> {
     /// The book.
     pub(crate) fn into_book(self) -> B
-        ensures goes { Extends L.begun (B.story result) }
-        ensures legal { IsLegal (B.story result) }
+        ensures goes { Extends L.begun (B.log result) }
+        ensures legal { IsLegal (B.log result) }
     {
         let Desk {
             book,

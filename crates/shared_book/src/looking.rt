@@ -1,6 +1,6 @@
 // What a caller is shown. It adds no entry.
 ghost use Rattle.std.specs.Prelude.{◌≡◌, length, IfOk, IfErr, Ok, OnOk};
-ghost use Rattle.book_log.specs.Story.{left_of};
+ghost use Rattle.book_log.specs.Log.{left_of};
 ghost use Rattle.book_log.specs.declared.refusal.Refusal.TheVariants.{Memory};
 ghost use Rattle.shared_book.specs.Calls.{IsRefused, IsRefusedFor, Sees, frame_answer};
 
@@ -34,8 +34,8 @@ impl<B: Events, L: Sharing> Desk<B, L> {
         pass: &mut Pass<L>,
         thread: &ThreadName,
     ) -> Result<Shown, SharedRefusal>
-        ensures shown { IfOk result (λ s. (s.entries ≡ length self.now.story.log) × (frame_answer self.now.story thread.now ≡ Ok s.frame)) }
-        ensures seen { OnOk result (Sees L.begun pass.old pass.new self.now.story) }
+        ensures shown { IfOk result (λ s. (s.entries ≡ length self.now.log.entries) × (frame_answer self.now.log thread.now ≡ Ok s.frame)) }
+        ensures seen { OnOk result (Sees L.begun pass.old pass.new self.now.log) }
         ensures err { IfErr result (λ e. IsRefused L.begun (λ at. frame_answer at thread.now) pass.old e × (pass.new ≡ pass.old)) }
     {
         let (_, entries) = self.book.entries();
@@ -57,8 +57,8 @@ impl<B: Events, L: Sharing> Desk<B, L> {
     }
 
     pub(crate) fn held_left(&self, pass: &mut Pass<L>) -> Result<HeldLeft, SharedRefusal>
-        ensures left { IfOk result (λ s. (s.entries ≡ length self.now.story.log) × (s.left ≡ length (left_of self.now.story))) }
-        ensures seen { OnOk result (Sees L.begun pass.old pass.new self.now.story) }
+        ensures left { IfOk result (λ s. (s.entries ≡ length self.now.log.entries) × (s.left ≡ length (left_of self.now.log))) }
+        ensures seen { OnOk result (Sees L.begun pass.old pass.new self.now.log) }
         ensures err { IfErr result (λ e. IsRefusedFor L.begun pass.old (λ cause. cause ≡ Memory) e × (pass.new ≡ pass.old)) }
     {
         let (_, entries) = self.book.entries();

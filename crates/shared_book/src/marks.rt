@@ -16,7 +16,8 @@ pub(crate) fn missing<L: Ledger>(
     end: usize,
 ) -> Result<Option<usize>, AllocError>
     requires { first ≤ end }
-    ensures { IfOk result (λ found. MatchOption found ((k : ℕ) → first ≤ k → k < end → 0 < times k (all_receipts passes.now)) (λ n. (first ≤ n) × (n < end) × (times n (all_receipts passes.now) ≡ 0))) }
+    ensures { IfOk result (λ found. MatchOption found ((k : ℕ) → first ≤ k → k < end → 0 < times k (all_receipts passes.now))
+        (λ n. (first ≤ n) × (n < end) × (times n (all_receipts passes.now) ≡ 0))) }
 {
     let mut marks = Vec::from_elem(alloc, false, end - first)?;
     Ok(missing_by(marks.as_mut_slice(), passes, first, end))
@@ -31,7 +32,8 @@ fn missing_by<L: Ledger>(
 ) -> Option<usize>
     requires fit { (first ≤ end) × (end < 2 ^ 64) }
     requires blank { marks.old ≡ replicate (end - first) false }
-    ensures { MatchOption result ((k : ℕ) → first ≤ k → k < end → 0 < times k (all_receipts passes.now)) (λ n. (first ≤ n) × (n < end) × (times n (all_receipts passes.now) ≡ 0)) }
+    ensures { MatchOption result ((k : ℕ) → first ≤ k → k < end → 0 < times k (all_receipts passes.now))
+        (λ n. (first ≤ n) × (n < end) × (times n (all_receipts passes.now) ≡ 0)) }
 {
     mark_all(marks, first, passes);
     unmarked(marks, first)
@@ -71,7 +73,8 @@ fn mark_one(marks: &mut [bool], first: usize, number: usize)
 /// The first number from `first` on that isn't marked.
 fn unmarked(marks: &[bool], first: usize) -> Option<usize>
     requires { first + length marks.now < 2 ^ 64 }
-    ensures { MatchOption result ((j : ℕ) → j < length marks.now → slice_index_or marks.now j false ≡ true) (λ n. (j : ℕ) × (j < length marks.now) × (n ≡ first + j) × (slice_index_or marks.now j false ≡ false)) }
+    ensures { MatchOption result ((j : ℕ) → j < length marks.now → slice_index_or marks.now j false ≡ true)
+        (λ n. (j : ℕ) × (j < length marks.now) × (n ≡ first + j) × (slice_index_or marks.now j false ≡ false)) }
 {
     for (i, marked) in marks.iter().enumerate() {
         if !*marked {

@@ -4,7 +4,7 @@ ghost use Rattle.json_tree.specs.Data.{depth, most_levels};
 ghost use Rattle.json_tree.specs.View.{data_of};
 ghost use Rattle.book_log.specs.Answers.{hold_answer, plan_answer, start_answer, step_answer, undo_answer};
 ghost use Rattle.book_log.specs.Legal.{IsLegal};
-ghost use Rattle.book_log.specs.Story.{left_of};
+ghost use Rattle.book_log.specs.Log.{left_of};
 ghost use Rattle.book_log.specs.declared.refusal.Refusal.TheVariants.{Memory};
 ghost use Rattle.shared_book.specs.Away.{AreAway, Away};
 ghost use Rattle.shared_book.specs.Calls.{GivesLatest, GivesReceipt, IsHoldOf, IsLatestCause, IsRefused, IsRefusedFor, IsRollbackOf, IsShown, IsStepOf, frame_answer};
@@ -43,8 +43,8 @@ pub struct Shared<B: Events, L: Sharing> {
 
 /// Shares a book. The pass has seen all its entries so far. Takes no memory.
 pub fn share<B: Events, L: Sharing>(alloc: Global, blank: Blank, book: B) -> (Shared<B, L>, Pass<L>)
-    requires { (blank.name ≡ L.name) × (blank.parts ≡ L.parts) × (L.parts ≡ PARTS) × (B.story book ≡ L.begun) }
-    ensures { result.1 ≡ record { seen = length (B.story book).log; receipts = []; parts = PARTS } }
+    requires { (blank.name ≡ L.name) × (blank.parts ≡ L.parts) × (L.parts ≡ PARTS) × (B.log book ≡ L.begun) }
+    ensures { result.1 ≡ record { seen = length (B.log book).entries; receipts = []; parts = PARTS } }
 {
     let (calls, mut share) = blank.open::<L>();
     let spare = share.empty();
@@ -201,7 +201,7 @@ impl<B: Events, L: Sharing> Shared<B, L> {
     ///
     /// `ForeignPass`, and `Memory` for the entry that it tells.
     pub fn held_left(&self, rt: &impl Wait, pass: &mut Pass<L>) -> Result<HeldLeft, SharedRefusal>
-        ensures shown { IfOk result (λ s. IsShown L.begun pass.old pass.new (λ at. (s.entries ≡ length at.log) × (s.left ≡ length (left_of at)))) }
+        ensures shown { IfOk result (λ s. IsShown L.begun pass.old pass.new (λ at. (s.entries ≡ length at.entries) × (s.left ≡ length (left_of at)))) }
         ensures err { IfErr result (λ e. IsRefusedFor L.begun pass.old (λ cause. cause ≡ Memory) e × (pass.new ≡ pass.old)) }
     {
         self.desk.lock(rt).held_left(pass)
@@ -219,7 +219,7 @@ impl<B: Events, L: Sharing> Shared<B, L> {
         pass: &mut Pass<L>,
         thread: &ThreadName,
     ) -> Result<Shown, SharedRefusal>
-        ensures shown { IfOk result (λ s. IsShown L.begun pass.old pass.new (λ at. (s.entries ≡ length at.log) × (frame_answer at thread.now ≡ Ok s.frame))) }
+        ensures shown { IfOk result (λ s. IsShown L.begun pass.old pass.new (λ at. (s.entries ≡ length at.entries) × (frame_answer at thread.now ≡ Ok s.frame))) }
         ensures err { IfErr result (λ e. IsRefused L.begun (λ at. frame_answer at thread.now) pass.old e × (pass.new ≡ pass.old)) }
     {
         self.desk.lock(rt).show(pass, thread)
@@ -290,8 +290,8 @@ impl<B: Events, L: Sharing> Shared<B, L> {
 
     /// The book, whatever receipts there are.
     pub fn into_book(self) -> B
-        ensures goes { Extends L.begun (B.story result) }
-        ensures legal { IsLegal (B.story result) }
+        ensures goes { Extends L.begun (B.log result) }
+        ensures legal { IsLegal (B.log result) }
     {
         self.desk.into_inner().into_book()
     }

@@ -91,7 +91,7 @@ pub(crate) struct Seats<L: Sharing> {
 }
 
 pub(crate) fn seats_of<L: Sharing>(alloc: Global, blank: Blank, book: Book) -> Seats<L>
-    requires { (blank.name ≡ L.name) × (blank.parts ≡ L.parts) × (L.parts ≡ PARTS) × (book.story ≡ L.begun) }
+    requires { (blank.name ≡ L.name) × (blank.parts ≡ L.parts) × (L.parts ≡ PARTS) × (book.log ≡ L.begun) }
 {
     let (shared, mut first) = share::<Book, L>(alloc, blank, book);
     let Some(second) = first.seat() else {

@@ -137,7 +137,7 @@ fn one_of_each<L: Sharing, R: Wait>(
     blank: Blank,
     book: Book,
 ) -> Result<(usize, usize), Fail>
-    requires { (blank.name ≡ L.name) × (blank.parts ≡ L.parts) × (L.parts ≡ PARTS) × (book.story ≡ L.begun) }
+    requires { (blank.name ≡ L.name) × (blank.parts ≡ L.parts) × (L.parts ≡ PARTS) × (book.log ≡ L.begun) }
 {
     let mut seats = seats_of::<L>(alloc, blank, book);
     match start_and_undo(rt, alloc, &mut seats) {
@@ -202,7 +202,7 @@ fn all_rows<L: Sharing, R: Wait>(
     blank: Blank,
     book: Book,
 ) -> Result<(Option<usize>, usize, usize), Fail>
-    requires { (blank.name ≡ L.name) × (blank.parts ≡ L.parts) × (L.parts ≡ PARTS) × (book.story ≡ L.begun) }
+    requires { (blank.name ≡ L.name) × (blank.parts ≡ L.parts) × (L.parts ≡ PARTS) × (book.log ≡ L.begun) }
 {
     let mut seats = seats_of::<L>(alloc, blank, book);
     let odd = match odd_row(rt, alloc, &mut seats) {

@@ -91,7 +91,7 @@ fn run<L: Sharing + Send + Sync, R: Threads + Wait + Sync>(
     book: Book,
     plan: Plan,
 ) -> Result<Round, Fail>
-    requires { (blank.name ≡ L.name) × (blank.parts ≡ L.parts) × (L.parts ≡ PARTS) × (book.story ≡ L.begun) }
+    requires { (blank.name ≡ L.name) × (blank.parts ≡ L.parts) × (L.parts ≡ PARTS) × (book.log ≡ L.begun) }
 {
     let (shared, mut first) = share::<Book, L>(alloc, blank, book);
     let Some(pass) = first.seat() else {

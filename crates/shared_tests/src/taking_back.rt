@@ -57,7 +57,7 @@ fn run<L: Sharing + Send + Sync, R: Threads + Wait + Sync>(
     execution: u32,
     workers: usize,
 ) -> Result<TakenBack, Fail>
-    requires { (blank.name ≡ L.name) × (blank.parts ≡ L.parts) × (L.parts ≡ PARTS) × (book.story ≡ L.begun) }
+    requires { (blank.name ≡ L.name) × (blank.parts ≡ L.parts) × (L.parts ≡ PARTS) × (book.log ≡ L.begun) }
 {
     let (shared, mut mine) = share::<Book, L>(alloc, blank, book);
     let held = hold_first(rt, alloc, &shared, &mut mine, execution)?;

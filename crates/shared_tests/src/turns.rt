@@ -244,7 +244,7 @@ fn case_in<L: Sharing, R: Wait>(
     book: Book,
     case: Case,
 ) -> Result<bool, Fail>
-    requires { (blank.name ≡ L.name) × (blank.parts ≡ L.parts) × (L.parts ≡ PARTS) × (book.story ≡ L.begun) }
+    requires { (blank.name ≡ L.name) × (blank.parts ≡ L.parts) × (L.parts ≡ PARTS) × (book.log ≡ L.begun) }
 {
     let mut seats = seats_of::<L>(alloc, blank, book);
     let is_so = answers(rt, alloc, &mut seats, case);
@@ -311,7 +311,7 @@ fn refuses_the_machine<L: Sharing, R: Wait>(
     blank: Blank,
     book: Book,
 ) -> Result<bool, Fail>
-    requires { (blank.name ≡ L.name) × (blank.parts ≡ L.parts) × (L.parts ≡ PARTS) × (book.story ≡ L.begun) }
+    requires { (blank.name ≡ L.name) × (blank.parts ≡ L.parts) × (L.parts ≡ PARTS) × (book.log ≡ L.begun) }
 {
     let mut seats = seats_of::<L>(alloc, blank, book);
     let is_so = refuses(rt, alloc, &mut seats);

@@ -66,7 +66,7 @@ fn run<L: Sharing + Send + Sync, G: Gate + Sync, R: Threads + Wait + Sync>(
     book: Book,
     gate: &G,
 ) -> Result<Told, Fail>
-    requires { (blank.name ≡ L.name) × (blank.parts ≡ L.parts) × (L.parts ≡ PARTS) × (book.story ≡ L.begun) }
+    requires { (blank.name ≡ L.name) × (blank.parts ≡ L.parts) × (L.parts ≡ PARTS) × (book.log ≡ L.begun) }
 {
     let (shared, mut mine) = share::<Book, L>(alloc, blank, book);
     let hold = Act::Hold("x0#1");

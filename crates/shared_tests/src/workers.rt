@@ -119,7 +119,7 @@ pub(crate) fn run<L: Sharing + Send + Sync, G: Gate + Sync, R: Threads + Wait + 
     budget: u32,
     gate: &G,
 ) -> Result<Round, Fail>
-    requires { (blank.name ≡ L.name) × (blank.parts ≡ L.parts) × (L.parts ≡ PARTS) × (book.story ≡ L.begun) }
+    requires { (blank.name ≡ L.name) × (blank.parts ≡ L.parts) × (L.parts ≡ PARTS) × (book.log ≡ L.begun) }
 {
     let (shared, first) = share::<Book, L>(alloc, blank, book);
     let passes = seats_of(alloc, first, workers)?;

@@ -8,7 +8,7 @@ use Rattle.json_tree.specs.declared.tree.Json.{Json}
 use Rattle.asl_frames.specs.declared.frame.Fault.{Fault}
 use Rattle.asl_frames.specs.declared.frame.Frame.{Frame}
 use Rattle.step_names.specs.Thread.{Thread, child_of}
-use Rattle.saved_steps.specs.Deeds.{first_fault, outputs, or_else}
+use Rattle.saved_steps.specs.Effects.{first_fault, outputs, or_else}
 use Rattle.saved_steps.specs.Held.{frames_of}
 use Rattle.saved_steps.specs.declared.world.World.{World}
 use Rattle.step_history.specs.Moves.{branches_of, fault_in, output_in}

@@ -19,7 +19,7 @@ use Rattle.asl_forward.specs.Forks.{branch_frame, with_others, begins, frames_fr
 use Rattle.asl_forward.specs.Outcomes.{asks, task_turn, forks, fork_of, turn_of, turn, action_of}
 use Rattle.asl_forward.specs.Results.{Work, work_of, after_join, after_answer}
 use Rattle.asl_forward.specs.Processing.{effective, held}
-use Rattle.asl_frames.specs.Turn.{Standing, first_frame}
+use Rattle.asl_frames.specs.Turn.{Location, first_frame}
 use Rattle.asl_frames.specs.declared.frame.Fault.{Fault}
 use Rattle.asl_frames.specs.declared.frame.Frame.{Frame}
 use Rattle.asl_frames.specs.declared.frame.Phase.{Phase}
@@ -30,9 +30,9 @@ use Rattle.saved_steps.specs.FlatMap.{is_parked}
 use Rattle.saved_steps.specs.Paths.{Path, rest_after}
 use Rattle.step_names.specs.Thread.{Thread, execution}
 use Rattle.step_names.specs.declared.step.StepName.{StepName}
-use Rattle.saved_steps.specs.Deeds.{Deed, next_step, deed_of, called, call_deed, deed_of_turn, kids, first_fault, outputs, join_deed, close_deed, deed_in, stands, frame_deed, move_deed, if_numbered, deed}
-use Rattle.saved_steps.specs.Held.{seen}
-use Rattle.saved_steps.specs.Run.{begun_at, carried_out, take_step}
+use Rattle.saved_steps.specs.Effects.{Effect, next_step, own_effect, called, call_effect, effect_of_turn, kids, first_fault, outputs, join_effect, close_effect, effect_in, stands, frame_effect, move_effect, if_numbered, effect_of}
+use Rattle.saved_steps.specs.Held.{world_view}
+use Rattle.saved_steps.specs.Run.{begun_at, after_effect, take_step}
 use Rattle.saved_steps.specs.Steps.{Step, started, moved, start_name, makes, closes}
 use Rattle.saved_steps.specs.World.{Setting, World, is_same_thread}
 use Rattle.saved_steps.specs.declared.fact.Fact.{Fact}
@@ -45,8 +45,8 @@ use Rattle.depends.specs.Instance.{steps}
 use Rattle.depends.specs.Laws.{HasNoFrames}
 use Rattle.saved_steps.proofs.Begun.{turn_told}
 use Rattle.depends.proofs.Planned.{planned, numbered}
-use Rattle.depends.proofs.Worlds.{deed_taken}
-use Rattle.step_history.specs.History.{Past, IsHistory}
+use Rattle.depends.proofs.Worlds.{effect_taken}
+use Rattle.step_history.specs.History.{TakenStep, IsHistory}
 use Rattle.step_history.specs.declared.history.History.{History}
 
 -- ---- branches begin with a count of 0
@@ -122,55 +122,55 @@ turn_fresh level (state.Fail s) f = tt
 
 -- ---- steps
 
-abbrev DeedFresh : Deed → Type 0
-DeedFresh d = Fresh d.branches
+abbrev EffectFresh : Effect → Type 0
+EffectFresh d = Fresh d.branches
 
-called_fresh : (name : StepName) (g : Frame) (items : table.Table) (access : Option (Key × AccessMode)) → DeedFresh (called name g items access)
+called_fresh : (name : StepName) (g : Frame) (items : table.Table) (access : Option (Key × AccessMode)) → EffectFresh (called name g items access)
 called_fresh name g items None = none_fresh
 called_fresh name g items (Some (key, mode)) = none_fresh
 
-step_turn_fresh : (s : Setting) (w : World) (name : StepName) (at : Standing) (f : Frame) (o : Outcome) (d : Deed) → TurnFresh o → deed_of_turn s w name at f o ≡ Some d → DeedFresh d
-step_turn_fresh s w name at f (outcome.Next g) d t h = subst DeedFresh (same_Some _ _ h) none_fresh
-step_turn_fresh s w name at f (outcome.Fork g branches) d t h = subst DeedFresh (same_Some _ _ h) t
+step_turn_fresh : (s : Setting) (w : World) (name : StepName) (at : Location) (f : Frame) (o : Outcome) (d : Effect) → TurnFresh o → effect_of_turn s w name at f o ≡ Some d → EffectFresh d
+step_turn_fresh s w name at f (outcome.Next g) d t h = subst EffectFresh (same_Some _ _ h) none_fresh
+step_turn_fresh s w name at f (outcome.Fork g branches) d t h = subst EffectFresh (same_Some _ _ h) t
 step_turn_fresh s w name at f (outcome.Call c) d t h =
-    let m = map_some (λ (work : Work). call_deed name at.0 work f (table.in_form s.table s.schema w.items c)) (work_of at.1) d h in
+    let m = map_some (λ (work : Work). call_effect name at.0 work f (table.in_form s.table s.schema w.items c)) (work_of at.1) d h in
     let o = table.in_form s.table s.schema w.items c in
-    subst DeedFresh m.2 (called_fresh name (after_answer at.0 m.0 f o.answer) o.items o.access)
+    subst EffectFresh m.2 (called_fresh name (after_answer at.0 m.0 f o.answer) o.items o.access)
 
-close_fresh : (name : StepName) (at : Standing) (f : Frame) (fault : Option Fault) (there : Option (List Data)) (d : Deed) → close_deed name at f fault there ≡ Some d → DeedFresh d
-close_fresh name at f (Some fault) there d h = subst DeedFresh (same_Some _ _ h) none_fresh
+close_fresh : (name : StepName) (at : Location) (f : Frame) (fault : Option Fault) (there : Option (List Data)) (d : Effect) → close_effect name at f fault there ≡ Some d → EffectFresh d
+close_fresh name at f (Some fault) there d h = subst EffectFresh (same_Some _ _ h) none_fresh
 close_fresh name at f None there d h =
-    let j = and_then_some (join_deed name at f) there d h in
-    let m = map_some (λ (work : Work). deed_of Join name (after_join at.0 work f j.0)) (work_of at.1) d j.2 in
-    subst DeedFresh m.2 none_fresh
+    let j = and_then_some (join_effect name at f) there d h in
+    let m = map_some (λ (work : Work). own_effect Join name (after_join at.0 work f j.0)) (work_of at.1) d j.2 in
+    subst EffectFresh m.2 none_fresh
 
-phase_fresh : (s : Setting) (w : World) (t : Thread) (at : Standing) (f : Frame) (p : Phase) (d : Deed) → deed_in s w t at f p ≡ Some d → DeedFresh d
+phase_fresh : (s : Setting) (w : World) (t : Thread) (at : Location) (f : Frame) (p : Phase) (d : Effect) → effect_in s w t at f p ≡ Some d → EffectFresh d
 phase_fresh s w t at f Ready d h =
-    let k = turn_told w.frames t f (deed_of_turn s w (next_step t f) at f (turn at f)) d h in
-    subst DeedFresh k.told (step_turn_fresh s w (next_step t f) at f (turn at f) k.deed (turn_fresh at.0 at.1 f) k.is)
+    let k = turn_told w.frames t f (effect_of_turn s w (next_step t f) at f (turn at f)) d h in
+    subst EffectFresh k.told (step_turn_fresh s w (next_step t f) at f (turn at f) k.effect_of (turn_fresh at.0 at.1 f) k.is)
 phase_fresh s w t at f (Parked n bound) d h = close_fresh (next_step t f) at f (first_fault (kids w t f n)) (outputs (kids w t f n)) d h
 phase_fresh s w t at f (Done output) d h = cc
 phase_fresh s w t at f (Failed fault) d h = cc
 
-unless_there : {A : Type 0} (b : Option A) (o : Option Deed) (d : Deed) → (if is_some b then None else o) ≡ Some d → o ≡ Some d
+unless_there : {A : Type 0} (b : Option A) (o : Option Effect) (d : Effect) → (if is_some b then None else o) ≡ Some d → o ≡ Some d
 unless_there None o d h = h
 unless_there (Some x) o d h = cc
 
 -- the thread had a frame, or the step starts its execution
-abbrev GoesOn : World → Deed → Type 0
+abbrev GoesOn : World → Effect → Type 0
 GoesOn w d = ((f : Frame) × (w.frames d.fact.name.thread ≡ Some f)) ⊎ ((d.fact.name.no ≡ 0) × (is_parked d.frame.phase ≡ false))
 
-fresh_step : (s : Setting) (w : World) (step : Step) (d : Deed) → deed s w step ≡ Some d → DeedFresh d × GoesOn w d
+fresh_step : (s : Setting) (w : World) (step : Step) (d : Effect) → effect_of s w step ≡ Some d → EffectFresh d × GoesOn w d
 fresh_step s w (started exec machine input) d h =
-    let k = unless_there (w.frames (execution exec)) (option_map (λ (m : Definition). deed_of Start (start_name exec) (first_frame machine m input)) (s.machines machine)) d h in
-    let m = map_some (λ (m : Definition). deed_of Start (start_name exec) (first_frame machine m input)) (s.machines machine) d k in
-    subst (λ (e : Deed). DeedFresh e × GoesOn w e) m.2 (none_fresh, inr (refl, refl))
+    let k = unless_there (w.frames (execution exec)) (option_map (λ (m : Definition). own_effect Start (start_name exec) (first_frame machine m input)) (s.machines machine)) d h in
+    let m = map_some (λ (m : Definition). own_effect Start (start_name exec) (first_frame machine m input)) (s.machines machine) d k in
+    subst (λ (e : Effect). EffectFresh e × GoesOn w e) m.2 (none_fresh, inr (refl, refl))
 fresh_step s w (moved name) d h =
-    let k = and_then_some (if_numbered name.no) (move_deed s w name.thread) d h in
+    let k = and_then_some (if_numbered name.no) (move_effect s w name.thread) d h in
     let n = numbered k.0 d name.no k.2 in
-    let f = and_then_some (frame_deed s w name.thread) (w.frames name.thread) k.0 k.1 in
-    let a = and_then_some (λ (at : Standing). deed_in s w name.thread at f.0 f.0.phase) (stands s f.0) k.0 f.2 in
-    (subst DeedFresh n.1 (phase_fresh s w name.thread a.0 f.0 f.0.phase k.0 a.2), inl (f.0, ap (λ (x : StepName). w.frames x.thread) (planned s w (moved name) d h).0 ∙ f.1))
+    let f = and_then_some (frame_effect s w name.thread) (w.frames name.thread) k.0 k.1 in
+    let a = and_then_some (λ (at : Location). effect_in s w name.thread at f.0 f.0.phase) (stands s f.0) k.0 f.2 in
+    (subst EffectFresh n.1 (phase_fresh s w name.thread a.0 f.0 f.0.phase k.0 a.2), inl (f.0, ap (λ (x : StepName). w.frames x.thread) (planned s w (moved name) d h).0 ∙ f.1))
 
 -- ---- worlds
 
@@ -192,10 +192,10 @@ begun_counts branches fresh n None f h = cc
 
 counted_step : (s : Setting) (w v : World) (step : Step) (fact : Fact) (n : ℕ) → Counted n w → take_step s w step ≡ Some (v, fact) → Counted (n + 1) v
 counted_step s w v step fact n c h =
-    let k = deed_taken s w v step fact h in
+    let k = effect_taken s w v step fact h in
     subst (Counted (n + 1)) k.2 (after_it k.0 k.1)
   where
-    own : (d : Deed) → deed s w step ≡ Some d → CountIn (n + 1) d.frame
+    own : (d : Effect) → effect_of s w step ≡ Some d → CountIn (n + 1) d.frame
     own d e =
         let p = (planned s w step d e).1 in
         let at = p.count in
@@ -204,7 +204,7 @@ counted_step s w v step fact n c h =
           | inr z ↦ (let no = z.0 in record { bound = omega (arith, at, no); parked = λ q. let r = z.1 in cc })
         ]
 
-    after_it : (d : Deed) → deed s w step ≡ Some d → Counted (n + 1) (carried_out w d)
+    after_it : (d : Effect) → effect_of s w step ≡ Some d → Counted (n + 1) (after_effect w d)
     after_it d e t f there =
         by_bool (is_same_thread d.fact.name.thread t) (CountIn (n + 1) f)
         (λ j. subst (CountIn (n + 1)) (same_Some d.frame f (rw j at there)) (own d e))
@@ -214,7 +214,7 @@ counted_step s w v step fact n c h =
         (λ l. let none = rw (j, i, l) at there in cc)
         (λ l. let b = c t f (rw (j, i, l) at there) in let m = b.bound in record { bound = omega (arith, m); parked = b.parked })))
 
-counted_along : (s : Setting) (ts : List Past) (w v : World) (n : ℕ) → Counted n w → Runs (steps s) w ts v → Counted (n + length ts) v
+counted_along : (s : Setting) (ts : List TakenStep) (w v : World) (n : ℕ) → Counted n w → Runs (steps s) w ts v → Counted (n + length ts) v
 counted_along s [] w v n c h = subst (λ (k : ℕ). Counted k v) (let e : n ≡ n + 0 = omega arith in e) (subst (Counted n) h c)
 counted_along s (t ∷ ts) w v n c h =
     let e : n + 1 + length ts ≡ n + suc (length ts) = omega arith in
@@ -224,17 +224,17 @@ no_counts : (first : World) → HasNoFrames first → Counted 0 first
 no_counts first none t f k = let n = sym (none t) ∙ k in cc
 
 -- no frame counts further than a run from a world without executions has steps
-pub counted_run : (s : Setting) (first v : World) (ts : List Past) → HasNoFrames first → IsRun (steps s) first ts v → Counted (length ts) v
+pub counted_run : (s : Setting) (first v : World) (ts : List TakenStep) → HasNoFrames first → IsRun (steps s) first ts v → Counted (length ts) v
 counted_run s first v ts none runs =
     let e : 0 + length ts ≡ length ts = omega arith in
     subst (λ (k : ℕ). Counted k v) e (counted_along s ts first v 0 (no_counts first none) (from_run (steps s) ts first v runs))
 
 -- a parked frame of a history has made a step
-pub parked_moved : (s : Setting) (base : World) (ts : List Past) (h : History) → IsHistory s base ts h → (t : Thread) (f : Frame) → (seen h.world).frames t ≡ Some f → is_parked f.phase ≡ true → 1 ≤ f.count
+pub parked_moved : (s : Setting) (base : World) (ts : List TakenStep) (h : History) → IsHistory s base ts h → (t : Thread) (f : Frame) → (world_view h.world).frames t ≡ Some f → is_parked f.phase ≡ true → 1 ≤ f.count
 parked_moved s base ts h is t f there =
-    (counted_run s is.from.0 (seen h.world) (is.from.2.0 ++ ts) is.from.1 (run_from (steps s) is.from.0 base is.from.2 ts (seen h.world) is.runs) t f there).parked
+    (counted_run s is.from.0 (world_view h.world) (is.from.2.0 ++ ts) is.from.1 (run_from (steps s) is.from.0 base is.from.2 ts (world_view h.world) is.runs) t f there).parked
 
-pub counted : (s : Setting) (base : World) (ts : List Past) (h : History) (n : ℕ) → ((u : Thread) (g : Frame) → base.frames u ≡ Some g → g.count ≤ n) → IsHistory s base ts h → Counted (n + length ts) (seen h.world)
+pub counted : (s : Setting) (base : World) (ts : List TakenStep) (h : History) (n : ℕ) → ((u : Thread) (g : Frame) → base.frames u ≡ Some g → g.count ≤ n) → IsHistory s base ts h → Counted (n + length ts) (world_view h.world)
 counted s base ts h n low is =
     let c = counted_run s is.from.0 base is.from.2.0 is.from.1 is.from.2.1 in
-    counted_along s ts base (seen h.world) n (λ t f there. record { bound = low t f there; parked = (c t f there).parked }) (from_run (steps s) ts base (seen h.world) is.runs)
+    counted_along s ts base (world_view h.world) n (λ t f there. record { bound = low t f there; parked = (c t f there).parked }) (from_run (steps s) ts base (world_view h.world) is.runs)

@@ -10,12 +10,12 @@ use Rattle.saved_steps.specs.FlatMap.{is_parked}
 use Rattle.item_store.specs.Store.{Store}
 use Rattle.step_names.specs.Thread.{Thread}
 use Rattle.step_names.proofs.OrderLaws.{thread_itself}
-use Rattle.saved_steps.specs.Held.{frames_of, seen}
-use Rattle.saved_steps.specs.Keeping.{Kept, undo}
+use Rattle.saved_steps.specs.Held.{frames_of, world_view, store_of}
+use Rattle.saved_steps.specs.Saving.{SavedState, undo}
 use Rattle.saved_steps.specs.Made.{is_open, KeepsStore}
-use Rattle.saved_steps.specs.Run.{carried_out}
+use Rattle.saved_steps.specs.Run.{after_effect}
 use Rattle.saved_steps.specs.Steps.{is_fork, is_close}
-use Rattle.saved_steps.specs.Undoing.{Fits, HasSlot, StandsAfter, CanUndo, IsUndone}
+use Rattle.saved_steps.specs.Undoing.{IsSavedOf, HasSlot, StandsAfter, CanUndo, IsUndone}
 use Rattle.saved_steps.specs.World as model
 use Rattle.saved_steps.specs.World.{Setting}
 use Rattle.saved_steps.specs.declared.fact.Fact.{Fact}
@@ -25,7 +25,7 @@ use Rattle.saved_steps.specs.declared.record.Saved.{Saved}
 use Rattle.saved_steps.specs.declared.record.Saved.TheVariants.{Started, Framed, Called, Forked, Closed}
 use Rattle.saved_steps.specs.declared.record.StepRecord.{StepRecord}
 use Rattle.saved_steps.specs.declared.world.World.{World}
-use Rattle.trace_theory.specs.Traces.{IsRun, IsFree, Takes, undone, without}
+use Rattle.trace_theory.specs.Traces.{IsRun, IsMaximal, Takes, undone, without}
 use Rattle.trace_theory.proofs.Commuting.{free_steps_undo}
 use Rattle.trace_theory.proofs.Least.{without_one}
 use Rattle.trace_theory.proofs.Orders.{unneeded_behind}
@@ -33,13 +33,13 @@ use Rattle.depends.specs.Instance.{steps}
 use Rattle.depends.specs.Laws.{IsFrom, facts_of}
 use Rattle.depends.specs.Plans.{first_dependent}
 use Rattle.depends.proofs.Consequences.{free_steps_have_no_dependent}
-use Rattle.depends.proofs.Lawful.{steps_are_lawful}
+use Rattle.depends.proofs.Reversible.{steps_are_reversible}
 use Rattle.depends.proofs.Named.{steps_have_names}
 use Rattle.depends.proofs.Planned.{planned}
 use Rattle.depends.proofs.Searching.{facts}
 use Rattle.depends.proofs.Turned as turned
-use Rattle.depends.proofs.Worlds.{deed_taken, frame_own}
-use Rattle.step_history.specs.History.{Past, IsRecordOf, AreRecordsOf, IsHistory}
+use Rattle.depends.proofs.Worlds.{effect_taken, frame_own}
+use Rattle.step_history.specs.History.{TakenStep, IsRecordOf, AreRecordsOf, IsHistory}
 use Rattle.step_history.specs.declared.history.History.{History}
 use Rattle.step_history.proofs.Open.{leaves_open}
 
@@ -59,12 +59,12 @@ record Left (frames : Thread → Option Frame) (s : Fact) : Type 0 where
   parks : is_fork s.kind ≡ true → is_parked frame.phase ≡ true
   goes_on : is_fork s.kind ≡ false → is_open frame
 
-left_by : (s : Setting) (w v : model.World) (t : Past) → Takes (steps s) w t v → Left v.frames t.fact
+left_by : (s : Setting) (w v : model.World) (t : TakenStep) → Takes (steps s) w t v → Left v.frames t.fact
 left_by s w v t h =
-    let k = deed_taken s w v t.step t.fact h.0 in
+    let k = effect_taken s w v t.step t.fact h.0 in
     let p = (planned s w t.step k.0 k.1).1 in
-    let own : (carried_out w k.0).frames k.0.fact.name.thread ≡ Some k.0.frame = frame_own w k.0 k.0.fact.name.thread (thread_itself k.0.fact.name.thread) in
-    let here : Left (carried_out w k.0).frames k.0.fact = record {
+    let own : (after_effect w k.0).frames k.0.fact.name.thread ≡ Some k.0.frame = frame_own w k.0 k.0.fact.name.thread (thread_itself k.0.fact.name.thread) in
+    let here : Left (after_effect w k.0).frames k.0.fact = record {
       frame = k.0.frame;
       stands = own;
       count = p.count;
@@ -84,7 +84,7 @@ close_is_no_fork kind.Terminate h = refl
 stands_open : (w : World) (s : Fact) → Left (frames_of w) s → is_fork s.kind ≡ false → IsSomeAnd (frames_of w s.name.thread) is_open
 stands_open w s l h = subst (λ (o : Option Frame). IsSomeAnd o is_open) (sym l.stands) (l.goes_on h)
 
-stands_after : (w : World) (s : Fact) (x : Saved) → Fits s x → Left (frames_of w) s → StandsAfter w s x
+stands_after : (w : World) (s : Fact) (x : Saved) → IsSavedOf s x → Left (frames_of w) s → StandsAfter w s x
 stands_after w s Started fits l = stands_open w s l (ap is_fork fits.0)
 stands_after w s (Framed f) fits l = stands_open w s l (ap is_fork fits.0)
 stands_after w s (Called f slot old) fits l = stands_open w s l (ap is_fork fits.0)
@@ -94,17 +94,17 @@ stands_after w s (Closed f kids) fits l = stands_open w s l (close_is_no_fork s.
 -- ---- a step that is free
 
 -- a step on which no later one depends was the last to touch its thread
-left_free : (s : Setting) (base v : model.World) (front back : List Past) (t : Past) → IsFrom s base → IsRun (steps s) base (front ++ t ∷ back) v → IsFree (steps s) (front ++ t ∷ back) t → Left v.frames t.fact
+left_free : (s : Setting) (base v : model.World) (front back : List TakenStep) (t : TakenStep) → IsFrom s base → IsRun (steps s) base (front ++ t ∷ back) v → IsMaximal (steps s) (front ++ t ∷ back) t → Left v.frames t.fact
 left_free s base v front back t from runs free =
     let behind = unneeded_behind (steps s) base (steps_have_names s base from) front back t free in
-    left_by s (undone (steps s) v t) v t (free_steps_undo (steps s) base (steps_are_lawful s base from) v front back t runs behind).1
+    left_by s (undone (steps s) v t) v t (free_steps_undo (steps s) base (steps_are_reversible s base from) v front back t runs behind).1
 
-pub can_undo : (s : Setting) (base : model.World) (front back : List Past) (t : Past) (w : World) (r : StepRecord) → IsFrom s base → IsRun (steps s) base (front ++ t ∷ back) (seen w) → IsFree (steps s) (front ++ t ∷ back) t
+pub can_undo : (s : Setting) (base : model.World) (front back : List TakenStep) (t : TakenStep) (w : World) (r : StepRecord) → IsFrom s base → IsRun (steps s) base (front ++ t ∷ back) (world_view w) → IsMaximal (steps s) (front ++ t ∷ back) t
     → IsRecordOf w.items r t → CanUndo w r
 can_undo s base front back t w r from runs free is = record {
   record_fits = is.fits;
   slot = is.slot;
-  thread = stands_after w r.fact r.saved is.fits (subst (λ (x : Fact). Left (frames_of w) x) (sym is.fact) (left_free s base (seen w) front back t from runs free));
+  thread = stands_after w r.fact r.saved is.fits (subst (λ (x : Fact). Left (frames_of w) x) (sym is.fact) (left_free s base (world_view w) front back t from runs free));
 }
 
 -- ---- records
@@ -116,19 +116,19 @@ slot_kept a b s (Called f slot old) k h = (h.0, h.1, k.slots slot h.0.key h.2)
 slot_kept a b s (Forked f) k h = tt
 slot_kept a b s (Closed f kids) k h = tt
 
-pub records_kept : (a b : Store) (rs : List StepRecord) (ts : List Past) → KeepsStore a b → AreRecordsOf a rs ts → AreRecordsOf b rs ts
+pub records_kept : (a b : Store) (rs : List StepRecord) (ts : List TakenStep) → KeepsStore a b → AreRecordsOf a rs ts → AreRecordsOf b rs ts
 records_kept a b [] [] k h = tt
 records_kept a b [] (t ∷ ts) k h = absurd h
 records_kept a b (r ∷ rs) [] k h = absurd h
 records_kept a b (r ∷ rs) (t ∷ ts) k h = (record { fact = h.0.fact; kept = h.0.kept; fits = h.0.fits; slot = slot_kept a b r.fact r.saved k h.0.slot }, records_kept a b rs ts k h.1)
 
 -- a step and its record, at a place
-pub record Both (items : Store) (rs : List StepRecord) (ts : List Past) (n : ℕ) (t : Past) : Type 0 where
+pub record Both (items : Store) (rs : List StepRecord) (ts : List TakenStep) (n : ℕ) (t : TakenStep) : Type 0 where
   pub before : List StepRecord
   pub record_there : StepRecord
   pub behind : List StepRecord
-  pub front : List Past
-  pub back : List Past
+  pub front : List TakenStep
+  pub back : List TakenStep
   pub records : before ++ record_there ∷ behind ≡ rs
   pub steps : front ++ t ∷ back ≡ ts
   pub record_place : length before ≡ n
@@ -136,7 +136,7 @@ pub record Both (items : Store) (rs : List StepRecord) (ts : List Past) (n : ℕ
   pub is : IsRecordOf items record_there t
   pub others : AreRecordsOf items (before ++ behind) (front ++ back)
 
-pub both : (items : Store) (rs : List StepRecord) (ts : List Past) (n : ℕ) (t : Past) → AreRecordsOf items rs ts → slice_get ts n ≡ Some t → Both items rs ts n t
+pub both : (items : Store) (rs : List StepRecord) (ts : List TakenStep) (n : ℕ) (t : TakenStep) → AreRecordsOf items rs ts → slice_get ts n ≡ Some t → Both items rs ts n t
 both items [] [] n t h k = cc
 both items [] (u ∷ ts) n t h k = absurd h
 both items (r ∷ rs) [] n t h k = absurd h
@@ -147,10 +147,10 @@ both items (r ∷ rs) (u ∷ ts) zero t h k = record {
   front = [];
   back = ts;
   records = refl;
-  steps = ap (λ (x : Past). x ∷ ts) (sym (same_Some u t k));
+  steps = ap (λ (x : TakenStep). x ∷ ts) (sym (same_Some u t k));
   record_place = refl;
   step_place = refl;
-  is = subst (λ (x : Past). IsRecordOf items r x) (same_Some u t k) h.0;
+  is = subst (λ (x : TakenStep). IsRecordOf items r x) (same_Some u t k) h.0;
   others = h.1;
 }
 both items (r ∷ rs) (u ∷ ts) (suc n) t h k =
@@ -162,7 +162,7 @@ both items (r ∷ rs) (u ∷ ts) (suc n) t h k =
       front = u ∷ b.front;
       back = b.back;
       records = ap (λ (l : List StepRecord). r ∷ l) b.records;
-      steps = ap (λ (l : List Past). u ∷ l) b.steps;
+      steps = ap (λ (l : List TakenStep). u ∷ l) b.steps;
       record_place = ap suc b.record_place;
       step_place = ap suc b.step_place;
       is = b.is;
@@ -184,59 +184,59 @@ module _ {A : Type 0} where
   pub there_at : (xs front back : List A) (x : A) (n : ℕ) → front ++ x ∷ back ≡ xs → length front ≡ n → slice_get xs n ≡ Some x
   there_at xs front back x n e k = subst (λ (l : List A). slice_get l n ≡ Some x) e (subst (λ (m : ℕ). slice_get (front ++ x ∷ back) m ≡ Some x) k (there front back x))
 
-pub facts_alike : (items : Store) (rs : List StepRecord) (ts : List Past) → AreRecordsOf items rs ts → facts rs ≡ facts_of ts
+pub facts_alike : (items : Store) (rs : List StepRecord) (ts : List TakenStep) → AreRecordsOf items rs ts → facts rs ≡ facts_of ts
 facts_alike items [] [] h = refl
 facts_alike items [] (t ∷ ts) h = absurd h
 facts_alike items (r ∷ rs) [] h = absurd h
 facts_alike items (r ∷ rs) (t ∷ ts) h = ap₂ (λ (f : Fact) (l : List Fact). f ∷ l) h.0.fact (facts_alike items rs ts h.1)
 
-pub as_many : (items : Store) (rs : List StepRecord) (ts : List Past) → AreRecordsOf items rs ts → length rs ≡ length ts
+pub as_many : (items : Store) (rs : List StepRecord) (ts : List TakenStep) → AreRecordsOf items rs ts → length rs ≡ length ts
 as_many items [] [] h = refl
 as_many items [] (t ∷ ts) h = absurd h
 as_many items (r ∷ rs) [] h = absurd h
 as_many items (r ∷ rs) (t ∷ ts) h = ap suc (as_many items rs ts h.1)
 
-pub step_there : (ts : List Past) (n : ℕ) → n < length ts → (t : Past) × (slice_get ts n ≡ Some t)
+pub step_there : (ts : List TakenStep) (n : ℕ) → n < length ts → (t : TakenStep) × (slice_get ts n ≡ Some t)
 step_there [] n h = absurd (omega (arith, h))
 step_there (t ∷ ts) zero h = (t, refl)
 step_there (t ∷ ts) (suc n) h = step_there ts n (omega (arith, h))
 
 -- ---- histories
 
-module _ (s : Setting) (base : model.World) (ts : List Past) (n : ℕ) (t : Past) (h : History) (is : IsHistory s base ts h) (here : slice_get ts n ≡ Some t) where
-  pub free_by : first_dependent (facts h.records.items) n ≡ None → IsFree (steps s) ts t
-  free_by k = (free_steps_have_no_dependent s base (seen h.world) ts n t is.from is.runs here).0 (subst (λ (l : List Fact). first_dependent l n ≡ None) (facts_alike h.world.items h.records.items ts is.records) k)
+module _ (s : Setting) (base : model.World) (ts : List TakenStep) (n : ℕ) (t : TakenStep) (h : History) (is : IsHistory s base ts h) (here : slice_get ts n ≡ Some t) where
+  pub free_by : first_dependent (facts h.records.items) n ≡ None → IsMaximal (steps s) ts t
+  free_by k = (free_steps_have_no_dependent s base (world_view h.world) ts n t is.from is.runs here).0 (subst (λ (l : List Fact). first_dependent l n ≡ None) (facts_alike (store_of h.world) h.records.items ts is.records) k)
 
-  pub no_dependent : IsFree (steps s) ts t → first_dependent (facts h.records.items) n ≡ None
-  no_dependent free = subst (λ (l : List Fact). first_dependent l n ≡ None) (sym (facts_alike h.world.items h.records.items ts is.records)) ((free_steps_have_no_dependent s base (seen h.world) ts n t is.from is.runs here).1 free)
+  pub no_dependent : IsMaximal (steps s) ts t → first_dependent (facts h.records.items) n ≡ None
+  no_dependent free = subst (λ (l : List Fact). first_dependent l n ≡ None) (sym (facts_alike (store_of h.world) h.records.items ts is.records)) ((free_steps_have_no_dependent s base (world_view h.world) ts n t is.from is.runs here).1 free)
 
   -- the record at the step's place can be undone where the step is free
-  pub can_undo_at : (r : StepRecord) → slice_get h.records.items n ≡ Some r → IsFree (steps s) ts t → CanUndo h.world r
+  pub can_undo_at : (r : StepRecord) → slice_get h.records.items n ≡ Some r → IsMaximal (steps s) ts t → CanUndo h.world r
   can_undo_at r at free =
-      let b = both h.world.items h.records.items ts n t is.records here in
+      let b = both (store_of h.world) h.records.items ts n t is.records here in
       let e : b.record_there ≡ r = same_Some b.record_there r (sym (there_at h.records.items b.before b.behind b.record_there n b.records b.record_place) ∙ at) in
       subst (λ (x : StepRecord). CanUndo h.world x) e
-      (can_undo s base b.front b.back t h.world b.record_there is.from (subst (λ (l : List Past). IsRun (steps s) base l (seen h.world)) (sym b.steps) is.runs) (subst (λ (l : List Past). IsFree (steps s) l t) (sym b.steps) free) b.is)
+      (can_undo s base b.front b.back t h.world b.record_there is.from (subst (λ (l : List TakenStep). IsRun (steps s) base l (world_view h.world)) (sym b.steps) is.runs) (subst (λ (l : List TakenStep). IsMaximal (steps s) l t) (sym b.steps) free) b.is)
 
   -- and what is left then is the history without the step
-  pub undone_history : (g : History) (r : StepRecord) → slice_get h.records.items n ≡ Some r → IsFree (steps s) ts t → g.records.items ≡ remove h.records.items n → IsUndone h.world r g.world
+  pub undone_history : (g : History) (r : StepRecord) → slice_get h.records.items n ≡ Some r → IsMaximal (steps s) ts t → g.records.items ≡ remove h.records.items n → IsUndone h.world r g.world
       → IsHistory s base (without (steps s) (t ∷ []) ts) g
   undone_history g r at free kept undone_it =
-      let b = both h.world.items h.records.items ts n t is.records here in
+      let b = both (store_of h.world) h.records.items ts n t is.records here in
       let e : b.record_there ≡ r = same_Some b.record_there r (sym (there_at h.records.items b.before b.behind b.record_there n b.records b.record_place) ∙ at) in
-      let own : IsRecordOf h.world.items r t = subst (λ (x : StepRecord). IsRecordOf h.world.items x t) e b.is in
-      let whole = subst (λ (l : List Past). IsRun (steps s) base l (seen h.world)) (sym b.steps) is.runs in
+      let own : IsRecordOf (store_of h.world) r t = subst (λ (x : StepRecord). IsRecordOf (store_of h.world) x t) e b.is in
+      let whole = subst (λ (l : List TakenStep). IsRun (steps s) base l (world_view h.world)) (sym b.steps) is.runs in
       let names = steps_have_names s base is.from in
-      let behind = unneeded_behind (steps s) base names b.front b.back t (subst (λ (l : List Past). IsFree (steps s) l t) (sym b.steps) free) in
-      let run = (free_steps_undo (steps s) base (steps_are_lawful s base is.from) (seen h.world) b.front b.back t whole behind).0 in
-      let world : seen g.world ≡ undone (steps s) (seen h.world) t = undone_it.world ∙ ap₂ (λ (f : Fact) (k : Kept). undo (seen h.world) f k) own.fact own.kept in
+      let behind = unneeded_behind (steps s) base names b.front b.back t (subst (λ (l : List TakenStep). IsMaximal (steps s) l t) (sym b.steps) free) in
+      let run = (free_steps_undo (steps s) base (steps_are_reversible s base is.from) (world_view h.world) b.front b.back t whole behind).0 in
+      let world : world_view g.world ≡ undone (steps s) (world_view h.world) t = undone_it.world ∙ ap₂ (λ (f : Fact) (k : SavedState). undo (world_view h.world) f k) own.fact own.kept in
       let rest : b.front ++ b.back ≡ without (steps s) (t ∷ []) ts =
-      sym (without_one (steps s) base names b.front b.back t (λ x y i. names.once (b.front ++ t ∷ b.back) (seen h.world) x y whole i)) ∙ ap (without (steps s) (t ∷ [])) b.steps in
+      sym (without_one (steps s) base names b.front b.back t (λ x y i. names.once (b.front ++ t ∷ b.back) (world_view h.world) x y whole i)) ∙ ap (without (steps s) (t ∷ [])) b.steps in
       record {
         table = is.table ∙ sym undone_it.store.table;
         schema = is.schema ∙ sym undone_it.store.schema;
         from = is.from;
-        runs = subst (λ (l : List Past). IsRun (steps s) base l (seen g.world)) rest (subst (λ (x : model.World). IsRun (steps s) base (b.front ++ b.back) x) (sym world) run);
-        records = subst (λ (l : List StepRecord). AreRecordsOf g.world.items l (without (steps s) (t ∷ []) ts)) (sym (kept ∙ removed_at h.records.items b.before b.behind b.record_there n b.records b.record_place))
-            (subst (λ (l : List Past). AreRecordsOf g.world.items (b.before ++ b.behind) l) rest (records_kept h.world.items g.world.items (b.before ++ b.behind) (b.front ++ b.back) undone_it.store b.others));
+        runs = subst (λ (l : List TakenStep). IsRun (steps s) base l (world_view g.world)) rest (subst (λ (x : model.World). IsRun (steps s) base (b.front ++ b.back) x) (sym world) run);
+        records = subst (λ (l : List StepRecord). AreRecordsOf (store_of g.world) l (without (steps s) (t ∷ []) ts)) (sym (kept ∙ removed_at h.records.items b.before b.behind b.record_there n b.records b.record_place))
+            (subst (λ (l : List TakenStep). AreRecordsOf (store_of g.world) (b.before ++ b.behind) l) rest (records_kept (store_of h.world) (store_of g.world) (b.before ++ b.behind) (b.front ++ b.back) undone_it.store b.others));
       }

@@ -7,14 +7,14 @@ use Rattle.json_tree.specs.Data.{Data}
 use Rattle.item_store.specs.Table as table
 use Rattle.asl_forward.specs.Outcomes.{turn}
 use Rattle.asl_forward.specs.Results.{Work, work_of, after_join}
-use Rattle.asl_frames.specs.Turn.{Standing}
+use Rattle.asl_frames.specs.Turn.{Location}
 use Rattle.asl_frames.specs.declared.frame.Fault.{Fault}
 use Rattle.asl_frames.specs.declared.frame.Frame.{Frame}
 use Rattle.asl_frames.specs.declared.frame.Phase.{Phase}
 use Rattle.asl_frames.specs.declared.frame.Phase.TheVariants.{Ready, Parked, Done, Failed}
 use Rattle.asl_forward.specs.declared.prepared.Outcome.{Outcome}
 use Rattle.asl_forward.specs.declared.prepared.Outcome.TheVariants as outcome
-use Rattle.saved_steps.specs.BranchFirst.{has_move}
+use Rattle.saved_steps.specs.BranchFirst.{is_enabled}
 use Rattle.saved_steps.specs.FlatMap.{FrameMap, is_parked}
 use Rattle.saved_steps.specs.Paths.{Path}
 use Rattle.saved_steps.specs.Bounds.{place_of}
@@ -22,11 +22,11 @@ use Rattle.saved_steps.specs.Readiness.TheVariants as readiness
 use Rattle.saved_steps.specs.Ready.{readiness_of, readiness_in, begins_under, progress, frame_is, has_failed, is_done}
 use Rattle.step_names.specs.Thread.{Thread, child_of}
 use Rattle.step_names.specs.declared.step.StepName.{StepName}
-use Rattle.saved_steps.specs.Deeds.{Deed, next_step, deed_of, turn_deed, bounded, first_bound, call_deed, deed_of_turn, fault_of, output_of, or_else, first_fault, outputs, close_deed, deed_in, frame_deed}
-use Rattle.saved_steps.specs.Held.{paths_of, seen}
+use Rattle.saved_steps.specs.Effects.{Effect, next_step, own_effect, turn_effect, bounded, first_bound, call_effect, effect_of_turn, fault_of, output_of, or_else, first_fault, outputs, close_effect, effect_in, frame_effect}
+use Rattle.saved_steps.specs.Held.{paths_of, world_view}
 use Rattle.saved_steps.specs.World.{Setting, World}
 use Rattle.saved_steps.specs.declared.fact.Kind.TheVariants.{Join}
-use Rattle.step_history.specs.Levels.{HasWholeMachines, FramesStand, ThreadsMoveWhereReady}
+use Rattle.step_history.specs.Levels.{HasWellFormedMachines, FramesStand, ThreadsMoveWhereReady}
 use Rattle.step_history.proofs.Placed.{Placed, placed, stands_at, IsForked, turn_so}
 
 pub frames_stand : FramesStand
@@ -86,16 +86,16 @@ some_mapped : {A B : Type 0} (k : A → B) (o : Option A) → is_some o ≡ true
 some_mapped k (Some x) h = refl
 some_mapped k None h = cc
 
-turn_moves : (s : Setting) (w : World) (name : StepName) (at : Standing) (f : Frame) (o : Outcome) → IsForked at.1 f o → is_some (deed_of_turn s w name at f o) ≡ true
+turn_moves : (s : Setting) (w : World) (name : StepName) (at : Location) (f : Frame) (o : Outcome) → IsForked at.1 f o → is_some (effect_of_turn s w name at f o) ≡ true
 turn_moves s w name at f (outcome.Next g) so = refl
 turn_moves s w name at f (outcome.Fork g fs) so = refl
-turn_moves s w name at f (outcome.Call c) so = some_mapped (λ (x : Work). call_deed name at.0 x f (table.in_form s.table s.schema w.items c)) (work_of at.1) so
+turn_moves s w name at f (outcome.Call c) so = some_mapped (λ (x : Work). call_effect name at.0 x f (table.in_form s.table s.schema w.items c)) (work_of at.1) so
 
-close_moves : (name : StepName) (at : Standing) (f : Frame) (fault : Option Fault) (all : Option (List Data)) → is_some (work_of at.1) ≡ true
-    → is_some (close_deed name at f fault all) ≡ has_move (progress (is_some fault) (is_some all))
+close_moves : (name : StepName) (at : Location) (f : Frame) (fault : Option Fault) (all : Option (List Data)) → is_some (work_of at.1) ≡ true
+    → is_some (close_effect name at f fault all) ≡ is_enabled (progress (is_some fault) (is_some all))
 close_moves name at f (Some fault) all works = refl
 close_moves name at f None None works = refl
-close_moves name at f None (Some ds) works = some_mapped (λ (x : Work). deed_of Join name (after_join at.0 x f ds)) (work_of at.1) works
+close_moves name at f None (Some ds) works = some_mapped (λ (x : Work). own_effect Join name (after_join at.0 x f ds)) (work_of at.1) works
 
 module _ (s : Setting) (w : World) (t : Thread) where
   abbrev below : FrameMap
@@ -105,29 +105,29 @@ module _ (s : Setting) (w : World) (t : Thread) where
   abbrev begins : Bool
   begins = begins_under true (paths_of w.frames t.exec) (place_of t.path)
 
-  first_moves : (f : Frame) (o : Option Deed) → is_some o ≡ true → is_some (turn_deed w.frames t f o) ≡ has_move (cond (f.count == 0 && not begins) readiness.Waiting readiness.Ready)
+  first_moves : (f : Frame) (o : Option Effect) → is_some o ≡ true → is_some (turn_effect w.frames t f o) ≡ is_enabled (cond (f.count == 0 && not begins) readiness.Waiting readiness.Ready)
   first_moves f o h = by (f.count == 0 && not begins) o h
     where
-      by : (b : Bool) (o : Option Deed) → is_some o ≡ true → is_some (cond b None (option_map (bounded (first_bound w.frames t f)) o)) ≡ has_move (cond b readiness.Waiting readiness.Ready)
+      by : (b : Bool) (o : Option Effect) → is_some o ≡ true → is_some (cond b None (option_map (bounded (first_bound w.frames t f)) o)) ≡ is_enabled (cond b readiness.Waiting readiness.Ready)
       by true o h = refl
       by false o h = some_mapped (bounded (first_bound w.frames t f)) o h
 
-  moves_by : (at : Standing) (f : Frame) (p : Phase) → (is_parked p ≡ true → is_some (work_of at.1) ≡ true) → is_some (deed_in s w t at f p) ≡ has_move (readiness_in begins below f.count p)
-  moves_by at f Ready works = first_moves f (deed_of_turn s w (next_step t f) at f (turn at f)) (turn_moves s w (next_step t f) at f (turn at f) (turn_so at.0 at.1 f))
+  moves_by : (at : Location) (f : Frame) (p : Phase) → (is_parked p ≡ true → is_some (work_of at.1) ≡ true) → is_some (effect_in s w t at f p) ≡ is_enabled (readiness_in begins below f.count p)
+  moves_by at f Ready works = first_moves f (effect_of_turn s w (next_step t f) at f (turn at f)) (turn_moves s w (next_step t f) at f (turn at f) (turn_so at.0 at.1 f))
   moves_by at f (Parked n bound) works =
       let kid : ℕ → Option Frame = λ i. w.frames (child_of t f.count i) in
       let is = range_with_len 0 n in
       close_moves (next_step t f) at f (first_fault (map kid is)) (outputs (map kid is)) (works refl)
-      ∙ ap (λ (b : Bool). has_move (progress b (is_some (outputs (map kid is))))) (fault_among kid is)
-      ∙ ap (λ (b : Bool). has_move (progress (list_any (λ i. frame_is has_failed (kid i)) is) b)) (outputs_of kid is)
+      ∙ ap (λ (b : Bool). is_enabled (progress b (is_some (outputs (map kid is))))) (fault_among kid is)
+      ∙ ap (λ (b : Bool). is_enabled (progress (list_any (λ i. frame_is has_failed (kid i)) is) b)) (outputs_of kid is)
   moves_by at f (Done output) works = refl
   moves_by at f (Failed fault) works = refl
 
-  moves_where : HasWholeMachines s → (o : Option Frame) → ((f : Frame) → o ≡ Some f → Placed s (length t.path) f) → is_some (option_and_then (frame_deed s w t) o) ≡ has_move (readiness_of begins below o)
+  moves_where : HasWellFormedMachines s → (o : Option Frame) → ((f : Frame) → o ≡ Some f → Placed s (length t.path) f) → is_some (option_and_then (frame_effect s w t) o) ≡ is_enabled (readiness_of begins below o)
   moves_where whole None all = refl
   moves_where whole (Some f) all =
       let p = all f refl in
-      ap (λ (o : Option Standing). is_some (option_and_then (λ (at : Standing). deed_in s w t at f f.phase) o)) (stands_at s whole (length t.path) f p)
+      ap (λ (o : Option Location). is_some (option_and_then (λ (at : Location). effect_in s w t at f f.phase) o)) (stands_at s whole (length t.path) f p)
       ∙ moves_by p.at f f.phase p.works
 
   itself : below [] ≡ w.frames t
@@ -135,5 +135,5 @@ module _ (s : Setting) (w : World) (t : Thread) where
 
 pub threads_move : ThreadsMoveWhereReady
 threads_move s base ts h t whole is =
-    let w = seen h.world in
-    moves_where s w t whole (w.frames t) (placed s whole base ts h is t) ∙ ap (λ (o : Option Frame). has_move (readiness_of (begins s w t) (below s w t) o)) (sym (itself s w t))
+    let w = world_view h.world in
+    moves_where s w t whole (w.frames t) (placed s whole base ts h is t) ∙ ap (λ (o : Option Frame). is_enabled (readiness_of (begins s w t) (below s w t) o)) (sym (itself s w t))

@@ -27,7 +27,7 @@ use Rattle.asl_forward.specs.Handling.{retried, catcher_for, error_object}
 use Rattle.asl_forward.specs.Outcomes.{action_of, asks, task_turn, forks, fork_of, turn_of, turn}
 use Rattle.asl_forward.specs.Results.{Work, work_of, on_catch, on_retry, handled, errors_of, taken_by, after_branch, call_fault, comes_to, after_result, after_answer, after_join}
 use Rattle.asl_forward.specs.Processing.{and_then, effective, held, passed_on, placed_in}
-use Rattle.asl_frames.specs.Turn.{Standing, go_on, ends, own_fault, goes_where, choice_frame, next_frame, pass_output, idle_output, first_frame}
+use Rattle.asl_frames.specs.Turn.{Location, go_on, ends, own_fault, goes_where, choice_frame, next_frame, pass_output, idle_output, first_frame}
 use Rattle.asl_frames.specs.declared.frame.Fault.{Fault}
 use Rattle.asl_frames.specs.declared.frame.Frame.{Frame}
 use Rattle.asl_frames.specs.declared.frame.Phase.{Phase}
@@ -36,7 +36,7 @@ use Rattle.asl_forward.specs.declared.prepared.Outcome.{Outcome}
 use Rattle.asl_forward.specs.declared.prepared.Outcome.TheVariants as outcome
 use Rattle.step_names.specs.Thread.{Thread, execution}
 use Rattle.step_names.specs.declared.step.StepName.{StepName}
-use Rattle.saved_steps.specs.Deeds.{Deed, next_step, deed_of, called, call_deed, deed_of_turn, kids, first_fault, outputs, join_deed, close_deed, deed_in, stands, frame_deed, move_deed, if_numbered, deed}
+use Rattle.saved_steps.specs.Effects.{Effect, next_step, own_effect, called, call_effect, effect_of_turn, kids, first_fault, outputs, join_effect, close_effect, effect_in, stands, frame_effect, move_effect, if_numbered, effect_of}
 use Rattle.saved_steps.specs.Made.{is_open}
 use Rattle.saved_steps.specs.Steps.{Step, started, moved, start_name, is_fork}
 use Rattle.saved_steps.specs.World.{Setting, World}
@@ -80,7 +80,7 @@ answer_open level w f (refused error) = handled_open level w.1 f (call_fault err
 pub join_open : (level : Definition) (w : Work) (f : Frame) (ds : List Data) → is_open (after_join level w f ds)
 join_open level w f ds = result_open level w f (list (items_of ds))
 
-pub branch_open : (at : Standing) (f : Frame) (fault : Fault) → is_open (after_branch at f fault)
+pub branch_open : (at : Location) (f : Frame) (fault : Fault) → is_open (after_branch at f fault)
 branch_open at f fault = handled_open at.0 (errors_of at.1) f (taken_by at.1 fault)
 
 where_open : (level : Definition) (p : Processing) (f : Frame) (input : Data) (name : Result (List ℕ) (List ℕ)) → is_open (goes_where level p f input name)
@@ -133,48 +133,48 @@ turn_open level (state.Fail s) f = next_open level (state.Fail s) f
 
 -- ---- steps
 
-abbrev pub LeavesOpen : Deed → Type 0
+abbrev pub LeavesOpen : Effect → Type 0
 LeavesOpen d = is_fork d.fact.kind ≡ false → is_open d.frame
 
 called_open : (name : StepName) (g : Frame) (items : table.Table) (access : Option (Key × AccessMode)) → is_open g → LeavesOpen (called name g items access)
 called_open name g items None h = λ k. h
 called_open name g items (Some (key, mode)) h = λ k. h
 
-step_turn_open : (s : Setting) (w : World) (name : StepName) (at : Standing) (f : Frame) (o : Outcome) (d : Deed) → GoesOn o → deed_of_turn s w name at f o ≡ Some d → LeavesOpen d
+step_turn_open : (s : Setting) (w : World) (name : StepName) (at : Location) (f : Frame) (o : Outcome) (d : Effect) → GoesOn o → effect_of_turn s w name at f o ≡ Some d → LeavesOpen d
 step_turn_open s w name at f (outcome.Next g) d t h = subst LeavesOpen (same_Some _ _ h) (λ k. t)
 step_turn_open s w name at f (outcome.Fork g branches) d t h = subst LeavesOpen (same_Some _ _ h) (λ k. cc)
 step_turn_open s w name at f (outcome.Call c) d t h =
-    let m = map_some (λ (work : Work). call_deed name at.0 work f (table.in_form s.table s.schema w.items c)) (work_of at.1) d h in
+    let m = map_some (λ (work : Work). call_effect name at.0 work f (table.in_form s.table s.schema w.items c)) (work_of at.1) d h in
     let o = table.in_form s.table s.schema w.items c in
     subst LeavesOpen m.2 (called_open name (after_answer at.0 m.0 f o.answer) o.items o.access (answer_open at.0 m.0 f o.answer))
 
-close_open : (name : StepName) (at : Standing) (f : Frame) (fault : Option Fault) (there : Option (List Data)) (d : Deed) → close_deed name at f fault there ≡ Some d → LeavesOpen d
+close_open : (name : StepName) (at : Location) (f : Frame) (fault : Option Fault) (there : Option (List Data)) (d : Effect) → close_effect name at f fault there ≡ Some d → LeavesOpen d
 close_open name at f (Some fault) there d h = subst LeavesOpen (same_Some _ _ h) (λ k. branch_open at f fault)
 close_open name at f None there d h =
-    let j = and_then_some (join_deed name at f) there d h in
-    let m = map_some (λ (work : Work). deed_of Join name (after_join at.0 work f j.0)) (work_of at.1) d j.2 in
+    let j = and_then_some (join_effect name at f) there d h in
+    let m = map_some (λ (work : Work). own_effect Join name (after_join at.0 work f j.0)) (work_of at.1) d j.2 in
     subst LeavesOpen m.2 (λ k. join_open at.0 m.0 f j.0)
 
-phase_open : (s : Setting) (w : World) (t : Thread) (at : Standing) (f : Frame) (p : Phase) (d : Deed) → deed_in s w t at f p ≡ Some d → LeavesOpen d
+phase_open : (s : Setting) (w : World) (t : Thread) (at : Location) (f : Frame) (p : Phase) (d : Effect) → effect_in s w t at f p ≡ Some d → LeavesOpen d
 phase_open s w t at f Ready d h =
-    let k = turn_told w.frames t f (deed_of_turn s w (next_step t f) at f (turn at f)) d h in
-    subst LeavesOpen k.told (step_turn_open s w (next_step t f) at f (turn at f) k.deed (turn_open at.0 at.1 f) k.is)
+    let k = turn_told w.frames t f (effect_of_turn s w (next_step t f) at f (turn at f)) d h in
+    subst LeavesOpen k.told (step_turn_open s w (next_step t f) at f (turn at f) k.effect_of (turn_open at.0 at.1 f) k.is)
 phase_open s w t at f (Parked n bound) d h = close_open (next_step t f) at f (first_fault (kids w t f n)) (outputs (kids w t f n)) d h
 phase_open s w t at f (Done output) d h = cc
 phase_open s w t at f (Failed fault) d h = cc
 
-unless_there : {A : Type 0} (b : Option A) (o : Option Deed) (d : Deed) → (if is_some b then None else o) ≡ Some d → o ≡ Some d
+unless_there : {A : Type 0} (b : Option A) (o : Option Effect) (d : Effect) → (if is_some b then None else o) ≡ Some d → o ≡ Some d
 unless_there None o d h = h
 unless_there (Some x) o d h = cc
 
-pub leaves_open : (s : Setting) (w : World) (step : Step) (d : Deed) → deed s w step ≡ Some d → LeavesOpen d
+pub leaves_open : (s : Setting) (w : World) (step : Step) (d : Effect) → effect_of s w step ≡ Some d → LeavesOpen d
 leaves_open s w (started exec machine input) d h =
-    let k = unless_there (w.frames (execution exec)) (option_map (λ (m : Definition). deed_of Start (start_name exec) (first_frame machine m input)) (s.machines machine)) d h in
-    let m = map_some (λ (m : Definition). deed_of Start (start_name exec) (first_frame machine m input)) (s.machines machine) d k in
+    let k = unless_there (w.frames (execution exec)) (option_map (λ (m : Definition). own_effect Start (start_name exec) (first_frame machine m input)) (s.machines machine)) d h in
+    let m = map_some (λ (m : Definition). own_effect Start (start_name exec) (first_frame machine m input)) (s.machines machine) d k in
     subst LeavesOpen m.2 (λ j. refl)
 leaves_open s w (moved name) d h =
-    let k = and_then_some (if_numbered name.no) (move_deed s w name.thread) d h in
+    let k = and_then_some (if_numbered name.no) (move_effect s w name.thread) d h in
     let n = numbered k.0 d name.no k.2 in
-    let f = and_then_some (frame_deed s w name.thread) (w.frames name.thread) k.0 k.1 in
-    let a = and_then_some (λ (at : Standing). deed_in s w name.thread at f.0 f.0.phase) (stands s f.0) k.0 f.2 in
+    let f = and_then_some (frame_effect s w name.thread) (w.frames name.thread) k.0 k.1 in
+    let a = and_then_some (λ (at : Location). effect_in s w name.thread at f.0 f.0.phase) (stands s f.0) k.0 f.2 in
     subst LeavesOpen n.1 (phase_open s w name.thread a.0 f.0 f.0.phase k.0 a.2)

@@ -12,10 +12,10 @@ use Rattle.item_store.specs.Table as table
 use Rattle.item_store.specs.declared.access.AccessMode.{AccessMode}
 use Rattle.item_store.specs.declared.call.Call as call
 use Rattle.asl_errors.specs.declared.errors.ErrorHandling.{ErrorHandling}
-use Rattle.asl_tree.specs.Complete.{state_of, IsState, StaysInside, IsComplete}
+use Rattle.asl_tree.specs.Complete.{state_of, IsState, StaysInside, IsWellFormed}
 use Rattle.asl_tree.specs.Definition.{Definition}
 use Rattle.asl_tree.specs.Find.{branch_of, machine_at}
-use Rattle.asl_tree.specs.Levels.{IsWhole}
+use Rattle.asl_tree.specs.Levels.{IsWellFormedThroughout}
 use Rattle.asl_tree.specs.declared.level.Level.{Level}
 use Rattle.asl_tree.specs.declared.level.LevelStep.{LevelStep}
 use Rattle.asl_tree.specs.declared.state.State.{State}
@@ -25,14 +25,14 @@ use Rattle.asl_forward.specs.Forks.{branch_frame, parallel_frames, map_frames}
 use Rattle.asl_forward.specs.Outcomes.{asks, task_turn, parks, forks, fork_of, turn_of, turn, action_of}
 use Rattle.asl_forward.specs.Results.{Work, work_of, after_join, after_answer, after_branch}
 use Rattle.asl_forward.specs.Processing.{effective}
-use Rattle.asl_frames.specs.Turn.{Standing, standing, first_frame}
+use Rattle.asl_frames.specs.Turn.{Location, located, first_frame}
 use Rattle.asl_frames.specs.declared.frame.Fault.{Fault}
 use Rattle.asl_frames.specs.declared.frame.Frame.{Frame}
 use Rattle.asl_frames.specs.declared.frame.Phase.{Phase}
 use Rattle.asl_frames.specs.declared.frame.Phase.TheVariants.{Ready, Parked, Done, Failed}
 use Rattle.asl_forward.specs.declared.prepared.Outcome.{Outcome}
 use Rattle.asl_forward.specs.declared.prepared.Outcome.TheVariants as outcome
-use Rattle.asl_forward.proofs.Firsts.{standing_parts, one_step_further, first_of, branches_all, OnBranches}
+use Rattle.asl_forward.proofs.Firsts.{located_parts, one_step_further, first_of, branches_all, OnBranches}
 use Rattle.asl_forward.proofs.NextFrames.{OnFrame, turn-level, turn-state}
 use Rattle.asl_forward.proofs.ResultNextFrames.{WorkStays, work_stays, after_answer-level, after_answer-state, after_join-level, after_join-state, after_branch-level, after_branch-state}
 use Rattle.saved_steps.specs.FlatMap.{is_parked}
@@ -40,10 +40,10 @@ use Rattle.saved_steps.specs.Paths.{Path, rest_after}
 use Rattle.saved_steps.proofs.Under.{whole_is}
 use Rattle.step_names.specs.Thread.{Thread, execution}
 use Rattle.step_names.proofs.OrderLaws.{thread_same}
-use Rattle.saved_steps.specs.Deeds.{Deed, next_step, deed_of, called, call_deed, deed_of_turn, kids, first_fault, outputs, join_deed, close_deed, deed_in, stands, frame_deed, move_deed, if_numbered, deed}
-use Rattle.saved_steps.specs.Held.{seen}
+use Rattle.saved_steps.specs.Effects.{Effect, next_step, own_effect, called, call_effect, effect_of_turn, kids, first_fault, outputs, join_effect, close_effect, effect_in, stands, frame_effect, move_effect, if_numbered, effect_of}
+use Rattle.saved_steps.specs.Held.{world_view}
 use Rattle.saved_steps.specs.Made.{is_open}
-use Rattle.saved_steps.specs.Run.{begun_at, carried_out, take_step}
+use Rattle.saved_steps.specs.Run.{begun_at, after_effect, take_step}
 use Rattle.saved_steps.specs.Steps.{Step, started, moved, start_name, makes, closes}
 use Rattle.saved_steps.specs.World.{Setting, World, is_same_thread}
 use Rattle.saved_steps.specs.declared.fact.Fact.{Fact}
@@ -55,17 +55,17 @@ use Rattle.trace_theory.proofs.Lists.{by_bool}
 use Rattle.trace_theory.proofs.Runs.{and_then_some, map_some, reached_good}
 use Rattle.depends.specs.Instance.{steps}
 use Rattle.depends.proofs.Planned.{numbered}
-use Rattle.depends.proofs.Worlds.{deed_taken}
-use Rattle.step_history.specs.History.{Past, IsHistory}
-use Rattle.step_history.specs.Levels.{HasWholeMachines}
+use Rattle.depends.proofs.Worlds.{effect_taken}
+use Rattle.step_history.specs.History.{TakenStep, IsHistory}
+use Rattle.step_history.specs.Levels.{HasWellFormedMachines}
 use Rattle.step_history.specs.declared.history.History.{History}
 
 -- a frame stands this deep in its setting's machine; where it is parked, its state works, and has branches that stand deeper
 pub record Placed (s : Setting) (depth : ℕ) (f : Frame) : Type 0 where
   pub root : Definition
   pub known : s.machines f.level.machine ≡ Some root
-  pub at : Standing
-  pub there : standing root f ≡ Some at
+  pub at : Location
+  pub there : located root f ≡ Some at
   pub deep : length f.level.path ≡ depth
   pub works : is_parked f.phase ≡ true → is_some (work_of at.1) ≡ true
   pub over : (n bound : ℕ) → f.phase ≡ Parked n bound → 1 ≤ n → depth < 31
@@ -77,19 +77,19 @@ some_there None h = cc
 if_there : {A : Type 0} (P : A → Type 0) (o : Option A) (a : A) → IfSome o P → o ≡ Some a → P a
 if_there {A} P o a h e = subst (λ (x : Option A). IfSome x P) e h
 
-module _ (s : Setting) (whole : HasWholeMachines s) where
-  root_whole : (name : List ℕ) (root : Definition) → s.machines name ≡ Some root → IsWhole root
-  root_whole name root e = if_there IsWhole (s.machines name) root (whole name) e
+module _ (s : Setting) (whole : HasWellFormedMachines s) where
+  root_whole : (name : List ℕ) (root : Definition) → s.machines name ≡ Some root → IsWellFormedThroughout root
+  root_whole name root e = if_there IsWellFormedThroughout (s.machines name) root (whole name) e
 
   module _ (depth : ℕ) (f : Frame) (p : Placed s depth f) where
     level_there : machine_at f.level.path p.root ≡ Some p.at.0
-    level_there = (standing_parts (machine_at f.level.path p.root) f.state p.at p.there).0
+    level_there = (located_parts (machine_at f.level.path p.root) f.state p.at p.there).0
 
     state_there : state_of f.state p.at.0.states ≡ Some p.at.1
-    state_there = (standing_parts (machine_at f.level.path p.root) f.state p.at p.there).1
+    state_there = (located_parts (machine_at f.level.path p.root) f.state p.at p.there).1
 
-    level_whole : IsComplete p.at.0 × (length f.level.path ≤ 31)
-    level_whole = if_there (λ (m : Definition). IsComplete m × (length f.level.path ≤ 31)) (machine_at f.level.path p.root) p.at.0 (root_whole f.level.machine p.root p.known f.level.path) level_there
+    level_whole : IsWellFormed p.at.0 × (length f.level.path ≤ 31)
+    level_whole = if_there (λ (m : Definition). IsWellFormed m × (length f.level.path ≤ 31)) (machine_at f.level.path p.root) p.at.0 (root_whole f.level.machine p.root p.known f.level.path) level_there
 
     pub shallow : depth ≤ 31
     shallow = subst (λ (n : ℕ). n ≤ 31) p.deep level_whole.1
@@ -101,14 +101,14 @@ module _ (s : Setting) (whole : HasWholeMachines s) where
     here = subst (λ (o : Option State). IsSome o) (sym state_there) refl
 
     pub stands_at : stands s f ≡ Some p.at
-    stands_at = ap (option_and_then (λ d. standing d f)) p.known ∙ p.there
+    stands_at = ap (option_and_then (λ d. located d f)) p.known ∙ p.there
 
     -- another frame of the level, before a state that is there
     module _ (g : Frame) (level : g.level ≡ f.level) (st : State) (found : state_of g.state p.at.0.states ≡ Some st) where
       known_again : s.machines g.level.machine ≡ Some p.root
       known_again = ap (λ (l : Level). s.machines l.machine) level ∙ p.known
 
-      stands_again : standing p.root g ≡ Some (p.at.0, st)
+      stands_again : located p.root g ≡ Some (p.at.0, st)
       stands_again =
           ap (option_and_then (λ m. option_map (λ x. (m, x)) (state_of g.state m.states))) (ap (λ (l : Level). machine_at l.path p.root) level ∙ level_there)
           ∙ ap (option_map (λ x. (p.at.0, x))) found
@@ -133,7 +133,7 @@ module _ (s : Setting) (whole : HasWholeMachines s) where
     first_placed branch d input is =
         let step : LevelStep = record { state = f.state; branch = branch } in
         let further = one_step_further f.level.path step p.root p.at.0 d p.at.1 level_there state_there is in
-        let complete = if_there (λ (m : Definition). IsComplete m × (length (f.level.path ++ step ∷ []) ≤ 31)) (machine_at (f.level.path ++ step ∷ []) p.root) d
+        let complete = if_there (λ (m : Definition). IsWellFormed m × (length (f.level.path ++ step ∷ []) ≤ 31)) (machine_at (f.level.path ++ step ∷ []) p.root) d
         (root_whole f.level.machine p.root p.known (f.level.path ++ step ∷ [])) further in
         let first = first_of p.root p.at f d branch input p.there is complete.0.starts in
         record {
@@ -179,10 +179,10 @@ turn_so level (state.Wait st) f = tt
 turn_so level (state.Succeed st) f = tt
 turn_so level (state.Fail st) f = tt
 
--- ---- deeds
+-- ---- effects
 
--- a thread's frame after a deed is placed as its thread's was, and its branches one level deeper
-pub record PlacedAt (s : Setting) (t : Thread) (d : Deed) : Type 0 where
+-- a thread's frame after an effect is placed as its thread's was, and its branches one level deeper
+pub record PlacedAt (s : Setting) (t : Thread) (d : Effect) : Type 0 where
   pub own : d.fact.name.thread ≡ t
   pub frame : Placed s (length t.path) d.frame
   pub branches : AllByRecursion (Placed s (length t.path + 1)) d.branches
@@ -190,7 +190,7 @@ pub record PlacedAt (s : Setting) (t : Thread) (d : Deed) : Type 0 where
 abbrev AllPlaced : Setting → World → Type 0
 AllPlaced s w = (t : Thread) (f : Frame) → w.frames t ≡ Some f → Placed s (length t.path) f
 
-module _ (s : Setting) (whole : HasWholeMachines s) (w : World) (t : Thread) (f : Frame) (p : Placed s (length t.path) f) where
+module _ (s : Setting) (whole : HasWellFormedMachines s) (w : World) (t : Thread) (f : Frame) (p : Placed s (length t.path) f) where
   called_placed : (g : Frame) (items : table.Table) (access : Option (Key × AccessMode)) → Placed s (length t.path) g → PlacedAt s t (called (next_step t f) g items access)
   called_placed g items None h = record { own = refl; frame = h; branches = tt }
   called_placed g items (Some (key, mode)) h = record { own = refl; frame = h; branches = tt }
@@ -210,15 +210,15 @@ module _ (s : Setting) (whole : HasWholeMachines s) (w : World) (t : Thread) (f 
     over = λ n m h k. let e : Parked (length fs) bound ≡ Parked n m = h in let same : length fs ≡ n = cc in some_room fs all (omega (arith, k, same));
   }
 
-  turn_placed : (o : Outcome) (d : Deed) → OnFrame (λ g. g.level ≡ f.level) o → OnFrame (λ g. IsState p.at.0.states g.state) o → OnBranches (Placed s (length t.path + 1)) o → Yields f o → IsForked p.at.1 f o
-      → deed_of_turn s w (next_step t f) p.at f o ≡ Some d → PlacedAt s t d
+  turn_placed : (o : Outcome) (d : Effect) → OnFrame (λ g. g.level ≡ f.level) o → OnFrame (λ g. IsState p.at.0.states g.state) o → OnBranches (Placed s (length t.path + 1)) o → Yields f o → IsForked p.at.1 f o
+      → effect_of_turn s w (next_step t f) p.at f o ≡ Some d → PlacedAt s t d
   turn_placed (outcome.Next g) d level found branches free so h =
       subst (PlacedAt s t) (same_Some _ _ h) (record { own = refl; frame = goes_on s whole (length t.path) f p g level found free; branches = tt })
   turn_placed (outcome.Fork g fs) d level found branches free so h =
       subst (PlacedAt s t) (same_Some _ _ h)
       (record { own = refl; frame = subst (Placed s (length t.path)) (sym so.1) (parked_placed fs so.0 branches so.2); branches = branches })
   turn_placed (outcome.Call c) d level found branches free so h =
-      let m = map_some (λ (work : Work). call_deed (next_step t f) p.at.0 work f (table.in_form s.table s.schema w.items c)) (work_of p.at.1) d h in
+      let m = map_some (λ (work : Work). call_effect (next_step t f) p.at.0 work f (table.in_form s.table s.schema w.items c)) (work_of p.at.1) d h in
       let o = table.in_form s.table s.schema w.items c in
       let stays : WorkStays p.at.0.states m.0 = work_stays p.at.0.states p.at.1 m.0 (inside s whole (length t.path) f p) m.1 in
       subst (PlacedAt s t) m.2
@@ -226,7 +226,7 @@ module _ (s : Setting) (whole : HasWholeMachines s) (w : World) (t : Thread) (f 
       (goes_on s whole (length t.path) f p (after_answer p.at.0 m.0 f o.answer) (after_answer-level p.at.0 m.0 f o.answer)
       (after_answer-state p.at.0 m.0 f o.answer stays (here s whole (length t.path) f p)) (answer_open p.at.0 m.0 f o.answer)))
 
-  close_placed : (fault : Option Fault) (all : Option (List Data)) (d : Deed) → close_deed (next_step t f) p.at f fault all ≡ Some d → PlacedAt s t d
+  close_placed : (fault : Option Fault) (all : Option (List Data)) (d : Effect) → close_effect (next_step t f) p.at f fault all ≡ Some d → PlacedAt s t d
   close_placed (Some fault) all d h =
       subst (PlacedAt s t) (same_Some _ _ h)
       (record {
@@ -236,8 +236,8 @@ module _ (s : Setting) (whole : HasWholeMachines s) (w : World) (t : Thread) (f 
         branches = tt;
       })
   close_placed None all d h =
-      let j = and_then_some (join_deed (next_step t f) p.at f) all d h in
-      let m = map_some (λ (work : Work). deed_of Join (next_step t f) (after_join p.at.0 work f j.0)) (work_of p.at.1) d j.2 in
+      let j = and_then_some (join_effect (next_step t f) p.at f) all d h in
+      let m = map_some (λ (work : Work). own_effect Join (next_step t f) (after_join p.at.0 work f j.0)) (work_of p.at.1) d j.2 in
       let stays : WorkStays p.at.0.states m.0 = work_stays p.at.0.states p.at.1 m.0 (inside s whole (length t.path) f p) m.1 in
       subst (PlacedAt s t) m.2
       (record {
@@ -247,23 +247,23 @@ module _ (s : Setting) (whole : HasWholeMachines s) (w : World) (t : Thread) (f 
         branches = tt;
       })
 
-  phase_placed : (phase : Phase) (d : Deed) → deed_in s w t p.at f phase ≡ Some d → PlacedAt s t d
+  phase_placed : (phase : Phase) (d : Effect) → effect_in s w t p.at f phase ≡ Some d → PlacedAt s t d
   phase_placed Ready d h =
-      let k = turn_told w.frames t f (deed_of_turn s w (next_step t f) p.at f (turn p.at f)) d h in
-      let it = turn_placed (turn p.at f) k.deed (turn-level p.at f) (turn-state p.at f (inside s whole (length t.path) f p) (here s whole (length t.path) f p)) (branches_placed s whole (length t.path) f p)
+      let k = turn_told w.frames t f (effect_of_turn s w (next_step t f) p.at f (turn p.at f)) d h in
+      let it = turn_placed (turn p.at f) k.effect_of (turn-level p.at f) (turn-state p.at f (inside s whole (length t.path) f p) (here s whole (length t.path) f p)) (branches_placed s whole (length t.path) f p)
       (turn_yields p.at.0 p.at.1 f) (turn_so p.at.0 p.at.1 f) k.is in
       subst (PlacedAt s t) k.told (record { own = it.own; frame = it.frame; branches = it.branches })
   phase_placed (Parked n bound) d h = close_placed (first_fault (kids w t f n)) (outputs (kids w t f n)) d h
   phase_placed (Done output) d h = cc
   phase_placed (Failed fault) d h = cc
 
-  pub frame_placed : (d : Deed) → frame_deed s w t f ≡ Some d → PlacedAt s t d
-  frame_placed d h = phase_placed f.phase d (ap (option_and_then (λ (at : Standing). deed_in s w t at f f.phase)) (sym (stands_at s whole (length t.path) f p)) ∙ h)
+  pub frame_placed : (d : Effect) → frame_effect s w t f ≡ Some d → PlacedAt s t d
+  frame_placed d h = phase_placed f.phase d (ap (option_and_then (λ (at : Location). effect_in s w t at f f.phase)) (sym (stands_at s whole (length t.path) f p)) ∙ h)
 
 -- ---- steps and runs
 
-module _ (s : Setting) (whole : HasWholeMachines s) where
-  unless_there : {A : Type 0} (b : Option A) (o : Option Deed) (d : Deed) → cond (is_some b) None o ≡ Some d → o ≡ Some d
+module _ (s : Setting) (whole : HasWellFormedMachines s) where
+  unless_there : {A : Type 0} (b : Option A) (o : Option Effect) (d : Effect) → cond (is_some b) None o ≡ Some d → o ≡ Some d
   unless_there None o d h = h
   unless_there (Some x) o d h = cc
 
@@ -280,17 +280,17 @@ module _ (s : Setting) (whole : HasWholeMachines s) where
         over = λ n bound h k. cc;
       }
 
-  step_placed : (w : World) (step : Step) (d : Deed) → AllPlaced s w → deed s w step ≡ Some d → PlacedAt s d.fact.name.thread d
+  step_placed : (w : World) (step : Step) (d : Effect) → AllPlaced s w → effect_of s w step ≡ Some d → PlacedAt s d.fact.name.thread d
   step_placed w (started exec machine input) d all h =
-      let k = unless_there (w.frames (execution exec)) (option_map (λ (m : Definition). deed_of Start (start_name exec) (first_frame machine m input)) (s.machines machine)) d h in
-      let m = map_some (λ (m : Definition). deed_of Start (start_name exec) (first_frame machine m input)) (s.machines machine) d k in
-      subst (λ (e : Deed). PlacedAt s e.fact.name.thread e) m.2 (record { own = refl; frame = start_placed machine m.0 input m.1; branches = tt })
+      let k = unless_there (w.frames (execution exec)) (option_map (λ (m : Definition). own_effect Start (start_name exec) (first_frame machine m input)) (s.machines machine)) d h in
+      let m = map_some (λ (m : Definition). own_effect Start (start_name exec) (first_frame machine m input)) (s.machines machine) d k in
+      subst (λ (e : Effect). PlacedAt s e.fact.name.thread e) m.2 (record { own = refl; frame = start_placed machine m.0 input m.1; branches = tt })
   step_placed w (moved name) d all h =
-      let k = and_then_some (if_numbered name.no) (move_deed s w name.thread) d h in
+      let k = and_then_some (if_numbered name.no) (move_effect s w name.thread) d h in
       let n = numbered k.0 d name.no k.2 in
-      let f = and_then_some (frame_deed s w name.thread) (w.frames name.thread) k.0 k.1 in
+      let f = and_then_some (frame_effect s w name.thread) (w.frames name.thread) k.0 k.1 in
       let it = frame_placed s whole w name.thread f.0 (all name.thread f.0 f.1) k.0 f.2 in
-      subst (λ (e : Deed). PlacedAt s e.fact.name.thread e) n.1 (subst (λ (t : Thread). PlacedAt s t k.0) (sym it.own) it)
+      subst (λ (e : Effect). PlacedAt s e.fact.name.thread e) n.1 (subst (λ (t : Thread). PlacedAt s t k.0) (sym it.own) it)
 
   one_deeper : (p q : Path) (b : ℕ × ℕ) → rest_after p q ≡ Some (b ∷ []) → length p + 1 ≡ length q
   one_deeper p q b h = sym (length-append p (b ∷ [])) ∙ ap (λ (x : Path). length x) (sym (whole_is p q (b ∷ []) h))
@@ -307,7 +307,7 @@ module _ (s : Setting) (whole : HasWholeMachines s) where
   begun_placed p q branches (Some []) f all e h = cc
   begun_placed p q branches None f all e h = cc
 
-  after_placed : (w : World) (d : Deed) → AllPlaced s w → PlacedAt s d.fact.name.thread d → AllPlaced s (carried_out w d)
+  after_placed : (w : World) (d : Effect) → AllPlaced s w → PlacedAt s d.fact.name.thread d → AllPlaced s (after_effect w d)
   after_placed w d all it t f there =
       by_bool (is_same_thread d.fact.name.thread t) (Placed s (length t.path) f)
       (λ j. subst (Placed s (length t.path)) (same_Some d.frame f (rw j at there)) (subst (λ (u : Thread). Placed s (length u.path) d.frame) (thread_same d.fact.name.thread t j) it.frame))
@@ -319,9 +319,9 @@ module _ (s : Setting) (whole : HasWholeMachines s) where
 
   kept_placed : (w v : World) (step : Step) (fact : Fact) → AllPlaced s w → take_step s w step ≡ Some (v, fact) → AllPlaced s v
   kept_placed w v step fact all h =
-      let k = deed_taken s w v step fact h in
+      let k = effect_taken s w v step fact h in
       subst (AllPlaced s) k.2 (after_placed w k.0 all (step_placed w step k.0 all k.1))
 
-  pub placed : (base : World) (ts : List Past) (h : History) → IsHistory s base ts h → AllPlaced s (seen h.world)
+  pub placed : (base : World) (ts : List TakenStep) (h : History) → IsHistory s base ts h → AllPlaced s (world_view h.world)
   placed base ts h is =
-      reached_good (steps s) (AllPlaced s) is.from.0 (λ t f k. let n = sym (is.from.1 t) ∙ k in cc) kept_placed (seen h.world) (reached_from (steps s) is.from.0 base is.from.2 (seen h.world) (ts, is.runs))
+      reached_good (steps s) (AllPlaced s) is.from.0 (λ t f k. let n = sym (is.from.1 t) ∙ k in cc) kept_placed (world_view h.world) (reached_from (steps s) is.from.0 base is.from.2 (world_view h.world) (ts, is.runs))

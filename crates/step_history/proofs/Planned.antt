@@ -6,7 +6,7 @@ use Rattle.std.proofs.lemmas.Option.{same_Some}
 use Rattle.saved_steps.specs.World as model
 use Rattle.saved_steps.specs.World.{Setting}
 use Rattle.saved_steps.specs.declared.fact.Fact.{Fact}
-use Rattle.trace_theory.specs.Traces.{In, IsRun, IsFree, IsAllowed, without, after, HasNames}
+use Rattle.trace_theory.specs.Traces.{In, IsRun, IsMaximal, IsBackwardOrder, without, consequences, HasNames}
 use Rattle.trace_theory.proofs.Lists.{by_bool, In-split, In-back, reverse-In}
 use Rattle.trace_theory.proofs.Least.{Once, without_one, Once-filter}
 use Rattle.trace_theory.proofs.Orders.{without_none, without_more, without_alike, after_allowed}
@@ -17,7 +17,7 @@ use Rattle.depends.specs.Plans as plans
 use Rattle.depends.specs.Plans.{depends_on_some, plan}
 use Rattle.depends.proofs.Consequences.{plans_are_consequences}
 use Rattle.depends.proofs.Named.{steps_have_names}
-use Rattle.step_history.specs.History.{Past}
+use Rattle.step_history.specs.History.{TakenStep}
 
 -- ---- places from the latest to the earliest
 
@@ -43,11 +43,11 @@ descending_reverse : (ps : List ℕ) → Ascending ps → Descending (reverse ps
 descending_reverse [] a = tt
 descending_reverse (p ∷ ps) a = subst Descending (sym (reverse-append (p ∷ []) ps)) (descending_end (reverse ps) p (descending_reverse ps a.1) (λ q i. a.0 q (reverse-In q ps i)))
 
-following_ascends : (fs : List Fact) (marked : List ℕ) (place : ℕ) (rest : List Fact) → ((q : ℕ) → In q (plans.following fs marked place rest) → place ≤ q) × Ascending (plans.following fs marked place rest)
+following_ascends : (fs : List Fact) (marked : List ℕ) (place : ℕ) (rest : List Fact) → ((q : ℕ) → In q (plans.consequences_from fs marked place rest) → place ≤ q) × Ascending (plans.consequences_from fs marked place rest)
 following_ascends fs marked place [] = (λ q i. absurd i, tt)
 following_ascends fs marked place (f ∷ rest) =
     by_bool (depends_on_some fs marked f) _
-    (λ k. let r = following_ascends fs (marked ++ place ∷ []) (place + 1) rest in rw k (first (plans.following fs (marked ++ place ∷ []) (place + 1) rest) r.0, (λ q i. let j = r.0 q i in omega (arith, j), r.1)))
+    (λ k. let r = following_ascends fs (marked ++ place ∷ []) (place + 1) rest in rw k (first (plans.consequences_from fs (marked ++ place ∷ []) (place + 1) rest) r.0, (λ q i. let j = r.0 q i in omega (arith, j), r.1)))
     (λ k. let r = following_ascends fs marked (place + 1) rest in rw k (λ q i. let j = r.0 q i in omega (arith, j), r.1))
   where
     first : (qs : List ℕ) → ((q : ℕ) → In q qs → place + 1 ≤ q) → (q : ℕ) → In q (place ∷ qs) → place ≤ q
@@ -57,7 +57,7 @@ following_ascends fs marked place (f ∷ rest) =
 plan_descends : (fs : List Fact) (at : ℕ) → Descending (plan fs at)
 plan_descends fs at =
     let r = following_ascends fs (at ∷ []) (at + 1) (drop (at + 1) fs) in
-    descending_reverse (plans.after fs at) (λ q i. let j = r.0 q i in omega (arith, j), r.1)
+    descending_reverse (plans.consequences_at fs at) (λ q i. let j = r.0 q i in omega (arith, j), r.1)
 
 -- ---- steps at places
 
@@ -86,26 +86,26 @@ module _ {A : Type 0} where
   in_list xs i x h = let a = cut xs i x h in subst (In x) a.whole (In-back x a.front (x ∷ a.back) (inl refl))
 
 -- each place is that of a free step among those that are left, and at the end these are left
-abbrev pub Undoes : Setting → List Past → List ℕ → List Past → Type 0
+abbrev pub Undoes : Setting → List TakenStep → List ℕ → List TakenStep → Type 0
 Undoes s us [] rest = us ≡ rest
-Undoes s us (p ∷ ps) rest = (x : Past) × (slice_get us p ≡ Some x) × IsFree (steps s) us x × Undoes s (without (steps s) (x ∷ []) us) ps rest
+Undoes s us (p ∷ ps) rest = (x : TakenStep) × (slice_get us p ≡ Some x) × IsMaximal (steps s) us x × Undoes s (without (steps s) (x ∷ []) us) ps rest
 
 module _ (s : Setting) (base : model.World) (names : HasNames (steps s) base) where
-  still_there : (us : List Past) (p : ℕ) (x : Past) (ps : List ℕ) → Once (steps s) base names us → slice_get us p ≡ Some x → ((q : ℕ) → In q ps → q < p)
+  still_there : (us : List TakenStep) (p : ℕ) (x : TakenStep) (ps : List ℕ) → Once (steps s) base names us → slice_get us p ≡ Some x → ((q : ℕ) → In q ps → q < p)
       → map (slice_get (without (steps s) (x ∷ []) us)) ps ≡ map (slice_get us) ps
   still_there us p x ps once here below =
       let a = cut us p x here in
       let gone : without (steps s) (x ∷ []) us ≡ a.front ++ a.back =
       ap (without (steps s) (x ∷ [])) (sym a.whole) ∙ without_one (steps s) base names a.front a.back x (subst (Once (steps s) base names) (sym a.whole) once) in
-      ap (λ (l : List Past). map (slice_get l) ps) gone
+      ap (λ (l : List TakenStep). map (slice_get l) ps) gone
       ∙ all_before (slice_get (a.front ++ a.back)) (slice_get (a.front ++ x ∷ a.back)) ps (λ q i. let j = below q i in let k = a.place in before_place a.front a.back x q (omega (arith, j, k)))
-      ∙ ap (λ (l : List Past). map (slice_get l) ps) a.whole
+      ∙ ap (λ (l : List TakenStep). map (slice_get l) ps) a.whole
 
-  undoes_allowed : (ps : List ℕ) (us xs : List Past) → Once (steps s) base names us → map (slice_get us) ps ≡ map Some xs → IsAllowed (steps s) us xs → Descending ps → Undoes s us ps (without (steps s) xs us)
-  undoes_allowed [] us [] once h a d = sym (without_none (steps s) base names us)
-  undoes_allowed [] us (x ∷ xs) once h a d = cc
-  undoes_allowed (p ∷ ps) us [] once h a d = cc
-  undoes_allowed (p ∷ ps) us (x ∷ xs) once h a d =
+  undoes_backward : (ps : List ℕ) (us xs : List TakenStep) → Once (steps s) base names us → map (slice_get us) ps ≡ map Some xs → IsBackwardOrder (steps s) us xs → Descending ps → Undoes s us ps (without (steps s) xs us)
+  undoes_backward [] us [] once h a d = sym (without_none (steps s) base names us)
+  undoes_backward [] us (x ∷ xs) once h a d = cc
+  undoes_backward (p ∷ ps) us [] once h a d = cc
+  undoes_backward (p ∷ ps) us (x ∷ xs) once h a d =
       let here : slice_get us p ≡ Some x = cc in
       let rest : map (slice_get us) ps ≡ map Some xs = cc in
       let us' = without (steps s) (x ∷ []) us in (
@@ -113,15 +113,15 @@ module _ (s : Setting) (base : model.World) (names : HasNames (steps s) base) wh
         here,
         a.0,
         subst (Undoes s us' ps) (without_more (steps s) base names x xs us)
-            (undoes_allowed ps us' xs (Once-filter (steps s) base names _ us once) (still_there us p x ps once here d.0 ∙ rest) a.1 d.1),
+            (undoes_backward ps us' xs (Once-filter (steps s) base names _ us once) (still_there us p x ps once here d.0 ∙ rest) a.1 d.1),
       )
 
-pub plan_undoes : (s : Setting) (base v : model.World) (ts : List Past) (at : ℕ) (t : Past) → IsFrom s base → IsRun (steps s) base ts v → slice_get ts at ≡ Some t
-    → Undoes s ts (plan (facts_of ts) at) (without (steps s) (after (steps s) ts t.step) ts)
+pub plan_undoes : (s : Setting) (base v : model.World) (ts : List TakenStep) (at : ℕ) (t : TakenStep) → IsFrom s base → IsRun (steps s) base ts v → slice_get ts at ≡ Some t
+    → Undoes s ts (plan (facts_of ts) at) (without (steps s) (consequences (steps s) ts t.step) ts)
 plan_undoes s base v ts at t from runs here =
     let names = steps_have_names s base from in
     let once : Once (steps s) base names ts = λ x y b. names.once ts v x y runs b in
-    let xs = after (steps s) ts t.step in
+    let xs = consequences (steps s) ts t.step in
     subst (Undoes s ts (plan (facts_of ts) at)) (without_alike (steps s) base names (reverse xs) xs ts (λ x i. reverse-In x xs i) (λ x i. In-reverse x xs i))
-    (undoes_allowed s base names (plan (facts_of ts) at) ts (reverse xs) once (plans_are_consequences s base v ts at t from runs here)
+    (undoes_backward s base names (plan (facts_of ts) at) ts (reverse xs) once (plans_are_consequences s base v ts at t from runs here)
     (after_allowed (steps s) base names ts t once (in_list ts at t here)) (plan_descends (facts_of ts) at))

@@ -1,20 +1,20 @@
 -- Where the frames of histories stand, and which threads can move, in settings whose machines are whole.
 use Rattle.std.specs.Prelude.{◌≡◌, ◌≤◌, ◌<◌, ℕ, List, length, Some, IsSome, IfSome, is_some}
-use Rattle.asl_tree.specs.Levels.{IsWhole}
+use Rattle.asl_tree.specs.Levels.{IsWellFormedThroughout}
 use Rattle.asl_frames.specs.declared.frame.Frame.{Frame}
 use Rattle.asl_frames.specs.declared.frame.Phase.TheVariants.{Parked}
-use Rattle.saved_steps.specs.BranchFirst.{has_move}
+use Rattle.saved_steps.specs.BranchFirst.{is_enabled}
 use Rattle.saved_steps.specs.Ready.{readiness_at}
 use Rattle.step_names.specs.Thread.{Thread}
-use Rattle.saved_steps.specs.Deeds.{stands, move_deed}
-use Rattle.saved_steps.specs.Held.{frames_of, paths_of, seen}
+use Rattle.saved_steps.specs.Effects.{stands, move_effect}
+use Rattle.saved_steps.specs.Held.{frames_of, paths_of, world_view}
 use Rattle.saved_steps.specs.World.{Setting, World}
-use Rattle.step_history.specs.History.{Past, IsHistory}
+use Rattle.step_history.specs.History.{TakenStep, IsHistory}
 use Rattle.step_history.specs.declared.history.History.{History}
 
 -- as machines are that a definition defines
-abbrev pub HasWholeMachines : Setting → Type 0
-HasWholeMachines s = (name : List ℕ) → IfSome (s.machines name) IsWhole
+abbrev pub HasWellFormedMachines : Setting → Type 0
+HasWellFormedMachines s = (name : List ℕ) → IfSome (s.machines name) IsWellFormedThroughout
 
 -- there is a name for each branch of a thread that is parked over one or more
 abbrev pub HasNamesBelow : Thread → Frame → Type 0
@@ -30,11 +30,11 @@ pub record IsPlaced (s : Setting) (t : Thread) (f : Frame) : Type 0 where
 -- every frame of a history is placed
 abbrev pub FramesStand : Type 0
 FramesStand =
-    (s : Setting) (base : World) (ts : List Past) (h : History) (t : Thread) (f : Frame)
-    → HasWholeMachines s → IsHistory s base ts h → frames_of h.world t ≡ Some f → IsPlaced s t f
+    (s : Setting) (base : World) (ts : List TakenStep) (h : History) (t : Thread) (f : Frame)
+    → HasWellFormedMachines s → IsHistory s base ts h → frames_of h.world t ≡ Some f → IsPlaced s t f
 
 -- a thread has a move just where its frame and its branches say so
 abbrev pub ThreadsMoveWhereReady : Type 0
 ThreadsMoveWhereReady =
-    (s : Setting) (base : World) (ts : List Past) (h : History) (t : Thread)
-    → HasWholeMachines s → IsHistory s base ts h → is_some (move_deed s (seen h.world) t) ≡ has_move (readiness_at (paths_of (frames_of h.world) t.exec) t.path)
+    (s : Setting) (base : World) (ts : List TakenStep) (h : History) (t : Thread)
+    → HasWellFormedMachines s → IsHistory s base ts h → is_some (move_effect s (world_view h.world) t) ≡ is_enabled (readiness_at (paths_of (frames_of h.world) t.exec) t.path)

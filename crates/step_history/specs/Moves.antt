@@ -6,15 +6,15 @@ use Rattle.asl_tree.specs.Definition.{Definition}
 use Rattle.asl_frames.specs.declared.frame.Fault.{Fault}
 use Rattle.asl_frames.specs.declared.frame.Frame.{Frame}
 use Rattle.step_names.specs.Thread.{Thread, child_of}
-use Rattle.saved_steps.specs.Deeds.{deed, next_step, move_deed, fault_of, output_of, first_fault, outputs}
-use Rattle.saved_steps.specs.Held.{frames_of, seen}
-use Rattle.saved_steps.specs.Made.{Suits, deed_of_next}
+use Rattle.saved_steps.specs.Effects.{effect_of, next_step, move_effect, fault_of, output_of, first_fault, outputs}
+use Rattle.saved_steps.specs.Held.{frames_of, world_view}
+use Rattle.saved_steps.specs.Made.{CanMake, effect_of_next}
 use Rattle.saved_steps.specs.Steps.{moved}
 use Rattle.saved_steps.specs.World.{Setting}
 use Rattle.saved_steps.specs.declared.next.Next.{Next}
 use Rattle.saved_steps.specs.declared.next.Next.TheVariants.{Begin, Work as WorkOn, Join, Terminate}
 use Rattle.asl_forward.specs.Results.{Work, work_of, work_at, after_join, after_branch}
-use Rattle.asl_frames.specs.Turn.{Standing, standing}
+use Rattle.asl_frames.specs.Turn.{Location, located}
 use Rattle.saved_steps.specs.declared.world.World.{World}
 
 -- the machine is the setting's of a frame's level
@@ -23,9 +23,9 @@ IsMachineOf s frame machine = IfSome frame (λ f. s.machines f.level.machine ≡
 
 -- The thread's next step does what this next says, and can be made; or it has no move.
 abbrev pub IsMoveOf : Setting → World → Thread → Option Next → Type 0
-IsMoveOf s w t None = move_deed s (seen w) t ≡ None
+IsMoveOf s w t None = move_effect s (world_view w) t ≡ None
 IsMoveOf s w t (Some next) =
-    (f : Frame) × (frames_of w t ≡ Some f) × Suits w (next_step t f) next × (deed s (seen w) (moved (next_step t f)) ≡ deed_of_next w (next_step t f) next)
+    (f : Frame) × (frames_of w t ≡ Some f) × CanMake w (next_step t f) next × (effect_of s (world_view w) (moved (next_step t f)) ≡ effect_of_next w (next_step t f) next)
 
 -- ---- branches
 
@@ -45,5 +45,5 @@ IsCloseOf d f branches None = (first_fault branches ≡ None) × (option_and_the
 IsCloseOf d f branches (Some (Begin g)) = ⊥
 IsCloseOf d f branches (Some (WorkOn p)) = ⊥
 IsCloseOf d f branches (Some (Join g)) =
-    (at : Standing) × (w : Work) × (ds : List Data) × (standing d f ≡ Some at) × (work_of at.1 ≡ Some w) × (first_fault branches ≡ None) × (outputs branches ≡ Some ds) × (g ≡ after_join at.0 w f ds)
-IsCloseOf d f branches (Some (Terminate g)) = (at : Standing) × (fault : Fault) × (standing d f ≡ Some at) × (first_fault branches ≡ Some fault) × (g ≡ after_branch at f fault)
+    (at : Location) × (w : Work) × (ds : List Data) × (located d f ≡ Some at) × (work_of at.1 ≡ Some w) × (first_fault branches ≡ None) × (outputs branches ≡ Some ds) × (g ≡ after_join at.0 w f ds)
+IsCloseOf d f branches (Some (Terminate g)) = (at : Location) × (fault : Fault) × (located d f ≡ Some at) × (first_fault branches ≡ Some fault) × (g ≡ after_branch at f fault)

@@ -6,7 +6,7 @@ ghost use Rattle.saved_steps.specs.Ready.{readiness_at};
 ghost use Rattle.depends.specs.Plans as plans;
 ghost use Rattle.item_store.specs.Store.{items_of};
 ghost use Rattle.saved_steps.specs.First.{IsFirstReady, NoneFreeBefore};
-ghost use Rattle.saved_steps.specs.Held.{frames_of, paths_of};
+ghost use Rattle.saved_steps.specs.Held.{frames_of, paths_of, store_of};
 ghost use Rattle.saved_steps.specs.World.{Setting, is_same_step};
 ghost use Rattle.step_names.specs.Order.{thread_cmp};
 ghost use Rattle.step_history.specs.History.{IsHistory, IsSomeHistory, nothing_over};
@@ -69,7 +69,7 @@ impl History {
 
     /// The items of the table.
     pub fn items(&self) -> &ItemStore
-        ensures { result.now ≡ self.now.world.items }
+        ensures { result.now ≡ (store_of self.now.world) }
     {
         self.world.items()
     }

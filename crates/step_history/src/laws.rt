@@ -1,7 +1,7 @@
 //! Laws of histories: each function's contract is the law, and it does nothing.
 
 ghost use Rattle.step_history.specs.Levels.{FramesStand, ThreadsMoveWhereReady};
-ghost use Rattle.step_history.specs.Laws.{FramesAreCounted, MoreMachinesKeepHistories, AllowedOrdersUndo, FreeStepsReturn};
+ghost use Rattle.step_history.specs.Laws.{FramesAreCounted, MoreMachinesKeepHistories, BackwardOrdersUndo, FreeStepsReturn};
 
 /// A frame counts no further than the frames of the base and so many steps more, and a parked one has made one.
 pub fn frames_are_counted()
@@ -15,8 +15,8 @@ pub fn more_machines_keep_histories()
 
 /// Every order in which each step is free at its turn leaves the run of the rest, and takes with each step all its
 /// consequences.
-pub fn allowed_orders_undo()
-    ensures { AllowedOrdersUndo }
+pub fn backward_orders_undo()
+    ensures { BackwardOrdersUndo }
 {}
 
 /// A free step that is undone can be taken again, and then stands last, with all as before.

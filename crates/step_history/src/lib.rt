@@ -11,7 +11,7 @@ mod undoing;
 pub use asl_forward as turns;
 pub use history::History;
 pub use laws::{
-    allowed_orders_undo, frames_are_counted, frames_stand, free_steps_return,
+    backward_orders_undo, frames_are_counted, frames_stand, free_steps_return,
     more_machines_keep_histories, threads_move_where_ready,
 };
 pub use step_index::StepRecords;

@@ -2,17 +2,17 @@
 ghost use Rattle.std.specs.Prelude.{◌≡◌, ◌<◌, ◌≤◌, ◌+◌, ◌^◌, List, length, IfOk, IfSome, IsSome, Some, None, is_some, option_copied, option_map, false};
 ghost use Rattle.json_tree.specs.View.{data_of};
 ghost use Rattle.asl_forward.specs.Results.{work_of, work_at};
-ghost use Rattle.asl_frames.specs.Turn.{standing};
+ghost use Rattle.asl_frames.specs.Turn.{located};
 ghost use Rattle.step_names.specs.Thread.{child_of};
-ghost use Rattle.saved_steps.specs.Deeds.{first_fault, outputs, waits};
+ghost use Rattle.saved_steps.specs.Effects.{first_fault, outputs, waits};
 ghost use Rattle.saved_steps.specs.Held.{frames_of};
 ghost use Rattle.saved_steps.specs.World.{Setting, World};
-ghost use Rattle.step_history.specs.History.{Past, IsHistory, IsSomeHistory};
+ghost use Rattle.step_history.specs.History.{TakenStep, IsHistory, IsSomeHistory};
 ghost use Rattle.step_history.specs.Levels.{HasNamesBelow};
 ghost use Rattle.step_history.specs.Moves.{IsMachineOf, IsMoveOf, IsCloseOf, branches_of, fault_in, output_in};
 
 use crate::history::History;
-use asl_forward::{Fault, Frame, Phase, after_branch, joined, prepare, standing};
+use asl_forward::{Fault, Frame, Phase, after_branch, joined, located, prepare};
 use asl_tree::{Machine, SharedMachine, State};
 use json_tree::{Json, JsonList};
 use saved_steps::{Next, nexts_are_moves};
@@ -42,10 +42,11 @@ impl History {
         requires count { frame.now.count + 1 < 2 ^ 32 }
         requires depth { IfSome (frames_of self.now.world thread.now) (HasNamesBelow thread.now) }
         requires begins { frame.now.phase ≡ Phase.Ready → waits (frames_of self.now.world) thread.now frame.now ≡ false }
-        ensures { IfOk result (λ next. (s : Setting) (base : World) (ts : List Past) → IsHistory s base ts self.now → IsMachineOf s (frames_of self.now.world thread.now) machine.now → IsMoveOf s self.now.world thread.now next) }
+        ensures { IfOk result (λ next. (s : Setting) (base : World) (ts : List TakenStep) → IsHistory s base ts self.now
+            → IsMachineOf s (frames_of self.now.world thread.now) machine.now → IsMoveOf s self.now.world thread.now next) }
     {
         nexts_are_moves();
-        let Some((_, state)) = standing(machine.machine(), frame) else {
+        let Some((_, state)) = located(machine.machine(), frame) else {
             return Ok(None);
         };
         match &frame.phase {
@@ -74,7 +75,7 @@ impl History {
         requires fork { 1 ≤ frame.now.count }
         requires depth { 1 ≤ branches → length thread.now.path < 31 }
         requires count { frame.now.count + 1 < 2 ^ 32 }
-        requires stands { IsSome (standing machine.now frame.now) }
+        requires stands { IsSome (located machine.now frame.now) }
         requires works { works ≡ is_some (work_at machine.now frame.now) }
         ensures { IfOk result (λ next. IsCloseOf machine.now frame.now (branches_of self.now.world thread.now frame.now.count 0 branches) next) }
     {

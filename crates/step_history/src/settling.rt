@@ -1,9 +1,9 @@
 // Steps that can't be taken back any more.
 ghost use Rattle.std.specs.Prelude.{◌≡◌, [], ◌++◌, List, length, map};
-ghost use Rattle.saved_steps.specs.Held.{seen};
+ghost use Rattle.saved_steps.specs.Held.{world_view};
 ghost use Rattle.saved_steps.specs.World.{Setting, World};
 ghost use Rattle.settled_names.specs.Names.{HasRoomFor};
-ghost use Rattle.step_history.specs.History.{Past, IsHistory};
+ghost use Rattle.step_history.specs.History.{TakenStep, IsHistory};
 
 use crate::history::History;
 use saved_steps::{Fact, StepRecord};
@@ -19,7 +19,7 @@ impl History {
         ensures names { names.new.items ≡ names.old.items ++ map (λ r. r.fact.name) self.old.records.items }
         ensures records { self.new.records.items ≡ [] }
         ensures world { self.new.world ≡ self.old.world }
-        ensures history { (s : Setting) (base : World) (ts : List Past) → IsHistory s base ts self.old → IsHistory s (seen self.old.world) [] self.new }
+        ensures history { (s : Setting) (base : World) (ts : List TakenStep) → IsHistory s base ts self.old → IsHistory s (world_view self.old.world) [] self.new }
     {
         let taken = self.records.take_all();
         push_names(names, taken);

@@ -4,8 +4,8 @@ ghost use Rattle.depends.specs.Instance.{steps};
 ghost use Rattle.depends.specs.Laws.{facts_of};
 ghost use Rattle.depends.specs.Plans as plans;
 ghost use Rattle.saved_steps.specs.World.{Setting, World};
-ghost use Rattle.step_history.specs.History.{Past, IsHistory, IsSomeHistory, IsPlanOf};
-ghost use Rattle.trace_theory.specs.Traces.{without, after};
+ghost use Rattle.step_history.specs.History.{TakenStep, IsHistory, IsSomeHistory, IsPlanOf};
+ghost use Rattle.trace_theory.specs.Traces.{without, consequences};
 
 use crate::history::History;
 use depends::Plan;
@@ -27,7 +27,8 @@ impl History {
         requires there { at < length self.old.records.items }
         requires history { IsSomeHistory self.old }
         requires free { plans.first_dependent (map (λ r. r.fact) self.old.records.items) at ≡ None }
-        ensures { (s : Setting) (base : World) (ts : List Past) (t : Past) → IsHistory s base ts self.old → slice_get ts at ≡ Some t → IsHistory s base (without (steps s) (t ∷ []) ts) self.new }
+        ensures { (s : Setting) (base : World) (ts : List TakenStep) (t : TakenStep) → IsHistory s base ts self.old
+            → slice_get ts at ≡ Some t → IsHistory s base (without (steps s) (t ∷ []) ts) self.new }
     {
         let record = self.records.remove(at);
         self.world.undo(record);
@@ -46,7 +47,9 @@ impl History {
     pub fn rollback(&mut self, plan: &Plan)
         requires history { IsSomeHistory self.old }
         requires plan { IsPlanOf self.old plan.now }
-        ensures { (s : Setting) (base : World) (ts : List Past) (at : ℕ) (t : Past) → IsHistory s base ts self.old → slice_get ts at ≡ Some t → plan.now ≡ plans.plan (facts_of ts) at → IsHistory s base (without (steps s) (after (steps s) ts t.step) ts) self.new }
+        ensures { (s : Setting) (base : World) (ts : List TakenStep) (at : ℕ) (t : TakenStep)
+            → IsHistory s base ts self.old → slice_get ts at ≡ Some t → plan.now ≡ plans.plan (facts_of ts) at
+            → IsHistory s base (without (steps s) (consequences (steps s) ts t.step) ts) self.new }
     {
         for place in plan.places() {
             self.undo(*place);

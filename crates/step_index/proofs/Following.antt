@@ -6,7 +6,7 @@ use Rattle.std.proofs.lemmas.List.Elements.{All-push}
 use Rattle.std.proofs.lemmas.Option.{get_or_from_slice_get}
 use Rattle.saved_steps.specs.declared.fact.Fact.{Fact}
 use Rattle.saved_steps.specs.declared.record.StepRecord.{StepRecord}
-use Rattle.depends.specs.Plans.{depends_on_some, following, after}
+use Rattle.depends.specs.Plans.{depends_on_some, consequences_from, consequences_at}
 use Rattle.depends.proofs.Searching.{is_marked_in, is_passed_in}
 
 abbrev pub facts : List StepRecord → List Fact
@@ -19,11 +19,11 @@ any_none p (x ∷ xs) h = ap₂ (λ (a b : Bool). a || b) (h zero x refl) (any_n
 -- ---- the pass forward
 
 pub record IsPassedOn (rs : List StepRecord) (at i : ℕ) (places : List ℕ) : Type 0 where
-  pub all : places ++ following (facts rs) places (i + 1) (drop (i + 1) (facts rs)) ≡ after (facts rs) at
+  pub all : places ++ consequences_from (facts rs) places (i + 1) (drop (i + 1) (facts rs)) ≡ consequences_at (facts rs) at
   pub within : All (λ p. p < length rs) places
 
 pub passed_on : (rs : List StepRecord) (at i : ℕ) (g : StepRecord) (places next : List ℕ) → i < length rs → slice_get rs i ≡ Some g → All (λ p. p < length rs) places
-    → places ++ following (facts rs) places i (drop i (facts rs)) ≡ after (facts rs) at → next ≡ cond (depends_on_some (facts rs) places g.fact) (places ++ i ∷ []) places → IsPassedOn rs at i next
+    → places ++ consequences_from (facts rs) places i (drop i (facts rs)) ≡ consequences_at (facts rs) at → next ≡ cond (depends_on_some (facts rs) places g.fact) (places ++ i ∷ []) places → IsPassedOn rs at i next
 passed_on rs at i g places next low is within all e = by (depends_on_some (facts rs) places g.fact) refl
   where
     same : get_or rs i g ≡ g

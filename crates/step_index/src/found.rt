@@ -84,7 +84,8 @@ impl FoundSteps {
     /// Whether one of them is of an execution of this class, or accessed a key of that one. Where none is, no step of these classes
     /// depends directly on one of them.
     pub(crate) fn meets(&self, exec: Option<u32>, key: Option<u32>) -> bool
-        ensures { result ≡ false → (rs : List Kept) (g : Kept) → AreFound rs self.now → by_exec g.fact ≡ exec → by_key g.fact ≡ key → plans.depends_on_some (map (λ r. r.fact) rs) self.now.places.items g.fact ≡ false }
+        ensures { result ≡ false → (rs : List Kept) (g : Kept) → AreFound rs self.now
+            → by_exec g.fact ≡ exec → by_key g.fact ≡ key → plans.depends_on_some (map (λ r. r.fact) rs) self.now.places.items g.fact ≡ false }
     {
         has_one(&self.execs, exec) || has_one(&self.keys, key)
     }

@@ -64,7 +64,8 @@ fn add_if_follows(
     requires run { execs.now.classes ≡ classes_by by_exec records.now.items }
     requires keyed { keys.now.classes ≡ classes_by by_key records.now.items }
     requires found { AreFound records.now.items found.old }
-    ensures places { (g : Kept) → slice_get records.now.items place ≡ Some g → OnOk result (found.new.places.items ≡ (if plans.depends_on_some (map (λ r. r.fact) records.now.items) found.old.places.items g.fact then found.old.places.items ++ place ∷ [] else found.old.places.items)) }
+    ensures places { (g : Kept) → slice_get records.now.items place ≡ Some g → OnOk result (found.new.places.items
+        ≡ (if plans.depends_on_some (map (λ r. r.fact) records.now.items) found.old.places.items g.fact then found.old.places.items ++ place ∷ [] else found.old.places.items)) }
     ensures found { OnOk result (AreFound records.now.items found.new) }
 {
     if !found.meets(execs.class(place), keys.class(place)) {

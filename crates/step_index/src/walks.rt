@@ -46,7 +46,8 @@ pub(crate) fn first_needing(
 ) -> Option<usize>
     requires alike { length steps.now.classes ≡ length records.now.items }
     requires there { at < length records.now.items }
-    ensures member { (c : ℕ) (f : Kept) → place_class steps.now at ≡ Some c → slice_get records.now.items at ≡ Some f → IsFirstFrom (λ k. place_class steps.now k ≡ Some c) (needs f) records.now.items (at + 1) result }
+    ensures member { (c : ℕ) (f : Kept) → place_class steps.now at ≡ Some c → slice_get records.now.items at ≡ Some f
+        → IsFirstFrom (λ k. place_class steps.now k ≡ Some c) (needs f) records.now.items (at + 1) result }
     ensures none { place_class steps.now at ≡ None → result ≡ None }
 {
     let mut next = steps.next(at);

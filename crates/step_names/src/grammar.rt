@@ -32,7 +32,8 @@ pub fn is_name_byte(c: u8) -> bool
 /// What stands before the first separator, and what after it.
 pub fn cut(text: &str, separator: char) -> Option<(&str, &str)>
     requires { separator < 128 }
-    ensures parts { MatchOption result (slice_split (λ b. b == separator) text.now ≡ text.now ∷ []) (λ x. slice_split (λ b. b == separator) text.now ≡ x.0.now ∷ slice_split (λ b. b == separator) x.1.now) }
+    ensures parts { MatchOption result (slice_split (λ b. b == separator) text.now ≡ text.now ∷ [])
+        (λ x. slice_split (λ b. b == separator) text.now ≡ x.0.now ∷ slice_split (λ b. b == separator) x.1.now) }
     ensures shorter { IfSome result (λ x. length x.1.now < length text.now) }
 {
     text.split_once(separator)

@@ -1,7 +1,7 @@
 -- What is promised of the passes where workers take back what is left of a hold.
 use Rattle.std.specs.Prelude.{◌≡◌, ℕ, ◌+◌, ◌≤◌, Bool, true, false, if◌then◌else◌, List, [], ◌∷◌, ◌++◌, length}
 use Rattle.std.specs.declared.vec.Vec.{Vec}
-use Rattle.book_log.specs.Story.{Story, left_of}
+use Rattle.book_log.specs.Log.{Log, left_of}
 use Rattle.book_log.specs.declared.entry.Entry.{Entry}
 use Rattle.book_log.specs.declared.entry.Entry.TheVariants.{Undo}
 use Rattle.book_log.specs.declared.refusal.Refusal.{Refusal}
@@ -39,13 +39,13 @@ AllTakeBack n _ _ = ⊥
 
 -- why a seat stopped whose pass was this one and is that one now: so many undoings were made; nothing is left at a log that the pass can
 -- have seen; or memory was refused, or the pass as foreign
-abbrev pub IsStopped : Story → PassView → PassView → Stopped → Type 0
+abbrev pub IsStopped : Log → PassView → PassView → Stopped → Type 0
 IsStopped begun had has Budget = length has.receipts ≡ length had.receipts + 65536
-IsStopped begun had has Idle = (at : Story) × MaySee begun has at × (left_of at ≡ [])
+IsStopped begun had has Idle = (at : Log) × MaySee begun has at × (left_of at ≡ [])
 IsStopped begun had has (Halted e) = IsRefusedFor begun has (λ cause. cause ≡ Memory) e
 
 -- each seat stopped so
-abbrev pub AllStopped : Story → List PassView → List PassView → List Stopped → Type 0
+abbrev pub AllStopped : Log → List PassView → List PassView → List Stopped → Type 0
 AllStopped begun [] [] [] = Unit {0}
 AllStopped begun (p ∷ ps) (q ∷ qs) (s ∷ ss) = IsStopped begun p q s × AllStopped begun ps qs ss
 AllStopped begun _ _ _ = ⊥
@@ -64,5 +64,5 @@ AllTookNone [] = Unit {0}
 AllTookNone (v ∷ vs) = (v.items ≡ []) × AllTookNone vs
 
 module _ {L : Type 0} where
-  abbrev pub HasUndone : Story → Undoer L → Undone L → Type 0
+  abbrev pub HasUndone : Log → Undoer L → Undone L → Type 0
   HasUndone begun u d = TakesBack 65536 u.pass.receipts d.pass.receipts × IsStopped begun u.pass d.pass d.stopped

@@ -143,7 +143,8 @@ where
         thread::scope_env(),
         rt,
         move |scope| -> Dispatcher<L>
-            requires { IsSend B.row × IsSend L.row × IsSync L.row × IsSync G.row × IsSync R.row × IsGiver board.now.slips dispatcher.giver × AllSeated board.now.slips seats.items × (vec_len dispatcher.served ≡ 0) × (vec_len seats ≤ vec_capacity dispatcher.served) }
+            requires { IsSend B.row × IsSend L.row × IsSync L.row × IsSync G.row × IsSync R.row
+                × IsGiver board.now.slips dispatcher.giver × AllSeated board.now.slips seats.items × (vec_len dispatcher.served ≡ 0) × (vec_len seats ≤ vec_capacity dispatcher.served) }
             ensures giver { KeepsGiver board.entry.now.slips dispatcher.giver result.giver }
             ensures pass { result.pass.receipts ≡ dispatcher.pass.receipts }
             ensures served { AllServed board.entry.now.slips seats.items result.served.items }

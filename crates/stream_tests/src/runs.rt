@@ -1,6 +1,6 @@
 //! The program's statuses over streams that fail, and where its connection or its memory is refused.
 use crate::streams::{Sink, Source};
-use rollback_run::{Fault, Mode, ModeRefusal, finish, mode_of, refuse, run, unread_words};
+use rollback_run::{ExitCause, Mode, ModeRefusal, finish, mode_of, refuse, run, unread_words};
 use sqlite::{Connection, Error, ErrorCode};
 use std::alloc::Global;
 use std::io;
@@ -129,7 +129,7 @@ fn tells_of_closing(alloc: Global, code: ErrorCode, want: (u8, &[u8])) -> bool {
     let mut earlier = Sink::new(alloc);
     finish(Ok(()), refused, &mut faults) == want.0
         && faults.is(want.1)
-        && finish(Err(Fault::Output), refused, &mut earlier) == 4
+        && finish(Err(ExitCause::Output), refused, &mut earlier) == 4
         && earlier.is(OUTPUT)
 }
 

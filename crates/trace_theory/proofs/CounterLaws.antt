@@ -1,14 +1,14 @@
--- The small machine is lawful, and its runs have each name once.
+-- The small machine is reversible, and its runs have each name once.
 use Rattle.std.proofs.Common.{◌≡◌, ℕ, ◌+◌, ◌-◌, ◌≤◌, ◌==◌, Bool, true, false, cond, List, [], ◌∷◌, ◌++◌, arith, refl, ap, ap₂, sym, subst, ◌∙◌, inl, inr, Option, None, Some}
 use Rattle.std.specs.Prelude.{◌⊎◌, ◌&&◌, ◌||◌, option_and_then}
 use Rattle.std.proofs.Math.Path.{fun_ext}
 use Rattle.std.proofs.lemmas.Bool.{and_parts, or_parts, eqb-true}
 use Rattle.trace_theory.specs.Traces.{}
 use Rattle.trace_theory.specs.Footprints.{IsReached, HasFootprints}
-use Rattle.trace_theory.specs.Counters.{Frame, World, Act, reads, writes, forks, joins, ends, Step, is_join, same_thread, is_under, makes, closes, reaches, conflict, writes_counter, touches_counter, depends, seen, branch, Cell, frame_at, counter_at, a_frame, a_number, at, Plan, plan, plan_by, carried_out, touched, written, held_after, counter_plans, start, Saved, saved, counter_before, undo, counters, CountersAreLawful, CountersHaveNames}
+use Rattle.trace_theory.specs.Counters.{Frame, World, Act, reads, writes, forks, joins, ends, Step, is_join, same_thread, is_under, makes, closes, reaches, conflict, writes_counter, touches_counter, depends, seen, branch, Cell, frame_at, counter_at, a_frame, a_number, at, Plan, plan, plan_by, after_effect, touched, written, held_after, counter_plans, start, Saved, saved, counter_before, undo, counters, CountersAreReversible, CountersHaveNames}
 use Rattle.trace_theory.proofs.Lists.{by_bool}
 use Rattle.trace_theory.proofs.Runs.{map_some, reached_good}
-use Rattle.trace_theory.proofs.Planned.{plans_are_lawful}
+use Rattle.trace_theory.proofs.Planned.{plans_are_reversible}
 use Rattle.trace_theory.proofs.Names.{names_once}
 use Rattle.trace_theory.proofs.CounterPaths.{either, itself, same_thread-true, thread_itself, under_under, branch_is_under, over_one}
 use Rattle.trace_theory.proofs.CounterWorlds.{Planned, planned, frame_own, frame_reached, frame_other, reached, born, Good, start_good, same_frame, none_yet, good_after, good_kept}
@@ -18,7 +18,7 @@ good w r = reached_good counters Good start start_good (λ w v s f. good_kept w 
 
 -- ---- footprints
 
-effect : (w : World) (d : Plan) (c : Cell) → at (carried_out w d) c ≡ cond (written d c) (held_after d c) (at w c)
+effect : (w : World) (d : Plan) (c : Cell) → at (after_effect w d) c ≡ cond (written d c) (held_after d c) (at w c)
 effect w d (frame_at q) = by_bool (same_thread d.step.thread q) _ (λ k. rw k refl) (λ k. by_bool (reaches d.step q) _ (λ j. rw (k, j) refl) (λ j. rw (k, j) refl))
 effect w d (counter_at k) = by_bool (writes_counter d.step.act k) _ (λ j. rw j refl) (λ j. rw j refl)
 
@@ -130,7 +130,7 @@ no_conflict forks b k h = (λ i t. cc, λ t i. cc)
 no_conflict joins b k h = (λ i t. cc, λ t i. cc)
 no_conflict ends b k h = (λ i t. cc, λ t i. cc)
 
-module _ (w : World) (d e : Plan) (first : Planned w d) (second : Planned (carried_out w d) e) (fine : Good (carried_out w d)) (free : depends d.step e.step ≡ false) where
+module _ (w : World) (d e : Plan) (first : Planned w d) (second : Planned (after_effect w d) e) (fine : Good (after_effect w d)) (free : depends d.step e.step ≡ false) where
   no_thread : same_thread d.step.thread e.step.thread ≡ false
   no_thread = (or_parts (same_thread d.step.thread e.step.thread) _ free).0
 
@@ -158,7 +158,7 @@ module _ (w : World) (d e : Plan) (first : Planned w d) (second : Planned (carri
   -- the later doesn't reach the earlier one's thread: a join by independence, and a fork is of no thread that is parked there
   not_backward : reaches e.step d.step.thread ≡ true → ⊥
   not_backward h = elim (either (makes e.step d.step.thread) (closes e.step d.step.thread) h) [
-    | inl k ↦ none_yet (carried_out w d) e d.step.thread d.frame fine second k (frame_own w d d.step.thread (thread_itself d.step.thread))
+    | inl k ↦ none_yet (after_effect w d) e d.step.thread d.frame fine second k (frame_own w d d.step.thread (thread_itself d.step.thread))
     | inr k ↦ (let f = no_closed in cc)
   ]
 
@@ -186,20 +186,20 @@ module _ (w : World) (d e : Plan) (first : Planned w d) (second : Planned (carri
             | inr o ↦ elim o [ inl u ↦ not_forward (r.all e.step.thread u) | inr u ↦ not_backward (s.all d.step.thread u) ]
           ]
 
-apart : (w : World) (a b : Step) (d e : Plan) (c : Cell) → IsReached counters start w → plan w a ≡ Some d → plan (carried_out w d) b ≡ Some e → depends d.step e.step ≡ false → (written d c ≡ true → touched e c ≡ true → ⊥) × (written e c ≡ true → touched d c ≡ true → ⊥)
+apart : (w : World) (a b : Step) (d e : Plan) (c : Cell) → IsReached counters start w → plan w a ≡ Some d → plan (after_effect w d) b ≡ Some e → depends d.step e.step ≡ false → (written d c ≡ true → touched e c ≡ true → ⊥) × (written e c ≡ true → touched d c ≡ true → ⊥)
 apart w a b d e (frame_at q) r h k free =
     let p = (planned w a d h).1 in
-    let clash = apart_at w d e p (planned (carried_out w d) b e k).1 (good_after w d (good w r) p) free q in
+    let clash = apart_at w d e p (planned (after_effect w d) b e k).1 (good_after w d (good w r) p) free q in
     (clash, λ i j. clash j i)
 apart w a b d e (counter_at n) r h k free =
     let p = (planned w a d h).1 in
-    no_conflict d.step.act e.step.act n (no_counter w d e p (planned (carried_out w d) b e k).1 (good_after w d (good w r) p) free)
+    no_conflict d.step.act e.step.act n (no_counter w d e p (planned (after_effect w d) b e k).1 (good_after w d (good w r) p) free)
 
 footprints : HasFootprints counters counter_plans start
 footprints = record { planned = λ w n. refl; effect = effect; within = within; local = local; restores = restores; apart = apart; same = same }
 
-pub counters_are_lawful : CountersAreLawful
-counters_are_lawful = plans_are_lawful counters counter_plans start footprints
+pub counters_are_reversible : CountersAreReversible
+counters_are_reversible = plans_are_reversible counters counter_plans start footprints
 
 -- ---- names
 
@@ -220,14 +220,14 @@ module _ (w : World) (d : Plan) (fine : Good w) (p : Planned w d) where
       let g = ap (λ (x : Frame). x.count) (same_frame w t f a.frame h a.stands) in
       absurd (omega (arith, c, a.count, g))
 
-  marked : Was (carried_out w d) d.step
+  marked : Was (after_effect w d) d.step
   marked = counted d.frame (frame_own w d d.step.thread (thread_itself d.step.thread)) (omega (arith, p.count))
 
   own_after : (w.frames d.step.thread ≡ Some p.before) × (p.before.count + 1 ≤ d.frame.count)
   own_after = (p.stands, omega (arith, p.count, p.numbered))
 
   -- a frame that stood is there with its count or more, or lies under the fork that the step closed
-  kept_or_closed : (t : List (ℕ × ℕ)) (f : Frame) → w.frames t ≡ Some f → ((g : Frame) × ((carried_out w d).frames t ≡ Some g) × (f.count ≤ g.count)) ⊎ (is_under d.step.thread (d.step.no - 1) t ≡ true)
+  kept_or_closed : (t : List (ℕ × ℕ)) (f : Frame) → w.frames t ≡ Some f → ((g : Frame) × ((after_effect w d).frames t ≡ Some g) × (f.count ≤ g.count)) ⊎ (is_under d.step.thread (d.step.no - 1) t ≡ true)
   kept_or_closed t f h =
       by_bool (same_thread d.step.thread t) _
       (λ k. let g = ap (λ (x : Frame). x.count) (same_frame w d.step.thread p.before f p.stands (subst (λ q. w.frames q ≡ Some f) (sym (same_thread-true d.step.thread t k)) h)) in inl (d.frame, frame_own w d t k, omega (arith, p.count, p.numbered, g)))
@@ -235,19 +235,19 @@ module _ (w : World) (d : Plan) (fine : Good w) (p : Planned w d) where
       (λ j. elim (either (makes d.step t) (closes d.step t) j) [ inl i ↦ absurd (none_yet w d t f fine p i h) | inr i ↦ inr (and_parts (is_join d.step.act) (is_under d.step.thread (d.step.no - 1) t) i).1 ])
       (λ j. inl (f, frame_other w d t k j ∙ h, omega arith)))
 
-  closed : (s : Step) → is_under d.step.thread (d.step.no - 1) s.thread ≡ true → Was (carried_out w d) s
+  closed : (s : Step) → is_under d.step.thread (d.step.no - 1) s.thread ≡ true → Was (after_effect w d) s
   closed s u = behind d.step.thread (d.step.no - 1) d.frame u (frame_own w d d.step.thread (thread_itself d.step.thread)) (omega (arith, p.count, p.numbered))
 
-  stays : (s : Step) → Was w s → Was (carried_out w d) s
+  stays : (s : Step) → Was w s → Was (after_effect w d) s
   stays s (counted f h c) = elim (kept_or_closed s.thread f h) [ inl k ↦ counted k.0 k.1 (omega (arith, c, k.2)) | inr u ↦ closed s u ]
   stays s (behind t n f u h c) = elim (kept_or_closed t f h) [ inl k ↦ behind t n k.0 u k.1 (omega (arith, c, k.2)) | inr v ↦ closed s (under_under d.step.thread t s.thread (d.step.no - 1) n v u) ]
 
 thread_alike : (p q : List (ℕ × ℕ)) → same_thread p q ≡ true → same_thread q p ≡ true
 thread_alike p q h = ap (λ (r : List (ℕ × ℕ)). same_thread q r) (same_thread-true p q h) ∙ thread_itself q
 
-plan_taken : (w v : World) (s f : Step) → counters.take w s ≡ Some (v, f) → (d : Plan) × (plan w s ≡ Some d) × (carried_out w d ≡ v)
+plan_taken : (w v : World) (s f : Step) → counters.take w s ≡ Some (v, f) → (d : Plan) × (plan w s ≡ Some d) × (after_effect w d ≡ v)
 plan_taken w v s f h =
-    let k = map_some (λ (d : Plan). (carried_out w d, d.step)) (plan w s) (v, f) h in
+    let k = map_some (λ (d : Plan). (after_effect w d, d.step)) (plan w s) (v, f) h in
     (k.0, k.1, ap (λ (q : World × Step). q.0) k.2)
 
 pub counters_have_names : CountersHaveNames

@@ -2,7 +2,7 @@
 use Rattle.std.proofs.Common.{◌≡◌, [], ◌∷◌, refl, ap, None, Some, arith}
 use Rattle.std.specs.Prelude.{◌||◌, if◌then◌else◌}
 use Rattle.std.proofs.lemmas.Option.{same_Some}
-use Rattle.trace_theory.specs.Counters.{parked, done, Frame, World, forks, ends, Step, same_thread, Plan, carried_out, first_frame, PremiseIsNeeded}
+use Rattle.trace_theory.specs.Counters.{parked, done, Frame, World, forks, ends, Step, same_thread, Plan, after_effect, first_frame, PremiseIsNeeded}
 
 -- a branch of the root's first step stands, and the root has taken no step
 abbrev pub astray : World
@@ -27,10 +27,10 @@ premise_is_needed = (
   forking,
   record {
     independent = refl;
-    first = carried_out astray ended;
-    second = carried_out (carried_out astray ended) forked;
-    other_first = carried_out astray forked;
-    other_second = carried_out (carried_out astray forked) ended;
+    first = after_effect astray ended;
+    second = after_effect (after_effect astray ended) forked;
+    other_first = after_effect astray forked;
+    other_second = after_effect (after_effect astray forked) ended;
     takes_first = refl;
     takes_second = refl;
     takes_other = refl;

@@ -3,7 +3,7 @@ use Rattle.std.proofs.Common.{◌≡◌, ℕ, ◌+◌, ◌-◌, ◌==◌, Bool, 
 use Rattle.std.specs.Prelude.{◌&&◌, ◌||◌}
 use Rattle.std.proofs.lemmas.Bool.{and_parts, eqb-true}
 use Rattle.std.proofs.lemmas.Option.{same_Some}
-use Rattle.trace_theory.specs.Counters.{Phase, ready, parked, done, Frame, World, Act, reads, writes, forks, joins, ends, Step, is_fork, is_join, same_thread, is_under, makes, closes, reaches, below, can, is_ready, is_parked, phase_after, seen, branch, Plan, plan, plan_by, carried_out, start, first_frame, counters}
+use Rattle.trace_theory.specs.Counters.{Phase, ready, parked, done, Frame, World, Act, reads, writes, forks, joins, ends, Step, is_fork, is_join, same_thread, is_under, makes, closes, reaches, below, can, is_ready, is_parked, phase_after, seen, branch, Plan, plan, plan_by, after_effect, start, first_frame, counters}
 use Rattle.trace_theory.proofs.Lists.{by_bool}
 use Rattle.trace_theory.proofs.Runs.{and_then_some, map_some}
 use Rattle.trace_theory.proofs.CounterPaths.{either, same_thread-true, thread_itself, never_under_itself, under_under, above_branch}
@@ -59,13 +59,13 @@ fork_parks ends h = cc
 
 -- ---- frames after it
 
-pub frame_own : (w : World) (d : Plan) (q : List (ℕ × ℕ)) → same_thread d.step.thread q ≡ true → (carried_out w d).frames q ≡ Some d.frame
+pub frame_own : (w : World) (d : Plan) (q : List (ℕ × ℕ)) → same_thread d.step.thread q ≡ true → (after_effect w d).frames q ≡ Some d.frame
 frame_own w d q h = rw h
 
-pub frame_reached : (w : World) (d : Plan) (q : List (ℕ × ℕ)) → same_thread d.step.thread q ≡ false → reaches d.step q ≡ true → (carried_out w d).frames q ≡ below d.step q
+pub frame_reached : (w : World) (d : Plan) (q : List (ℕ × ℕ)) → same_thread d.step.thread q ≡ false → reaches d.step q ≡ true → (after_effect w d).frames q ≡ below d.step q
 frame_reached w d q h k = rw (h, k)
 
-pub frame_other : (w : World) (d : Plan) (q : List (ℕ × ℕ)) → same_thread d.step.thread q ≡ false → reaches d.step q ≡ false → (carried_out w d).frames q ≡ w.frames q
+pub frame_other : (w : World) (d : Plan) (q : List (ℕ × ℕ)) → same_thread d.step.thread q ≡ false → reaches d.step q ≡ false → (after_effect w d).frames q ≡ w.frames q
 frame_other w d q h k = rw (h, k)
 
 -- what a step reaches lies under one fork of its thread, all of which it reaches
@@ -131,7 +131,7 @@ none_yet w d q f good p h k =
     absurd (omega (arith, a.count, p.numbered, e))
 
 -- what a step's thread lies under stays parked
-stays_over : (w : World) (d : Plan) (t : List (ℕ × ℕ)) (n : ℕ) → Planned w d → is_under t n d.step.thread ≡ true → ParkedAt w t n → ParkedAt (carried_out w d) t n
+stays_over : (w : World) (d : Plan) (t : List (ℕ × ℕ)) (n : ℕ) → Planned w d → is_under t n d.step.thread ≡ true → ParkedAt w t n → ParkedAt (after_effect w d) t n
 stays_over w d t n p u a = record { frame = a.frame; stands = frame_other w d t apart unreached ∙ a.stands; count = a.count; waits = a.waits }
   where
     apart : same_thread d.step.thread t ≡ false
@@ -153,10 +153,10 @@ closes_it w d t q n p e a u =
     last true = refl
     last false = refl
 
-pub good_after : (w : World) (d : Plan) → Good w → Planned w d → Good (carried_out w d)
+pub good_after : (w : World) (d : Plan) → Good w → Planned w d → Good (after_effect w d)
 good_after w d good p = record { over = over }
   where
-    untouched : (t q : List (ℕ × ℕ)) (n : ℕ) → reaches d.step q ≡ false → is_under t n q ≡ true → ParkedAt w t n → ParkedAt (carried_out w d) t n
+    untouched : (t q : List (ℕ × ℕ)) (n : ℕ) → reaches d.step q ≡ false → is_under t n q ≡ true → ParkedAt w t n → ParkedAt (after_effect w d) t n
     untouched t q n out u a =
         by_bool (same_thread d.step.thread t) _
         (λ k. let r = closes_it w d t q n p (same_thread-true d.step.thread t k) a u in absurd (cc))
@@ -164,19 +164,19 @@ good_after w d good p = record { over = over }
         (λ j. let r = reached d.step t j in let x = r.all q (under_under d.step.thread t q r.fork n r.under u) in absurd (cc))
         (λ j. record { frame = a.frame; stands = frame_other w d t k j ∙ a.stands; count = a.count; waits = a.waits }))
 
-    over : (t q : List (ℕ × ℕ)) (n : ℕ) (f : Frame) → is_under t n q ≡ true → (carried_out w d).frames q ≡ Some f → ParkedAt (carried_out w d) t n
+    over : (t q : List (ℕ × ℕ)) (n : ℕ) (f : Frame) → is_under t n q ≡ true → (after_effect w d).frames q ≡ Some f → ParkedAt (after_effect w d) t n
     over t q n f u h =
         by_bool (same_thread d.step.thread q) _
         (λ k. let v = subst (λ r. is_under t n r ≡ true) (sym (same_thread-true d.step.thread q k)) u in stays_over w d t n p v (good.over t d.step.thread n p.before v p.stands))
         (λ k. by_bool (reaches d.step q) _
         (λ j. let b = born d.step q f (sym (frame_reached w d q k j) ∙ h) in
         elim (above_branch t d.step.thread n d.step.no b.number (subst (λ r. is_under t n r ≡ true) (sym b.place) u)) [
-          | inl e ↦ record { frame = d.frame; stands = ap (carried_out w d).frames e.0 ∙ frame_own w d d.step.thread (thread_itself d.step.thread); count = p.count ∙ sym e.1; waits = ap is_parked p.phase ∙ fork_parks d.step.act b.forked }
+          | inl e ↦ record { frame = d.frame; stands = ap (after_effect w d).frames e.0 ∙ frame_own w d d.step.thread (thread_itself d.step.thread); count = p.count ∙ sym e.1; waits = ap is_parked p.phase ∙ fork_parks d.step.act b.forked }
           | inr v ↦ stays_over w d t n p v (good.over t d.step.thread n p.before v p.stands)
         ])
         (λ j. untouched t q n j u (good.over t q n f u (sym (frame_other w d q k j) ∙ h))))
 
 pub good_kept : (w v : World) (s f : Step) → Good w → counters.take w s ≡ Some (v, f) → Good v
 good_kept w v s f good h =
-    let k = map_some (λ (d : Plan). (carried_out w d, d.step)) (plan w s) (v, f) h in
+    let k = map_some (λ (d : Plan). (after_effect w d, d.step)) (plan w s) (v, f) h in
     subst Good (ap (λ (q : World × Step). q.0) k.2) (good_after w k.0 good (planned w s k.0 k.1).1)

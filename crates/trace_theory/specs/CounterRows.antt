@@ -1,7 +1,7 @@
 -- The definitions at one history of the small machine: the root forks, a writes counter 0, b writes counter 5, reads counter 0 and
 -- writes counter 1, both end, and the root joins them.
 use Rattle.std.specs.Prelude.{◌≡◌, ℕ, false, List, [], ◌∷◌, reverse, Option, Some, None, option_map, refl}
-use Rattle.trace_theory.specs.Traces.{run, names_of, after, undo_each}
+use Rattle.trace_theory.specs.Traces.{run, names_of, consequences, undo_each}
 use Rattle.trace_theory.specs.Counters.{Frame, World, ready, reads, writes, forks, joins, ends, Step, counters, start, depends}
 
 abbrev fork : Step
@@ -36,11 +36,11 @@ abbrev seen : World → List ℕ × List (Option Frame)
 seen w = (w.counters 0 ∷ w.counters 1 ∷ w.counters 5 ∷ [], w.frames [] ∷ w.frames ((1, 0) ∷ []) ∷ w.frames ((1, 1) ∷ []) ∷ [])
 
 abbrev after_of : List Step → Step → Option (List Step)
-after_of steps s = option_map (λ p. names_of counters (after counters p.1 s)) (run counters start steps)
+after_of steps s = option_map (λ p. names_of counters (consequences counters p.1 s)) (run counters start steps)
 
 -- the world once the consequences of s are undone from the last to the first
 abbrev rolled_back : List Step → Step → Option (List ℕ × List (Option Frame))
-rolled_back steps s = option_map (λ p. seen (undo_each counters p.0 (reverse (after counters p.1 s)))) (run counters start steps)
+rolled_back steps s = option_map (λ p. seen (undo_each counters p.0 (reverse (consequences counters p.1 s)))) (run counters start steps)
 
 abbrev gives : List Step → Option (List ℕ × List (Option Frame))
 gives steps = option_map (λ p. seen p.0) (run counters start steps)
@@ -76,7 +76,7 @@ row_rolled_back = refl
 row_rolled_back_late : rolled_back history b_writes_more ≡ gives (fork ∷ a_writes ∷ b_writes ∷ b_reads ∷ a_ends ∷ [])
 row_rolled_back_late = refl
 
--- an arrangement: a ends before b begins
+-- a linearization: a ends before b begins
 row_arranged : gives (fork ∷ a_writes ∷ a_ends ∷ b_writes ∷ b_reads ∷ b_writes_more ∷ b_ends ∷ join ∷ []) ≡ gives history
 row_arranged = refl
 

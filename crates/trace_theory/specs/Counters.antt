@@ -1,7 +1,7 @@
--- A small machine that is lawful: threads that fork and join, over shared counters. That one thread lies under another is no
+-- A small machine that is reversible: threads that fork and join, over shared counters. That one thread lies under another is no
 -- dependence here, so that steps which don't depend on each other commute only in worlds that runs reach.
 use Rattle.std.specs.Prelude.{◌≡◌, ℕ, ◌+◌, ◌-◌, ◌==◌, Bool, true, false, ◌&&◌, ◌||◌, List, [], ◌∷◌, ◌++◌, Option, None, Some, option_map, option_and_then, if◌then◌else◌}
-use Rattle.trace_theory.specs.Traces.{Machine, IsLawful, HasNames}
+use Rattle.trace_theory.specs.Traces.{Machine, IsReversible, HasNames}
 use Rattle.trace_theory.specs.Footprints.{Plans}
 
 -- A thread is named by the branches that lead to it: step number n of thread t, a fork, makes the threads t/(n, 0) and t/(n, 1).
@@ -190,8 +190,8 @@ below s q = if is_fork s.act && (same_thread (s.thread ++ (s.no, 0) ∷ []) q ||
 abbrev pub reaches : Step → List (ℕ × ℕ) → Bool
 reaches s q = makes s q || closes s q
 
-abbrev pub carried_out : World → Plan → World
-carried_out w p = record {
+abbrev pub after_effect : World → Plan → World
+after_effect w p = record {
   frames = λ q. if same_thread p.step.thread q then Some p.frame else (if reaches p.step q then below p.step q else w.frames q);
   counters = λ k. if writes_counter p.step.act k then p.number else w.counters k;
 }
@@ -209,7 +209,7 @@ held_after p (frame_at q) = a_frame (if same_thread p.step.thread q then Some p.
 held_after p (counter_at k) = a_number p.number
 
 abbrev pub counter_plans : Plans World Step Step Cell Content Plan
-counter_plans = record { at = at; plan = plan; carried_out = carried_out; fact = λ p. p.step; touches = touched; writes = written; holds = held_after }
+counter_plans = record { at = at; plan = plan; after_effect = after_effect; fact = λ p. p.step; touches = touched; writes = written; holds = held_after }
 
 -- ---- the machine
 
@@ -237,7 +237,7 @@ undo v s kept = record {
 
 abbrev pub counters : Machine World Step Step Saved
 counters = record {
-  take = λ w s. option_map (λ p. (carried_out w p, p.step)) (plan w s);
+  take = λ w s. option_map (λ p. (after_effect w p, p.step)) (plan w s);
   is_same = λ a b. same_thread a.thread b.thread && (a.no == b.no);
   depends = depends;
   saved = saved;
@@ -248,8 +248,8 @@ counters = record {
 abbrev pub start : World
 start = record { frames = λ q. if same_thread [] q then Some first_frame else None; counters = λ _. 0 }
 
-abbrev pub CountersAreLawful : Type 0
-CountersAreLawful = IsLawful counters start
+abbrev pub CountersAreReversible : Type 0
+CountersAreReversible = IsReversible counters start
 
 abbrev pub CountersHaveNames : Type 0
 CountersHaveNames = HasNames counters start

@@ -1,5 +1,5 @@
 use Rattle.std.proofs.Common.{rules, ◌≡◌, ◌<◌, ◌+◌, ℕ, Err, length, string_bytes, sym, ap, ◌∙◌}
-use Rattle.journaled_book.specs.Journaled.{story_of}
+use Rattle.journaled_book.specs.Journaled.{log_of}
 use Rattle.journaled_book.specs.Reading.{fault_at}
 use Rattle.journaled_book.specs.declared.fault.LineFault.{LineFault}
 use Rattle.journaled_book.specs.declared.fault.OpenFault.TheVariants.{Damaged}
@@ -13,7 +13,7 @@ returns-in-Err-clause-damaged c place is =
     let low : at < length lines = search rules in
     let told : fault_at c.loop-line.place c.in-Err.fault ≡ Damaged place = search rules in
     let here = told_at c.loop-line.place place c.in-Err.fault told in
-    damage_at string_bytes lines at c.line-item.result c.line-item.result low (sym c.line-item.is) place (story_of c.loop-line.book) c.as_str.result.now (here.1 ∙ c.loop-line.invariant.place)
+    damage_at string_bytes lines at c.line-item.result c.line-item.result low (sym c.line-item.is) place (log_of c.loop-line.book) c.as_str.result.now (here.1 ∙ c.loop-line.invariant.place)
     c.loop-line.invariant.given c.as_str.ensures.value (c.in-Err.ensures.damaged (ap (λ (f : LineFault). Err f) here.0))
 
 pub loop-line-preserved : goal.loop-line-preserved
@@ -23,6 +23,6 @@ loop-line-preserved c =
     let low : at < length lines = search rules in
     record {
       place = ap (λ (n : ℕ). n + 1) c.loop-line.invariant.place;
-      given = given_more string_bytes lines at c.line-item.result c.line-item.result low (sym c.line-item.is) (story_of c.loop-line.book) c.in-Ok.after.story c.as_str.result.now
+      given = given_more string_bytes lines at c.line-item.result c.line-item.result low (sym c.line-item.is) (log_of c.loop-line.book) c.in-Ok.after.log c.as_str.result.now
           c.loop-line.invariant.given c.as_str.ensures.value c.in-Ok.ensures.ok;
     }

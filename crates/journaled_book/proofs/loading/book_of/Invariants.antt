@@ -1,7 +1,7 @@
 use Rattle.std.proofs.Common.{◌≡◌, map, string_bytes, take}
-use Rattle.journaled_book.specs.Journaled.{story_of}
+use Rattle.journaled_book.specs.Journaled.{log_of}
 use Rattle.journaled_book.specs.Opening.{Give}
 use Rattle.journaled_book.proofs.loading.book_of.Given as goal
 
 abbrev pub invariant-loop-line : goal.invariant-loop-line
-invariant-loop-line l = record { place : l.place ≡ l.line-index; given : Give (map string_bytes (take l.line-index l.lines)) (story_of l.book) }
+invariant-loop-line l = record { place : l.place ≡ l.line-index; given : Give (map string_bytes (take l.line-index l.lines)) (log_of l.book) }

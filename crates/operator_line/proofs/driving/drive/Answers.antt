@@ -1,28 +1,28 @@
 use Rattle.std.proofs.Common.{◌≡◌, ◌++◌, List, [], ℕ, map, Some, OnOk, string_bytes, sym, ap, ◌∙◌}
 use Rattle.std.proofs.lemmas.Result.{on_ok_weaker}
 use Rattle.step_names.specs.Written.{step_text}
-use Rattle.book_log.specs.Story.{Story}
+use Rattle.book_log.specs.Log.{Log}
 use Rattle.operator_line.specs.Answers.{AnswersDrive, drive_reply, taken_in}
-use Rattle.operator_line.specs.Sessions.{story_in}
+use Rattle.operator_line.specs.Sessions.{log_in}
 use Rattle.reply_lines.specs.Replies.{names_reply}
-use Rattle.operator_line.proofs.Sessions.{some_story, if_story, on_err-from}
+use Rattle.operator_line.proofs.Sessions.{some_log, if_log, on_err-from}
 use Rattle.operator_line.proofs.Taken.{none_taken, drive_done, drive_taken}
 use Rattle.operator_line.proofs.driving.drive.Goals as goal
 use Rattle.operator_line.proofs.driving.drive.Goals.{in_default-via-in-Some+else-count-eq0, in_default-via-in_default}
 
 pub returns-in-Some-clause-err : goal.returns-in-Some-clause-err
 returns-in-Some-clause-err g c =
-    let s = some_story c.args.book.now.book c.requires.open in
+    let s = some_log c.args.book.now.book c.requires.open in
     let it = c.in-Some.ensures.taken s.0 s.1 in
     let none : c.take_steps.new.lines.count ≡ 0 = sym c.count.ensures ∙ c.if-count-eq0.true in
-    on_err-from c.refuse_change.result _ (it.1 ∙ ap (λ (x : Story). Some x) (none_taken c.args.count s.0 it.0 c.take_steps.new.lines c.in-Some.fault it.2 none) ∙ sym s.1)
+    on_err-from c.refuse_change.result _ (it.1 ∙ ap (λ (x : Log). Some x) (none_taken c.args.count s.0 it.0 c.take_steps.new.lines c.in-Some.fault it.2 none) ∙ sym s.1)
 
 pub returns-clause-ok : goal.returns-clause-ok
 returns-clause-ok g c =
     let text = string_bytes c.accept_lines.new.self.text in
-    let after = story_in c.take_steps.new.book in
+    let after = log_in c.take_steps.new.book in
     let empty : string_bytes c.take_steps.new.reply.text ≡ [] = c.take_steps.ensures.text ∙ c.reserve_lines.ensures.same ∙ c.requires.empty in
-    if_story (λ story. OnOk c.accept_lines.result (AnswersDrive story c.args.count text after)) (story_in c.args.book.now)
+    if_log (λ log. OnOk c.accept_lines.result (AnswersDrive log c.args.count text after)) (log_in c.args.book.now)
     (λ before held.
     let it = c.take_steps.ensures.taken before held in
     let names = taken_in it.2.turns in

@@ -1,15 +1,15 @@
 use Rattle.std.proofs.Common.{rules, ◌≡◌, ◌+◌, ℕ, List, Option, Ok, Err, refl, sym, ap, ◌∙◌, subst}
 use Rattle.std.specs.Prelude.{IfOk, IfSome}
 use Rattle.book_log.specs.Answers.{StepLacks, step_answer}
-use Rattle.book_log.specs.Story.{Story, accepted}
+use Rattle.book_log.specs.Log.{Log, appended}
 use Rattle.book_log.specs.declared.entry.Entry.TheVariants.{Step as Stepped}
 use Rattle.reply_lines.specs.Replying.{AreLines}
 use Rattle.journaled_book.proofs.Threads.{step_thread}
 use Rattle.journaled_book.specs.Changes.{AnswersChangeOr}
 use Rattle.journaled_book.specs.Journaled.{with_entry}
-use Rattle.operator_line.specs.Answers.{MovesFirst}
+use Rattle.operator_line.specs.Answers.{IsLeastEnabled}
 use Rattle.operator_line.specs.Driving.{IsFirst, KeepsLines, passed_in}
-use Rattle.operator_line.proofs.Replied.{in_story}
+use Rattle.operator_line.proofs.Replied.{in_log}
 use Rattle.operator_line.proofs.Sessions.{some_entered, some_kept}
 use Rattle.operator_line.proofs.Taken.{refused_turn}
 use Rattle.operator_line.proofs.driving.take_step.Goals as goal
@@ -21,9 +21,9 @@ returns-in-Err-clause-step g c =
     let fault = c.in-Err.fault in
     let keeps : KeepsLines c.args.lines.now c.reserve_step.new.self = (c.reserve_step.ensures.count, λ texts h. record { counted = c.reserve_step.ensures.count ∙ h.counted; written = c.reserve_step.ensures.text ∙ h.written }) in
     λ before held.
-    let found : IfOk c.first_ready.result (IsFirst P before) = subst (λ (o : Option Story). IfSome o (λ s. IfOk c.first_ready.result (IsFirst P s))) held c.first_ready.ensures.first in
-    let first : MovesFirst P before t = subst (IsFirst P before) c.in-Some.is (subst (λ r. IfOk r (IsFirst P before)) c.in_ok-thread.was found) in
-    let answer = subst (AnswersChangeOr (StepLacks before t) (step_answer before t)) c.in-Err.is (in_story (λ s. AnswersChangeOr (StepLacks s t) (step_answer s t) c.step.result) c.args.book.now.book before held c.step.ensures.answer) in
+    let found : IfOk c.first_ready.result (IsFirst P before) = subst (λ (o : Option Log). IfSome o (λ s. IfOk c.first_ready.result (IsFirst P s))) held c.first_ready.ensures.first in
+    let first : IsLeastEnabled P before t = subst (IsFirst P before) c.in-Some.is (subst (λ r. IfOk r (IsFirst P before)) c.in_ok-thread.was found) in
+    let answer = subst (AnswersChangeOr (StepLacks before t) (step_answer before t)) c.in-Err.is (in_log (λ s. AnswersChangeOr (StepLacks s t) (step_answer s t) c.step.result) c.args.book.now.book before held c.step.ensures.answer) in
     (before, c.in-Err.ensures.err ∙ held, refused_turn before t c.args.passed.now c.pass_by.new.passed c.args.lines.now c.reserve_step.new.self fault c.pass_by.result first answer c.pass_by.ensures.passes keeps)
 
 pub returns-in-Err-clause-open : goal.returns-in-Err-clause-open
@@ -36,17 +36,17 @@ returns-clause-step g c =
     let m = c.in-Ok.moved in
     let keeps : (texts : List (List ℕ)) → AreLines c.args.lines.now texts → AreLines c.reserve_step.new.self texts = λ texts h. record { counted = c.reserve_step.ensures.count ∙ h.counted; written = c.reserve_step.ensures.text ∙ h.written } in
     λ before held.
-    let found : IfOk c.first_ready.result (IsFirst P before) = subst (λ (o : Option Story). IfSome o (λ s. IfOk c.first_ready.result (IsFirst P s))) held c.first_ready.ensures.first in
-    let first : MovesFirst P before t = subst (IsFirst P before) c.in-Some.is (subst (λ r. IfOk r (IsFirst P before)) c.in_ok-thread.was found) in
+    let found : IfOk c.first_ready.result (IsFirst P before) = subst (λ (o : Option Log). IfSome o (λ s. IfOk c.first_ready.result (IsFirst P s))) held c.first_ready.ensures.first in
+    let first : IsLeastEnabled P before t = subst (IsFirst P before) c.in-Some.is (subst (λ r. IfOk r (IsFirst P before)) c.in_ok-thread.was found) in
     let answer : step_answer before t ≡ Ok m =
-    subst (AnswersChangeOr (StepLacks before t) (step_answer before t)) c.in-Ok.is (in_story (λ s. AnswersChangeOr (StepLacks s t) (step_answer s t) c.step.result) c.args.book.now.book before held c.step.ensures.answer)
+    subst (AnswersChangeOr (StepLacks before t) (step_answer before t)) c.in-Ok.is (in_log (λ s. AnswersChangeOr (StepLacks s t) (step_answer s t) c.step.result) c.args.book.now.book before held c.step.ensures.answer)
     in
     let own : m.name.thread ≡ t = step_thread before t m answer in (
-      accepted before (Stepped m.name m.kind),
-      c.in-Ok.ensures.ok ∙ ap (λ (o : Option Story). with_entry o (Stepped m.name m.kind)) held,
+      appended before (Stepped m.name m.kind),
+      c.in-Ok.ensures.ok ∙ ap (λ (o : Option Log). with_entry o (Stepped m.name m.kind)) held,
       (
         m,
-        subst (MovesFirst P before) (sym own) first,
+        subst (IsLeastEnabled P before) (sym own) first,
         ap (step_answer before) own ∙ answer,
         refl,
         c.in-Ok-add_step.ensures.count ∙ ap (λ (n : ℕ). n + 1) c.reserve_step.ensures.count,

@@ -2,15 +2,15 @@
 use Rattle.std.proofs.Common.{◌≡◌, ◌+◌, ◌-◌, ◌^◌, Some, string_bytes, string_len}
 use Rattle.std.specs.BTreeSet.{btree_set_len}
 use Rattle.std.specs.Prelude.{IsSome}
-use Rattle.book_log.specs.Story.{Story}
-use Rattle.operator_line.specs.Sessions.{story_in}
+use Rattle.book_log.specs.Log.{Log}
+use Rattle.operator_line.specs.Sessions.{log_in}
 use Rattle.operator_line.proofs.Taken.{HasTaken}
 use Rattle.reply_lines.specs.Replying.{has_room_for_lines}
 use Rattle.operator_line.proofs.driving.take_steps.Given as goal
 
 abbrev pub invariant-loop-left : goal.invariant-loop-left
 invariant-loop-left g l =
-    ((before : Story) → story_in l.initial.book ≡ Some before → (now : Story) × (story_in l.book ≡ Some now) × HasTaken l.count l.left before now l.passed l.lines) × IsSome l.book.book
+    ((before : Log) → log_in l.initial.book ≡ Some before → (now : Log) × (log_in l.book ≡ Some now) × HasTaken l.count l.left before now l.passed l.lines) × IsSome l.book.book
     × (string_bytes l.reply.text ≡ string_bytes l.initial.reply.text) × has_room_for_lines l.reply.text (string_len l.lines.text)
 
 -- each turn takes a step or adds a thread to those that are passed by, and no set is so large

@@ -4,7 +4,7 @@ use Rattle.rollback_book.specs.Rerunning.{last_start}
 use Rattle.rollback_book.proofs.rerunning.last_start.Given as goal
 
 abbrev pub invariant-loop-later : goal.invariant-loop-later
-invariant-loop-later l = (l.later ≤ length l.log) × (last_start l.exec (drop l.later l.log) ≡ None)
+invariant-loop-later l = (l.later ≤ length l.entries) × (last_start l.exec (drop l.later l.entries) ≡ None)
 
 abbrev pub decreases-loop-later : goal.decreases-loop-later
 decreases-loop-later l = l.later

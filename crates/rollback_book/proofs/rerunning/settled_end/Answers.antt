@@ -5,10 +5,10 @@ use Rattle.rollback_book.proofs.rerunning.settled_end.Goals as goal
 
 pub returns-then-is_settlement-clause-whole : goal.returns-then-is_settlement-clause-whole
 returns-then-is_settlement-clause-whole c =
-    let log = c.args.log.now in
+    let entries = c.args.entries.now in
     let later = c.loop-end.end in
-    let e = c.index-log-end.result in
+    let e = c.index-entries-end.result in
     let all = c.loop-end.invariant.0 in
     let some = c.loop-end-test.true in
-    let there = slice_get_read log (length log) (later - 1) e refl (omega (arith, all, some)) c.index-log-end.is in
-    whole_to log later e (omega (arith, some)) there (sym c.is_settlement.ensures ∙ c.if-is_settlement.true)
+    let there = slice_get_read entries (length entries) (later - 1) e refl (omega (arith, all, some)) c.index-entries-end.is in
+    whole_to entries later e (omega (arith, some)) there (sym c.is_settlement.ensures ∙ c.if-is_settlement.true)

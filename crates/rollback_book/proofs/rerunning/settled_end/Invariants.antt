@@ -5,7 +5,7 @@ use Rattle.book_log.specs.Answers.{is_settlement}
 use Rattle.rollback_book.proofs.rerunning.settled_end.Given as goal
 
 abbrev pub invariant-loop-end : goal.invariant-loop-end
-invariant-loop-end l = (l.end ≤ length l.log) × (list_any is_settlement (drop l.end l.log) ≡ false)
+invariant-loop-end l = (l.end ≤ length l.entries) × (list_any is_settlement (drop l.end l.entries) ≡ false)
 
 abbrev pub decreases-loop-end : goal.decreases-loop-end
 decreases-loop-end l = l.end

@@ -9,4 +9,4 @@ returns-in-Err-clause-refused g c =
     let passes : List PassView = c.args.passes.items in
     let same : passes ≡ passes = refl in
     let settled = rw c.as_slice.ensures.value at c.in-Err.ensures.settled in
-    (same, (desk.story, c.in-Err.ensures.goes, c.in-Err.ensures.legal, subst (λ (first : ℕ). IsUnsettled first desk.story.log passes c.in-Err.reason) c.in-Err.ensures.first settled))
+    (same, (desk.log, c.in-Err.ensures.goes, c.in-Err.ensures.legal, subst (λ (first : ℕ). IsUnsettled first desk.log.entries passes c.in-Err.reason) c.in-Err.ensures.first settled))

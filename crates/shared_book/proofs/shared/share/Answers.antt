@@ -8,5 +8,5 @@ invariant_of-desk g c = (
   search rules,
   search rules,
   search rules,
-  none_before_first (g.B.Events.story c.args.book) c.new.result (string_bytes c.new-2.result.name) c.new-2.ensures,
+  none_before_first (g.B.Events.log c.args.book) c.new.result (string_bytes c.new-2.result.name) c.new-2.ensures,
 )

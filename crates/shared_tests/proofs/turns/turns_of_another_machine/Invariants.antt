@@ -4,4 +4,4 @@ abbrev pub ghosts-refuses_the_machine-L-Ledger : goal.ghosts-refuses_the_machine
 ghosts-refuses_the_machine-L-Ledger g a = record { name = a.blank.name; parts = a.blank.parts }
 
 abbrev pub ghosts-refuses_the_machine-L-Sharing : goal.ghosts-refuses_the_machine-L-Sharing
-ghosts-refuses_the_machine-L-Sharing g a = record { begun = a.book.story }
+ghosts-refuses_the_machine-L-Sharing g a = record { begun = a.book.log }

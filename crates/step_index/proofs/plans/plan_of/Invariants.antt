@@ -7,6 +7,6 @@ use Rattle.step_index.proofs.plans.plan_of.Given as goal
 -- the steps that were found, and those that the later steps add, are all
 abbrev pub invariant-loop-place : goal.invariant-loop-place
 invariant-loop-place l = record {
-  all : l.found.places.items ++ plans.following (facts l.records.items) l.found.places.items l.place (drop l.place (facts l.records.items)) ≡ plans.after (facts l.records.items) l.at;
+  all : l.found.places.items ++ plans.consequences_from (facts l.records.items) l.found.places.items l.place (drop l.place (facts l.records.items)) ≡ plans.consequences_at (facts l.records.items) l.at;
   found : AreFound l.records.items l.found;
 }

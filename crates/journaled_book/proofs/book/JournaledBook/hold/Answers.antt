@@ -1,8 +1,8 @@
 use Rattle.std.proofs.Common.{arith, rules, Option, ap, ◌∙◌}
 use Rattle.sqlite.specs.Held.{state}
-use Rattle.book_log.specs.Story.{Story}
+use Rattle.book_log.specs.Log.{Log}
 use Rattle.book_log.specs.declared.entry.Entry.{Entry}
-use Rattle.journaled_book.specs.Journaled.{story_of, with_entry}
+use Rattle.journaled_book.specs.Journaled.{log_of, with_entry}
 use Rattle.journaled_book.proofs.Entering.{held_answer, held_entry, held_told, held_unwritten, reported_ok, reported_err}
 use Rattle.journaled_book.proofs.book.JournaledBook.hold.Goals as goal
 use Rattle.journaled_book.proofs.book.JournaledBook.hold.Goals.{in-Ok-Held, in-Err-enter}
@@ -24,7 +24,7 @@ returns-clause-ok g c =
     elim c.match-enter.branch [
       | in-Ok-Held w ↦
           let entry = held_entry book c.args.step.now made w.in-Ok-Held.field-0 w.in-Ok-Held.count c.requires.open c.in-Ok.ensures.answer w.in-Ok-Held.ensures.ok.0 w.in-Ok-Held.field-0-is in
-          rw w.result-is (w.in-Ok-Held.ensures.ok.1 ∙ ap (λ (s : Option Story). with_entry s made.entry) c.in-Ok.ensures.story ∙ ap (λ (e : Entry). with_entry (story_of book) e) entry)
+          rw w.result-is (w.in-Ok-Held.ensures.ok.1 ∙ ap (λ (s : Option Log). with_entry s made.entry) c.in-Ok.ensures.log ∙ ap (λ (e : Entry). with_entry (log_of book) e) entry)
       | in-Err-enter w ↦ rw w.result-is tt
     ]
 

@@ -1,8 +1,8 @@
 use Rattle.std.proofs.Common.{Option, subst}
 use Rattle.sqlite.specs.Held.{state}
 use Rattle.book_log.specs.declared.entry.Entry.TheVariants.{Rollback}
-use Rattle.rollback_book.specs.Book.{Volume}
-use Rattle.journaled_book.specs.Journaled.{IsJournalOf, story_of}
+use Rattle.rollback_book.specs.Book.{BookView}
+use Rattle.journaled_book.specs.Journaled.{IsJournalOf, log_of}
 use Rattle.journaled_book.proofs.Kept.{changed_kept}
 use Rattle.journaled_book.proofs.book.JournaledBook.rollback.Goals as goal
 
@@ -10,4 +10,4 @@ pub invariant_of-self : goal.invariant_of-self
 invariant_of-self g c =
     let old = state g.S.Store c.self.inside.journal in
     changed_kept old (state g.S.Store c.rollback.new.journal) c.args.line.now c.rollback.result c.in-Some.book c.rollback.new.book (Rollback c.args.plan.step c.args.plan.names)
-    (subst (λ (b : Option Volume). IsJournalOf old (story_of b)) c.in-Some.is c.self.invariant) c.requires.line c.rollback.ensures.ok c.rollback.ensures.err c.rollback.ensures.journal
+    (subst (λ (b : Option BookView). IsJournalOf old (log_of b)) c.in-Some.is c.self.invariant) c.requires.line c.rollback.ensures.ok c.rollback.ensures.err c.rollback.ensures.journal

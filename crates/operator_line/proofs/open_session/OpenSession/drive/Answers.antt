@@ -1,10 +1,10 @@
 use Rattle.std.proofs.Common.{rules, ◌≡◌, true, Option, OnOk, string_bytes, subst}
 use Rattle.std.specs.Prelude.{is_some, IfSome}
 use Rattle.command_lines.specs.Grammar as grammar
-use Rattle.journaled_book.specs.Book.{Volume}
-use Rattle.journaled_book.specs.Journaled.{story_of}
+use Rattle.journaled_book.specs.Book.{BookView}
+use Rattle.journaled_book.specs.Journaled.{log_of}
 use Rattle.operator_line.specs.Answers.{AnswersDrive}
-use Rattle.operator_line.specs.Sessions.{story_in}
+use Rattle.operator_line.specs.Sessions.{log_in}
 use Rattle.operator_line.proofs.Sessions.{answers_open}
 use Rattle.operator_line.proofs.open_session.OpenSession.drive.Goals as goal
 
@@ -13,6 +13,6 @@ returns-clause-ok g c =
     let book = c.self.inside.book.book in
     let opened : is_some book ≡ true = search rules in
     let text = string_bytes c.drive.new.reply.text in
-    let after = story_in c.drive.new.book in
+    let after = log_in c.drive.new.book in
     rw (← c.self.view_is) (answers_open book (grammar.drive c.args.count) c.drive.result text after opened
-    (λ b is. subst (λ (o : Option Volume). IfSome (story_of o) (λ story. OnOk c.drive.result (AnswersDrive story c.args.count text after))) is c.drive.ensures.ok))
+    (λ b is. subst (λ (o : Option BookView). IfSome (log_of o) (λ log. OnOk c.drive.result (AnswersDrive log c.args.count text after))) is c.drive.ensures.ok))

@@ -4,11 +4,11 @@ use Rattle.std.proofs.lemmas.Result.{on_ok_weaker}
 use Rattle.book_log.specs.Answers.{HoldLacks, hold_answer}
 use Rattle.book_log.specs.declared.entry.Entry.TheVariants.{Hold}
 use Rattle.command_lines.specs.Grammar as grammar
-use Rattle.journaled_book.specs.Book.{Volume}
+use Rattle.journaled_book.specs.Book.{BookView}
 use Rattle.journaled_book.specs.Changes.{AnswersChangeOr}
-use Rattle.journaled_book.specs.Journaled.{story_of, with_entry}
+use Rattle.journaled_book.specs.Journaled.{log_of, with_entry}
 use Rattle.operator_line.specs.Answers.{change_reply}
-use Rattle.operator_line.specs.Sessions.{story_in}
+use Rattle.operator_line.specs.Sessions.{log_in}
 use Rattle.reply_lines.specs.Replies.{count_reply}
 use Rattle.operator_line.proofs.Replied.{hold-done, hold-refused}
 use Rattle.operator_line.proofs.Sessions.{answers_open}
@@ -21,21 +21,21 @@ returns-clause-ok g c =
     let name = c.args.step.now in
     let opened : is_some book ≡ true = search rules in
     let text = string_bytes c.match-hold.reply.text in
-    let after = story_in c.hold.new.self in
+    let after = log_in c.hold.new.self in
     let empty : string_bytes c.reserve_step.new.self.text ≡ [] = c.reserve_step.ensures.same ∙ c.requires.empty in
     rw (← c.self.view_is) (answers_open book (grammar.hold name) c.match-hold.result text after opened
     (λ b is.
-    let answer : AnswersChangeOr (HoldLacks b.story name) (hold_answer b.story name) c.hold.result =
-    subst (λ (o : Option Volume). IfSome o (λ x. AnswersChangeOr (HoldLacks x.story name) (hold_answer x.story name) c.hold.result)) is c.hold.ensures.answer
+    let answer : AnswersChangeOr (HoldLacks b.log name) (hold_answer b.log name) c.hold.result =
+    subst (λ (o : Option BookView). IfSome o (λ x. AnswersChangeOr (HoldLacks x.log name) (hold_answer x.log name) c.hold.result)) is c.hold.ensures.answer
     in
     elim c.match-hold.branch [
-      | in-Ok w ↦ rw (w.result-is, w.reply-is) (hold-done b.story after name w.in-Ok.count (hold_answer b.story name) w.accept_count.result _
-          (subst (AnswersChangeOr (HoldLacks b.story name) (hold_answer b.story name)) w.in-Ok.is answer)
-          (w.in-Ok.ensures.ok ∙ ap (λ (o : Option Volume). with_entry (story_of o) (Hold name w.in-Ok.count)) is)
+      | in-Ok w ↦ rw (w.result-is, w.reply-is) (hold-done b.log after name w.in-Ok.count (hold_answer b.log name) w.accept_count.result _
+          (subst (AnswersChangeOr (HoldLacks b.log name) (hold_answer b.log name)) w.in-Ok.is answer)
+          (w.in-Ok.ensures.ok ∙ ap (λ (o : Option BookView). with_entry (log_of o) (Hold name w.in-Ok.count)) is)
           (on_ok_weaker w.accept_count.result (λ e. e ∙ ap (λ l. l ++ count_reply w.in-Ok.count) empty) w.accept_count.ensures.ok))
-      | in-Err w ↦ rw (w.result-is, w.reply-is) (hold-refused b.story after name w.in-Err.fault (hold_answer b.story name) w.refuse_change.result _ (HoldLacks b.story name)
-          (subst (AnswersChangeOr (HoldLacks b.story name) (hold_answer b.story name)) w.in-Err.is answer)
-          (w.in-Err.ensures.err ∙ ap story_of is)
+      | in-Err w ↦ rw (w.result-is, w.reply-is) (hold-refused b.log after name w.in-Err.fault (hold_answer b.log name) w.refuse_change.result _ (HoldLacks b.log name)
+          (subst (AnswersChangeOr (HoldLacks b.log name) (hold_answer b.log name)) w.in-Err.is answer)
+          (w.in-Err.ensures.err ∙ ap log_of is)
           w.refuse_change.ensures.memory
           (on_ok_weaker w.refuse_change.result (λ e. e ∙ ap (λ l. l ++ change_reply w.in-Err.fault) empty) w.refuse_change.ensures.ok))
     ]))

@@ -2,7 +2,7 @@ use Rattle.std.proofs.Common.{◌∷◌, ◌++◌, ◌-◌, [], List, drop, leng
 use Rattle.std.specs.List.{list_any}
 use Rattle.std.proofs.lemmas.List.{take-append-drop, take_rest}
 use Rattle.book_log.specs.Answers.{defines, is_settlement}
-use Rattle.book_log.specs.Story.{Story}
+use Rattle.book_log.specs.Log.{Log}
 use Rattle.book_log.specs.declared.entry.Entry.{Entry}
 use Rattle.book_log.proofs.LegalRuns.{of_log}
 use Rattle.rollback_book.specs.Rerunning.{MayDefine}
@@ -11,20 +11,20 @@ use Rattle.rollback_book.proofs.book.Book.define_each.Goals as goal
 
 pub define_again-requires : goal.define_again-requires
 define_again-requires c =
-    let log = c.args.log.now in
-    let front = take c.args.from log in
-    let rest = take (length log - c.args.from) (drop c.args.from log) in
-    let whole = ap (λ (l : List Entry). front ++ l) (take_rest log c.args.from) ∙ take-append-drop c.args.from log in
+    let entries = c.args.entries.now in
+    let front = take c.args.from entries in
+    let rest = take (length entries - c.args.from) (drop c.args.from entries) in
+    let whole = ap (λ (l : List Entry). front ++ l) (take_rest entries c.args.from) ∙ take-append-drop c.args.from entries in
     let e = c.entry-item.result in
-    subst (λ (s : Story). MayDefine s e) (sym c.loop-entry.invariant)
-    (define_in c.args.self.now.story.begin log front rest c.loop-entry.entry-index e c.requires.legal whole c.loop-entry-test.true c.entry-item.is)
+    subst (λ (s : Log). MayDefine s e) (sym c.loop-entry.invariant)
+    (define_in c.args.self.now.log.begin entries front rest c.loop-entry.entry-index e c.requires.legal whole c.loop-entry-test.true c.entry-item.is)
 
 pub loop-entry-preserved : goal.loop-entry-preserved
 loop-entry-preserved c =
-    let log = c.args.log.now in
-    let front = take c.args.from log in
-    let rest = take (length log - c.args.from) (drop c.args.from log) in
-    let none = ap (list_any is_settlement) (take_rest log c.args.from) ∙ c.requires.unsettled in
+    let entries = c.args.entries.now in
+    let front = take c.args.from entries in
+    let rest = take (length entries - c.args.from) (drop c.args.from entries) in
+    let none = ap (list_any is_settlement) (take_rest entries c.args.from) ∙ c.requires.unsettled in
     let e = c.entry-item.result in
-    c.in_ok-define_again.ensures ∙ ap (λ (s : Story). of_log s.begin (s.log ++ defines (e ∷ []))) c.loop-entry.invariant
-    ∙ ap (of_log c.args.self.now.story.begin) (outline_next front rest c.loop-entry.entry-index e none c.loop-entry-test.true c.entry-item.is)
+    c.in_ok-define_again.ensures ∙ ap (λ (s : Log). of_log s.begin (s.entries ++ defines (e ∷ []))) c.loop-entry.invariant
+    ∙ ap (of_log c.args.self.now.log.begin) (outline_next front rest c.loop-entry.entry-index e none c.loop-entry-test.true c.entry-item.is)

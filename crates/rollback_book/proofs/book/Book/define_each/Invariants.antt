@@ -4,4 +4,4 @@ use Rattle.rollback_book.proofs.book.Book.define_each.Given as goal
 
 -- the outline so far
 abbrev pub invariant-loop-entry : goal.invariant-loop-entry
-invariant-loop-entry l = l.self.story ≡ record { begin = l.fn.self.story.begin; log = outline (take l.from l.log ++ take l.entry-index l.entry-items) }
+invariant-loop-entry l = l.self.log ≡ record { begin = l.fn.self.log.begin; entries = outline (take l.from l.entries ++ take l.entry-index l.entry-items) }

@@ -1,17 +1,17 @@
 use Rattle.std.proofs.Common.{sym, subst}
 use Rattle.std.specs.Prelude.{vec_capacity}
 use Rattle.book_log.specs.Legal.{IsAccepted}
-use Rattle.rollback_book.specs.Book.{Volume, volume}
-use Rattle.rollback_book.specs.Making.{Fits, HasLogRoom}
+use Rattle.rollback_book.specs.Book.{BookView, book_view}
+use Rattle.rollback_book.specs.Making.{CanEnterChange, HasLogRoom}
 use Rattle.rollback_book.specs.declared.making.MadeChange.TheVariants as made
 use Rattle.rollback_book.proofs.Added.{tied_held}
 use Rattle.rollback_book.proofs.book.Book.enter_hold.Goals as goal
 
 pub invariant_of-self : goal.invariant_of-self
 invariant_of-self c =
-    let b = volume c.self.inside.begin c.self.inside.machines c.self.inside.history c.self.inside.log c.self.inside.settled c.self.inside.held in
-    let accepted = subst (λ (b : Volume). IsAccepted b.story c.args.entry) (sym c.self.view_is) c.requires.accepted in
-    let fits = subst (λ (b : Volume). Fits b c.args.entry (made.Hold c.args.hold)) (sym c.self.view_is) c.requires.fits in
+    let b = book_view c.self.inside.begin c.self.inside.machines c.self.inside.history c.self.inside.entries c.self.inside.settled c.self.inside.held in
+    let appended = subst (λ (b : BookView). IsAccepted b.log c.args.entry) (sym c.self.view_is) c.requires.is_accepted in
+    let fits = subst (λ (b : BookView). CanEnterChange b c.args.entry (made.Hold c.args.hold)) (sym c.self.view_is) c.requires.fits in
     let room = subst HasLogRoom (sym c.self.view_is) c.requires.room in
     rw c.push_with_room.ensures.items
-    (tied_held b c.self.invariant (vec_capacity c.push_with_room.new.list) room c.push_with_room.ensures.kept c.args.entry c.args.hold accepted fits)
+    (tied_held b c.self.invariant (vec_capacity c.push_with_room.new.list) room c.push_with_room.ensures.kept c.args.entry c.args.hold appended fits)

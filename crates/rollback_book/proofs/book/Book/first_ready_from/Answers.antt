@@ -3,8 +3,8 @@ use Rattle.std.specs.BTreeSet.{contains}
 use Rattle.std.specs.String.{string_bytes}
 use Rattle.saved_steps.specs.First.{IsFirstReady, NoneFreeBefore}
 use Rattle.step_names.specs.Order.{thread_cmp}
-use Rattle.book_log.specs.Story.{world_of}
-use Rattle.rollback_book.specs.Book.{Volume}
+use Rattle.book_log.specs.Log.{world_of}
+use Rattle.rollback_book.specs.Book.{BookView}
 use Rattle.rollback_book.specs.Ready.{IsFirstToMove}
 use Rattle.rollback_book.proofs.Moving.{first_to_move, none_there_before, ready_there}
 use Rattle.rollback_book.proofs.book.Book.first_ready_from.Goals as goal
@@ -13,13 +13,13 @@ pub first_ready-requires : goal.first_ready-requires
 first_ready-requires c =
     let passed = contains thread_cmp c.args.outside.now in
     let from = string_bytes c.args.from.now in
-    none_there_before _ c.self.invariant passed from (subst (λ (b : Volume). NoneFreeBefore (world_of b.story).frames passed from) (sym c.self.view_is) c.requires)
+    none_there_before _ c.self.invariant passed from (subst (λ (b : BookView). NoneFreeBefore (world_of b.log).frames passed from) (sym c.self.view_is) c.requires)
 
 pub returns-in-Ok : goal.returns-in-Ok
 returns-in-Ok c =
     let passed = contains thread_cmp c.args.outside.now in
-    let first = subst (λ (b : Volume). IsFirstToMove b.story passed c.in-Ok.found) c.self.view_is
+    let first = subst (λ (b : BookView). IsFirstToMove b.log passed c.in-Ok.found) c.self.view_is
     (first_to_move _ c.self.invariant passed c.in-Ok.found c.in-Ok.ensures) in
-    let ready = subst (λ (b : Volume). IsFirstReady (world_of b.story).frames passed c.in-Ok.found) c.self.view_is
+    let ready = subst (λ (b : BookView). IsFirstReady (world_of b.log).frames passed c.in-Ok.found) c.self.view_is
     (ready_there _ c.self.invariant passed c.in-Ok.found c.in-Ok.ensures) in
     record { first = first; ready = ready; memory = tt }

@@ -4,4 +4,4 @@ use Rattle.rollback_book.proofs.book.Book.rerun.Given as goal
 
 -- the names so far are answered by the book so far
 abbrev pub invariant-loop-name : goal.invariant-loop-name
-invariant-loop-name l = rerun_answer l.self.story (take l.name-index l.steps) ≡ Ok l.again.story
+invariant-loop-name l = rerun_answer l.self.log (take l.name-index l.steps) ≡ Ok l.again.log

@@ -1,18 +1,18 @@
 use Rattle.std.proofs.Common.{ap, sym, ◌∙◌}
 use Rattle.step_names.specs.Thread.{Thread}
 use Rattle.book_log.specs.Answers.{start_answer}
-use Rattle.book_log.specs.Story.{accepted}
+use Rattle.book_log.specs.Log.{appended}
 use Rattle.book_log.specs.declared.entry.Entry.TheVariants.{Start}
 use Rattle.rollback_book.proofs.Retaken.{given_ok, own_thread, start_named}
 use Rattle.rollback_book.proofs.book.Book.start_with.Goals as goal
 
 pub returns-in-Ok : goal.returns-in-Ok
 returns-in-Ok c =
-    let story = c.args.self.now.story in
+    let log = c.args.self.now.log in
     let exec = c.args.exec.now in
     let machine = c.args.machine.now in
     let own = own_thread exec c.requires.execution in
-    let told = given_ok (start_answer story exec machine) c.in-Ok.name c.in-Ok.ensures.answer in (
-      ap (λ (t : Thread). start_answer story t machine) (sym own) ∙ start_named story exec machine c.in-Ok.name told,
-      c.in-Ok.ensures.ok ∙ ap (λ (t : Thread). accepted story (Start t machine c.args.input)) own,
+    let told = given_ok (start_answer log exec machine) c.in-Ok.name c.in-Ok.ensures.answer in (
+      ap (λ (t : Thread). start_answer log t machine) (sym own) ∙ start_named log exec machine c.in-Ok.name told,
+      c.in-Ok.ensures.ok ∙ ap (λ (t : Thread). appended log (Start t machine c.args.input)) own,
     )

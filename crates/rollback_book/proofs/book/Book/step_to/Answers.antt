@@ -1,6 +1,6 @@
 use Rattle.std.proofs.Common.{inr, refl, ap, sym, ◌∙◌, Ok}
 use Rattle.book_log.specs.Answers.{StepLacks, step_answer}
-use Rattle.book_log.specs.Story.{accepted}
+use Rattle.book_log.specs.Log.{appended}
 use Rattle.book_log.specs.declared.entry.Entry.TheVariants.{Step as Stepped}
 use Rattle.book_log.specs.declared.moved.Moved.{Moved}
 use Rattle.rollback_book.proofs.Retaken.{given_ok, next_is, no_retake}
@@ -14,9 +14,9 @@ pub returns-in-Ok : goal.returns-in-Ok
 returns-in-Ok c =
     let b = c.args.self.now in
     let name = c.args.name.now in
-    let told = given_ok (step_answer b.story name.thread) c.in-Ok.moved (ok_gives (StepLacks b.story name.thread) (step_answer b.story name.thread) c.in-Ok.moved c.in-Ok.ensures.answer) in
+    let told = given_ok (step_answer b.log name.thread) c.in-Ok.moved (ok_gives (StepLacks b.log name.thread) (step_answer b.log name.thread) c.in-Ok.moved c.in-Ok.ensures.answer) in
     let same = next_is b name c.requires c.is_next.ensures.world (sym c.is_next.ensures.number ∙ c.if-not-is_next.false) c.in-Ok.moved told in (
       c.in-Ok.moved.kind,
       told ∙ ap Ok same,
-      c.in-Ok.ensures.ok ∙ ap (λ (m : Moved). accepted b.story (Stepped m.name m.kind)) same,
+      c.in-Ok.ensures.ok ∙ ap (λ (m : Moved). appended b.log (Stepped m.name m.kind)) same,
     )

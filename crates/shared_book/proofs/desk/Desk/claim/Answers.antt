@@ -1,6 +1,6 @@
 use Rattle.std.proofs.Common.{subst, sym}
 use Rattle.std.specs.String.{string_bytes}
-use Rattle.book_log.specs.Story.{world_of}
+use Rattle.book_log.specs.Log.{world_of}
 use Rattle.rollback_book.specs.First.{IsFirstReady}
 use Rattle.shared_book.specs.Away.{LeavesOutMore, PassesNoOther, WereRefused, is_among}
 use Rattle.shared_book.specs.Claims.{thread_of}
@@ -10,19 +10,19 @@ use Rattle.shared_book.proofs.Sought.{so_if_ok, sought}
 use Rattle.shared_book.proofs.desk.Desk.claim.Goals as goal
 
 pub returns-clause-away : goal.returns-clause-away
-returns-clause-away g c = record { claimed = c.first_ticket.ensures.claimed; passed = subst (λ (d : DeskView). WereRefused d.story d.claims) c.self.view_is c.self.invariant.2 }
+returns-clause-away g c = record { claimed = c.first_ticket.ensures.claimed; passed = subst (λ (d : DeskView). WereRefused d.log d.claims) c.self.view_is c.self.invariant.2 }
 
 pub invariant_of-self-2 : goal.invariant_of-self-2
 invariant_of-self-2 g c =
-    let story = g.B.Events.story c.self.inside.book in
+    let log = g.B.Events.log c.self.inside.book in
     let was = c.self.inside.claims in
     let now = c.note.new.claims in
     let found = thread_of c.in-Ok.found in
     let ok = sym c.if-is_err.ensures.value in
-    let ready = subst (λ (d : DeskView). IsFirstReady (world_of d.story).frames (is_among d.claims.outside) found) (sym c.self.view_is) c.in-Ok.ensures.ready in (
+    let ready = subst (λ (d : DeskView). IsFirstReady (world_of d.log).frames (is_among d.claims.outside) found) (sym c.self.view_is) c.in-Ok.ensures.ready in (
       c.self.invariant.0,
       c.self.invariant.1,
-      were_fewer story was now (so_if_ok c.note.result (PassesNoOther was now) ok c.note.ensures.passed) c.self.invariant.2,
-      sought story was now found (string_bytes c.self.inside.cursor.name) (string_bytes c.go_on.new.self.name)
+      were_fewer log was now (so_if_ok c.note.result (PassesNoOther was now) ok c.note.ensures.passed) c.self.invariant.2,
+      sought log was now found (string_bytes c.self.inside.cursor.name) (string_bytes c.go_on.new.self.name)
           (so_if_ok c.note.result (LeavesOutMore was now) ok c.note.ensures.more) ready c.self.invariant.3 c.go_on.ensures,
     )

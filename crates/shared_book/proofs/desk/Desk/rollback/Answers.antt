@@ -8,10 +8,10 @@ use Rattle.shared_book.proofs.desk.Desk.rollback.Goals as goal
 
 pub returns-clause-receipt : goal.returns-clause-receipt
 returns-clause-receipt g c =
-    let story = g.B.Events.story c.self.inside.book in
+    let log = g.B.Events.log c.self.inside.book in
     let planned = c.in-Ok.ensures.1 in
-    let accepted = ap (λ (n : StepName). plan_answer story n) (sym c.in-Ok.ensures.0) ∙ planned.names ∙ ap (λ (names : List StepName). Ok names) (sym c.names.ensures) in
-    rw (← c.pass.view_is) (given _ _ _ _ _ _ _ _ _ c.self.invariant.0.goes c.entries.ensures.log c.entries.ensures.legal accepted c.in_ok-number.ensures.known c.in_ok-number.ensures.number
+    let appended = ap (λ (n : StepName). plan_answer log n) (sym c.in-Ok.ensures.0) ∙ planned.names ∙ ap (λ (names : List StepName). Ok names) (sym c.names.ensures) in
+    rw (← c.pass.view_is) (given _ _ _ _ _ _ _ _ _ c.self.invariant.0.goes c.entries.ensures.entries c.entries.ensures.legal appended c.in_ok-number.ensures.known c.in_ok-number.ensures.number
     c.in-Ok-rollback_entries.ensures.0 c.in-Ok-rollback_entries.ensures.1 (rw c.admit.ensures.same at c.hand_out.ensures.items))
 
 pub invariant_of-self : goal.invariant_of-self

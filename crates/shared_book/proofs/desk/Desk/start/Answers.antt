@@ -2,7 +2,7 @@ use Rattle.std.proofs.Common.{ℕ, ap, refl, subst, ◌∙◌, List}
 use Rattle.std.specs.String.{string_bytes}
 use Rattle.book_log.proofs.Elsewhere.{starts_leave_others}
 use Rattle.book_log.specs.Answers.{start_answer}
-use Rattle.book_log.specs.Story.{Story}
+use Rattle.book_log.specs.Log.{Log}
 use Rattle.book_log.specs.declared.entry.Entry.{Entry}
 use Rattle.book_log.specs.declared.entry.Entry.TheVariants.{Start}
 use Rattle.shared_book.specs.Calls.{MaySee}
@@ -17,31 +17,31 @@ use Rattle.shared_book.proofs.desk.Desk.start.Goals as goal
 
 pub returns-clause-receipt : goal.returns-clause-receipt
 returns-clause-receipt g c =
-    let accepted = start_accepted _ c.args.exec.now c.args.machine.now c.args.input c.in-Ok-start.name c.in-Ok-start.ensures.answer c.requires.execution c.requires.shallow in
-    rw (← c.pass.view_is) (given _ _ _ _ _ _ _ _ _ c.self.invariant.0.goes c.entries.ensures.log c.entries.ensures.legal accepted c.in-Ok.ensures.known c.in-Ok.ensures.number
+    let appended = start_accepted _ c.args.exec.now c.args.machine.now c.args.input c.in-Ok-start.name c.in-Ok-start.ensures.answer c.requires.execution c.requires.shallow in
+    rw (← c.pass.view_is) (given _ _ _ _ _ _ _ _ _ c.self.invariant.0.goes c.entries.ensures.entries c.entries.ensures.legal appended c.in-Ok.ensures.known c.in-Ok.ensures.number
     c.in-Ok-start_entries.ensures.0 c.in-Ok-start_entries.ensures.1 (rw c.admit.ensures.same at c.hand_out.ensures.items))
 
 pub returns-in-Err-start-clause-err : goal.returns-in-Err-start-clause-err
 returns-in-Err-start-clause-err g c =
-    let story = g.B.Events.story c.self.inside.book in
+    let log = g.B.Events.log c.self.inside.book in
     let had : PassView = record { seen = c.pass.inside.seen; receipts = c.pass.inside.receipts.items; parts = c.pass.inside.parts } in
-    let may : MaySee g.L.Sharing.begun had story = record {
+    let may : MaySee g.L.Sharing.begun had log = record {
       goes = c.self.invariant.0.goes;
       legal = c.entries.ensures.legal;
-      known = subst (λ (l : List Entry). IsKnown l had.seen (last_of had.receipts)) c.entries.ensures.log c.in-Ok.ensures.known;
+      known = subst (λ (l : List Entry). IsKnown l had.seen (last_of had.receipts)) c.entries.ensures.entries c.in-Ok.ensures.known;
     } in
     rw (← c.pass.view_is) (
-      cause g.L.Sharing.begun (λ at. start_answer at c.args.exec.now c.args.machine.now) had story c.in-Err-start.refusal (start_answer story c.args.exec.now c.args.machine.now) may refl c.in-Err-start.ensures.answer,
+      cause g.L.Sharing.begun (λ at. start_answer at c.args.exec.now c.args.machine.now) had log c.in-Err-start.refusal (start_answer log c.args.exec.now c.args.machine.now) may refl c.in-Err-start.ensures.answer,
       ap (λ (l : List Receipt). let p : PassView = record { seen = had.seen; receipts = l; parts = had.parts } in p) c.admit.ensures.same,
-      ap (λ (s : Story). let d : DeskView = record { story = s; first = c.self.inside.first; claims = c.self.inside.claims } in d) c.in-Err-start.ensures.err ∙ c.self.view_is,
+      ap (λ (s : Log). let d : DeskView = record { log = s; first = c.self.inside.first; claims = c.self.inside.claims } in d) c.in-Err-start.ensures.err ∙ c.self.view_is,
     )
 
 pub invariant_of-self-2 : goal.invariant_of-self-2
 invariant_of-self-2 g c =
     let from = string_bytes c.self.inside.cursor.name in
     let to = string_bytes c.go_back.new.self.name in
-    let accepted = start_accepted _ c.args.exec.now c.args.machine.now c.args.input c.in-Ok-start.name c.in-Ok-start.ensures.answer c.requires.execution c.requires.shallow in
-    let leaves = starts_leave_others (g.B.Events.story c.self.inside.book) c.args.exec.now c.args.machine.now c.args.input c.entries.ensures.legal accepted in
+    let appended = start_accepted _ c.args.exec.now c.args.machine.now c.args.input c.in-Ok-start.name c.in-Ok-start.ensures.answer c.requires.execution c.requires.shallow in
+    let leaves = starts_leave_others (g.B.Events.log c.self.inside.book) c.args.exec.now c.args.machine.now c.args.input c.entries.ensures.legal appended in
     let back = subst (λ (x : List ℕ). GoesBack x from to) c.exec.ensures.exec c.go_back.ensures in (
       counted_more _ _ _ _ _ _ _ c.self.invariant.0 c.in-Ok-start.ensures.ok c.hand_out.ensures.total,
       c.self.invariant.1,

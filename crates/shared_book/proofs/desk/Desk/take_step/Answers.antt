@@ -15,8 +15,8 @@ use Rattle.shared_book.proofs.desk.Desk.take_step.Goals as goal
 pub returns-clause-receipt : goal.returns-clause-receipt
 returns-clause-receipt g c =
     let moved = c.in-Ok-step.moved in
-    let accepted = step_accepted _ c.args.thread.now moved c.in-Ok-step.ensures.answer in
-    rw (← c.pass.view_is) (given _ _ _ _ _ _ _ _ _ c.self.invariant.0.goes c.entries.ensures.log c.entries.ensures.legal accepted c.in_ok-number.ensures.known c.in_ok-number.ensures.number
+    let appended = step_accepted _ c.args.thread.now moved c.in-Ok-step.ensures.answer in
+    rw (← c.pass.view_is) (given _ _ _ _ _ _ _ _ _ c.self.invariant.0.goes c.entries.ensures.entries c.entries.ensures.legal appended c.in_ok-number.ensures.known c.in_ok-number.ensures.number
     refl (ap (λ (n : StepName). Stepped n moved.kind) c.step-told.ensures) (rw c.admit.ensures.same at c.hand_out.ensures.items))
 
 pub returns-clause-entry : goal.returns-clause-entry
@@ -25,15 +25,15 @@ returns-clause-entry g c = ap (λ (n : StepName). n.thread) c.step-told.ensures 
 pub returns-in-Err-clause-held : goal.returns-in-Err-clause-held
 returns-in-Err-clause-held g c = λ h.
     let t = c.args.thread.now in
-    subst (λ (d : DeskView). WasRefused d.story t) c.self.view_is (held_step (g.B.Events.story c.self.inside.book) t c.in-Err.refusal c.entries.ensures.legal c.in-Err.ensures.answer h)
+    subst (λ (d : DeskView). WasRefused d.log t) c.self.view_is (held_step (g.B.Events.log c.self.inside.book) t c.in-Err.refusal c.entries.ensures.legal c.in-Err.ensures.answer h)
 
 pub invariant_of-self-2 : goal.invariant_of-self-2
 invariant_of-self-2 g c =
     let moved = c.in-Ok-step.moved in
     let from = string_bytes c.self.inside.cursor.name in
     let to = string_bytes c.go_back.new.self.name in
-    let accepted = step_accepted _ c.args.thread.now moved c.in-Ok-step.ensures.answer in
-    let leaves = steps_leave_others (g.B.Events.story c.self.inside.book) moved.name moved.kind c.entries.ensures.legal accepted in
+    let appended = step_accepted _ c.args.thread.now moved c.in-Ok-step.ensures.answer in
+    let leaves = steps_leave_others (g.B.Events.log c.self.inside.book) moved.name moved.kind c.entries.ensures.legal appended in
     let own = ap (λ (t : Thread). t.exec) (step_of _ c.args.thread.now moved c.in-Ok-step.ensures.answer) in
     let back = subst (λ (x : List ℕ). GoesBack x from to) (c.exec.ensures.exec ∙ sym own) c.go_back.ensures in (
       counted_more _ _ _ _ _ _ _ c.self.invariant.0 c.in-Ok-step.ensures.ok c.hand_out.ensures.total,

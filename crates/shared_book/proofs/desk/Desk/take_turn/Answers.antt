@@ -18,7 +18,7 @@ pub returns-clause-receipt : goal.returns-clause-receipt
 returns-clause-receipt g c =
     let moved = c.in-Ok-commit.moved in
     let answer = c.in-Ok-commit.ensures.answer in
-    rw (← c.pass.view_is) (given_turn _ _ _ _ _ _ _ _ _ _ _ c.self.invariant.0.goes c.entries.ensures.log c.entries.ensures.legal (turn_accepted _ c.args.thread.now moved answer.1)
+    rw (← c.pass.view_is) (given_turn _ _ _ _ _ _ _ _ _ _ _ c.self.invariant.0.goes c.entries.ensures.entries c.entries.ensures.legal (turn_accepted _ c.args.thread.now moved answer.1)
     c.in-Ok.ensures.known c.in-Ok.ensures.number refl (ap (λ (n : StepName). Stepped n moved.kind) c.step-told.ensures) (rw c.admit.ensures.same at c.hand_out.ensures.items) answer.0)
 
 pub returns-clause-entry : goal.returns-clause-entry
@@ -30,18 +30,18 @@ invariant_of-self-2 g c =
     let from = string_bytes c.self.inside.cursor.name in
     let to = string_bytes c.go_back.new.self.name in
     let answer = c.in-Ok-commit.ensures.answer.1 in
-    let accepted = turn_accepted _ c.args.thread.now moved answer in
-    let leaves = steps_leave_others (g.B.Events.story c.self.inside.book) moved.name moved.kind c.entries.ensures.legal accepted in
+    let appended = turn_accepted _ c.args.thread.now moved answer in
+    let leaves = steps_leave_others (g.B.Events.log c.self.inside.book) moved.name moved.kind c.entries.ensures.legal appended in
     let own = ap (λ (t : Thread). t.exec) (turn_of _ c.args.thread.now moved answer) in
     let back = subst (λ (x : List ℕ). GoesBack x from to) (c.exec.ensures.exec ∙ sym own) c.go_back.ensures in (
-      counted_more _ _ _ _ _ _ _ c.self.invariant.0 c.in-Ok-commit.ensures.story c.hand_out.ensures.total,
+      counted_more _ _ _ _ _ _ _ c.self.invariant.0 c.in-Ok-commit.ensures.log c.hand_out.ensures.total,
       c.self.invariant.1,
-      were_more _ _ _ (Stepped moved.name moved.kind) tt c.in-Ok-commit.ensures.story c.self.invariant.2,
-      none_elsewhere _ _ _ c.self.inside.claims moved.name.thread.exec from to leaves c.in-Ok-commit.ensures.story back c.self.invariant.3,
+      were_more _ _ _ (Stepped moved.name moved.kind) tt c.in-Ok-commit.ensures.log c.self.invariant.2,
+      none_elsewhere _ _ _ c.self.inside.claims moved.name.thread.exec from to leaves c.in-Ok-commit.ensures.log back c.self.invariant.3,
     )
 
 pub returns-in-Err-commit-clause-held : goal.returns-in-Err-commit-clause-held
 returns-in-Err-commit-clause-held g c = λ h.
     let t = c.args.thread.now in
     let told = subst (λ (e : SharedCommitRefusal). is_turn_held e ≡ true) c.not_taken.ensures h in
-    subst (λ (d : DeskView). WasRefused d.story t) c.self.view_is (held_turn (g.B.Events.story c.self.inside.book) t c.args.prepared c.in-Err-commit.refusal c.entries.ensures.legal c.in-Err-commit.ensures.answer told)
+    subst (λ (d : DeskView). WasRefused d.log t) c.self.view_is (held_turn (g.B.Events.log c.self.inside.book) t c.args.prepared c.in-Err-commit.refusal c.entries.ensures.legal c.in-Err-commit.ensures.answer told)

@@ -8,18 +8,18 @@ use Rattle.shared_book.proofs.desk.Desk.undo.Goals as goal
 
 pub returns-clause-receipt : goal.returns-clause-receipt
 returns-clause-receipt g c =
-    let story = g.B.Events.story c.self.inside.book in
-    let answer = c.in-Ok-undo.ensures.answer ∙ ap (λ (n : StepName). undo_answer story n) c.in-Ok-room.ensures.ok in
-    let accepted = undo_accepted story c.args.step.now c.in-Ok-undo.name answer in
-    rw (← c.pass.view_is) (given _ _ _ _ _ _ _ _ _ c.self.invariant.0.goes c.entries.ensures.log c.entries.ensures.legal accepted c.in_ok-number.ensures.known c.in_ok-number.ensures.number
+    let log = g.B.Events.log c.self.inside.book in
+    let answer = c.in-Ok-undo.ensures.answer ∙ ap (λ (n : StepName). undo_answer log n) c.in-Ok-room.ensures.ok in
+    let appended = undo_accepted log c.args.step.now c.in-Ok-undo.name answer in
+    rw (← c.pass.view_is) (given _ _ _ _ _ _ _ _ _ c.self.invariant.0.goes c.entries.ensures.entries c.entries.ensures.legal appended c.in_ok-number.ensures.known c.in_ok-number.ensures.number
     c.in-Ok.ensures.0 c.in-Ok.ensures.1 (rw c.admit.ensures.same at c.hand_out.ensures.items))
 
 pub returns-clause-after : goal.returns-clause-after
 returns-clause-after g c =
-    let story = g.B.Events.story c.self.inside.book in
-    let answer = c.in-Ok-undo.ensures.answer ∙ ap (λ (n : StepName). undo_answer story n) c.in-Ok-room.ensures.ok in
-    let accepted = undo_accepted story c.args.step.now c.in-Ok-undo.name answer in
-    rw (← c.self.view_is) (rw (← c.pass.view_is) (given_after _ _ _ _ _ _ _ _ _ c.self.invariant.0.goes c.entries.ensures.log c.entries.ensures.legal accepted c.in_ok-number.ensures.known c.in_ok-number.ensures.number
+    let log = g.B.Events.log c.self.inside.book in
+    let answer = c.in-Ok-undo.ensures.answer ∙ ap (λ (n : StepName). undo_answer log n) c.in-Ok-room.ensures.ok in
+    let appended = undo_accepted log c.args.step.now c.in-Ok-undo.name answer in
+    rw (← c.self.view_is) (rw (← c.pass.view_is) (given_after _ _ _ _ _ _ _ _ _ c.self.invariant.0.goes c.entries.ensures.entries c.entries.ensures.legal appended c.in_ok-number.ensures.known c.in_ok-number.ensures.number
     c.in-Ok.ensures.0 c.in-Ok.ensures.1 (rw c.admit.ensures.same at c.hand_out.ensures.items)))
 
 pub invariant_of-self-2 : goal.invariant_of-self-2

@@ -11,21 +11,21 @@ use Rattle.shared_book.proofs.desk.Desk.undo_held.Goals as goal
 pub returns-clause-receipt : goal.returns-clause-receipt
 returns-clause-receipt g c =
     let step = c.in-Ok.step in
-    let latest : IsLatestLeft (g.B.Events.story c.self.inside.book) (Some step) =
-    subst (λ (n : StepName). IsLatestLeft (g.B.Events.story c.self.inside.book) (Some n)) (sym c.in-Ok.ensures) c.in-Some.ensures in
-    gives_latest g.L.Sharing.begun c.args.self.now.story c.args.pass.now c.undo-answer.new.pass step c.undo-answer.result
-    (subst (λ (d : DeskView). IsLatestLeft d.story (Some step)) c.self.view_is latest)
+    let latest : IsLatestLeft (g.B.Events.log c.self.inside.book) (Some step) =
+    subst (λ (n : StepName). IsLatestLeft (g.B.Events.log c.self.inside.book) (Some n)) (sym c.in-Ok.ensures) c.in-Some.ensures in
+    gives_latest g.L.Sharing.begun c.args.self.now.log c.args.pass.now c.undo-answer.new.pass step c.undo-answer.result
+    (subst (λ (d : DeskView). IsLatestLeft d.log (Some step)) c.self.view_is latest)
     c.undo-answer.ensures.after c.undo-answer.ensures.entry
 
 pub returns-clause-err : goal.returns-clause-err
 returns-clause-err g c =
     let step = c.in-Ok.step in
-    let latest : IsLatestLeft (g.B.Events.story c.self.inside.book) (Some step) =
-    subst (λ (n : StepName). IsLatestLeft (g.B.Events.story c.self.inside.book) (Some n)) (sym c.in-Ok.ensures) c.in-Some.ensures in
-    let now : IsLatestLeft c.args.self.now.story (Some step) = subst (λ (d : DeskView). IsLatestLeft d.story (Some step)) c.self.view_is latest in
-    let legal : IsLegal c.args.self.now.story = subst (λ (d : DeskView). IsLegal d.story) c.self.view_is c.entries.ensures.legal in
-    is_refused_latest g.L.Sharing.begun c.args.self.now.story c.args.pass.now step c.undo-answer.result
+    let latest : IsLatestLeft (g.B.Events.log c.self.inside.book) (Some step) =
+    subst (λ (n : StepName). IsLatestLeft (g.B.Events.log c.self.inside.book) (Some n)) (sym c.in-Ok.ensures) c.in-Some.ensures in
+    let now : IsLatestLeft c.args.self.now.log (Some step) = subst (λ (d : DeskView). IsLatestLeft d.log (Some step)) c.self.view_is latest in
+    let legal : IsLegal c.args.self.now.log = subst (λ (d : DeskView). IsLegal d.log) c.self.view_is c.entries.ensures.legal in
+    is_refused_latest g.L.Sharing.begun c.args.self.now.log c.args.pass.now step c.undo-answer.result
     (λ e. IsRefused g.L.Sharing.begun (λ at. undo_answer at step) c.args.pass.now e)
     (c.undo-answer.new.pass ≡ c.args.pass.now) (c.undo-answer.new.self ≡ c.args.self.now)
-    (latest_undone c.args.self.now.story step legal now)
+    (latest_undone c.args.self.now.log step legal now)
     c.undo-answer.ensures.cause c.undo-answer.ensures.err

@@ -1,5 +1,5 @@
 use Rattle.std.proofs.Common.{◌≡◌}
-use Rattle.saved_steps.specs.Deeds.{first_fault}
+use Rattle.saved_steps.specs.Effects.{first_fault}
 use Rattle.step_history.specs.Moves.{branches_of}
 use Rattle.step_history.proofs.Closing.{from}
 use Rattle.step_history.proofs.history.History.first_fault.Given as goal

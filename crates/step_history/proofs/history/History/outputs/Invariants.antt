@@ -1,5 +1,5 @@
 use Rattle.std.proofs.Common.{◌≡◌}
-use Rattle.saved_steps.specs.Deeds.{outputs}
+use Rattle.saved_steps.specs.Effects.{outputs}
 use Rattle.step_history.specs.Moves.{branches_of}
 use Rattle.step_history.proofs.Closing.{with_rest}
 use Rattle.step_history.proofs.history.History.outputs.Given as goal

@@ -5,23 +5,23 @@ use Rattle.std.specs.List.{list_any}
 use Rattle.asl_machine.specs.Fields.{is_text}
 use Rattle.asl_machine.specs.Definition.{Definition}
 use Rattle.step_names.specs.declared.step.StepName.{StepName}
-use Rattle.trace_theory.specs.Traces.{run, after, without, names_of}
+use Rattle.trace_theory.specs.Traces.{run, consequences, without, names_of}
 use Rattle.depends.specs.Steps.{Step, started, moved, name_of}
 use Rattle.depends.specs.World.{Setting, World, is_same_step}
 use Rattle.depends.specs.Fact.{Fact}
-use Rattle.depends.specs.Instance.{Past, steps}
+use Rattle.depends.specs.Instance.{TakenStep, steps}
 use Rattle.book_log.specs.Beginning.{first_items}
 use Rattle.book_log.specs.declared.begin.Begin.{Begin}
 use Rattle.book_log.specs.declared.entry.Entry.{Entry}
 use Rattle.book_log.specs.declared.entry.Entry.TheVariants.{Define, Start, Step as Stepped, Undo, Rollback, Settle, Hold}
 
-pub record Story : Type 0 where
+pub record Log : Type 0 where
   pub begin : Begin
-  pub log : List Entry
+  pub entries : List Entry
 
--- the story with one more entry
-abbrev pub accepted : Story → Entry → Story
-accepted story entry = record { begin = story.begin; log = story.log ++ entry ∷ [] }
+-- the log with one more entry
+abbrev pub appended : Log → Entry → Log
+appended log entry = record { begin = log.begin; entries = log.entries ++ entry ∷ [] }
 
 -- ---- what a log leaves
 
@@ -49,34 +49,34 @@ unfoldable pub base_in : Begin → Remainder → World
 base_in begin r = world_after (setting_in begin r) begin r.settled
 
 -- the remaining steps alone, run forward from their base: the world that they give, and each with its fact and what it kept
-unfoldable pub run_in : Begin → Remainder → Option (World × List Past)
+unfoldable pub run_in : Begin → Remainder → Option (World × List TakenStep)
 run_in begin r = run (steps (setting_in begin r)) (base_in begin r) r.steps
 
 unfoldable pub world_in : Begin → Remainder → World
 world_in begin r = (unwrap_or (run_in begin r) (base_in begin r, [])).0
 
-unfoldable pub past_in : Begin → Remainder → List Past
+unfoldable pub past_in : Begin → Remainder → List TakenStep
 past_in begin r = (unwrap_or (run_in begin r) (base_in begin r, [])).1
 
 -- a step and its consequences, in their order (Danos and Krivine, "Reversible Communicating Systems", 2004)
-unfoldable pub consequences_in : Begin → Remainder → StepName → List Past
-consequences_in begin r name = after (steps (setting_in begin r)) (past_in begin r) (moved name)
+unfoldable pub consequences_in : Begin → Remainder → StepName → List TakenStep
+consequences_in begin r name = consequences (steps (setting_in begin r)) (past_in begin r) (moved name)
 
 -- the steps but the one of this name
-abbrev pub but : StepName → List Step → List Step
-but name = filter (λ s. not (is_same_step name (name_of s)))
+abbrev pub steps_but : StepName → List Step → List Step
+steps_but name = filter (λ s. not (is_same_step name (name_of s)))
 
 -- the steps but a step and its consequences
 unfoldable pub rolled_back : Begin → Remainder → StepName → List Step
 rolled_back begin r name = names_of (steps (setting_in begin r)) (without (steps (setting_in begin r)) (consequences_in begin r name) (past_in begin r))
 
 -- the step of a name, if there is one, and its consequences
-abbrev pub left_by : Setting → List Past → Option StepName → List Past
+abbrev pub left_by : Setting → List TakenStep → Option StepName → List TakenStep
 left_by s ts None = []
-left_by s ts (Some name) = after (steps s) ts (moved name)
+left_by s ts (Some name) = consequences (steps s) ts (moved name)
 
 -- what is left of a hold: its step, and the consequences that this has now
-unfoldable pub left_in : Begin → Remainder → List Past
+unfoldable pub left_in : Begin → Remainder → List TakenStep
 left_in begin r = left_by (setting_in begin r) (past_in begin r) r.held
 
 -- the machines, with this one under a name
@@ -107,7 +107,7 @@ abbrev pub steps_after : Begin → Remainder → Entry → List Step
 steps_after begin r (Define name machine) = r.steps
 steps_after begin r (Start exec machine input) = r.steps ++ started exec.exec machine input ∷ []
 steps_after begin r (Stepped name kind) = r.steps ++ moved name ∷ []
-steps_after begin r (Undo name) = but name r.steps
+steps_after begin r (Undo name) = steps_but name r.steps
 steps_after begin r (Rollback name undone) = rolled_back begin r name
 steps_after begin r Settle = []
 steps_after begin r (Hold name count) = r.steps
@@ -121,7 +121,7 @@ abbrev pub held_after : Begin → Remainder → Entry → Option StepName
 held_after begin r (Define name machine) = r.held
 held_after begin r (Start exec machine input) = r.held
 held_after begin r (Stepped name kind) = r.held
-held_after begin r (Undo name) = while_in (but name r.steps) r.held
+held_after begin r (Undo name) = while_in (steps_but name r.steps) r.held
 held_after begin r (Rollback name undone) = while_in (rolled_back begin r name) r.held
 held_after begin r Settle = None
 held_after begin r (Hold name count) = Some name
@@ -132,51 +132,51 @@ after_entry begin r e = record { machines = machines_after r e; settled = settle
 abbrev pub nothing : Remainder
 nothing = record { machines = λ name. None; settled = []; steps = []; held = None }
 
-unfoldable pub remainder : Story → Remainder
-remainder story = fold (after_entry story.begin) nothing story.log
+unfoldable pub remainder : Log → Remainder
+remainder log = fold (after_entry log.begin) nothing log.entries
 
--- ---- of a story
+-- ---- of a log
 
 -- the steps of a log that were not taken back since, in the order in which they were taken
-abbrev pub remaining : Story → List Step
-remaining story = (remainder story).steps
+abbrev pub remaining : Log → List Step
+remaining log = (remainder log).steps
 
 -- the steps of a log that can't be taken back any more, in the order in which they were taken
-abbrev pub settled : Story → List Step
-settled story = (remainder story).settled
+abbrev pub settled : Log → List Step
+settled log = (remainder log).settled
 
 -- the step of the hold that stands, if one does
-abbrev pub held : Story → Option StepName
-held story = (remainder story).held
+abbrev pub held : Log → Option StepName
+held log = (remainder log).held
 
 -- what is left of it
-abbrev pub left_of : Story → List Past
-left_of story = left_in story.begin (remainder story)
+abbrev pub left_of : Log → List TakenStep
+left_of log = left_in log.begin (remainder log)
 
 -- the machine that a log defines under a name
-abbrev pub machine_of : Story → List ℕ → Option Definition
-machine_of story = (remainder story).machines
+abbrev pub machine_of : Log → List ℕ → Option Definition
+machine_of log = (remainder log).machines
 
-abbrev pub setting_of : Story → Setting
-setting_of story = setting_in story.begin (remainder story)
+abbrev pub setting_of : Log → Setting
+setting_of log = setting_in log.begin (remainder log)
 
 -- the base of the remaining steps: the world that the settled ones give, run forward from the start
-abbrev pub base_of : Story → World
-base_of story = base_in story.begin (remainder story)
+abbrev pub base_of : Log → World
+base_of log = base_in log.begin (remainder log)
 
-abbrev pub run_of : Story → Option (World × List Past)
-run_of story = run_in story.begin (remainder story)
+abbrev pub run_of : Log → Option (World × List TakenStep)
+run_of log = run_in log.begin (remainder log)
 
 -- the world that the remaining steps alone, run forward from their base, give
-abbrev pub world_of : Story → World
-world_of story = world_in story.begin (remainder story)
+abbrev pub world_of : Log → World
+world_of log = world_in log.begin (remainder log)
 
 -- the remaining steps with their facts and what they kept, in the same run
-abbrev pub past_of : Story → List Past
-past_of story = past_in story.begin (remainder story)
+abbrev pub past_of : Log → List TakenStep
+past_of log = past_in log.begin (remainder log)
 
-abbrev pub facts_of : Story → List Fact
-facts_of story = map (λ t. t.fact) (past_of story)
+abbrev pub facts_of : Log → List Fact
+facts_of log = map (λ t. t.fact) (past_of log)
 
-abbrev pub consequences_of : Story → StepName → List Past
-consequences_of story = consequences_in story.begin (remainder story)
+abbrev pub consequences_of : Log → StepName → List TakenStep
+consequences_of log = consequences_in log.begin (remainder log)

@@ -1,5 +1,5 @@
 use Rattle.step_history.proofs.Extended.{orders_undo}
-use Rattle.step_history.proofs.laws.allowed_orders_undo.Goals as goal
+use Rattle.step_history.proofs.laws.backward_orders_undo.Goals as goal
 
 pub returns : goal.returns
 returns c = orders_undo

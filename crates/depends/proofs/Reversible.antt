@@ -1,4 +1,4 @@
--- The steps of executions are lawful: independent neighbours swap, and what a step kept undoes it.
+-- The steps of executions are reversible: independent neighbours swap, and what a step kept undoes it.
 use Rattle.std.proofs.Common.{◌≡◌, ℕ, ◌+◌, ◌-◌, ◌<◌, ◌≤◌, ◌==◌, Bool, true, false, cond, List, [], ◌∷◌, ◌++◌, arith, map, refl, ap, ap₂, sym, subst, ◌∙◌, inl, inr, Option, None, Some, Result, Ok, Err}
 use Rattle.std.specs.Prelude.{◌&&◌, ◌||◌, ◌⊎◌, not, nat_le, is_some, option_map}
 use Rattle.std.specs.List.{range_with_len}
@@ -17,7 +17,7 @@ use Rattle.item_store.specs.declared.fault.CallFault.{CallFault}
 use Rattle.saved_steps.specs.Definition.{Definition}
 use Rattle.saved_steps.specs.Outcomes.{turn}
 use Rattle.saved_steps.specs.Results.{Work, work_of, after_answer}
-use Rattle.saved_steps.specs.Turn.{Standing, first_frame}
+use Rattle.saved_steps.specs.Turn.{Location, first_frame}
 use Rattle.saved_steps.specs.Frame.{Frame}
 use Rattle.saved_steps.specs.Phase.{Phase}
 use Rattle.saved_steps.specs.Phase.TheVariants.{Ready, Parked, Done, Failed}
@@ -27,15 +27,15 @@ use Rattle.step_names.specs.Thread.{Thread, execution, child_of}
 use Rattle.step_names.specs.Under.{is_under}
 use Rattle.step_names.specs.declared.step.StepName.{StepName}
 use Rattle.step_names.proofs.OrderLaws.{thread_same, thread_itself}
-use Rattle.saved_steps.specs.Deeds.{Deed, next_step, deed_of, call_deed, deed_of_turn, kids, first_fault, outputs, deed_over, deed_in, stands, frame_deed, move_deed, if_numbered, deed, waits, first_bound, bounded}
+use Rattle.saved_steps.specs.Effects.{Effect, next_step, own_effect, call_effect, effect_of_turn, kids, first_fault, outputs, effect_over, effect_in, stands, frame_effect, move_effect, if_numbered, effect_of, waits, first_bound, bounded}
 use Rattle.saved_steps.specs.Bounds.{Place, place_of, sibling, bound_in, in_window}
 use Rattle.saved_steps.specs.Held.{paths_of}
 use Rattle.saved_steps.specs.Paths.{Path}
 use Rattle.saved_steps.specs.Ready.{frame_is, is_done, may_begin}
 use Rattle.saved_steps.proofs.Begun.{turn_told, turn_goes}
 use Rattle.saved_steps.proofs.Window.{any_same, le_true, not_zero}
-use Rattle.saved_steps.specs.Keeping.{Kept, kept, undo, item_written}
-use Rattle.saved_steps.specs.Run.{carried_out}
+use Rattle.saved_steps.specs.Saving.{SavedState, kept, undo, item_written}
+use Rattle.saved_steps.specs.Run.{after_effect}
 use Rattle.saved_steps.specs.Steps.{Step, started, moved, start_name, name_of, is_fork, is_close, makes, closes, is_write, is_of_key, touches_key, is_write_of, writes_key}
 use Rattle.saved_steps.specs.World.{Setting, World, is_same_thread}
 use Rattle.saved_steps.specs.declared.fact.Access.{Access}
@@ -43,14 +43,14 @@ use Rattle.saved_steps.specs.declared.fact.Fact.{Fact}
 use Rattle.saved_steps.specs.declared.fact.Kind.TheVariants.{Start, Call}
 use Rattle.trace_theory.specs.Traces.{}
 use Rattle.trace_theory.specs.Footprints.{IsReached, HasFootprints}
-use Rattle.trace_theory.proofs.Base.{lawful_from}
+use Rattle.trace_theory.proofs.Base.{reversible_from}
 use Rattle.trace_theory.proofs.Lists.{by_bool}
-use Rattle.trace_theory.proofs.Planned.{plans_are_lawful}
+use Rattle.trace_theory.proofs.Planned.{plans_are_reversible}
 use Rattle.trace_theory.proofs.Runs.{and_then_some, map_some, reached_good, reached_here}
 use Rattle.depends.specs.Dependence.{conflicts, begins, awaited_by, awaits, depends_directly}
 use Rattle.depends.specs.Instance.{Cell, frame_at, item_at, a_frame, an_item, at, steps, plans, reaches, forked_by, is_thread, is_end, looks, touches, writes, leaves}
 use Rattle.depends.proofs.Awaited.{sibling_awaited, is_awaited, place_whole, other_branch, awaited_parts, awaited_whole}
-use Rattle.depends.specs.Laws.{HasNoFrames, IsFrom, StepsAreLawful}
+use Rattle.depends.specs.Laws.{HasNoFrames, IsFrom, StepsAreReversible}
 use Rattle.depends.proofs.Planned.{IsPlanned, numbered, planned}
 use Rattle.depends.proofs.Threads.{either, or_left, or_right, over_one, nothing_over, child_is_under, above_child, never_under_itself, under_under}
 use Rattle.depends.proofs.Turned.{close_move, frame_move, is_parked}
@@ -67,7 +67,7 @@ key_itself a = (key_eq_both a a).1 refl
 
 -- ---- footprints
 
-effect : (w : World) (d : Deed) (c : Cell) → at (carried_out w d) c ≡ cond (writes d c) (leaves d c) (at w c)
+effect : (w : World) (d : Effect) (c : Cell) → at (after_effect w d) c ≡ cond (writes d c) (leaves d c) (at w c)
 effect w d (frame_at t) =
     by_bool (is_same_thread d.fact.name.thread t) _
     (λ k. rw k refl)
@@ -80,7 +80,7 @@ writes_touches : (a : Option Access) (key : Key) → is_write_of a key ≡ true 
 writes_touches None key h = cc
 writes_touches (Some a) key h = (and_parts (is_write a.mode) (is_same_key a.key key) h).1
 
-within : (d : Deed) (c : Cell) → writes d c ≡ true → touches d c ≡ true
+within : (d : Effect) (c : Cell) → writes d c ≡ true → touches d c ≡ true
 within d (frame_at t) h = or_left (is_same_thread d.fact.name.thread t || reaches d.fact t) (looks d.fact t) h
 within d (item_at key) h = writes_touches d.fact.access key h
 
@@ -96,16 +96,16 @@ same w x h =
     (fun_ext (λ t. a_frame_is (w.frames t) (x.frames t) (h (frame_at t))))
     (fun_ext (λ key. an_item_is (w.items key) (x.items key) (h (item_at key))))
 
--- ---- a deed, and what it keeps, are a function of what it touches
+-- ---- an effect, and what it keeps, are a function of what it touches
 
--- the worlds w and x agree on what a deed touches
-record Agree (w x : World) (d : Deed) : Type 0 where
+-- the worlds w and x agree on what an effect touches
+record Agree (w x : World) (d : Effect) : Type 0 where
   own : x.frames d.fact.name.thread ≡ w.frames d.fact.name.thread
   closed : (t : Thread) → closes d.fact t ≡ true → x.frames t ≡ w.frames t
   item : (key : Key) → touches_key d.fact key ≡ true → x.items key ≡ w.items key
   looked : (t : Thread) → looks d.fact t ≡ true → x.frames t ≡ w.frames t
 
-agree_at : (w x : World) (d : Deed) → ((c : Cell) → touches d c ≡ true → at x c ≡ at w c) → Agree w x d
+agree_at : (w x : World) (d : Effect) → ((c : Cell) → touches d c ≡ true → at x c ≡ at w c) → Agree w x d
 agree_at w x d a = record {
   own = own d.fact.name.thread (or_left (is_same_thread d.fact.name.thread d.fact.name.thread) (reaches d.fact d.fact.name.thread) (thread_itself d.fact.name.thread));
   closed = λ t h. own t (or_right (is_same_thread d.fact.name.thread t) (reaches d.fact t) (or_right (makes d.fact t) (closes d.fact t) h));
@@ -122,40 +122,40 @@ item_then key Read new old = old
 item_then key Write new old = cond (is_same_key key key) new old
 
 -- what a call of a key does, by the item that is there
-abbrev key_deed : StepName → Definition → Work → Frame → Request → Key → Option Attributes → Deed
-key_deed name level work f request key old =
+abbrev key_effect : StepName → Definition → Work → Frame → Request → Key → Option Attributes → Effect
+key_effect name level work f request key old =
     let d = decision request old in
     record { fact = record { name = name; kind = Call; access = Some record { key = key; mode = d.access }; bound = 0 }; frame = after_answer level work f d.answer; branches = []; item = item_then key d.access d.new old }
 
-module _ (name : StepName) (level : Definition) (work : Work) (f : Frame) (w x : World) (d : Deed) (agree : (key : Key) → touches_key d.fact key ≡ true → x.items key ≡ w.items key) where
-  by_key : (items : Table) (request : Request) (key : Key) → call_deed name level work f (table.at_key items key (decision request (items key))) ≡ key_deed name level work f request key (items key)
+module _ (name : StepName) (level : Definition) (work : Work) (f : Frame) (w x : World) (d : Effect) (agree : (key : Key) → touches_key d.fact key ≡ true → x.items key ≡ w.items key) where
+  by_key : (items : Table) (request : Request) (key : Key) → call_effect name level work f (table.at_key items key (decision request (items key))) ≡ key_effect name level work f request key (items key)
   by_key items request key = by_mode (decision request (items key))
     where
-      by_mode : (e : Decision) → call_deed name level work f (table.at_key items key e) ≡ (let k : Deed = record { fact = record { name = name; kind = Call; access = Some record { key = key; mode = e.access }; bound = 0 }; frame = after_answer level work f e.answer; branches = []; item = item_then key e.access e.new (items key) } in k)
-      by_mode e = ap (λ (o : Option Attributes). let k : Deed = record { fact = record { name = name; kind = Call; access = Some record { key = key; mode = e.access }; bound = 0 }; frame = after_answer level work f e.answer; branches = []; item = o } in k) (then_is e.access e.new)
+      by_mode : (e : Decision) → call_effect name level work f (table.at_key items key e) ≡ (let k : Effect = record { fact = record { name = name; kind = Call; access = Some record { key = key; mode = e.access }; bound = 0 }; frame = after_answer level work f e.answer; branches = []; item = item_then key e.access e.new (items key) } in k)
+      by_mode e = ap (λ (o : Option Attributes). let k : Effect = record { fact = record { name = name; kind = Call; access = Some record { key = key; mode = e.access }; bound = 0 }; frame = after_answer level work f e.answer; branches = []; item = o } in k) (then_is e.access e.new)
         where
           then_is : (mode : AccessMode) (new : Option Attributes) → table.items_after items key mode new key ≡ item_then key mode new (items key)
           then_is Read new = refl
           then_is Write new = refl
 
-  key_touched : (request : Request) (key : Key) (old : Option Attributes) → key_deed name level work f request key old ≡ d → touches_key d.fact key ≡ true
-  key_touched request key old e = ap (λ (k : Deed). touches_key k.fact key) (sym e) ∙ key_itself key
+  key_touched : (request : Request) (key : Key) (old : Option Attributes) → key_effect name level work f request key old ≡ d → touches_key d.fact key ≡ true
+  key_touched request key old e = ap (λ (k : Effect). touches_key k.fact key) (sym e) ∙ key_itself key
 
-  call_alike : (request : Request) (asked : Result Key CallFault) → call_deed name level work f (table.on_key w.items request asked) ≡ d → call_deed name level work f (table.on_key x.items request asked) ≡ d
+  call_alike : (request : Request) (asked : Result Key CallFault) → call_effect name level work f (table.on_key w.items request asked) ≡ d → call_effect name level work f (table.on_key x.items request asked) ≡ d
   call_alike request (Err fault) h = h
   call_alike request (Ok key) h =
       let k = sym (by_key w.items request key) ∙ h in
-      by_key x.items request key ∙ ap (key_deed name level work f request key) (agree key (key_touched request key (w.items key) k)) ∙ k
+      by_key x.items request key ∙ ap (key_effect name level work f request key) (agree key (key_touched request key (w.items key) k)) ∙ k
 
-turn_alike : (s : Setting) (w x : World) (name : StepName) (at : Standing) (f : Frame) (o : Outcome) (d : Deed) → ((key : Key) → touches_key d.fact key ≡ true → x.items key ≡ w.items key) → deed_of_turn s w name at f o ≡ Some d → deed_of_turn s x name at f o ≡ Some d
+turn_alike : (s : Setting) (w x : World) (name : StepName) (at : Location) (f : Frame) (o : Outcome) (d : Effect) → ((key : Key) → touches_key d.fact key ≡ true → x.items key ≡ w.items key) → effect_of_turn s w name at f o ≡ Some d → effect_of_turn s x name at f o ≡ Some d
 turn_alike s w x name at f (outcome.Next g) d a h = h
 turn_alike s w x name at f (outcome.Fork g branches) d a h = h
 turn_alike s w x name at f (outcome.Call c) d a h =
-    let m = map_some (λ (work : Work). call_deed name at.0 work f (table.in_form s.table s.schema w.items c)) (work_of at.1) d h in
+    let m = map_some (λ (work : Work). call_effect name at.0 work f (table.in_form s.table s.schema w.items c)) (work_of at.1) d h in
     let e = m.1 in
     rw e (ap Some (call_alike name at.0 m.0 f w x d a c.request (table.key_asked s.table s.schema c) m.2))
 
-kids_alike : (w x : World) (t : Thread) (f : Frame) (n : ℕ) (d : Deed) → Agree w x d → d.fact.name ≡ next_step t f → is_close d.fact.kind ≡ true → kids x t f n ≡ kids w t f n
+kids_alike : (w x : World) (t : Thread) (f : Frame) (n : ℕ) (d : Effect) → Agree w x d → d.fact.name ≡ next_step t f → is_close d.fact.kind ≡ true → kids x t f n ≡ kids w t f n
 kids_alike w x t f n d a named close = ap (λ (g : ℕ → Option Frame). map g (range_with_len 0 n)) (fun_ext (λ i. a.closed (child_of t f.count i) (closed i)))
   where
     no : d.fact.name.no - 1 ≡ f.count
@@ -167,7 +167,7 @@ kids_alike w x t f n d a named close = ap (λ (g : ℕ → Option Frame). map g 
         rw (close, u) refl
 
 -- a thread that has made no move waits in both worlds or in none, under one bound
-module _ (w x : World) (t : Thread) (f : Frame) (d : Deed) (a : Agree w x d) (named : d.fact.name ≡ next_step t f) (bound : d.fact.bound ≡ first_bound w.frames t f) where
+module _ (w x : World) (t : Thread) (f : Frame) (d : Effect) (a : Agree w x d) (named : d.fact.name ≡ next_step t f) (bound : d.fact.bound ≡ first_bound w.frames t f) where
   own_thread : d.fact.name.thread ≡ t
   own_thread = ap (λ (n : StepName). n.thread) named
 
@@ -226,58 +226,58 @@ module _ (w x : World) (t : Thread) (f : Frame) (d : Deed) (a : Agree w x d) (na
       by None e k = rw (k, e) refl
       by (Some b) e k = let g = begin_alike b e k in rw (k, e) (ap not g)
 
-phase_alike : (s : Setting) (w x : World) (t : Thread) (at : Standing) (f : Frame) (p : Phase) (d : Deed) → Agree w x d → d.fact.name ≡ next_step t f → deed_in s w t at f p ≡ Some d → deed_in s x t at f p ≡ Some d
+phase_alike : (s : Setting) (w x : World) (t : Thread) (at : Location) (f : Frame) (p : Phase) (d : Effect) → Agree w x d → d.fact.name ≡ next_step t f → effect_in s w t at f p ≡ Some d → effect_in s x t at f p ≡ Some d
 phase_alike s w x t at f Ready d a named h =
-    let k = turn_told w.frames t f (deed_of_turn s w (next_step t f) at f (turn at f)) d h in
-    let bound : d.fact.bound ≡ first_bound w.frames t f = subst (λ (e : Deed). e.fact.bound ≡ first_bound w.frames t f) k.told refl in
-    let items : (key : Key) → touches_key k.deed.fact key ≡ true → x.items key ≡ w.items key = λ key j. a.item key (subst (λ (e : Deed). touches_key e.fact key ≡ true) k.told j) in
-    let again = turn_alike s w x (next_step t f) at f (turn at f) k.deed items k.is in
+    let k = turn_told w.frames t f (effect_of_turn s w (next_step t f) at f (turn at f)) d h in
+    let bound : d.fact.bound ≡ first_bound w.frames t f = subst (λ (e : Effect). e.fact.bound ≡ first_bound w.frames t f) k.told refl in
+    let items : (key : Key) → touches_key k.effect_of.fact key ≡ true → x.items key ≡ w.items key = λ key j. a.item key (subst (λ (e : Effect). touches_key e.fact key ≡ true) k.told j) in
+    let again = turn_alike s w x (next_step t f) at f (turn at f) k.effect_of items k.is in
     let begun : waits x.frames t f ≡ false = waits_alike w x t f d a named bound ∙ k.begins in
-    turn_goes x.frames t f (deed_of_turn s x (next_step t f) at f (turn at f)) begun
-    ∙ ap₂ (λ (n : ℕ) (o : Option Deed). option_map (bounded n) o) (bound_alike w x t f d a named bound) again
+    turn_goes x.frames t f (effect_of_turn s x (next_step t f) at f (turn at f)) begun
+    ∙ ap₂ (λ (n : ℕ) (o : Option Effect). option_map (bounded n) o) (bound_alike w x t f d a named bound) again
     ∙ ap Some k.told
 phase_alike s w x t at f (Parked n m) d a named h =
     let c = close_move (next_step t f) at f (first_fault (kids w t f n)) (outputs (kids w t f n)) d h in
-    ap (deed_over (next_step t f) at f) (kids_alike w x t f n d a c.0.named c.1) ∙ h
+    ap (effect_over (next_step t f) at f) (kids_alike w x t f n d a c.0.named c.1) ∙ h
 phase_alike s w x t at f (Done output) d a named h = cc
 phase_alike s w x t at f (Failed fault) d a named h = cc
 
-frame_alike : (s : Setting) (w x : World) (t : Thread) (f : Frame) (d : Deed) → Agree w x d → frame_deed s w t f ≡ Some d → frame_deed s x t f ≡ Some d
+frame_alike : (s : Setting) (w x : World) (t : Thread) (f : Frame) (d : Effect) → Agree w x d → frame_effect s w t f ≡ Some d → frame_effect s x t f ≡ Some d
 frame_alike s w x t f d a h =
-    let k = and_then_some (λ at. deed_in s w t at f f.phase) (stands s f) d h in
+    let k = and_then_some (λ at. effect_in s w t at f f.phase) (stands s f) d h in
     let e = k.1 in
     rw e (phase_alike s w x t k.0 f f.phase d a (frame_move s w t f d h).named k.2)
 
-deed_alike : (s : Setting) (w x : World) (step : Step) (d : Deed) → Agree w x d → d.fact.name ≡ name_of step → deed s w step ≡ Some d → deed s x step ≡ Some d
-deed_alike s w x (started exec machine input) d a named h =
+effect_alike : (s : Setting) (w x : World) (step : Step) (d : Effect) → Agree w x d → d.fact.name ≡ name_of step → effect_of s w step ≡ Some d → effect_of s x step ≡ Some d
+effect_alike s w x (started exec machine input) d a named h =
     let own : x.frames (execution exec) ≡ w.frames (execution exec) = subst (λ (n : StepName). x.frames n.thread ≡ w.frames n.thread) named a.own in
-    ap (λ (o : Option Frame). cond (is_some o) None (option_map (λ m. deed_of Start (start_name exec) (first_frame machine m input)) (s.machines machine))) own ∙ h
-deed_alike s w x (moved name) d a named h =
-    let k = and_then_some (if_numbered name.no) (move_deed s w name.thread) d h in
+    ap (λ (o : Option Frame). cond (is_some o) None (option_map (λ m. own_effect Start (start_name exec) (first_frame machine m input)) (s.machines machine))) own ∙ h
+effect_alike s w x (moved name) d a named h =
+    let k = and_then_some (if_numbered name.no) (move_effect s w name.thread) d h in
     let n = numbered k.0 d name.no k.2 in
-    let f = and_then_some (frame_deed s w name.thread) (w.frames name.thread) k.0 k.1 in
+    let f = and_then_some (frame_effect s w name.thread) (w.frames name.thread) k.0 k.1 in
     let own : x.frames name.thread ≡ Some f.0 = subst (λ (n : StepName). x.frames n.thread ≡ w.frames n.thread) named a.own ∙ f.1 in
-    let again : frame_deed s x name.thread f.0 ≡ Some d = frame_alike s w x name.thread f.0 d a (f.2 ∙ ap Some n.1) in
-    rw (own, again) (subst (λ (e : Deed). if_numbered name.no e ≡ Some d) n.1 k.2)
+    let again : frame_effect s x name.thread f.0 ≡ Some d = frame_alike s w x name.thread f.0 d a (f.2 ∙ ap Some n.1) in
+    rw (own, again) (subst (λ (e : Effect). if_numbered name.no e ≡ Some d) n.1 k.2)
 
-kept_alike : (w x : World) (d : Deed) → Agree w x d → kept x d.fact ≡ kept w d.fact
+kept_alike : (w x : World) (d : Effect) → Agree w x d → kept x d.fact ≡ kept w d.fact
 kept_alike w x d a =
     let below : (λ t. cond (closes d.fact t) (x.frames t) None) ≡ (λ t. cond (closes d.fact t) (w.frames t) None) =
     fun_ext (λ t. by_bool (closes d.fact t) (cond (closes d.fact t) (x.frames t) None ≡ cond (closes d.fact t) (w.frames t) None) (λ k. rw k (a.closed t k)) (λ k. rw k refl)) in
-    ap₂ (λ (f : Option Frame) (i : Option Attributes). let k : Kept = record { frame = f; item = i; below = λ t. cond (closes d.fact t) (x.frames t) None } in k) a.own (by_access d.fact.access (λ key h. a.item key h))
-    ∙ ap (λ (g : Thread → Option Frame). let k : Kept = record { frame = w.frames d.fact.name.thread; item = item_written w.items d.fact.access; below = g } in k) below
+    ap₂ (λ (f : Option Frame) (i : Option Attributes). let k : SavedState = record { frame = f; item = i; below = λ t. cond (closes d.fact t) (x.frames t) None } in k) a.own (by_access d.fact.access (λ key h. a.item key h))
+    ∙ ap (λ (g : Thread → Option Frame). let k : SavedState = record { frame = w.frames d.fact.name.thread; item = item_written w.items d.fact.access; below = g } in k) below
   where
     by_access : (access : Option Access) → ((key : Key) → is_of_key access key ≡ true → x.items key ≡ w.items key) → item_written x.items access ≡ item_written w.items access
     by_access None h = refl
     by_access (Some b) h = by_bool (is_write b.mode) _ (λ k. rw k (h b.key (key_itself b.key))) (λ k. rw k refl)
 
 module _ (s : Setting) (base : World) (none : HasNoFrames base) where
-  local : (w x : World) (step : Step) (d : Deed) → IsReached (steps s) base w → deed s w step ≡ Some d → ((c : Cell) → touches d c ≡ true → at x c ≡ at w c) → (deed s x step ≡ Some d) × (kept x d.fact ≡ kept w d.fact)
+  local : (w x : World) (step : Step) (d : Effect) → IsReached (steps s) base w → effect_of s w step ≡ Some d → ((c : Cell) → touches d c ≡ true → at x c ≡ at w c) → (effect_of s x step ≡ Some d) × (kept x d.fact ≡ kept w d.fact)
   local w x step d r h a =
       let agree = agree_at w x d a in
-      (deed_alike s w x step d agree (planned s w step d h).0 h, kept_alike w x d agree)
+      (effect_alike s w x step d agree (planned s w step d h).0 h, kept_alike w x d agree)
 
-  restores : (w u : World) (step : Step) (d : Deed) (c : Cell) → IsReached (steps s) base w → deed s w step ≡ Some d → at (undo u d.fact (kept w d.fact)) c ≡ cond (writes d c) (at w c) (at u c)
+  restores : (w u : World) (step : Step) (d : Effect) (c : Cell) → IsReached (steps s) base w → effect_of s w step ≡ Some d → at (undo u d.fact (kept w d.fact)) c ≡ cond (writes d c) (at w c) (at u c)
   restores w u step d (frame_at t) r h =
       by_bool (is_same_thread d.fact.name.thread t) _
       (λ k. rw k (ap (λ (x : Thread). a_frame (w.frames x)) (thread_same d.fact.name.thread t k)))
@@ -314,7 +314,7 @@ no_conflict (Some a) (Some b) key h = (
         let k = sym both ∙ h in
         cc
 
-module _ (w : World) (d e : Deed) (first : IsPlanned w d) (second : IsPlanned (carried_out w d) e) (fine : Good (carried_out w d)) (free : depends_directly d.fact e.fact ≡ false) where
+module _ (w : World) (d e : Effect) (first : IsPlanned w d) (second : IsPlanned (after_effect w d) e) (fine : Good (after_effect w d)) (free : depends_directly d.fact e.fact ≡ false) where
   no_thread : is_same_thread d.fact.name.thread e.fact.name.thread ≡ false
   no_thread = (or_parts (is_same_thread d.fact.name.thread e.fact.name.thread) _ free).0
 
@@ -347,7 +347,7 @@ module _ (w : World) (d e : Deed) (first : IsPlanned w d) (second : IsPlanned (c
   -- the later doesn't reach the earlier one's thread: a join by independence, and a fork is of no thread that is parked there
   not_backward : reaches e.fact d.fact.name.thread ≡ true → ⊥
   not_backward h = elim (either (makes e.fact d.fact.name.thread) (closes e.fact d.fact.name.thread) h) [
-    | inl k ↦ none_yet (carried_out w d) e d.fact.name.thread d.frame fine second k (frame_own w d d.fact.name.thread (thread_itself d.fact.name.thread))
+    | inl k ↦ none_yet (after_effect w d) e d.fact.name.thread d.frame fine second k (frame_own w d d.fact.name.thread (thread_itself d.fact.name.thread))
     | inr k ↦ (let clash = sym k ∙ no_closed in cc)
   ]
 
@@ -437,7 +437,7 @@ not_under_sibling over t n i j k e h =
       | inr x ↦ never_under_itself t k (under_under t over t n k under x)
     ]
 
-module _ (w : World) (d e : Deed) (first : IsPlanned w d) (second : IsPlanned (carried_out w d) e) (fine : Good (carried_out w d)) (free : depends_directly d.fact e.fact ≡ false) where
+module _ (w : World) (d e : Effect) (first : IsPlanned w d) (second : IsPlanned (after_effect w d) e) (fine : Good (after_effect w d)) (free : depends_directly d.fact e.fact ≡ false) where
   abbrev forward : reaches d.fact e.fact.name.thread ≡ true → ⊥
   forward = not_forward w d e first second fine free
 
@@ -460,8 +460,8 @@ module _ (w : World) (d e : Deed) (first : IsPlanned w d) (second : IsPlanned (c
       ]
 
   -- the thread that forked the later one's is parked since then
-  parked_over : (over : Thread) (n i : ℕ) → e.fact.name.thread ≡ child_of over n i → ParkedAt (carried_out w d) over n
-  parked_over over n i c = over_own (carried_out w d) e over n fine second (subst (λ u. is_under u over n ≡ true) (sym c) (child_is_under over n i))
+  parked_over : (over : Thread) (n i : ℕ) → e.fact.name.thread ≡ child_of over n i → ParkedAt (after_effect w d) over n
+  parked_over over n i c = over_own (after_effect w d) e over n fine second (subst (λ u. is_under u over n ≡ true) (sym c) (child_is_under over n i))
 
   -- the earlier wrote neither that thread's frame nor a branch for which the later waited
   later_looks : (t : Thread) → (is_same_thread d.fact.name.thread t || reaches d.fact t) ≡ true → looks e.fact t ≡ true → ⊥
@@ -479,7 +479,7 @@ module _ (w : World) (d e : Deed) (first : IsPlanned w d) (second : IsPlanned (c
           made : d.fact.name.thread ≡ over → ⊥
           made own =
               let p = parked_over over n i c in
-              let same : d.frame ≡ p.frame = same_frame (carried_out w d) over d.frame p.frame (subst (λ u. (carried_out w d).frames u ≡ Some d.frame) own (frame_own w d d.fact.name.thread (thread_itself d.fact.name.thread))) p.stands in
+              let same : d.frame ≡ p.frame = same_frame (after_effect w d) over d.frame p.frame (subst (λ u. (after_effect w d).frames u ≡ Some d.frame) own (frame_own w d d.fact.name.thread (thread_itself d.fact.name.thread))) p.stands in
               let fork : is_fork d.fact.kind ≡ true = first.forks (subst (λ (f : Frame). is_parked f.phase ≡ true) (sym same) p.waits) in
               let no : d.fact.name.no ≡ n = sym first.count ∙ ap (λ (f : Frame). f.count) same ∙ p.count in
               let under : is_under e.fact.name.thread d.fact.name.thread d.fact.name.no ≡ true =
@@ -503,14 +503,14 @@ module _ (w : World) (d e : Deed) (first : IsPlanned w d) (second : IsPlanned (c
     where
       at_fork : (over : Thread) (n i : ℕ) → d.fact.name.thread ≡ child_of over n i → (is_same_thread e.fact.name.thread over || reaches e.fact over) ≡ true → ⊥
       at_fork over n i c j = elim (either (is_same_thread e.fact.name.thread over) (reaches e.fact over) j) [
-        | inl a ↦ backward (closes_it (carried_out w d) e over d.fact.name.thread n second (thread_same e.fact.name.thread over a) parked under)
+        | inl a ↦ backward (closes_it (after_effect w d) e over d.fact.name.thread n second (thread_same e.fact.name.thread over a) parked under)
         | inr a ↦ backward (reaches_too e.fact over d.fact.name.thread n i c a)
       ]
         where
           under : is_under d.fact.name.thread over n ≡ true
           under = subst (λ u. is_under u over n ≡ true) (sym c) (child_is_under over n i)
 
-          parked : ParkedAt (carried_out w d) over n
+          parked : ParkedAt (after_effect w d) over n
           parked = fine.over over d.fact.name.thread n d.frame under (frame_own w d d.fact.name.thread (thread_itself d.fact.name.thread))
 
       at_branch : (over : Thread) (n i j : ℕ) → d.fact.name.thread ≡ child_of over n i → 0 < d.fact.bound → j + d.fact.bound ≤ i → t ≡ child_of over n j → awaited_by d.fact t ≡ Some [] → ⊥
@@ -530,19 +530,19 @@ module _ (w : World) (d e : Deed) (first : IsPlanned w d) (second : IsPlanned (c
 
           ended : e.fact.name.thread ≡ t → ⊥
           ended own =
-              let there : (carried_out w d).frames t ≡ w.frames t = frame_other w d t apart_own unreached in
-              let done : frame_is is_done ((carried_out w d).frames e.fact.name.thread) ≡ true = ap (λ u. frame_is is_done ((carried_out w d).frames u)) own ∙ ap (frame_is is_done) there ∙ first.awaits t await in
-              by ((carried_out w d).frames e.fact.name.thread) refl done
+              let there : (after_effect w d).frames t ≡ w.frames t = frame_other w d t apart_own unreached in
+              let done : frame_is is_done ((after_effect w d).frames e.fact.name.thread) ≡ true = ap (λ u. frame_is is_done ((after_effect w d).frames u)) own ∙ ap (frame_is is_done) there ∙ first.awaits t await in
+              by ((after_effect w d).frames e.fact.name.thread) refl done
             where
-              by : (o : Option Frame) → (carried_out w d).frames e.fact.name.thread ≡ o → frame_is is_done o ≡ true → ⊥
+              by : (o : Option Frame) → (after_effect w d).frames e.fact.name.thread ≡ o → frame_is is_done o ≡ true → ⊥
               by None q y = cc
               by (Some f) q y = let n = second.goes f q in let clash = sym y ∙ n in cc
 
-apart : (s : Setting) (base : World) → HasNoFrames base → (w : World) (a b : Step) (d e : Deed) (c : Cell) → IsReached (steps s) base w → deed s w a ≡ Some d → deed s (carried_out w d) b ≡ Some e → depends_directly d.fact e.fact ≡ false
+apart : (s : Setting) (base : World) → HasNoFrames base → (w : World) (a b : Step) (d e : Effect) (c : Cell) → IsReached (steps s) base w → effect_of s w a ≡ Some d → effect_of s (after_effect w d) b ≡ Some e → depends_directly d.fact e.fact ≡ false
     → (writes d c ≡ true → touches e c ≡ true → ⊥) × (writes e c ≡ true → touches d c ≡ true → ⊥)
 apart s base none w a b d e (frame_at t) r h k free =
     let p = (planned s w a d h).1 in
-    let q = (planned s (carried_out w d) b e k).1 in
+    let q = (planned s (after_effect w d) b e k).1 in
     let fine = good_after w d (good s base w none r) p in
     let clash = apart_at w d e p q fine free t in (
       λ i j. elim (either (is_same_thread e.fact.name.thread t || reaches e.fact t) (looks e.fact t) j) [ inl x ↦ clash i x | inr x ↦ later_looks w d e p q fine free t i x ],
@@ -550,13 +550,13 @@ apart s base none w a b d e (frame_at t) r h k free =
     )
 apart s base none w a b d e (item_at key) r h k free =
     let p = (planned s w a d h).1 in
-    no_conflict d.fact.access e.fact.access key (no_item w d e p (planned s (carried_out w d) b e k).1 (good_after w d (good s base w none r) p) free)
+    no_conflict d.fact.access e.fact.access key (no_item w d e p (planned s (after_effect w d) b e k).1 (good_after w d (good s base w none r) p) free)
 
 pub footprints : (s : Setting) (base : World) → HasNoFrames base → HasFootprints (steps s) (plans s) base
 footprints s base none = record { planned = λ w n. refl; effect = effect; within = within; local = local s base none; restores = restores s base none; apart = apart s base none; same = same }
 
-pub steps_are_lawful : StepsAreLawful
-steps_are_lawful s base from = lawful_from (steps s) from.0 base from.2 (plans_are_lawful (steps s) (plans s) from.0 (footprints s from.0 from.1))
+pub steps_are_reversible : StepsAreReversible
+steps_are_reversible s base from = reversible_from (steps s) from.0 base from.2 (plans_are_reversible (steps s) (plans s) from.0 (footprints s from.0 from.1))
 
 -- a world without executions is reached from itself
 pub from_none : (s : Setting) (base : World) → HasNoFrames base → IsFrom s base

@@ -1,7 +1,0 @@
-use Rattle.depends.proofs.Consequences.{runs_are_seen}
-use Rattle.depends.proofs.Lawful as law
-use Rattle.depends.proofs.Named.{steps_have_names}
-use Rattle.depends.proofs.laws.steps_are_lawful.Goals as goal
-
-pub returns : goal.returns
-returns c = record { lawful = law.steps_are_lawful; names = steps_have_names; runs = runs_are_seen }
