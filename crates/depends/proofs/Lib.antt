@@ -4,7 +4,8 @@ pub mod Awaited
 pub mod Turned
 pub mod Planned
 pub mod Worlds
-pub mod Lawful
+pub mod Reversible
 pub mod Named
 pub mod Consequences
 pub mod Extended
+pub mod Reasoned

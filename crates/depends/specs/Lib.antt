@@ -2,6 +2,7 @@ pub mod Dependence
 pub mod Instance
 pub mod Laws
 pub mod Plans
+pub mod Reasons
 pub mod Rows
 -- what stands below and is named by the crates above
 pub use Rattle.saved_steps.specs.Turn
@@ -10,9 +11,9 @@ pub use Rattle.saved_steps.specs.Frame
 pub use Rattle.saved_steps.specs.Phase
 pub use Rattle.saved_steps.specs.Ready
 pub use Rattle.saved_steps.specs.Readiness
-pub use Rattle.saved_steps.specs.Deeds
+pub use Rattle.saved_steps.specs.Effects
 pub use Rattle.saved_steps.specs.Held
-pub use Rattle.saved_steps.specs.Keeping
+pub use Rattle.saved_steps.specs.Saving
 pub use Rattle.saved_steps.specs.Run
 pub use Rattle.saved_steps.specs.Steps
 pub use Rattle.saved_steps.specs.World

@@ -24,7 +24,7 @@ pub fn depends(earlier: &Fact, later: &Fact) -> bool
 }
 
 /// Whether a step is the start of a thread's execution.
-fn begins(fact: &Fact, thread: &ThreadName) -> bool
+pub(crate) fn begins(fact: &Fact, thread: &ThreadName) -> bool
     ensures { result ≡ begins fact.now thread.now }
 {
     match fact.kind {
@@ -34,7 +34,7 @@ fn begins(fact: &Fact, thread: &ThreadName) -> bool
 }
 
 /// Whether a step is a fork that a thread lies under.
-fn makes(fact: &Fact, thread: &ThreadName) -> bool
+pub(crate) fn makes(fact: &Fact, thread: &ThreadName) -> bool
     ensures { result ≡ makes fact.now thread.now }
 {
     match fact.kind {
@@ -44,7 +44,7 @@ fn makes(fact: &Fact, thread: &ThreadName) -> bool
 }
 
 /// Whether a step closes a fork that a thread lies under.
-fn closes(fact: &Fact, thread: &ThreadName) -> bool
+pub(crate) fn closes(fact: &Fact, thread: &ThreadName) -> bool
     ensures { result ≡ closes fact.now thread.now }
 {
     match fact.kind {
@@ -57,7 +57,7 @@ fn closes(fact: &Fact, thread: &ThreadName) -> bool
 }
 
 /// Whether a thread is a branch for which a first move waited, or lies under one.
-fn awaits(fact: &Fact, thread: &ThreadName) -> bool
+pub(crate) fn awaits(fact: &Fact, thread: &ThreadName) -> bool
     ensures { result ≡ awaits fact.now thread.now }
 {
     if fact.bound == 0 || fact.name.thread.exec() != thread.exec() {
@@ -83,7 +83,7 @@ fn is_awaited(bound: u32, branch: &[(u32, u32)], path: &[(u32, u32)]) -> bool
 }
 
 /// Whether two accesses are of one key, and not both reads.
-fn conflict(earlier: &Option<Access>, later: &Option<Access>) -> bool
+pub(crate) fn conflict(earlier: &Option<Access>, later: &Option<Access>) -> bool
     ensures { result ≡ conflicts earlier.now later.now }
 {
     match (earlier, later) {

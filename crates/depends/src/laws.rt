@@ -3,11 +3,12 @@
 //! They are of runs: lists of steps that were taken one after another from a world without executions, or from one that such a
 //! run reaches, each with its fact and with what it kept (`specs/Instance.antt`, over the definitions of the theory of commuting steps).
 
-ghost use Rattle.depends.specs.Laws.{RunsAreSeen, StepsAreLawful, StepsHaveNames, StepsSwap, StepsUndo, ConsequencesAreLeast, UndoOrdersAgree, StepArrangementsAgree, HeldStepsAreLeft, PlansAreConsequences, FreeStepsHaveNoDependent};
+ghost use Rattle.depends.specs.Reasons.{ReasonsAreDependences};
+ghost use Rattle.depends.specs.Laws.{RunsAreSeen, StepsAreReversible, StepsHaveNames, StepsSwap, StepsUndo, ConsequencesAreLeast, UndoOrdersAgree, StepLinearizationsAgree, HeldStepsAreLeft, PlansAreConsequences, FreeStepsHaveNoDependent};
 
 /// Steps commute where they do not depend on each other, in every world that a run reaches; and a run has each name once.
-pub fn steps_are_lawful()
-    ensures lawful { StepsAreLawful }
+pub fn steps_are_reversible()
+    ensures lawful { StepsAreReversible }
     ensures names { StepsHaveNames }
     ensures runs { RunsAreSeen }
 {}
@@ -34,10 +35,10 @@ pub fn orders_undo()
     ensures { UndoOrdersAgree }
 {}
 
-/// Every arrangement of a run that keeps directly dependent steps in their order can be run, to the same world, and name by name
+/// Every linearization of a run that keeps directly dependent steps in their order can be run, to the same world, and name by name
 /// with the same facts and the same kept.
-pub fn arrangements_agree()
-    ensures { StepArrangementsAgree }
+pub fn linearizations_agree()
+    ensures { StepLinearizationsAgree }
 {}
 
 /// What is left of held consequences goes down by one with each undoing of a member, and by nothing else that may happen.
@@ -49,4 +50,9 @@ pub fn held_consequences_are_left()
 pub fn plans_are_consequences()
     ensures plan { PlansAreConsequences }
     ensures first { FreeStepsHaveNoDependent }
+{}
+
+/// A step depends directly on an earlier one just where there is a reason why.
+pub fn reasons_are_dependences()
+    ensures { ReasonsAreDependences }
 {}

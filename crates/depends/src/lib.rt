@@ -5,13 +5,16 @@ mod depend;
 mod laws;
 mod places;
 mod planning;
+mod reason;
 
 pub use depend::{depends, first_dependent};
 pub use laws::{
-    arrangements_agree, consequences_are_least, free_steps_undo, held_consequences_are_left,
-    neighbours_swap, orders_undo, plans_are_consequences, steps_are_lawful,
+    consequences_are_least, free_steps_undo, held_consequences_are_left, linearizations_agree,
+    neighbours_swap, orders_undo, plans_are_consequences, reasons_are_dependences,
+    steps_are_reversible,
 };
 pub use places::Plan;
 pub use planning::{depends_on_some, plan};
+pub use reason::{Reason, reason_of};
 pub use saved_steps as steps;
 pub use saved_steps::{branches as branches, turns as turns};
