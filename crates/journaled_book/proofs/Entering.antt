@@ -1,5 +1,5 @@
 -- What comes of a command that was made ready and entered.
-use Rattle.std.proofs.Common.{rules, ◌≡◌, ℕ, List, Option, None, Some, Result, Ok, Err, refl, sym, ap, subst, tt, ◌∙◌}
+use Rattle.std.proofs.Common.{rules, ◌≡◌, ℕ, List, Option, None, Some, Result, Ok, Err, refl, sym, ap, subst, ◌∙◌}
 use Rattle.std.specs.Prelude.{IfSome, IsOk, IsSome}
 use Rattle.serde_json.specs.Data as source
 use Rattle.sqlite.specs.State.{State}

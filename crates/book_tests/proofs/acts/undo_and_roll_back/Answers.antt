@@ -10,8 +10,8 @@ use Rattle.book_tests.proofs.acts.undo_and_roll_back.Goals as goal
 
 -- what was planned before an undoing, whether it was refused or not
 planned_before : {T E : Type 0} (result : Result T E) (old new : Log) (name : StepName) (r : PlanRoom) → IsPlanned old r → OnOk result (new ≡ appended old (Undo name)) → OnErr result (new ≡ old) → WasPlanned new r
-planned_before (Ok x) old new name r planned ok err = subst (λ (s : Log). WasPlanned s r) (sym ok) (record { front = old.log; later = Undo name ∷ []; parts = refl; planned = planned })
-planned_before (Err e) old new name r planned ok err = subst (λ (s : Log). WasPlanned s r) (sym err) (record { front = old.log; later = []; parts = sym (append-nil old.log); planned = planned })
+planned_before (Ok x) old new name r planned ok err = subst (λ (s : Log). WasPlanned s r) (sym ok) (record { front = old.entries; later = Undo name ∷ []; parts = refl; planned = planned })
+planned_before (Err e) old new name r planned ok err = subst (λ (s : Log). WasPlanned s r) (sym err) (record { front = old.entries; later = []; parts = sym (append-nil old.entries); planned = planned })
 
 pub rollback-requires : goal.rollback-requires
 rollback-requires c = planned_before c.undo.result _ _ _ c.in-Ok.plan c.in-Ok.ensures.1 c.undo.ensures.ok c.undo.ensures.err
