@@ -36,6 +36,8 @@ CALLS = (
     "define", "table", "start", "step", "drive", "work", "undo", "plan", "rollback", "show", "items", "history", "settle", "hold", "held",
 )  # fmt: skip
 SUFFIXES = "Refusal|Fault|Reason|Staleness|Cause|Error"
+# why a step depends on another is no refusal
+NO_REFUSAL = {"depends::Reason"}
 
 
 # ---- how variants are met
@@ -126,8 +128,8 @@ WAYS = {
     "journaled_book::OpenFault::Journal": test("journal_tests", r"OpenFault::Journal"),
     "journaled_book::BeginRefusal::Item": line("23 1"),
     "journaled_book::BeginRefusal::Journal": line("24", "table"),
-    "journaled_book::ChangeFault::Book": line("1"),
-    "journaled_book::ChangeFault::Journal": line("24", "step"),
+    "journaled_book::EntryFault::Book": line("1"),
+    "journaled_book::EntryFault::Journal": line("24", "step"),
     "json_tree::ChangeFault::Absent": value(r"change .* \| remove b \| remove b", "absent.*"),
     "json_tree::JsonFault::NotJson": line("25 1"),
     "json_tree::JsonFault::NotWhole": line("25 2"),
@@ -147,11 +149,11 @@ WAYS = {
     "rollback_book::Staleness::NotReady": test("book_tests", r'want: "waiting"'),
     "rollback_book::Staleness::Moved": test("book_tests", r'want: "moved 1"'),
     "rollback_book::Staleness::Other": test("book_tests", r'want: "other"'),
-    "rollback_run::Fault::Damaged": end("rollback: damaged "),
-    "rollback_run::Fault::Gap": end("rollback: gap "),
-    "rollback_run::Fault::Store": end("rollback: store"),
-    "rollback_run::Fault::Input": end("rollback: input"),
-    "rollback_run::Fault::Output": end("rollback: output"),
+    "rollback_run::ExitCause::Damaged": end("rollback: damaged "),
+    "rollback_run::ExitCause::Gap": end("rollback: gap "),
+    "rollback_run::ExitCause::Store": end("rollback: store"),
+    "rollback_run::ExitCause::Input": end("rollback: input"),
+    "rollback_run::ExitCause::Output": end("rollback: output"),
     "rollback_run::ModeRefusal::Shown": words("--help"),
     "rollback_run::ModeRefusal::Usage": end("usage: rollback "),
     "shared_book::SharedRefusal::ForeignPass": never(FOREIGN),
@@ -325,6 +327,8 @@ def variants():
     for crate in libraries():
         for path in sorted((TOP / "crates" / crate / "src").glob("*.rt")):
             for name, body in re.findall(rf"^pub enum (\w*(?:{SUFFIXES}))\b[^\n]*\{{\n(.*?)^\}}", path.read_text(), re.M | re.S):
+                if f"{crate}::{name}" in NO_REFUSAL:
+                    continue
                 for variant in re.findall(r"^    (\w+)(?=[({, ]|$)", body, re.M):
                     yield f"{crate}::{name}::{variant}"
 
