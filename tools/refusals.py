@@ -78,6 +78,11 @@ def test(crate, text):
     return ("test", crate, text)
 
 
+def picture(line):
+    """By a session of rows/graph with this line."""
+    return ("picture", line)
+
+
 def never(why):
     return ("never", why)
 
@@ -121,6 +126,8 @@ WAYS = {
     "book_rounds::RoundFault::NotBegun": ("growths",),
     "book_rounds::RoundFault::Lost": ("growths",),
     "command_lines::CommandFault::BadLine": line("20"),
+    "graph_run::AskRefusal::Shown": picture("$ (none) --help"),
+    "graph_run::AskRefusal::Usage": picture("$ --nothing"),
     "item_store::CallFault::Malformed": session("calls-of-no-form", VALIDATION),
     "item_store::CallFault::WrongTable": session("calls-of-another-table", 'ok failed "DynamoDB.ResourceNotFoundException" ""'),
     "item_store::CallFault::BadKey": session("calls-without-a-key", VALIDATION),
@@ -333,6 +340,18 @@ def variants():
                     yield f"{crate}::{name}::{variant}"
 
 
+def of_pictures(line):
+    """The first session of rows/graph that has a line."""
+    for path in sorted((TOP / "rows" / "graph").glob("*.txt")):
+        name = None
+        for row in path.read_text().splitlines():
+            if row.startswith("= "):
+                name = row[2:]
+            elif row == line:
+                return f"{path.relative_to(TOP)}: {name}"
+    return None
+
+
 class Places:
     """Where each variant is met."""
 
@@ -347,6 +366,8 @@ class Places:
             return words[0]
         if kind == "words":
             return self.shown.words.get(words[0])
+        if kind == "picture":
+            return of_pictures(*words)
         if kind == "value":
             return of_values(*words)
         if kind == "test":

@@ -33,6 +33,7 @@ part python3 tools/vocabulary.py
 part rt ci
 part python3 tools/rows.py
 part python3 tools/value_rows.py
+part python3 tools/graph_rows.py
 part python3 tools/drawn.py --sessions 400
 part python3 clients/python/tests
 part sh tools/docs.sh --replies

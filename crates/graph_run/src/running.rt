@@ -1,0 +1,121 @@
+// Answering a question from a journal, over any streams and any store.
+ghost use Rattle.std.specs.Prelude.{◌≡◌};
+ghost use Rattle.operator_line.specs.Serving.{WritesReply};
+ghost use Rattle.rollback_run.specs.Faults.{of_journal, of_open};
+ghost use Rattle.graph_run.specs.Status.{IsTold, status_of};
+
+use crate::asked::AskRefusal;
+use book_journal::{Journal, JournalFault};
+use graph_text::{Answer, Question, ask};
+use journaled_book::{JournaledBook, OpenFault};
+use operator_line::{ServeFault, flush, write_all};
+use rollback_run::{ExitCause, ModeRefusal, USAGE, finish};
+use sqlite::{Alter, Connection, Error};
+use std::alloc::{AllocError, Global};
+use std::io::Write;
+
+/// There is no answer: a sentence was written that says why.
+pub const ABSENT: u8 = 1;
+
+const USAGE_TEXT: &[u8] =
+    b"usage: rollback_graph FILE (--list | --plan STEP | --why STEP CONSEQUENCE | --dot [--from STEP])\n";
+
+/// Answers a question from the journal of this connection, and tells whether there was what was asked. The journal's lines stay as they are.
+/// Takes what opening it takes, and what [`ask`] takes.
+pub fn run<S: Alter + Drop, W: Write>(
+    alloc: Global,
+    question: &Question,
+    connection: Result<Connection<S>, Error>,
+    writer: &mut W,
+) -> Result<bool, ExitCause> {
+    let book = open(alloc, connection)?;
+    let answered = ask(alloc, book.book(), question);
+    drop(book);
+    match answered {
+        Ok(answer) => show_answer(answer, writer),
+        Err(AllocError) => Err(ExitCause::Memory),
+    }
+}
+
+/// Writes an answer, and tells whether it is what was asked.
+fn show_answer<W: Write>(answer: Answer, writer: &mut W) -> Result<bool, ExitCause> {
+    let Answer { page, is_found } = answer;
+    match show(writer, page.as_bytes()) {
+        Ok(()) => Ok(is_found),
+        Err(_) => Err(ExitCause::Output),
+    }
+}
+
+/// The program's status for a run that ended so. A fault is told on `faults`.
+pub fn status_of<W: Write>(outcome: Result<bool, ExitCause>, faults: &mut W) -> u8
+    ensures status { result ≡ status_of outcome }
+    ensures told { IsTold outcome (W.contents faults.old) (W.contents faults.new) }
+{
+    match outcome {
+        Ok(true) => finish(Ok(()), Ok(()), faults),
+        Ok(false) => ABSENT,
+        Err(fault) => finish(Err(fault), Ok(()), faults),
+    }
+}
+
+/// Tells why the words ask for nothing, and answers the program's status.
+pub fn refuse<W: Write, E: Write>(refusal: AskRefusal, writer: &mut W, faults: &mut E) -> u8 {
+    match refusal {
+        AskRefusal::Shown(text) => rollback_run::refuse(ModeRefusal::Shown(text), writer, faults),
+        AskRefusal::Usage => {
+            let _ = write_all(faults, USAGE_TEXT);
+            USAGE
+        }
+        AskRefusal::Memory => rollback_run::refuse(ModeRefusal::Memory, writer, faults),
+    }
+}
+
+/// Writes a text, which is at its place only once it is flushed.
+fn show<W: Write>(writer: &mut W, text: &[u8]) -> Result<(), ServeFault>
+    ensures { WritesReply result text.now (W.contents writer.old) (W.contents writer.new) }
+{
+    write_all(writer, text)?;
+    flush(writer)
+}
+
+// ---- the book
+
+fn open<S: Alter + Drop>(
+    alloc: Global,
+    connection: Result<Connection<S>, Error>,
+) -> Result<JournaledBook<S>, ExitCause> {
+    let connection = match connection {
+        Ok(connection) => connection,
+        Err(cause) => return Err(of_journal(JournalFault::from(cause))),
+    };
+    let journal = match Journal::open(connection) {
+        Ok(journal) => journal,
+        Err((fault, _)) => return Err(of_journal(fault)),
+    };
+    match JournaledBook::open(alloc, journal) {
+        Ok(book) => Ok(book),
+        Err((fault, _)) => Err(of_open(fault)),
+    }
+}
+
+/// How a refusal of the journal is told.
+fn of_journal(fault: JournalFault) -> ExitCause
+    ensures { result ≡ of_journal fault }
+{
+    match fault {
+        JournalFault::Store(_) => ExitCause::Store,
+        JournalFault::Gap(position) => ExitCause::Gap(position),
+        JournalFault::Memory => ExitCause::Memory,
+    }
+}
+
+/// How a journal is told that gives no book.
+fn of_open(fault: OpenFault) -> ExitCause
+    ensures { result ≡ of_open fault }
+{
+    match fault {
+        OpenFault::Damaged(line) => ExitCause::Damaged(line),
+        OpenFault::Journal(fault) => of_journal(fault),
+        OpenFault::Memory => ExitCause::Memory,
+    }
+}

@@ -1,0 +1,7 @@
+use Rattle.std.proofs.Common.{◌≡◌, ◌++◌, take}
+use Rattle.graph_text.specs.Quoting.{dot_text}
+use Rattle.graph_text.proofs.page.Page.dot.Given as goal
+
+-- the bytes so far stand quoted behind what stood there
+abbrev pub invariant-loop-byte : goal.invariant-loop-byte
+invariant-loop-byte l = l.self.bytes.items ≡ l.initial.self.bytes.items ++ dot_text (take l.byte-index l.byte-items)

@@ -1,0 +1,7 @@
+-- What a call does that writes on a page: where it succeeds it adds this text.
+use Rattle.std.specs.Prelude.{◌≡◌, ℕ, List, ◌++◌, Result, OnOk}
+use Rattle.std.specs.declared.alloc.AllocError.{AllocError}
+use Rattle.graph_text.specs.declared.page.Page.{Page}
+
+abbrev pub Writes : {T : Type 0} → Result T AllocError → Page → Page → List ℕ → Type 0
+Writes result old new text = OnOk result (new.bytes.items ≡ old.bytes.items ++ text)

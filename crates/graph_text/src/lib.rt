@@ -1,0 +1,15 @@
+#![tactic(auto)]
+
+//! What operators read of a book's dependences: lists, plans with their reasons, chains, and pictures.
+mod asking;
+mod chain;
+mod dot;
+mod listing;
+mod page;
+mod picture;
+mod planned;
+mod words;
+
+pub use asking::{Answer, Question, ask};
+pub use page::Page;
+pub use rollback_book as books;

@@ -1,0 +1,213 @@
+// A plan with its reasons: what a rollback takes back and why, what that gives back, and what is ready then.
+use crate::page::Page;
+use crate::picture::Picture;
+use crate::words::record_at;
+use item_store::AccessMode;
+use rollback_book::turns::{Frame, Phase};
+use rollback_book::{Fact, Saved, StepRecord, StepRecords};
+use std::alloc::{AllocError, Global};
+use std::collections::BTreeMap;
+use step_graph::{Edge, branch_of, thread_above};
+use step_names::ThreadName;
+
+/// The threads that a rollback gives back or takes away, with the frames that they have then.
+type Frames<'a> = BTreeMap<ThreadName, Option<&'a Frame>>;
+
+/// The plan of the step at a place. Takes time in the number of records and, logarithms aside, of the plan's steps and of what they
+/// hang on.
+pub(crate) fn tell_plan(
+    page: &mut Page,
+    alloc: Global,
+    records: &StepRecords,
+    at: usize,
+) -> Result<(), AllocError> {
+    if at >= records.len() {
+        return Ok(());
+    }
+    let plan = records.plan(alloc, at)?;
+    let picture = Picture::new(alloc, records, Some(at))?;
+    let reasons = nearest(alloc, &picture)?;
+    let mut frames = BTreeMap::new(alloc);
+    for place in plan.places() {
+        tell_step(page, alloc, records, *place, reasons.get(place).copied())?;
+        give_back(alloc, &mut frames, records, *place)?;
+    }
+    tell_ready(page, alloc, &frames)
+}
+
+/// Of each consequence the dependence on the latest step of the plan on which it hangs.
+fn nearest(alloc: Global, picture: &Picture) -> Result<BTreeMap<usize, Edge>, AllocError> {
+    let mut reasons = BTreeMap::new(alloc);
+    for edge in &picture.edges {
+        // (those of one step ascend by the earlier one)
+        if picture.is_marked(edge.earlier) {
+            reasons.insert(edge.later, *edge)?;
+        }
+    }
+    Ok(reasons)
+}
+
+// ---- a step
+
+fn tell_step(
+    page: &mut Page,
+    alloc: Global,
+    records: &StepRecords,
+    place: usize,
+    reason: Option<Edge>,
+) -> Result<(), AllocError> {
+    let Some(kept) = record_at(records, place) else {
+        return Ok(());
+    };
+    tell_cause(page, alloc, records, &kept.fact, reason)?;
+    page.word("; undone, ")?;
+    tell_saved(page, alloc, kept)?;
+    page.word("\n")
+}
+
+fn tell_cause(
+    page: &mut Page,
+    alloc: Global,
+    records: &StepRecords,
+    fact: &Fact,
+    reason: Option<Edge>,
+) -> Result<(), AllocError> {
+    let Some(edge) = reason else {
+        page.step(alloc, &fact.name)?;
+        return page.word(" is the step itself");
+    };
+    match record_at(records, edge.earlier) {
+        Some(earlier) => page.because(alloc, &earlier.fact, fact, edge.reason),
+        None => Ok(()),
+    }
+}
+
+/// What the undoing of a step gives back.
+fn tell_saved(page: &mut Page, alloc: Global, kept: &StepRecord) -> Result<(), AllocError> {
+    page.thread(alloc, &kept.fact.name.thread)?;
+    match &kept.saved {
+        Saved::Started => page.word(" goes"),
+        Saved::Framed(frame) => tell_frame(page, alloc, frame),
+        Saved::Called { frame, .. } => {
+            tell_frame(page, alloc, frame)?;
+            tell_item(page, alloc, kept)
+        }
+        Saved::Forked(frame) => {
+            tell_frame(page, alloc, frame)?;
+            page.word(", and its branches go")
+        }
+        Saved::Closed { frame, kids } => {
+            tell_frame(page, alloc, frame)?;
+            page.word(", with its branches: ")?;
+            page.number(kids.len() as u64)
+        }
+    }
+}
+
+fn tell_frame(page: &mut Page, alloc: Global, frame: &Frame) -> Result<(), AllocError> {
+    page.word(" is ")?;
+    page.frame(alloc, frame)
+}
+
+/// The item that a write's undoing gives back.
+fn tell_item(page: &mut Page, alloc: Global, kept: &StepRecord) -> Result<(), AllocError> {
+    let Some(access) = &kept.fact.access else {
+        return Ok(());
+    };
+    match (access.mode, &kept.saved) {
+        (AccessMode::Write, Saved::Called { old, .. }) => {
+            page.word(", and item ")?;
+            page.key(alloc, &access.key)?;
+            match old {
+                Some(item) => {
+                    page.word(" is ")?;
+                    page.item(alloc, item)
+                }
+                None => page.word(" isn't there"),
+            }
+        }
+        _ => Ok(()),
+    }
+}
+
+// ---- what is ready then
+
+/// Puts down what the undoing of the step at a place gives back and takes away. The steps come as they are undone, the latest first.
+fn give_back<'a>(
+    alloc: Global,
+    frames: &mut Frames<'a>,
+    records: &'a StepRecords,
+    place: usize,
+) -> Result<(), AllocError> {
+    let Some(kept) = record_at(records, place) else {
+        return Ok(());
+    };
+    let thread = kept.fact.name.thread.copy()?;
+    match &kept.saved {
+        Saved::Started => {
+            frames.insert(thread, None)?;
+        }
+        Saved::Framed(frame) | Saved::Forked(frame) | Saved::Called { frame, .. } => {
+            frames.insert(thread, Some(frame))?;
+        }
+        Saved::Closed { frame, .. } => {
+            frames.insert(thread, Some(frame))?;
+            give_branches(alloc, frames, kept)?;
+        }
+    }
+    Ok(())
+}
+
+/// Puts down the branches that the undoing of a join or a terminate gives back.
+fn give_branches<'a>(
+    alloc: Global,
+    frames: &mut Frames<'a>,
+    kept: &'a StepRecord,
+) -> Result<(), AllocError> {
+    let Saved::Closed { kids, .. } = &kept.saved else {
+        return Ok(());
+    };
+    let name = &kept.fact.name;
+    let fork = name.no.saturating_sub(1);
+    let mut index: u32 = 0;
+    for kid in kids {
+        if let Some(branch) = branch_of(alloc, &name.thread, fork, index)? {
+            frames.insert(branch, Some(kid.frame()))?;
+        }
+        index = index.saturating_add(1);
+    }
+    Ok(())
+}
+
+/// The threads that stand before a state again.
+fn tell_ready(page: &mut Page, alloc: Global, frames: &Frames<'_>) -> Result<(), AllocError> {
+    page.word("ready again afterwards:\n")?;
+    for (name, frame) in frames.iter() {
+        if let Some(frame) = frame {
+            if is_ready(frame) && is_there(alloc, frames, name)? {
+                page.thread(alloc, name)?;
+                page.word(" ")?;
+                page.frame(alloc, frame)?;
+                page.word("\n")?;
+            }
+        }
+    }
+    Ok(())
+}
+
+fn is_ready(frame: &Frame) -> bool {
+    matches!(&frame.phase, Phase::Ready)
+}
+
+/// Whether a thread is there afterwards: its fork is not undone.
+fn is_there(alloc: Global, frames: &Frames<'_>, name: &ThreadName) -> Result<bool, AllocError> {
+    let Some(((fork, _), above)) = name.path().split_last() else {
+        return Ok(true);
+    };
+    let over = thread_above(alloc, name, above.len())?;
+    Ok(match frames.get(&over) {
+        Some(Some(frame)) => frame.count == *fork && matches!(&frame.phase, Phase::Parked(_, _)),
+        Some(None) => false,
+        None => true,
+    })
+}
