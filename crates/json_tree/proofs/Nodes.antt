@@ -1,5 +1,5 @@
 -- What a shared node holds, and what an owner that writes to it starts from.
-use Rattle.std.proofs.Common.{◌≡◌, ◌⊎◌, inl, inr, List, [], ◌∷◌, Result, Ok, Err, OnOk, OnErr, is_ok, if◌then◌else◌, refl, ap, ap₂}
+use Rattle.std.proofs.Common.{◌≡◌, ◌<◌, ◌⊎◌, inl, inr, ℕ, zero, suc, List, [], ◌∷◌, length, get_or, slice_get, Some, Result, Ok, Err, OnOk, OnErr, is_ok, if◌then◌else◌, refl, ap, ap₂, arith}
 use Rattle.std.specs.List.{AllZip}
 use Rattle.std.specs.Vec.{vec_len}
 use Rattle.std.specs.declared.vec.Vec.{Vec}
@@ -23,3 +23,8 @@ grown (Err e) xs more before h k = tt
 pub not_grown : {T E X : Type 0} {P : Type 0} (r : Result T E) (xs more before : List X) → xs ≡ (if is_ok r then more else before) → (xs ≡ before → P) → OnErr r P
 not_grown (Ok t) xs more before h k = tt
 not_grown (Err e) xs more before h k = k h
+
+pub get_within : {X : Type 0} (xs : List X) (i : ℕ) (d : X) → i < length xs → slice_get xs i ≡ Some (get_or xs i d)
+get_within [] i d h = absurd (omega arith)
+get_within (x ∷ xs) zero d h = refl
+get_within (x ∷ xs) (suc i) d h = get_within xs i d (omega arith)

@@ -201,6 +201,18 @@ at_named n name gs fs i same_name same_fields h = subst (λ m. IsAt m fs i) same
 pub gap_named : (n name : List ℕ) (gs fs : List Field) (i : ℕ) → n ≡ name → gs ≡ fs → IsGapFor n gs i → IsGapFor name fs i
 gap_named n name gs fs i same_name same_fields h = subst (λ m. IsGapFor m fs i) same_name (subst (λ hs. IsGapFor n hs i) same_fields h)
 
+-- a name stands at the same place among fields that are the same
+pub same_place : (name : List ℕ) (gs fs : List Field) (i : ℕ) → fields_of gs ≡ fields_of fs → IsAt name gs i → IsAt name fs i
+same_place name [] fs i same h = absurd h
+same_place name (g ∷ gs) [] i same h = cc same
+same_place name (g ∷ gs) (f ∷ fs) zero same h =
+    let one : field_of g ≡ field_of f = cc same in
+    subst (λ m. text_cmp name m ≡ Equal) (ap (λ m. m.0) one) h
+same_place name (g ∷ gs) (f ∷ fs) (suc i) same h =
+    let one : field_of g ≡ field_of f = cc same in
+    let rest : fields_of gs ≡ fields_of fs = cc same in
+    (subst (λ m. text_cmp name m ≡ Greater) (ap (λ m. m.0) one) h.0, same_place name gs fs i rest h.1)
+
 pub found_some : (name : List ℕ) (fs : List Field) (r : Result ℕ ℕ) → IfOk r (IsAt name fs) → OnOk r (IsSome (get_field name (fields_of fs)))
 found_some name fs (Ok i) h = some_field name fs i h
 found_some name fs (Err i) h = tt

@@ -89,17 +89,24 @@ impl JsonFields {
     }
 
     /// The same, to be written: what is left there stands at the name in this object, and in none that shares its fields.
-    /// Where it is shared, memory for as many fields is taken first, whose names and values stay shared.
+    /// Where it is shared, memory for as many fields is taken first, whose names and values stay shared. Once a value was
+    /// lent, `depth` looks at each value of this object: `insert` puts another there and leaves the depth told.
     pub fn get_mut(&mut self, name: &str) -> Result<&mut Json, ChangeFault>
         ensures* writes_back { sem 𝓛 (LendsField self.entry name.now result) }
         ensures value { IfOk result (λ j. get_field name.now self.old ≡ Some (data_of j.now)) }
         ensures absent { IfErr result (λ e. (e ≡ ChangeFault.Absent) ↔ (get_field name.now self.old ≡ None)) }
     {
-        self.told = Told::unknown();
-        let Some(node) = self.inner.as_mut() else {
+        let Some(node) = &self.inner else {
             return Err(ChangeFault::Absent);
         };
         let Ok(at) = place_of(node.as_slice(), name) else {
+            return Err(ChangeFault::Absent);
+        };
+        if self.own_node().is_err() {
+            return Err(ChangeFault::Memory);
+        }
+        self.told = Told::unknown();
+        let Some(node) = self.inner.as_mut() else {
             return Err(ChangeFault::Absent);
         };
         let Ok(fields) = Arc::make_mut(node) else {
@@ -108,9 +115,23 @@ impl JsonFields {
         Ok(&mut fields[at].value)
     }
 
+    /// Has the fields for this object alone. What is told of them stays, also where memory is refused.
+    fn own_node(&mut self) -> Result<(), AllocError>
+        ensures { self.new ≡ self.old }
+    {
+        let Some(node) = self.inner.as_mut() else {
+            return Ok(());
+        };
+        match Arc::make_mut(node) {
+            Ok(_fields) => Ok(()),
+            Err(_refused) => Err(AllocError),
+        }
+    }
+
     /// Puts a value at a name, and hands out the value that stood there. Takes memory for a new name, or for all fields
     /// where they are shared; their names and values stay shared. On average it moves half of the fields for a new name,
-    /// and none for one that comes last. The error has the name and the value.
+    /// and none for one that comes last. Where the deepest value gives way to one less deep, each value is asked for its
+    /// depth. The error has the name and the value.
     pub fn insert(
         &mut self,
         name: Text,
@@ -121,12 +142,23 @@ impl JsonFields {
         ensures err { OnErr result (self.new ≡ self.old) }
         ensures value_returned { IfErr result (λ e. e.value ≡ (name, value)) }
     {
-        let told = self.told.and(depth(&value));
-        let replaced = self.insert_untold(name, value)?;
-        if replaced.is_none() {
-            self.told = told;
+        let before = self.told;
+        let levels = depth(&value);
+        match self.insert_untold(name, value) {
+            Ok(None) => {
+                self.told = before.and(levels);
+                Ok(None)
+            }
+            Ok(Some(replaced)) => {
+                self.told = before.replaced(depth(&replaced), levels);
+                self.tell_again(before);
+                Ok(Some(replaced))
+            }
+            Err(refused) => {
+                self.told = before;
+                Err(refused)
+            }
         }
-        Ok(replaced)
     }
 
     fn insert_untold(
@@ -173,24 +205,57 @@ impl JsonFields {
         }
     }
 
-    /// Takes a field out, if there is one of this name. Takes memory for the other fields, where they are shared.
+    /// Takes a field out, if there is one of this name. Takes memory for the other fields, where they are shared. Where it
+    /// was the deepest of them, and holds a list or an object, each other is asked for its depth.
     pub fn remove(&mut self, name: &str) -> Result<Option<Json>, AllocError>
         ensures value { IfOk result (λ r. option_map data_of r ≡ get_field name.now self.old) }
         ensures after { OnOk result (self.new ≡ without_field name.now self.old) }
         ensures err { OnErr result (self.new ≡ self.old) }
         ensures present { OnErr result (IsSome (get_field name.now self.old)) }
     {
-        self.told = Told::unknown();
-        let Some(node) = self.inner.as_mut() else {
-            return Ok(None);
-        };
-        if place_of(node.as_slice(), name).is_err() {
+        if self.get(name).is_none() {
             return Ok(None);
         }
+        let before = self.told;
+        match self.remove_untold(name) {
+            Ok(removed) => {
+                self.told = before.without(depth(&removed));
+                self.tell_again(before);
+                Ok(Some(removed))
+            }
+            Err(refused) => {
+                self.told = before;
+                Err(refused)
+            }
+        }
+    }
+
+    fn remove_untold(&mut self, name: &str) -> Result<Json, AllocError>
+        requires { IsSome (get_field name.now self.old) }
+        ensures value { IfOk result (λ j. get_field name.now self.old ≡ Some (data_of j)) }
+        ensures after { OnOk result (self.new ≡ without_field name.now self.old) }
+        ensures err { OnErr result (self.new ≡ self.old) }
+    {
+        self.told = Told::unknown();
+        let Some(node) = self.inner.as_mut() else {
+            return Err(AllocError);
+        };
         let Ok(fields) = Arc::make_mut(node) else {
             return Err(AllocError);
         };
-        Ok(take(fields, name))
+        match take(fields, name) {
+            Some(removed) => Ok(removed),
+            None => Err(AllocError),
+        }
+    }
+
+    /// Looks at each value where what was told before is so no more.
+    fn tell_again(&mut self, before: Told)
+        ensures { self.new ≡ self.old }
+    {
+        if self.told.is_lost(before) {
+            self.told = Told::exactly(levels_of_fields(self.as_slice()));
+        }
     }
 
     /// The same fields, shared, in one step. Takes no memory, and is refused only where their owners cannot be counted.

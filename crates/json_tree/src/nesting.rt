@@ -6,7 +6,8 @@ ghost use Rattle.json_tree.specs.View.{data_of, list_of, fields_of};
 use crate::tree::{Field, Json, JsonFields, JsonList};
 
 /// How deep lists and fields nest: 0 for what is neither, and 4,294,967,295 for that depth and every greater one. Takes no
-/// memory. A value that was read or put together is told at once; where values were changed in place, those beside them are looked at.
+/// memory. It is told at once, except of a list or an object of which `get_mut` lent a value: each value of that one is
+/// asked for its depth.
 #[cycle(depth)]
 pub fn depth(json: &Json) -> u32
     ensures { result ≡ min (nesting (data_of json.now)) (2 ^ 32 - 1) }

@@ -1,5 +1,5 @@
 // How deep values nest, where that is known without a look at them.
-ghost use Rattle.std.specs.Prelude.{◌≡◌, ◌^◌, ◌-◌, ℕ, min, max, None, Some};
+ghost use Rattle.std.specs.Prelude.{◌≡◌, ◌^◌, ◌-◌, ◌&&◌, ℕ, min, max, None, Some, is_none, is_some};
 ghost use Rattle.json_tree.specs.Told.{IsTold};
 
 use std::fmt;
@@ -54,6 +54,35 @@ impl Told {
             }
             None => Told { levels: None },
         }
+    }
+
+    /// With a value of `after` levels in the place of one of `before` levels. If this one was the deepest and the other is
+    /// less deep, the rest would have to be looked at.
+    pub(crate) fn replaced(self, before: u32, after: u32) -> Told
+        ensures { (n m k : ℕ) → IsTold self (max m n) → before ≡ min m (2 ^ 32 - 1) → after ≡ min k (2 ^ 32 - 1) → IsTold result (max k n) }
+    {
+        match self.levels {
+            Some(levels) if after >= levels => Told::exactly(after),
+            Some(levels) if before < levels => self,
+            _ => Told::unknown(),
+        }
+    }
+
+    /// Without a value of so many levels. If it was the deepest, the rest would have to be looked at.
+    pub(crate) fn without(self, before: u32) -> Told
+        ensures { (n m : ℕ) → IsTold self (max m n) → before ≡ min m (2 ^ 32 - 1) → IsTold result n }
+    {
+        match self.levels {
+            Some(levels) if before < levels || levels == 0 => self,
+            _ => Told::unknown(),
+        }
+    }
+
+    /// Whether nothing is known, where something was.
+    pub(crate) fn is_lost(self, before: Told) -> bool
+        ensures { result ≡ (is_none self.levels && is_some before.levels) }
+    {
+        self.levels.is_none() && before.levels.is_some()
     }
 
     pub(crate) fn levels(self) -> Option<u32>

@@ -40,20 +40,9 @@ field_faulty it all k d (BadTemplate name) f P (same, target, is, inr h) g = no_
 field_faulty it all k d (Unsupported name) f P (same, target, is, h) g = no_text_left_out it d f.1 h (stands it all k target d f P is g).2
 field_faulty it all k d Memory f P h g = h
 
--- what stands for a value has no field
-text_faulty : (it : Bool) (d : Data) (e : TemplateFault) (p : Payload) → HasFault it d e → OnText d (SpellsSource it p) ⊥ → ⊥
-text_faulty it null e p h g = g
-text_faulty it (boolean b) e p h g = g
-text_faulty it (whole z) e p h g = g
-text_faulty it (text s) e p h g = h
-text_faulty it (list ds) e p h g = g
-text_faulty it (fields ms) e p h g = g
-
--- nor has the value of another field, where it has none as a template
-value_faulty : (it : Bool) (all : List (List ℕ × Data)) (k : List ℕ) (o : Option (List ℕ)) (d : Data) (e : TemplateFault) (f : List ℕ × Payload) → HasFault it d e → (IsTemplate it d f.1 → ⊥)
-    → OnMarked o (λ name. StandsFor it all name d f) ((f.0 ≡ k) × IsTemplate it d f.1) → ⊥
-value_faulty it all k None d e f h refuted g = refuted g.1
-value_faulty it all k (Some name) d e f h refuted g = text_faulty it d e f.1 h g.2
+-- a field without a mark has its value's template
+plain : (it : Bool) (all : List (List ℕ × Data)) (k : List ℕ) (d : Data) (f : List ℕ × Payload) (P : Type 0) → unmarked k ≡ None → FieldIs it all k d f P → P
+plain it all k d f P is h = (subst (λ o. OnMarked o (λ name. StandsFor it all name d f) ((f.0 ≡ k) × P)) is h).1
 
 mutual
   pub faulty : (it : Bool) (d : Data) (e : TemplateFault) (p : Payload) → HasFault it d e → IsTemplate it d p → ⊥
@@ -72,7 +61,7 @@ mutual
   fields_faulty : (it : Bool) (all : List (List ℕ × Data)) (ms : Members) (e : TemplateFault) (fs : List (List ℕ × Payload)) → FieldsHaveFault it all ms e → FieldsAreTemplates it all ms fs → ⊥
   fields_faulty it all no_members e fs h g = h
   fields_faulty it all (member k d ms) e fs (inl h) g = field_faulty it all k d e g.0 (IsTemplate it d g.0.1) h g.2
-  fields_faulty it all (member k d ms) e fs (inr (inl h)) g = value_faulty it all k (unmarked k) d e g.0 h (λ t. faulty it d e g.0.1 h t) g.2
+  fields_faulty it all (member k d ms) e fs (inr (inl h)) g = faulty it d e g.0.1 h.1 (plain it all k d g.0 (IsTemplate it d g.0.1) h.0 g.2)
   fields_faulty it all (member k d ms) e fs (inr (inr h)) g = fields_faulty it all ms e g.1 h g.3
 
 pub no_template : (it : Bool) (d : Data) (e : TemplateFault) → HasFault it d e → IsNoTemplate it d

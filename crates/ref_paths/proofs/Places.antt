@@ -1,5 +1,5 @@
 -- Placing in the fields of an object and in a list.
-use Rattle.std.proofs.Common.{◌≡◌, ◌↔◌, ℕ, true, false, List, [], ◌∷◌, Option, Some, None, IsSome, Bool, Ordering, Less, Equal, Greater, option_map, refl, sym, ap, ◌∙◌, unwrap_or, slice_get, slice_set, subst, OnSome}
+use Rattle.std.proofs.Common.{◌≡◌, ◌<◌, ◌↔◌, ℕ, zero, suc, length, arith, true, false, List, [], ◌∷◌, Option, Some, None, IsSome, Bool, Ordering, Less, Equal, Greater, option_map, refl, sym, ap, ◌∙◌, unwrap_or, slice_get, slice_set, subst, OnSome}
 use Rattle.std.proofs.lemmas.Cmp.{nat_list_cmp_total}
 use Rattle.std.proofs.lemmas.List.{set-get_or}
 use Rattle.std.proofs.lemmas.Option.{get_or_from_slice_get}
@@ -105,6 +105,11 @@ element_refuses P n p v ds d has h =
 
 pub put_same_element : (n : ℕ) (ds : List Data) (d : Data) → slice_get ds n ≡ Some d → slice_set ds n d ≡ ds
 put_same_element n ds d h = ap (slice_set ds n) (sym (get_or_from_slice_get ds n d d h)) ∙ set-get_or ds n d
+
+pub element_within : (n : ℕ) (ds : List Data) (d : Data) → slice_get ds n ≡ Some d → n < length ds
+element_within n [] d h = cc
+element_within zero (x ∷ ds) d h = omega arith
+element_within (suc n) (x ∷ ds) d h = omega (arith, element_within n ds d h)
 
 pub some_holds : {T P : Type 0} (r : Option T) (x : T) → r ≡ Some x → OnSome r P → P
 some_holds None x e h = cc

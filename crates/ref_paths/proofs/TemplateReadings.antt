@@ -1,5 +1,5 @@
 -- Templates that are read one after another, and the faults of one of them.
-use Rattle.std.proofs.Common.{◌≡◌, ℕ, zero, suc, ◌+◌, ◌*◌, ◌<◌, ◌≤◌, Bool, List, [], ◌∷◌, ◌++◌, length, get_or, drop, string_bytes, ◌⊎◌, ⊎_elim, refl, sym, ap, subst, ◌∙◌, Result, Ok, Err, append_assoc, append-nil, add-one, drop-cons, arith, inl, inr}
+use Rattle.std.proofs.Common.{◌≡◌, ℕ, zero, suc, ◌+◌, ◌*◌, ◌<◌, ◌≤◌, Bool, List, [], ◌∷◌, ◌++◌, length, get_or, drop, string_bytes, ◌⊎◌, ⊎_elim, None, refl, sym, ap, subst, ◌∙◌, Result, Ok, Err, append_assoc, append-nil, add-one, drop-cons, arith, inl, inr}
 use Rattle.std.proofs.lemmas.List.{map-append, drop_all}
 use Rattle.std.specs.Result.{IsErrAnd, IfErr}
 use Rattle.json_tree.specs.Data.{Data, fields, Items, items_of, members_of, depth, list_depth, fields_depth}
@@ -9,7 +9,7 @@ use Rattle.json_tree.proofs.Depths.{depth-get_or, depth-field}
 use Rattle.json_tree.specs.declared.tree.Field.{Field}
 use Rattle.ref_paths.specs.PayloadView.{payload_of, list_of, field_of, fields_of}
 use Rattle.ref_paths.specs.TemplateFaults.{HasFault, ItemsHaveFault, FieldsHaveFault, FieldHasFault, OnNamed}
-use Rattle.ref_paths.specs.Templates.{Payload, fields as named_fields, named_of, IsTemplate, ItemsAreTemplates, FieldsAreTemplates, FieldIs}
+use Rattle.ref_paths.specs.Templates.{Payload, fields as named_fields, named_of, IsTemplate, ItemsAreTemplates, FieldsAreTemplates, FieldIs, unmarked}
 use Rattle.ref_paths.specs.declared.template.Node.{Node}
 use Rattle.ref_paths.specs.declared.template.NodeField.{NodeField}
 use Rattle.ref_paths.specs.declared.template.TemplateFault.{TemplateFault}
@@ -105,7 +105,7 @@ fields_end it all from done none before =
 
 -- the fault of a field
 pub field_fault : (it : Bool) (all : List (List ℕ × Data)) (from left : List Field) (x : Field) (done : List NodeField) (e : TemplateFault) → from ≡ x ∷ left
-    → FieldHasFault it all (x.name) (data_of x.value) e ⊎ HasFault it (data_of x.value) e → FieldsSoFar it all done from → FieldsHaveFault it all (members_of all) e
+    → FieldHasFault it all (x.name) (data_of x.value) e ⊎ ((unmarked x.name ≡ None) × HasFault it (data_of x.value) e) → FieldsSoFar it all done from → FieldsHaveFault it all (members_of all) e
 field_fault it all from left x done e is h before = before.1 e (subst (λ es. FieldsHaveFault it all (members_of (pairs es)) e) (sym is) (⊎_elim inl (λ g. inr (inl g)) h))
 
 pub object_fault : (it : Bool) (ms : List (List ℕ × Data)) (e : TemplateFault) → FieldsHaveFault it ms (members_of ms) e → HasFault it (fields (members_of ms)) e

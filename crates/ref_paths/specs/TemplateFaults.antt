@@ -1,5 +1,5 @@
 -- Why a value is no template.
-use Rattle.std.specs.Prelude.{◌≡◌, ◌≢◌, ℕ, ◌⊎◌, Bool, false, true, ◌||◌, List, ◌++◌, Some, ⊤, IsSome, IsTrue, ◌==◌, codes}
+use Rattle.std.specs.Prelude.{◌≡◌, ◌≢◌, ℕ, ◌⊎◌, Bool, false, true, ◌||◌, List, ◌++◌, Some, None, ⊤, IsSome, IsTrue, ◌==◌, codes}
 use Rattle.std.specs.List.{starts_with}
 use Rattle.json_tree.specs.Data.{Data, null, boolean, whole, text, list, fields, Items, no_items, item, Members, no_members, member}
 use Rattle.json_tree.specs.Fields.{get_field}
@@ -41,7 +41,7 @@ FieldHasFault item_paths all k d (Unsupported name) =
     (name ≡ k) × (target : List ℕ) × (unmarked k ≡ Some target) × OnText d (λ s. SourceFaultStands item_paths s LeftOut) ⊥
 FieldHasFault item_paths all k d Memory = ⊥
 
--- of some field, in any object at any depth
+-- Of some field, in any object at any depth. The value of a marked field is no object to look into: that field's own fault stands.
 abbrev mutual
   pub HasFault : Bool → Data → TemplateFault → Type 0
   HasFault item_paths null e = ⊥
@@ -57,7 +57,7 @@ abbrev mutual
 
   pub FieldsHaveFault : Bool → List (List ℕ × Data) → Members → TemplateFault → Type 0
   FieldsHaveFault item_paths all no_members e = ⊥
-  FieldsHaveFault item_paths all (member k d ms) e = FieldHasFault item_paths all k d e ⊎ HasFault item_paths d e ⊎ FieldsHaveFault item_paths all ms e
+  FieldsHaveFault item_paths all (member k d ms) e = FieldHasFault item_paths all k d e ⊎ ((unmarked k ≡ None) × HasFault item_paths d e) ⊎ FieldsHaveFault item_paths all ms e
 
 -- P of a fault that is named
 abbrev pub OnNamed : TemplateFault → Type 0 → Type 0

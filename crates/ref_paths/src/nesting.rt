@@ -1,14 +1,14 @@
 //! Objects of one field each, one inside the other, for the part of a path that is not there yet. All of it goes by
 //! loops: a path may have far more steps than any value has levels.
 
-ghost use Rattle.std.specs.Prelude.{◌≡◌, ◌∷◌, [], true, IfOk, IfErr, OnOk, OnErr};
+ghost use Rattle.std.specs.Prelude.{◌≡◌, ◌<◌, ◌∷◌, [], length, slice_set, true, IfOk, IfErr, OnOk, OnErr};
 ghost use Rattle.std.specs.List.{list_all};
 ghost use Rattle.json_tree.specs.Fields.{with_field};
 ghost use Rattle.json_tree.specs.View.{data_of};
 ghost use Rattle.ref_paths.specs.Nesting.{is_name, nested};
 
 use crate::path::PathStep;
-use json_tree::{Json, JsonFields, Text};
+use json_tree::{Json, JsonFields, JsonList, Text};
 use std::alloc::{AllocError, AllocFailed, Global};
 
 /// Adds a field that holds the value inside an object for each further step.
@@ -25,14 +25,47 @@ pub(crate) fn insert_nested(
 {
     let name = name.copy()?;
     let inner = nest(alloc, rest, value)?;
-    match members.insert(name, inner) {
-        Ok(_absent) => Ok(()),
+    put_field(members, name, inner, rest)
+}
+
+/// Puts a value at a name, which replaces what stood there. One that is refused is dropped along the steps.
+pub(crate) fn put_field(
+    members: &mut JsonFields,
+    name: Text,
+    value: Json,
+    rest: &[PathStep],
+) -> Result<(), AllocError>
+    ensures ok { OnOk result (members.new ≡ with_field name (data_of value) members.old) }
+    ensures err { OnErr result (members.new ≡ members.old) }
+{
+    match members.insert(name, value) {
+        Ok(_replaced) => Ok(()),
         Err(
             AllocFailed {
-                value: (_name, inner),
+                value: (_name, refused),
             },
         ) => {
-            drop_nested(rest, inner);
+            drop_nested(rest, refused);
+            Err(AllocError)
+        }
+    }
+}
+
+/// The same at an index of a list.
+pub(crate) fn put_item(
+    items: &mut JsonList,
+    index: u32,
+    value: Json,
+    rest: &[PathStep],
+) -> Result<(), AllocError>
+    requires { index < length items.old }
+    ensures ok { OnOk result (items.new ≡ slice_set items.old index (data_of value)) }
+    ensures err { OnErr result (items.new ≡ items.old) }
+{
+    match items.replace(index as usize, value) {
+        Ok(_replaced) => Ok(()),
+        Err(AllocFailed { value: refused }) => {
+            drop_nested(rest, refused);
             Err(AllocError)
         }
     }
@@ -81,8 +114,8 @@ fn wrap(alloc: Global, step: &PathStep, inner: Json) -> Result<Json, Json>
     }
 }
 
-/// Drops what `nest` made, from the outside in. Dropped as it is, it would take as many calls inside each other as there
-/// are steps.
+/// Drops what `nest` made, from the outside in, also where it stands in other values. Dropped as it is, it would take as
+/// many calls inside each other as there are steps.
 fn drop_nested(steps: &[PathStep], json: Json) {
     let mut inner = json;
     for step in steps {
@@ -91,6 +124,15 @@ fn drop_nested(steps: &[PathStep], json: Json) {
                 match fields.remove(name.as_str()) {
                     Ok(Some(child)) => inner = child,
                     _ => return,
+                }
+            }
+            (PathStep::Index(index), Json::List(mut list)) => {
+                if *index as usize >= list.len() {
+                    return;
+                }
+                match list.replace(*index as usize, Json::Null) {
+                    Ok(child) => inner = child,
+                    Err(_refused) => return,
                 }
             }
             _ => return,

@@ -1,6 +1,6 @@
 //! Placing a value where a path leads.
 
-ghost use Rattle.std.specs.Prelude.{◌≡◌, ◌↔◌, ◌∷◌, Some, None, IsSome, is_some, IfOk, IfErr, OnOk, OnErr};
+ghost use Rattle.std.specs.Prelude.{◌≡◌, ◌↔◌, ◌∷◌, Some, None, IsSome, is_some, option_map, slice_get, IfOk, IfErr, OnOk, OnErr};
 ghost use Rattle.json_tree.specs.Data.{Data, fields, list, items_of, members_of};
 ghost use Rattle.json_tree.specs.Fields.{get_field};
 ghost use Rattle.json_tree.specs.View.{data_of};
@@ -8,9 +8,9 @@ ghost use Rattle.ref_paths.specs.Composition.{data_or_made};
 ghost use Rattle.ref_paths.specs.Placing.{place_at};
 ghost use Rattle.ref_paths.specs.declared.path.PathStep.TheVariants.{Name, Index};
 
-use crate::nesting::insert_nested;
+use crate::nesting::{insert_nested, put_field, put_item};
 use crate::path::{PathStep, RefPath};
-use json_tree::{ChangeFault, Json, JsonFields, JsonList, Text};
+use json_tree::{Json, JsonFields, JsonList, Text};
 use std::alloc::{AllocError, Global};
 
 /// Why a value was not placed.
@@ -43,11 +43,13 @@ pub struct PlaceFault {
 
 /// The root with the value where the path leads: a name replaces or adds that field of an object, and fields on the
 /// way that are absent are made as objects; an index replaces that element of a list. Of the root one level is copied for
-/// each step, where it is shared, and everything else stays shared with the other owners; other memory is taken for the
-/// fields that it adds. It is looked at first whether the value can be placed, with one look-up for each step, and then
-/// there are two for each. What the value replaces is dropped. Calls itself once for each level of the root that the path
-/// goes down, and for no step below these. A value that is placed below `n` steps makes a value of `n` levels more than it
-/// has, and to drop that one takes as many calls inside each other: `placed_depth` tells how deep it comes to be.
+/// each step that leads to what is there, and everything else stays shared with the other owners; the first level is not
+/// copied where nobody shares it. Other memory is taken for the fields that it adds. It is looked at first whether the
+/// value can be placed, with one look-up for each step, and then there are two for each. Each level stays told how deep it
+/// nests; where its deepest value gives way to one less deep, its values are asked for their depths. What the value
+/// replaces is dropped. Calls itself once for each level of the root that the path goes down, and for no step below these.
+/// A value that is placed below `n` steps makes a value of `n` levels more than it has, and to drop that one takes as many
+/// calls inside each other: `placed_depth` tells how deep it comes to be.
 pub fn place(alloc: Global, root: Json, path: &RefPath, value: Json) -> Result<Json, PlaceFault>
     ensures ok { IfOk result (λ j. place_at path.now (data_of value) (data_of root) ≡ Some (data_of j)) }
     ensures cannot { IfErr result (λ e. (e.refusal ≡ PlaceRefusal.CannotPlace) ↔ (place_at path.now (data_of value) (data_of root) ≡ None)) }
@@ -152,10 +154,11 @@ fn place_in_item(
     ensures ok { OnOk result (place_at (Index index ∷ rest.now) (data_of value) (list (items_of items.old)) ≡ Some (list (items_of items.new))) }
     ensures root_stays { OnErr result (items.new ≡ items.old) }
 {
-    let Ok(child) = items.get_mut(index as usize) else {
+    let Some(mut child) = copy_item(items, index)? else {
         return Err(AllocError);
     };
-    place_in(alloc, child, rest, value)
+    place_in(alloc, &mut child, rest, value)?;
+    put_item(items, index, child, rest)
 }
 
 #[cycle(place)]
@@ -170,14 +173,29 @@ fn place_in_field(
     ensures ok { OnOk result (place_at (Name name.now ∷ rest.now) (data_of value) (fields (members_of members.old)) ≡ Some (fields (members_of members.new))) }
     ensures root_stays { OnErr result (members.new ≡ members.old) }
 {
-    // An object with no field has nothing to look up.
-    if members.len() == 0 {
+    let Some(mut child) = copy_field(members, name.as_str())? else {
         return add_field(alloc, members, name, rest, value);
+    };
+    let name = name.copy()?;
+    place_in(alloc, &mut child, rest, value)?;
+    put_field(members, name, child, rest)
+}
+
+fn copy_item(items: &JsonList, index: u32) -> Result<Option<Json>, AllocError>
+    ensures { IfOk result (λ r. option_map data_of r ≡ slice_get items.now index) }
+{
+    match items.get(index as usize) {
+        Some(item) => Ok(Some(item.copy()?)),
+        None => Ok(None),
     }
-    match members.get_mut(name.as_str()) {
-        Ok(child) => place_in(alloc, child, rest, value),
-        Err(ChangeFault::Absent) => add_field(alloc, members, name, rest, value),
-        Err(ChangeFault::Memory) => Err(AllocError),
+}
+
+fn copy_field(members: &JsonFields, name: &str) -> Result<Option<Json>, AllocError>
+    ensures { IfOk result (λ r. option_map data_of r ≡ get_field name.now members.now) }
+{
+    match members.get(name) {
+        Some(value) => Ok(Some(value.copy()?)),
+        None => Ok(None),
     }
 }
 

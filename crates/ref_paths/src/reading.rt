@@ -1,6 +1,6 @@
 //! Reading a path's text.
 
-ghost use Rattle.std.specs.Prelude.{◌≡◌, ◌≢◌, ◌<◌, ◌≤◌, ◌∷◌, ◌++◌, [], true, false, length, take, slice_index, None, Some, IsTrue, MatchOption, IfOk, IfErr};
+ghost use Rattle.std.specs.Prelude.{◌≡◌, ◌≢◌, ◌<◌, ◌≤◌, ◌∷◌, ◌++◌, [], true, false, length, take, slice_index, None, Some, Err, IsTrue, MatchOption, IfOk, IfErr};
 ghost use Rattle.std.specs.List.{list_all};
 ghost use Rattle.ref_paths.specs.Faults.{FaultStands, StepFaultStands};
 ghost use Rattle.ref_paths.specs.Grammar.{is_name_byte, is_quotable, SpellsPath};
@@ -52,6 +52,7 @@ impl RefPath {
     pub fn read(alloc: Global, text: &str) -> Result<RefPath, PathFault>
         ensures ok { IfOk result (λ p. SpellsPath p text.now) }
         ensures err { IfErr result (FaultStands text.now) }
+        ensures memory { result ≡ Err PathFault.Memory → (0 < length text.now) × (slice_index text.now 0 ≡ 36) }
     {
         if !begins_with(text.as_bytes(), b'$') {
             return Err(PathFault::BadPath(0));

@@ -1,6 +1,6 @@
 //! Reading a template from a JSON value.
 
-ghost use Rattle.std.specs.Prelude.{◌≡◌, ◌⊎◌, ◌++◌, true, Some, Err, IsTrue, MatchOption, codes, option_map, IfOk, IfErr};
+ghost use Rattle.std.specs.Prelude.{◌≡◌, ◌⊎◌, ◌++◌, true, None, Some, Err, IsTrue, MatchOption, codes, option_map, IfOk, IfErr};
 ghost use Rattle.json_tree.specs.Data.{has_room, items_of, members_of};
 ghost use Rattle.json_tree.specs.View.{data_of};
 ghost use Rattle.ref_paths.specs.PayloadView.{payload_of, field_of};
@@ -99,7 +99,7 @@ fn read_field(
     item_paths: bool,
 ) -> Result<NodeField, TemplateFault>
     ensures ok { IfOk result (λ f. FieldIs item_paths fields.now name.now (data_of value.now) (field_of f) (IsTemplate item_paths (data_of value.now) (payload_of f.value))) }
-    ensures fault { IfErr result (λ e. OnNamed e (FieldHasFault item_paths fields.now name.now (data_of value.now) e ⊎ HasFault item_paths (data_of value.now) e)) }
+    ensures fault { IfErr result (λ e. OnNamed e (FieldHasFault item_paths fields.now name.now (data_of value.now) e ⊎ ((unmarked name.now ≡ None) × HasFault item_paths (data_of value.now) e))) }
 {
     match cut_mark(name) {
         Some(target) => read_marked(alloc, fields, name, target, value, item_paths),

@@ -105,6 +105,7 @@ fn put_list_change(
             let (index, text) = word(rest);
             set_item(alloc, out, list, index, text)
         }
+        "replace" => replace_item(alloc, out, list, rest),
         "get" => put_item(alloc, out, list, rest),
         "again" => put_again(out, list),
         _ => Err(RowFault::Said("no row")),
@@ -138,6 +139,24 @@ fn set_item(
             put_fault(out, fault)
         }
     }
+}
+
+/// What stood at an index, in whose place the value comes.
+fn replace_item(
+    alloc: Global,
+    out: &mut String,
+    list: &mut JsonList,
+    rest: &str,
+) -> Result<(), RowFault> {
+    let (index, text) = word(rest);
+    let index = index_in(index)?;
+    let value = value_of(alloc, text)?;
+    if index >= list.len() {
+        drop(value);
+        return put_fault(out, ChangeFault::Absent);
+    }
+    let replaced = list.replace(index, value)?;
+    put(alloc, out, &replaced)
 }
 
 fn put_item(alloc: Global, out: &mut String, list: &JsonList, index: &str) -> Result<(), RowFault> {

@@ -1,26 +1,19 @@
-use Rattle.std.proofs.Common.{◌≡◌, refl, sym, ap, ◌∙◌, slice_set, slice_get, is_ok, ◌<◌, arith, Some, option_map, length, List, ℕ, zero, suc, [], ◌∷◌, get_or}
-use Rattle.std.proofs.lemmas.List.{map-set}
+use Rattle.std.proofs.Common.{◌≡◌, refl, sym, ap, ◌∙◌, slice_set, slice_get, is_ok, arith, Some, option_map, length}
+use Rattle.std.proofs.lemmas.List.{map-set, length-map}
 use Rattle.std.proofs.lemmas.Option.{slice_get-map}
-use Rattle.std.specs.Arc.{arc_value}
 use Rattle.json_tree.specs.View.{data_of, list_of, held}
-use Rattle.json_tree.proofs.Nodes.{same_items}
+use Rattle.json_tree.proofs.Nodes.{same_items, get_within}
 use Rattle.json_tree.proofs.tree.JsonList.get_mut.Goals as goal
-
-get_within : {X : Type 0} (xs : List X) (i : ℕ) (d : X) → i < length xs → slice_get xs i ≡ Some (get_or xs i d)
-get_within [] i d h = absurd (omega arith)
-get_within (x ∷ xs) zero d h = refl
-get_within (x ∷ xs) (suc i) d h = get_within xs i d (omega arith)
 
 pub returns : goal.returns
 returns c =
     let items = c.in-Ok.items.now.items in
     let index = c.args.index in
-    let own : items ≡ (arc_value c.in-Some.node.now).items = same_items _ _ c.in-Ok.ensures.value in
-    let is : list_of items ≡ c.args.self.now = ap list_of own ∙ ap (λ n. list_of (held n)) c.in-Some.ensures.value ∙ c.self.view_is in (
+    let is : list_of items ≡ c.args.self.now = ap list_of (same_items _ _ c.in-Ok.ensures.value) ∙ ap (λ n. list_of (held n)) c.in-Some.ensures.value ∙ c.self.view_is ∙ c.own_node.ensures in (
       (
         refl,
         λ w ok. ap (λ v. list_of v.items) (c.make_mut.follows.holds _ (ap is_ok c.in-Ok.is)) ∙ map-set data_of items index w ∙ ap (λ ds. slice_set ds index (data_of w)) is,
         tt,
       ),
-      record { writes_back = tt; value = ap (λ ds. slice_get ds index) (sym is) ∙ slice_get-map data_of items index ∙ ap (option_map data_of) (get_within items index _ (omega (arith, ap length own, ap (λ v. length v.items) c.deref.ensures))) ∙ ap (λ j. Some (data_of j)) (sym c.index_mut.ensures.value); absent = tt },
+      record { writes_back = tt; value = ap (λ ds. slice_get ds index) (sym is) ∙ slice_get-map data_of items index ∙ ap (option_map data_of) (get_within items index _ (omega (arith, ap length is, length-map items data_of))) ∙ ap (λ j. Some (data_of j)) (sym c.index_mut.ensures.value); absent = tt },
     )

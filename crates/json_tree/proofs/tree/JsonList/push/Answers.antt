@@ -11,5 +11,5 @@ invariant_of-self c =
     let d = data_of c.args.value in
     let told : IsTold c.and-told.result (max (depth d) (list_depth (list_of (held c.self.inside.inner)))) = c.and-told.ensures (list_depth (list_of (held c.self.inside.inner))) (depth d) c.self.invariant c.depth.ensures in
     let deep : list_depth (list_of (held c.self-2.inside.inner)) ≡ max (depth d) (list_depth (list_of (held c.self.inside.inner))) =
-    ap list_depth (c.self-2.view_is ∙ c.in_ok-push_untold.ensures.ok) ∙ with_last old d ∙ ap (λ ds. max (depth d) (list_depth ds)) (sym c.self.view_is) in
+    ap list_depth (c.self-2.view_is ∙ c.in-Ok.ensures.ok) ∙ with_last old d ∙ ap (λ ds. max (depth d) (list_depth ds)) (sym c.self.view_is) in
     subst (IsTold c.and-told.result) (sym deep) told

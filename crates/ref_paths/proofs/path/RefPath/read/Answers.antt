@@ -1,4 +1,4 @@
-use Rattle.std.proofs.Common.{◌≡◌, ◌∷◌, sym, ap, ◌∙◌, get_or, length, arith, lit<}
+use Rattle.std.proofs.Common.{◌≡◌, ◌∷◌, sym, ap, ◌∙◌, get_or, length, arith, lit<, refl}
 use Rattle.ref_paths.proofs.Scans.{first_of, none_fails, after_first}
 use Rattle.ref_paths.proofs.path.RefPath.read.Goals as goal
 
@@ -18,4 +18,4 @@ returns c =
     let yes = c.begins_with.ensures.yes c.if-not-begins_with.false in
     let text : c.args.text.now ≡ 36 ∷ c.range_from.result.now =
     first_of c.args.text.now 36 (omega (arith, ap length same, yes.0)) (ap (λ x. get_or x 0 0) (sym same) ∙ yes.1) ∙ ap (λ x. 36 ∷ x) (sym c.range_from.ensures.value) in
-    rw text c.read_steps.ensures
+    rw text (record { ok = c.read_steps.ensures.ok; err = c.read_steps.ensures.err; memory = λ e. (omega arith, refl) })
