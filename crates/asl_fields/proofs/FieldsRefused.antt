@@ -47,7 +47,7 @@ language_refused (Some d) e fault known = named_language_refused (as_str d) e fa
 
 pub fields_refused : (place : Place) (d : Source) (e : MachineFault) → FieldsFault place d e → HasFields place d → ⊥
 fields_refused place d e fault has =
-    elim fault [ inl h ↦ members_refused place (as_object d) e h has.0 | inr h ↦ language_refused (get (codes "QueryLanguage") d) e h has.1 ]
+    elim fault [ inl h ↦ members_refused place (as_object d) e h has.0 | inr h ↦ language_refused (get (codes "QueryLanguage") d) e h.1 has.1 ]
 
 whole_template_refused : (b : Bool) (field : List ℕ) (d : Option Data) (p : Option Payload) (e : MachineFault) → WholeTemplateFault b field d e → IsWholeTemplate b d p → ⊥
 whole_template_refused b field None p e fault is = is

@@ -1,5 +1,5 @@
 -- The faults that a field of a definition's object has: its name's, or its value's.
-use Rattle.std.specs.Prelude.{◌≡◌, ℕ, List, Bool, ◌⊎◌, Option, Some, None, if◌then◌else◌, codes}
+use Rattle.std.specs.Prelude.{◌≡◌, ℕ, List, Bool, true, ◌⊎◌, Option, Some, None, if◌then◌else◌, codes}
 use Rattle.serde_json.specs.Data.{Data as Source, Members, no_members, member}
 use Rattle.serde_json.specs.Find.{get, as_str, as_object}
 use Rattle.json_tree.specs.Data.{Data}
@@ -7,7 +7,7 @@ use Rattle.json_tree.specs.Reading.{whole_of}
 use Rattle.ref_paths.specs.TemplateFaults.{HasFault, IsNoTemplate}
 use Rattle.ref_paths.specs.declared.path.PathStep.{PathStep}
 use Rattle.ref_paths.specs.declared.template.TemplateFault.TheVariants.{BadTemplate, Unsupported as LeftOutThere}
-use Rattle.asl_fields.specs.Fields.{is_text, field_status}
+use Rattle.asl_fields.specs.Fields.{is_text, is_known, field_status}
 use Rattle.asl_fields.specs.Values.{IsPathField}
 use Rattle.asl_fields.specs.declared.fault.MachineFault.{MachineFault}
 use Rattle.asl_fields.specs.declared.fault.MachineFault.TheVariants.{Missing, UnknownField, Unsupported, BadField}
@@ -60,8 +60,12 @@ abbrev pub MembersFault : Place → Option Members → MachineFault → Type 0
 MembersFault place None e = ⊥
 MembersFault place (Some ms) e = NamesFault place ms e
 
+-- a query language that isn't read, where an object may name one
+abbrev pub LanguageFault : Place → Source → MachineFault → Type 0
+LanguageFault place d e = (is_known place (codes "QueryLanguage") ≡ true) × (query_language_fault (get (codes "QueryLanguage") d) ≡ Some e)
+
 abbrev pub FieldsFault : Place → Source → MachineFault → Type 0
-FieldsFault place d e = MembersFault place (as_object d) e ⊎ (query_language_fault (get (codes "QueryLanguage") d) ≡ Some e)
+FieldsFault place d e = MembersFault place (as_object d) e ⊎ LanguageFault place d e
 
 -- a field is neither `null` nor a path
 abbrev pub PathFieldFault : List ℕ → Option Source → MachineFault → Type 0

@@ -125,6 +125,7 @@ fn check_query_language(alloc: Global, object: &Value) -> Result<(), MachineFaul
 }
 
 /// Refuses a field that may not stand here, and a language that isn't read, of an object whose fields are `fields` too.
+#[tactic(auto, using(crate::proofs::KnownMembers::named_language))]
 pub fn check_fields(
     alloc: Global,
     place: Place,
