@@ -1,69 +1,74 @@
--- Entries in the order of their names' bytes.
-use Rattle.std.proofs.Common.{◌≡◌, ℕ, List, [], ◌∷◌, ◌++◌, String, Global, Ordering, Less, Equal, Greater, string_bytes, string_cmp, is_eq, cond, Bool, true, false, Option, Some, option_map, refl, ap, ◌∙◌}
+-- Attributes in the order of their names' bytes, and the search among them.
+use Rattle.std.proofs.Common.{◌≡◌, ℕ, zero, suc, ◌<◌, ◌≤◌, List, [], ◌∷◌, ◌++◌, length, get_or, Some, None, Result, Ok, Err, IfOk, OnErr, Ordering, Less, Equal, Greater, is_lt, false, refl, sym, ap, ◌∙◌, subst, arith, add-one}
 use Rattle.std.proofs.lemmas.Cmp.{nat_list_cmp_total}
-use Rattle.std.specs.BTreeMap.{insert_entry, is_at}
+use Rattle.std.proofs.lemmas.List.Sorted.{searchable_from_sorted}
+use Rattle.std.specs.Cmp.{tied_itself}
 use Rattle.std.specs.List.{AllByRecursion}
-use Rattle.std.specs.List.Sorted.{IsStrictlySortedBy}
-use Rattle.std.specs.Map.{keys_of, lookup}
-use Rattle.std.specs.Ordering.{match_ordering, ordering_reverse}
+use Rattle.std.specs.List.Sorted.{IsStrictlySortedBy, IsSortedBy, IsSearchInRange, IsBinarySearchResult}
+use Rattle.std.specs.Map.{keys_of}
+use Rattle.std.specs.Ordering.{ordering_reverse}
+use Rattle.json_tree.proofs.Same.{text_same}
 use Rattle.json_tree.specs.Fields.{text_cmp}
-use Rattle.attr_values.specs.Item.{get_attribute}
+use Rattle.attr_values.specs.Item.{get_attribute, IsInNameOrder}
 use Rattle.attr_values.specs.View.{datum_of, entries_of}
-use Rattle.attr_values.specs.declared.value.Value.{Value}
-
-abbrev pub Entry : Type 0
-Entry = String Global × Value
-
-entries_of-match_ordering : (o : Ordering) (a b c : List Entry) → entries_of (match_ordering o a b c) ≡ match_ordering o (entries_of a) (entries_of b) (entries_of c)
-entries_of-match_ordering Less a b c = refl
-entries_of-match_ordering Equal a b c = refl
-entries_of-match_ordering Greater a b c = refl
-
-pub entries_of-insert_entry : (es : List Entry) (k : String Global) (v : Value) → entries_of (insert_entry string_cmp es k v) ≡ insert_entry text_cmp (entries_of es) (string_bytes k) (datum_of v)
-entries_of-insert_entry [] k v = refl
-entries_of-insert_entry (e ∷ es) k v = entries_of-match_ordering (string_cmp k e.0) _ _ _ ∙ rw (entries_of-insert_entry es k v)
-
-below_names : (k : String Global) (es : List Entry) → AllByRecursion (λ y. string_cmp k y ≡ Less) (keys_of es) → AllByRecursion (λ y. text_cmp (string_bytes k) y ≡ Less) (keys_of (entries_of es))
-below_names k [] h = tt
-below_names k (e ∷ es) h = (h.0, below_names k es h.1)
-
--- the names rise as the keys do
-pub name_order : (es : List Entry) → IsStrictlySortedBy string_cmp (keys_of es) → IsStrictlySortedBy text_cmp (keys_of (entries_of es))
-unfolding IsStrictlySortedBy
-name_order [] h = tt
-name_order (e ∷ es) h = (below_names e.0 es h.0, name_order es h.1)
-
-last_at : {A : Type 0} (k : List ℕ) (d : A) (m : List ℕ × A) (ms : List (List ℕ × A)) → text_cmp m.0 k ≡ Less → insert_entry text_cmp ms k d ≡ ms ++ (k, d) ∷ [] → insert_entry text_cmp (m ∷ ms) k d ≡ m ∷ (ms ++ (k, d) ∷ [])
-last_at k d m ms below rest =
-    let above : text_cmp k m.0 ≡ Greater = nat_list_cmp_total.antisymm k m.0 ∙ ap ordering_reverse below in
-    rw above (ap (λ xs. m ∷ xs) rest)
-
-below_last : (name : List ℕ) (before : List (List ℕ)) (k : List ℕ) (later : List (List ℕ)) → AllByRecursion (λ y. text_cmp name y ≡ Less) (before ++ k ∷ later) → text_cmp name k ≡ Less
-below_last name [] k later h = h.0
-below_last name (x ∷ before) k later h = below_last name before k later h.1
-
--- a name above those before it goes last
-pub insert_last : {A : Type 0} (ms : List (List ℕ × A)) (k : List ℕ) (d : A) (later : List (List ℕ)) → IsStrictlySortedBy text_cmp (keys_of ms ++ k ∷ later) → insert_entry text_cmp ms k d ≡ ms ++ (k, d) ∷ []
-unfolding IsStrictlySortedBy
-insert_last [] k d later h = refl
-insert_last (m ∷ ms) k d later h = last_at k d m ms (below_last m.0 (keys_of ms) k later h.0) (insert_last ms k d later h.1)
-
-pub insert_value : (es : List Entry) (k : String Global) (v : Value) (later : List (List ℕ)) → IsStrictlySortedBy text_cmp (keys_of (entries_of es) ++ string_bytes k ∷ later)
-    → entries_of (insert_entry string_cmp es k v) ≡ entries_of es ++ (string_bytes k, datum_of v) ∷ []
-insert_value es k v later h = entries_of-insert_entry es k v ∙ insert_last (entries_of es) (string_bytes k) (datum_of v) later h
+use Rattle.attr_values.specs.declared.value.Attribute.{Attribute}
 
 pub keys_of-append : {A : Type 0} (ms : List (List ℕ × A)) (m : List ℕ × A) → keys_of (ms ++ m ∷ []) ≡ keys_of ms ++ m.0 ∷ []
 keys_of-append [] m = refl
 keys_of-append (n ∷ ms) m = ap (λ ks. n.0 ∷ ks) (keys_of-append ms m)
 
--- how a text compares to a key
-abbrev pub at_key : List ℕ → String Global → Ordering
-at_key name k = text_cmp name (string_bytes k)
+-- the same comparison from the other side
+flip : (k l : List ℕ) (o : Ordering) → text_cmp k l ≡ o → text_cmp l k ≡ ordering_reverse o
+flip k l o is = nat_list_cmp_total.antisymm l k ∙ ap ordering_reverse is
 
-datum_of-cond : (b : Bool) (v : Value) (rest : Option Value) → option_map datum_of (cond b (Some v) rest) ≡ cond b (Some (datum_of v)) (option_map datum_of rest)
-datum_of-cond true v rest = refl
-datum_of-cond false v rest = refl
+sorted_tail : (a : Attribute) (xs : List Attribute) → IsInNameOrder (entries_of (a ∷ xs)) → IsInNameOrder (entries_of xs)
+unfolding IsStrictlySortedBy
+sorted_tail a xs h = h.1
 
-pub datum_of-lookup : (name : List ℕ) (es : List Entry) → option_map datum_of (lookup (is_at (at_key name)) es) ≡ get_attribute name (entries_of es)
-datum_of-lookup name [] = refl
-datum_of-lookup name (e ∷ es) = datum_of-cond (is_eq (at_key name e.0)) e.1 _ ∙ rw (datum_of-lookup name es)
+sorted_head : (a : Attribute) (xs : List Attribute) → IsInNameOrder (entries_of (a ∷ xs)) → AllByRecursion (λ y. text_cmp a.name y ≡ Less) (keys_of (entries_of xs))
+unfolding IsStrictlySortedBy
+sorted_head a xs h = h.0
+
+below_at : (k : List ℕ) (xs : List Attribute) (i : ℕ) (d : Attribute) → AllByRecursion (λ y. text_cmp k y ≡ Less) (keys_of (entries_of xs)) → i < length xs → text_cmp k (get_or xs i d).name ≡ Less
+below_at k [] i d h within = absurd (omega arith)
+below_at k (a ∷ xs) zero d h within = h.0
+below_at k (a ∷ xs) (suc i) d h within = below_at k xs i d h.1 (omega arith)
+
+-- what stands at the name's place is the name's value
+pub value_at : (name : List ℕ) (xs : List Attribute) (i : ℕ) (d : Attribute) → IsInNameOrder (entries_of xs) → i < length xs → (get_or xs i d).name ≡ name
+    → get_attribute name (entries_of xs) ≡ Some (datum_of (get_or xs i d).value)
+value_at name [] i d sorted within is = absurd (omega arith)
+value_at name (a ∷ xs) zero d sorted within is =
+    let same : text_cmp name a.name ≡ Equal = subst (λ n. text_cmp n a.name ≡ Equal) is (tied_itself nat_list_cmp_total a.name) in
+    rw same refl
+value_at name (a ∷ xs) (suc i) d sorted within is =
+    let below : text_cmp a.name name ≡ Less = subst (λ n. text_cmp a.name n ≡ Less) is (below_at a.name xs i d (sorted_head a xs sorted) (omega arith)) in
+    let greater : text_cmp name a.name ≡ Greater = flip a.name name Less below in
+    rw greater (value_at name xs i d (sorted_tail a xs sorted) (omega arith) is)
+
+-- between names below and names above there is none
+no_value : (name : List ℕ) (xs : List Attribute) (i : ℕ) → i ≤ length xs → ((j : ℕ) (d : Attribute) → j < i → text_cmp (get_or xs j d).name name ≡ Less)
+    → ((j : ℕ) (d : Attribute) → i ≤ j → j < length xs → text_cmp (get_or xs j d).name name ≡ Greater) → get_attribute name (entries_of xs) ≡ None
+no_value name [] i le below above = refl
+no_value name (a ∷ xs) zero le below above =
+    let less : text_cmp name a.name ≡ Less = flip a.name name Greater (above 0 a (omega arith) (omega arith)) in
+    rw less (no_value name xs 0 (omega arith) (λ j d lt. absurd (omega (arith, lt))) (λ j d low lt. above (suc j) d (omega arith) (omega (arith, lt))))
+no_value name (a ∷ xs) (suc i) le below above =
+    let greater : text_cmp name a.name ≡ Greater = flip a.name name Less (below 0 a (omega arith)) in
+    rw greater (no_value name xs i (omega arith) (λ j d lt. below (suc j) d (omega (arith, lt))) (λ j d low lt. above (suc j) d (omega (arith, low)) (omega (arith, lt))))
+
+rises : (xs : List Attribute) (k : ℕ) (d : Attribute) → IsInNameOrder (entries_of xs) → suc k < length xs → is_lt (text_cmp (get_or xs (suc k) d).name (get_or xs k d).name) ≡ false
+rises [] k d sorted within = absurd (omega arith)
+rises (a ∷ xs) zero d sorted within = ap is_lt (flip a.name (get_or xs 0 d).name Less (below_at a.name xs 0 d (sorted_head a xs sorted) (omega arith)))
+rises (a ∷ xs) (suc k) d sorted within = rises xs k d (sorted_tail a xs sorted) (omega arith)
+
+is_sorted : (xs : List Attribute) → IsInNameOrder (entries_of xs) → IsSortedBy (λ a b. is_lt (text_cmp a.name b.name)) xs
+is_sorted xs sorted k d low high = subst (λ j. is_lt (text_cmp (get_or xs j d).name (get_or xs k d).name) ≡ false) (sym (add-one k)) (rises xs k d sorted (omega (arith, high)))
+
+-- a binary search by name ends at the name's value, or where there is none
+pub searched : (name : List ℕ) (xs : List Attribute) (r : Result ℕ ℕ) → IsInNameOrder (entries_of xs) → IsSearchInRange r (length xs) → IsBinarySearchResult (λ a. text_cmp a.name name) xs r
+    → IfOk r (λ i. (d : Attribute) → get_attribute name (entries_of xs) ≡ Some (datum_of (get_or xs i d).value)) × OnErr r (get_attribute name (entries_of xs) ≡ None)
+searched name xs (Ok i) sorted range found = ((λ d. value_at name xs i d sorted range (text_same _ _ (found d))), tt)
+searched name xs (Err i) sorted range parted =
+    let at = parted (searchable_from_sorted nat_list_cmp_total (λ a. a.name) xs name (is_sorted xs sorted)) in
+    (tt, no_value name xs i range (λ j d lt. at.0 j d (omega arith) lt) (λ j d low lt. at.1 j d low lt))

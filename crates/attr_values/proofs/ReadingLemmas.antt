@@ -1,7 +1,6 @@
 -- What is read so far, and then the rest.
-use Rattle.std.proofs.Common.{◌≡◌, ℕ, zero, suc, ◌+◌, ◌-◌, ◌<◌, ◌≤◌, List, [], ◌∷◌, ◌++◌, length, get_or, drop, Result, Ok, Err, Some, None, ◌≢◌, ◌⊎◌, String, Global, string_bytes, string_cmp, refl, sym, ap, subst, ◌∙◌, inl, inr, arith, append_assoc, append-nil, add-one, sub-one, drop-cons}
+use Rattle.std.proofs.Common.{◌≡◌, ℕ, zero, suc, ◌+◌, ◌-◌, ◌<◌, ◌≤◌, List, [], ◌∷◌, ◌++◌, length, get_or, drop, Result, Ok, Err, Some, None, ◌≢◌, ◌⊎◌, refl, sym, ap, subst, ◌∙◌, inl, inr, arith, append_assoc, append-nil, add-one, sub-one, drop-cons}
 use Rattle.std.proofs.lemmas.List.{map-append, drop_all}
-use Rattle.std.specs.BTreeMap.{insert_entry}
 use Rattle.std.specs.List.Sorted.{IsStrictlySortedBy}
 use Rattle.std.specs.Map.{keys_of}
 use Rattle.json_tree.specs.Data as json
@@ -13,12 +12,13 @@ use Rattle.json_tree.specs.declared.tree.Json.{Json}
 use Rattle.attr_values.specs.Datum.{Datum, list, document, texts, numbers, Elements, no_elements, element, Attributes, no_attributes, attribute, elements_of, attributes_of}
 use Rattle.attr_values.specs.Faults.{result_map}
 use Rattle.attr_values.specs.Reading as spec
-use Rattle.attr_values.specs.View.{datum_of, list_of, entries_of}
+use Rattle.attr_values.specs.View.{datum_of, list_of, entry_of, entries_of}
 use Rattle.attr_values.specs.declared.fault.ItemFault.{ItemFault}
 use Rattle.attr_values.specs.declared.fault.ItemFault.TheVariants.{Memory, BadValue}
 use Rattle.attr_values.specs.declared.reading.Kind.TheVariants.{L, M, Ss, Ns}
+use Rattle.attr_values.specs.declared.value.Attribute.{Attribute}
 use Rattle.attr_values.specs.declared.value.Value.{Value}
-use Rattle.attr_values.proofs.Entries.{Entry, insert_value, keys_of-append}
+use Rattle.attr_values.proofs.Entries.{keys_of-append}
 
 -- the list, and then the elements
 abbrev pub elements_before : List Datum → Elements → Elements
@@ -77,7 +77,7 @@ elements_end levels from i done all past before =
 pub next_field : (from : List Field) (i : ℕ) (f : Field) → f ≡ get_or from i f → i < length from → drop i from ≡ f ∷ drop (i + 1) from
 next_field from i f is within = drop-cons from i f within ∙ rw (← is, add-one)
 
-abbrev pub IsReadSoFar : ℕ → List Entry → List Field → Result Attributes ItemFault → Type 0
+abbrev pub IsReadSoFar : ℕ → List Attribute → List Field → Result Attributes ItemFault → Type 0
 IsReadSoFar levels es from all =
     IsStrictlySortedBy text_cmp (keys_of (entries_of es) ++ keys_of (fields_of from)) × (all ≡ result_map (attributes_before (entries_of es)) (spec.read_attributes levels (members_of (fields_of from))))
 
@@ -85,29 +85,29 @@ one : {A : Type 0} (r : Result A ItemFault) → r ≡ result_map (λ x. x) r
 one (Ok x) = refl
 one (Err e) = refl
 
-pub attributes_start : (levels : ℕ) (from : List Field) (all : List (List ℕ × json.Data)) (es : List Entry) → es ≡ [] → fields_of from ≡ all → IsInNameOrder all
+pub attributes_start : (levels : ℕ) (from : List Field) (all : List (List ℕ × json.Data)) (es : List Attribute) → es ≡ [] → fields_of from ≡ all → IsInNameOrder all
     → IsReadSoFar levels es from (spec.read_attributes levels (members_of all))
 attributes_start levels from all es none is sorted = rw (none, is) (sorted, one (spec.read_attributes levels (members_of all)))
 
-pub attribute_step : (levels : ℕ) (from rest : List Field) (f : Field) (es ns : List Entry) (k : String Global) (v : Value) (all : Result Attributes ItemFault)
-    → from ≡ f ∷ rest → string_bytes k ≡ f.name → spec.read_datum levels (data_of f.value) ≡ Ok (datum_of v) → ns ≡ insert_entry string_cmp es k v
+pub attribute_step : (levels : ℕ) (from rest : List Field) (f : Field) (es ns : List Attribute) (k : List ℕ) (v : Value) (all : Result Attributes ItemFault)
+    → from ≡ f ∷ rest → k ≡ f.name → spec.read_datum levels (data_of f.value) ≡ Ok (datum_of v) → ns ≡ es ++ record { name = k; value = v } ∷ []
     → IsReadSoFar levels es from all → IsReadSoFar levels ns rest all
 attribute_step levels from rest f es ns k v all is named reads made before =
-    let sorted : IsStrictlySortedBy text_cmp (keys_of (entries_of es) ++ string_bytes k ∷ keys_of (fields_of rest)) = rw named (rw is at before.0) in
-    let entries : entries_of ns ≡ entries_of es ++ (string_bytes k, datum_of v) ∷ [] = ap entries_of made ∙ insert_value es k v (keys_of (fields_of rest)) sorted in
-    let read : spec.read_attributes levels (members_of (fields_of (f ∷ rest))) ≡ result_map (attribute (string_bytes k) (datum_of v)) (spec.read_attributes levels (members_of (fields_of rest))) = rw (reads, named) in
-    let names : keys_of (entries_of ns) ≡ keys_of (entries_of es) ++ string_bytes k ∷ [] = ap keys_of entries ∙ keys_of-append (entries_of es) _ in (
-      subst (IsStrictlySortedBy text_cmp) (sym (ap (λ ks. ks ++ keys_of (fields_of rest)) names ∙ append_assoc (keys_of (entries_of es)) (string_bytes k ∷ []) (keys_of (fields_of rest)))) sorted,
+    let sorted : IsStrictlySortedBy text_cmp (keys_of (entries_of es) ++ k ∷ keys_of (fields_of rest)) = rw named (rw is at before.0) in
+    let entries : entries_of ns ≡ entries_of es ++ (k, datum_of v) ∷ [] = ap entries_of made ∙ map-append entry_of es (record { name = k; value = v } ∷ []) in
+    let read : spec.read_attributes levels (members_of (fields_of (f ∷ rest))) ≡ result_map (attribute k (datum_of v)) (spec.read_attributes levels (members_of (fields_of rest))) = rw (reads, named) in
+    let names : keys_of (entries_of ns) ≡ keys_of (entries_of es) ++ k ∷ [] = ap keys_of entries ∙ keys_of-append (entries_of es) _ in (
+      subst (IsStrictlySortedBy text_cmp) (sym (ap (λ ks. ks ++ keys_of (fields_of rest)) names ∙ append_assoc (keys_of (entries_of es)) (k ∷ []) (keys_of (fields_of rest)))) sorted,
       before.1 ∙ ap (λ js. result_map (attributes_before (entries_of es)) (spec.read_attributes levels (members_of (fields_of js)))) is ∙ ap (result_map (attributes_before (entries_of es))) read
-          ∙ attributes_push (entries_of es) (string_bytes k) (datum_of v) (spec.read_attributes levels (members_of (fields_of rest)))
+          ∙ attributes_push (entries_of es) k (datum_of v) (spec.read_attributes levels (members_of (fields_of rest)))
           ∙ ap (λ ms. result_map (attributes_before ms) (spec.read_attributes levels (members_of (fields_of rest)))) (sym entries),
     )
 
-pub attributes_end : (levels : ℕ) (from : List Field) (es : List Entry) (all : Result Attributes ItemFault) → from ≡ [] → IsReadSoFar levels es from all → all ≡ Ok (attributes_of (entries_of es))
+pub attributes_end : (levels : ℕ) (from : List Field) (es : List Attribute) (all : Result Attributes ItemFault) → from ≡ [] → IsReadSoFar levels es from all → all ≡ Ok (attributes_of (entries_of es))
 attributes_end levels from es all none before =
     before.1 ∙ ap (λ js. result_map (attributes_before (entries_of es)) (spec.read_attributes levels (members_of (fields_of js)))) none ∙ ap Ok (attributes_before-none (entries_of es))
 
-pub attributes_ordered : (levels : ℕ) (from : List Field) (es : List Entry) (all : Result Attributes ItemFault) → from ≡ [] → IsReadSoFar levels es from all → IsStrictlySortedBy text_cmp (keys_of (entries_of es))
+pub attributes_ordered : (levels : ℕ) (from : List Field) (es : List Attribute) (all : Result Attributes ItemFault) → from ≡ [] → IsReadSoFar levels es from all → IsStrictlySortedBy text_cmp (keys_of (entries_of es))
 attributes_ordered levels from es all none before =
     subst (IsStrictlySortedBy text_cmp) (ap (λ js. keys_of (entries_of es) ++ keys_of (fields_of js)) none ∙ append-nil (keys_of (entries_of es))) before.0
 

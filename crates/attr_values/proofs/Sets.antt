@@ -1,5 +1,5 @@
 -- Sets as lists in order, into which values are put one by one.
-use Rattle.std.proofs.Common.{◌≡◌, List, [], ◌∷◌, ◌++◌, false, Ordering, Less, Equal, Greater, refl, sym, ap, subst, ◌∙◌, append_assoc}
+use Rattle.std.proofs.Common.{◌≡◌, List, [], ◌∷◌, ◌++◌, false, Ordering, Less, Equal, Greater, refl, ap, ◌∙◌}
 use Rattle.std.specs.BTreeMap.{is_at}
 use Rattle.std.specs.BTreeSet.{insert_key}
 use Rattle.std.specs.Cmp.{IsTotalOrder}
@@ -54,7 +54,3 @@ module _ {K : Type 0} {R : K → K → Ordering} (o : IsTotalOrder R) where
   unfolding IsStrictlySortedBy
   next_goes_last [] k later s = refl
   next_goes_last (x ∷ done) k later s = rw (greater_from_less x k (below_next x done k later s.0)) (ap (λ ks. x ∷ ks) (next_goes_last done k later s.1))
-
-  pub set_step : (done : List K) (k : K) (rest all : List K) → IsStrictlySortedBy R all → done ++ k ∷ rest ≡ all → insert_key R done k ++ rest ≡ all
-  set_step done k rest all sorted is =
-      ap (λ ks. ks ++ rest) (next_goes_last done k rest (subst (IsStrictlySortedBy R) (sym is) sorted)) ∙ append_assoc done (k ∷ []) rest ∙ is

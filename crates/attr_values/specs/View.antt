@@ -1,7 +1,7 @@
 -- The datum that a `Value` stands for.
-use Rattle.std.specs.Prelude.{ℕ, List, map, String, string_bytes}
-use Rattle.std.specs.declared.alloc.Global.{Global}
+use Rattle.std.specs.Prelude.{ℕ, List, map}
 use Rattle.attr_values.specs.Datum.{Datum, text, number, boolean, null, list, document, texts, numbers, elements_of, attributes_of}
+use Rattle.attr_values.specs.declared.value.Attribute.{Attribute}
 use Rattle.attr_values.specs.declared.value.Value.{Value}
 use Rattle.attr_values.specs.declared.value.Value.TheVariants.{S, N, Bool, Null, L, M, Ss, Ns}
 
@@ -18,8 +18,8 @@ datum_of (Ns ns) = numbers ns
 abbrev pub list_of : List Value → List Datum
 list_of = map datum_of
 
-abbrev pub entry_of : String Global × Value → List ℕ × Datum
-entry_of m = (string_bytes m.0, datum_of m.1)
+abbrev pub entry_of : Attribute → List ℕ × Datum
+entry_of a = (a.name, datum_of a.value)
 
-abbrev pub entries_of : List (String Global × Value) → List (List ℕ × Datum)
+abbrev pub entries_of : List Attribute → List (List ℕ × Datum)
 entries_of = map entry_of

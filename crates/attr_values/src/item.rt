@@ -20,7 +20,7 @@ use std::alloc::{AllocError, Global};
 use std::cmp::Ordering;
 use std::marker::Model;
 
-/// An item (PutItem of the DynamoDB API): attributes, each name once and in the order of the names' bytes.
+/// An item (PutItem of the DynamoDB API): attributes, each name once and in the order of the names' bytes. Owners share them.
 /// Contracts see a list of pairs. Items are made by `read_item` alone, so what `IsItem` says holds of each.
 #[derive(Debug, Drop)]
 pub struct Item {
@@ -62,7 +62,8 @@ impl Item {
         self.attributes.get(name)
     }
 
-    /// An equal item. Takes memory for each attribute.
+    /// The same item, in one step: its attributes are shared. Takes no memory, and is refused only where their owners cannot
+    /// be counted.
     pub fn copy(&self) -> Result<Item, AllocError>
         ensures { IfOk result (λ i. i ≡ self.now) }
     {
@@ -137,7 +138,8 @@ impl Ord for Item {
     }
 }
 
-/// Reads an item: an object whose fields are attributes. Takes memory for each name, text, list, map and set.
+/// Reads an item: an object whose fields are attributes. Takes memory for the attributes, and for each list, map and set
+/// among them; names and texts are shared.
 pub fn read_item(alloc: Global, json: &Json) -> Result<Item, ItemFault>
     ensures read { Answers attributes_of (spec.read_item (data_of json.now)) result }
     ensures kept { IfOk result IsItem }
@@ -152,7 +154,8 @@ pub fn read_item(alloc: Global, json: &Json) -> Result<Item, ItemFault>
     }
 }
 
-/// Writes an item as an object, its attributes in the order of their names' bytes. Takes memory for each name and value.
+/// Writes an item as an object, its attributes in the order of their names' bytes. Takes memory for each value; names
+/// and texts are shared.
 pub fn write_item(alloc: Global, item: &Item) -> Result<Json, AllocError>
     ensures json { IfOk result (λ j. data_of j ≡ item_json item.now) }
     ensures reads_back { IfOk result (λ j. spec.read_item (data_of j) ≡ Ok (attributes_of item.now)) }

@@ -65,7 +65,7 @@ pub struct Key {
 }
 
 impl Key {
-    /// An equal key. Takes memory for its texts.
+    /// The same key, in one step. Takes no memory, as its texts are shared.
     pub fn copy(&self) -> Result<Key, AllocError>
         ensures { IfOk result (λ k. k ≡ self.now) }
     {

@@ -52,7 +52,7 @@ impl KeyText {
         self.inner.as_str()
     }
 
-    /// An equal text. Takes memory for its bytes.
+    /// The same text, in one step. Takes no memory, as it is shared.
     pub fn copy(&self) -> Result<KeyText, AllocError>
         ensures { IfOk result (λ t. t ≡ self.now) }
     {
@@ -63,7 +63,7 @@ impl KeyText {
 }
 
 impl KeyPart {
-    /// An equal part. Takes memory for a text.
+    /// The same part, in one step. Takes no memory, as a text is shared.
     pub fn copy(&self) -> Result<KeyPart, AllocError>
         ensures { IfOk result (λ p. p ≡ self.now) }
     {

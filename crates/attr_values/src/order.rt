@@ -5,7 +5,7 @@ ghost use Rattle.attr_values.specs.Datum.{elements_of, attributes_of};
 ghost use Rattle.attr_values.specs.Order.{datum_cmp, elements_cmp, attributes_cmp, rank};
 ghost use Rattle.attr_values.specs.View.{datum_of};
 
-use crate::value::{Value, ValueList, ValueMap};
+use crate::value::{Attribute, Value, ValueList, ValueMap};
 use std::cmp::Ordering;
 
 impl PartialEq for Value {
@@ -104,7 +104,8 @@ fn compare_lists(a: &ValueList, b: &ValueList) -> Ordering
     ensures { result ≡ elements_cmp (elements_of a.now) (elements_of b.now) }
 {
     let mut rest = b.inner.iter();
-    for x in a.inner.iter() {
+    let items: &Vec<Value> = &a.inner;
+    for x in items {
         let Some(y) = rest.next() else {
             return Ordering::Greater;
         };
@@ -125,15 +126,16 @@ pub(crate) fn compare_maps(a: &ValueMap, b: &ValueMap) -> Ordering
     ensures { result ≡ attributes_cmp (attributes_of a.now) (attributes_of b.now) }
 {
     let mut rest = b.inner.iter();
-    for (name, x) in a.inner.iter() {
-        let Some((other, y)) = rest.next() else {
+    let attributes: &Vec<Attribute> = &a.inner;
+    for x in attributes {
+        let Some(y) = rest.next() else {
             return Ordering::Greater;
         };
-        match name.cmp(other) {
+        match x.name.cmp(&y.name) {
             Ordering::Equal => {}
             unlike => return unlike,
         }
-        match compare(x, y) {
+        match compare(&x.value, &y.value) {
             Ordering::Equal => {}
             unlike => return unlike,
         }

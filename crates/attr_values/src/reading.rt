@@ -14,10 +14,11 @@ ghost use Rattle.attr_values.specs.View.{datum_of};
 
 use crate::fault::ItemFault;
 use crate::number::Number;
-use crate::value::{NumberSet, TextSet, Value, ValueList, ValueMap};
+use crate::value::{Attribute, NumberSet, TextSet, Value, ValueList, ValueMap};
 use json_tree::{Json, JsonFields, JsonList};
 use std::alloc::Global;
-use std::collections::{BTreeMap, BTreeSet};
+use std::collections::BTreeSet;
+use std::sync::Arc;
 
 /// How deep the lists and maps of a value may nest.
 pub const MOST_LEVELS: u8 = 32;
@@ -35,7 +36,8 @@ enum Kind {
     Ns,
 }
 
-/// Reads a value: an object with one field, named for its type. Takes memory for each text, list, map and set.
+/// Reads a value: an object with one field, named for its type. Takes memory for each list, map and set, and shares
+/// the texts.
 pub fn read_value(alloc: Global, json: &Json) -> Result<Value, ItemFault>
     ensures read { Answers datum_of (spec.read_datum 32 (data_of json.now)) result }
     ensures kept { IfOk result (λ v. IsProper 32 (datum_of v)) }
@@ -200,7 +202,9 @@ fn read_elements(alloc: Global, list: &JsonList, levels: u8) -> Result<ValueList
     for json in list.as_slice() {
         inner.push(read_within(alloc, json, levels)?)?;
     }
-    Ok(ValueList { inner })
+    Ok(ValueList {
+        inner: Arc::new(alloc, inner)?,
+    })
 }
 
 #[cycle(read)]
@@ -212,13 +216,15 @@ pub(crate) fn read_attributes(
     ensures read { Answers attributes_of (spec.read_attributes levels (members_of fields.now)) result }
     ensures ordered { IfOk result (λ m. IsStrictlySortedBy text_cmp (keys_of m)) }
 {
-    let mut inner = BTreeMap::new(alloc);
+    let mut inner = Vec::with_capacity(alloc, fields.len())?;
     for field in fields.as_slice() {
         let value = read_within(alloc, &field.value, levels)?;
-        let name = String::from_str(alloc, field.name.as_str())?;
-        drop(inner.insert(name, value)?);
+        let name = field.name.copy()?;
+        inner.push(Attribute { name, value })?;
     }
-    Ok(ValueMap { inner })
+    Ok(ValueMap {
+        inner: Arc::new(alloc, inner)?,
+    })
 }
 
 fn read_texts(alloc: Global, list: &JsonList) -> Result<TextSet, ItemFault>
@@ -233,7 +239,9 @@ fn read_texts(alloc: Global, list: &JsonList) -> Result<TextSet, ItemFault>
             return Err(ItemFault::BadValue);
         }
     }
-    Ok(TextSet { inner })
+    Ok(TextSet {
+        inner: Arc::new(alloc, inner)?,
+    })
 }
 
 fn read_numbers(alloc: Global, list: &JsonList) -> Result<NumberSet, ItemFault>
@@ -248,5 +256,7 @@ fn read_numbers(alloc: Global, list: &JsonList) -> Result<NumberSet, ItemFault>
             return Err(ItemFault::BadValue);
         }
     }
-    Ok(NumberSet { inner })
+    Ok(NumberSet {
+        inner: Arc::new(alloc, inner)?,
+    })
 }

@@ -3,13 +3,15 @@
 ghost use Rattle.std.specs.Prelude.{◌≡◌, ◌↔◌, [], length, option_map, IsTrue, IfOk};
 ghost use Rattle.attr_values.specs.Item.{get_attribute};
 ghost use Rattle.attr_values.specs.View.{datum_of, list_of};
+ghost use Rattle.json_tree.specs.Fields.{text_cmp};
 
 use crate::number::Number;
 use json_tree::Text;
 use std::alloc::{AllocError, Global};
-use std::collections::{BTreeMap, BTreeSet};
-use std::default::Emptied;
+use std::cmp::Ordering;
+use std::collections::BTreeSet;
 use std::marker::Model;
+use std::sync::Arc;
 
 /// An attribute value (AttributeValue of the DynamoDB API), under the API's names of its types.
 /// `≡` is equality of values: what a list or a text has room for is no part of it.
@@ -26,11 +28,11 @@ pub enum Value {
     Ns(NumberSet),
 }
 
-/// The values of a list, in order. Contracts see a list of data.
+/// The values of a list, in order. Contracts see a list of data. Owners share one node.
 #[cycle(value)]
 #[derive(Debug, Drop)]
 pub struct ValueList {
-    pub(crate) inner: Vec<Value>,
+    pub(crate) inner: Arc<Vec<Value>>,
 }
 
 impl Model for ValueList {
@@ -42,22 +44,31 @@ impl Model for ValueList {
 
     ghost coded = { list_code };
 
+    ghost use Rattle.std.specs.Arc.{arc_value};
     ghost use Rattle.attr_values.specs.View.{list_of};
 
-    ghost view = { λ a. list_of a.inner.items };
+    ghost view = { λ a. list_of (arc_value a.inner).items };
 
     ghost size = { list_depth };
 
     ghost use Rattle.attr_values.specs.Falls.{list_falls};
 
-    ghost size_decreases = { λ a h. list_falls a.inner.items };
+    ghost size_decreases = { λ a h. list_falls a };
 }
 
-/// Attributes, each name once and in the order of the names' bytes. Contracts see a list of pairs.
+/// An attribute: its name and its value.
+#[cycle(value)]
+#[derive(Debug, Drop)]
+pub(crate) struct Attribute {
+    pub name: Text,
+    pub value: Value,
+}
+
+/// Attributes, each name once and in the order of the names' bytes. Contracts see a list of pairs. Owners share one node.
 #[cycle(value)]
 #[derive(Debug, Drop)]
 pub struct ValueMap {
-    pub(crate) inner: BTreeMap<String, Value>,
+    pub(crate) inner: Arc<Vec<Attribute>>,
 }
 
 impl Model for ValueMap {
@@ -69,20 +80,24 @@ impl Model for ValueMap {
 
     ghost coded = { entries_code };
 
+    ghost use Rattle.std.specs.Arc.{arc_value};
+    ghost use Rattle.attr_values.specs.Item.{IsInNameOrder};
     ghost use Rattle.attr_values.specs.View.{entries_of};
 
-    ghost view = { λ a. entries_of a.inner.entries };
+    ghost view = { λ a. entries_of (arc_value a.inner).items };
+
+    ghost invariant = { λ a. IsInNameOrder (entries_of (arc_value a.inner).items) };
 
     ghost size = { entries_depth };
 
     ghost use Rattle.attr_values.specs.Falls.{entries_fall};
 
-    ghost size_decreases = { λ a h. entries_fall a.inner.entries };
+    ghost size_decreases = { λ a h. entries_fall a };
 }
 
 impl Value {
-    /// An equal value. Takes memory for each text, list, map and set.
-    #[cycle(copy)]
+    /// The same value, in one step. Takes no memory: what it holds is shared. It is refused only where the owners of a long
+    /// text, a list, a map or a set cannot be counted.
     pub fn copy(&self) -> Result<Value, AllocError>
         ensures { IfOk result (λ v. v ≡ self.now) }
     {
@@ -106,31 +121,22 @@ impl ValueList {
         self.inner.as_slice()
     }
 
-    /// An equal list. Takes memory for the list, and for each value as `Value::copy` does.
-    #[cycle(copy)]
+    /// The same list, shared, in one step. Takes no memory, and is refused only where its owners cannot be counted.
     pub fn copy(&self) -> Result<ValueList, AllocError>
         ensures { IfOk result (λ l. l ≡ self.now) }
     {
-        let mut inner = Vec::with_capacity(*self.inner.allocator(), self.inner.len())?;
-        for value in &self.inner {
-            inner.push(value.copy()?)?;
-        }
-        Ok(ValueList { inner })
+        let node = Arc::try_clone(&self.inner)?;
+        Ok(ValueList { inner: node })
     }
 }
 
 impl ValueMap {
-    /// Equal attributes. Takes memory for each of them.
-    #[cycle(copy)]
+    /// The same attributes, shared, in one step. Takes no memory, and is refused only where their owners cannot be counted.
     pub fn copy(&self) -> Result<ValueMap, AllocError>
         ensures { IfOk result (λ m. m ≡ self.now) }
     {
-        let mut inner = BTreeMap::emptied(&self.inner)?;
-        for (name, value) in self.inner.iter() {
-            let name = name.clone()?;
-            drop(inner.insert(name, value.copy()?)?);
-        }
-        Ok(ValueMap { inner })
+        let node = Arc::try_clone(&self.inner)?;
+        Ok(ValueMap { inner: node })
     }
 
     pub fn len(&self) -> usize
@@ -149,61 +155,67 @@ impl ValueMap {
     pub fn get(&self, name: &str) -> Option<&Value>
         ensures { option_map (λ v. datum_of v.now) result ≡ get_attribute name.now self.now }
     {
-        self.inner.get(name)
+        let attributes: &Vec<Attribute> = &self.inner;
+        match attributes.binary_search_by(|attribute| compare_name(attribute, name)) {
+            Ok(at) => Some(&attributes[at].value),
+            Err(_gap) => None,
+        }
     }
 }
 
-/// Texts without repeats, in the order of their bytes.
+fn compare_name(attribute: &Attribute, name: &str) -> Ordering
+    ensures { result ≡ text_cmp attribute.now.name name.now }
+{
+    attribute.name.as_str().cmp(name)
+}
+
+/// Texts without repeats, in the order of their bytes. Owners share one node.
 #[derive(Debug, Drop)]
 pub struct TextSet {
-    pub(crate) inner: BTreeSet<Text>,
+    pub(crate) inner: Arc<BTreeSet<Text>>,
 }
 
 impl Model for TextSet {
     ghost use Rattle.std.specs.Prelude.{List, ℕ};
+    ghost use Rattle.std.specs.Arc.{arc_value};
 
     ghost Value = { List (List ℕ) };
 
-    ghost view = { λ a. a.inner.keys };
+    ghost view = { λ a. (arc_value a.inner).keys };
 }
 
 impl TextSet {
-    /// An equal set. Takes memory for each text.
+    /// The same set, shared, in one step. Takes no memory, and is refused only where its owners cannot be counted.
     pub fn copy(&self) -> Result<TextSet, AllocError>
         ensures { IfOk result (λ s. s ≡ self.now) }
     {
-        let mut inner = BTreeSet::emptied(&self.inner)?;
-        for text in self.inner.iter() {
-            inner.insert(text.copy()?)?;
-        }
-        Ok(TextSet { inner })
+        let node = Arc::try_clone(&self.inner)?;
+        Ok(TextSet { inner: node })
     }
 }
 
-/// Numbers without repeats, in their order.
+/// Numbers without repeats, in their order. Owners share one node.
 #[derive(Debug, Drop)]
 pub struct NumberSet {
-    pub(crate) inner: BTreeSet<Number>,
+    pub(crate) inner: Arc<BTreeSet<Number>>,
 }
 
 impl Model for NumberSet {
     ghost use Rattle.std.specs.Prelude.{List};
     ghost use Rattle.attr_values.specs.Decimal.{Decimal};
+    ghost use Rattle.std.specs.Arc.{arc_value};
 
     ghost Value = { List Decimal };
 
-    ghost view = { λ a. a.inner.keys };
+    ghost view = { λ a. (arc_value a.inner).keys };
 }
 
 impl NumberSet {
-    /// An equal set. Takes memory for the set.
+    /// The same set, shared, in one step. Takes no memory, and is refused only where its owners cannot be counted.
     pub fn copy(&self) -> Result<NumberSet, AllocError>
         ensures { IfOk result (λ s. s ≡ self.now) }
     {
-        let mut inner = BTreeSet::emptied(&self.inner)?;
-        for number in self.inner.iter() {
-            inner.insert(*number)?;
-        }
-        Ok(NumberSet { inner })
+        let node = Arc::try_clone(&self.inner)?;
+        Ok(NumberSet { inner: node })
     }
 }

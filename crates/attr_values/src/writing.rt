@@ -7,9 +7,10 @@ ghost use Rattle.attr_values.specs.View.{datum_of};
 ghost use Rattle.attr_values.specs.Writing.{json_of, json_entries, number_json, one_field as object_of_one};
 
 use crate::number::Number;
-use crate::value::{NumberSet, TextSet, Value, ValueList, ValueMap};
+use crate::value::{Attribute, NumberSet, TextSet, Value, ValueList, ValueMap};
 use json_tree::{Field, Json, JsonFields, JsonList, Text};
 use std::alloc::{AllocError, Global};
+use std::collections::BTreeSet;
 
 /// Writes a value: an object with one field, named for its type. Takes memory for each text, list, map and set.
 #[cycle(write)]
@@ -46,8 +47,9 @@ fn write_number(alloc: Global, number: &Number) -> Result<Json, AllocError>
 fn write_list(alloc: Global, list: &ValueList) -> Result<JsonList, AllocError>
     ensures { IfOk result (λ js. js ≡ list_map json_of list.now) }
 {
-    let mut values = Vec::with_capacity(alloc, list.inner.len())?;
-    for value in &list.inner {
+    let items: &Vec<Value> = &list.inner;
+    let mut values = Vec::with_capacity(alloc, items.len())?;
+    for value in items {
         values.push(write_value(alloc, value)?)?;
     }
     Ok(JsonList::from_vec(values)?)
@@ -57,10 +59,11 @@ fn write_list(alloc: Global, list: &ValueList) -> Result<JsonList, AllocError>
 pub(crate) fn write_map(alloc: Global, map: &ValueMap) -> Result<JsonFields, AllocError>
     ensures { IfOk result (λ fields. fields ≡ json_entries map.now) }
 {
-    let mut fields = Vec::with_capacity(alloc, map.inner.len())?;
-    for (name, value) in map.inner.iter() {
-        let name = Text::new(alloc, name.as_str())?;
-        let value = write_value(alloc, value)?;
+    let attributes: &Vec<Attribute> = &map.inner;
+    let mut fields = Vec::with_capacity(alloc, attributes.len())?;
+    for attribute in attributes {
+        let name = attribute.name.copy()?;
+        let value = write_value(alloc, &attribute.value)?;
         fields.push(Field { name, value })?;
     }
     Ok(JsonFields::from_sorted(fields)?)
@@ -69,8 +72,9 @@ pub(crate) fn write_map(alloc: Global, map: &ValueMap) -> Result<JsonFields, All
 fn write_texts(alloc: Global, set: &TextSet) -> Result<JsonList, AllocError>
     ensures { IfOk result (λ js. js ≡ list_map json.text set.now) }
 {
-    let mut texts = Vec::with_capacity(alloc, set.inner.len())?;
-    for text in &set.inner {
+    let members: &BTreeSet<Text> = &set.inner;
+    let mut texts = Vec::with_capacity(alloc, members.len())?;
+    for text in members {
         texts.push(Json::Text(text.copy()?))?;
     }
     Ok(JsonList::from_vec(texts)?)
@@ -79,8 +83,9 @@ fn write_texts(alloc: Global, set: &TextSet) -> Result<JsonList, AllocError>
 fn write_numbers(alloc: Global, set: &NumberSet) -> Result<JsonList, AllocError>
     ensures { IfOk result (λ js. js ≡ list_map number_json set.now) }
 {
-    let mut numbers = Vec::with_capacity(alloc, set.inner.len())?;
-    for number in &set.inner {
+    let members: &BTreeSet<Number> = &set.inner;
+    let mut numbers = Vec::with_capacity(alloc, members.len())?;
+    for number in members {
         numbers.push(write_number(alloc, number)?)?;
     }
     Ok(JsonList::from_vec(numbers)?)

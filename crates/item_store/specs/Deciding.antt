@@ -1,5 +1,5 @@
 -- What a request does with the item of its key (GetItem, PutItem and DeleteItem of the DynamoDB API).
-use Rattle.std.specs.Prelude.{ℕ, List, Option, Some, None, if◌then◌else◌, codes}
+use Rattle.std.specs.Prelude.{ℕ, List, Bool, true, false, Option, Some, None, if◌then◌else◌, codes}
 use Rattle.json_tree.specs.Data as json
 use Rattle.json_tree.specs.View.{data_of}
 use Rattle.attr_values.specs.Datum.{Datum}
@@ -25,6 +25,11 @@ Attributes = List (List ℕ × Datum)
 pub data Reply : Type 0 where
   given : json.Data → Reply
   refused : List ℕ → Reply
+
+-- whether an answer takes memory: each does but the empty object
+abbrev pub takes_memory : Reply → Bool
+takes_memory (given (json.fields json.no_members)) = false
+takes_memory _ = true
 
 -- what a request does: the answer, how it touches its item, and, where that is a write, the item afterwards
 pub record Decision : Type 0 where

@@ -6,9 +6,9 @@ use Rattle.attr_values.specs.View.{list_of, entries_of}
 use Rattle.attr_values.proofs.order.+compare.Given as goal
 
 -- what is left decides
-abbrev pub invariant-compare_maps-loop-name : goal.invariant-compare_maps-loop-name
-invariant-compare_maps-loop-name l =
-    attributes_cmp (attributes_of (entries_of l.name-iterator)) (attributes_of (entries_of l.rest)) ≡ attributes_cmp (attributes_of l.a) (attributes_of l.b)
+abbrev pub invariant-compare_maps-loop-x : goal.invariant-compare_maps-loop-x
+invariant-compare_maps-loop-x l =
+    attributes_cmp (attributes_of (entries_of (drop l.x-index l.x-items))) (attributes_of (entries_of (iter_rest l.rest))) ≡ attributes_cmp (attributes_of l.a) (attributes_of l.b)
 
 abbrev pub invariant-compare_lists-loop-x : goal.invariant-compare_lists-loop-x
 invariant-compare_lists-loop-x l =

@@ -17,9 +17,9 @@ invariant-read_elements-loop-json l =
 
 abbrev pub invariant-read_attributes-loop-field : goal.invariant-read_attributes-loop-field
 invariant-read_attributes-loop-field l =
-    IsStrictlySortedBy text_cmp (keys_of (entries_of l.inner.entries) ++ keys_of (fields_of (drop l.field-index l.field-items)))
+    IsStrictlySortedBy text_cmp (keys_of (entries_of l.inner.items) ++ keys_of (fields_of (drop l.field-index l.field-items)))
     × (spec.read_attributes l.levels (members_of l.fields)
-    ≡ result_map (attributes_before (entries_of l.inner.entries)) (spec.read_attributes l.levels (members_of (fields_of (drop l.field-index l.field-items)))))
+    ≡ result_map (attributes_before (entries_of l.inner.items)) (spec.read_attributes l.levels (members_of (fields_of (drop l.field-index l.field-items)))))
 
 abbrev pub decreases-read_within : goal.decreases-read_within
 decreases-read_within l = 4 * l.levels + 2
