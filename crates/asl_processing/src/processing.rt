@@ -1,5 +1,5 @@
 // What a state makes of its input and its result ("Input and Output Processing").
-ghost use Rattle.std.specs.Prelude.{◌≡◌, Some, Ok, IfOk, IfErr};
+ghost use Rattle.std.specs.Prelude.{◌≡◌, Some, Ok, Err, IfOk, IfErr};
 ghost use Rattle.json_tree.specs.Data.{Data};
 ghost use Rattle.json_tree.specs.View.{data_of};
 ghost use Rattle.asl_processing.specs.Errors.{NamesError};
@@ -107,6 +107,7 @@ fn pick_held(alloc: Global, path: &Option<RefPath>, json: &Json) -> Result<Json,
 pub fn held(json: Json) -> Result<Json, TurnFault>
     ensures ok { IfOk result (λ j. held (data_of json) ≡ Ok (data_of j)) }
     ensures fault { IfErr result (λ e. NamesError e (held (data_of json))) }
+    ensures memory { ¬ (result ≡ Err TurnFault.Memory) }
 {
     if depth(&json) > MOST_LEVELS {
         drop(json);
