@@ -1,4 +1,4 @@
-// Copies of entries, which share their machines and inputs.
+// Copies of entries, which share their machines, their inputs and the names of a rollback.
 ghost use Rattle.std.specs.Prelude.{◌≡◌, IfOk};
 
 use crate::entry::Entry;
@@ -9,21 +9,8 @@ use json_tree::{Json, Text};
 use std::alloc::AllocError;
 use step_names::{StepName, ThreadName};
 
-impl StepNames {
-    /// Equal names in the same order. Takes memory for each.
-    pub fn copy(&self) -> Result<StepNames, AllocError>
-        ensures { IfOk result (λ n. n ≡ self.now) }
-    {
-        let mut copies = Vec::with_capacity(*self.inner.allocator(), self.inner.len())?;
-        for name in &self.inner {
-            copies.push(name.copy()?)?;
-        }
-        Ok(StepNames::new(copies))
-    }
-}
-
 impl Entry {
-    /// An equal entry, which shares its machine and its input. Takes memory for the names.
+    /// An equal entry, which shares its machine, its input and the names that a rollback undid. Takes memory for other names.
     pub fn copy(&self) -> Result<Entry, AllocError>
         ensures { IfOk result (λ e. e ≡ self.now) }
     {

@@ -1,13 +1,15 @@
 // Names of steps, in a list.
-ghost use Rattle.std.specs.Prelude.{◌≡◌};
+ghost use Rattle.std.specs.Prelude.{◌≡◌, IfOk};
 
+use std::alloc::AllocError;
 use std::marker::Model;
+use std::sync::Arc;
 use step_names::StepName;
 
-/// Names of steps, in the order of an answer. Contracts see their list.
+/// Names of steps, in the order of an answer, which owners share: a log's entry and the answer of its command. Contracts see their list.
 #[derive(Debug, Drop)]
 pub struct StepNames {
-    pub(crate) inner: Vec<StepName>,
+    inner: Arc<Vec<StepName>>,
 }
 
 impl Model for StepNames {
@@ -20,15 +22,18 @@ impl Model for StepNames {
 
     ghost coded = { Prim.hlevel (codes, name_row.the_row.coded) };
 
-    ghost view = { λ a. a.inner.items };
+    ghost use Rattle.std.specs.Arc.{arc_value};
+
+    ghost view = { λ a. (arc_value a.inner).items };
 }
 
 impl StepNames {
-    /// The names of a vector. Takes no memory.
-    pub fn new(inner: Vec<StepName>) -> StepNames
-        ensures { result ≡ inner.items }
+    /// The names of a vector, in the memory that they have. Takes memory for a node.
+    pub fn new(names: Vec<StepName>) -> Result<StepNames, AllocError>
+        ensures { IfOk result (λ n. n ≡ names.items) }
     {
-        StepNames { inner }
+        let inner = Arc::new(*names.allocator(), names)?;
+        Ok(StepNames { inner })
     }
 
     /// The names. Takes no memory.
@@ -38,10 +43,11 @@ impl StepNames {
         self.inner.as_slice()
     }
 
-    /// The names themselves. Takes no memory.
-    pub fn into_vec(self) -> Vec<StepName>
-        ensures { result.items ≡ self }
+    /// The same names, shared, in one step. Takes no memory, and is refused only where their owners cannot be counted.
+    pub fn copy(&self) -> Result<StepNames, AllocError>
+        ensures { IfOk result (λ n. n ≡ self.now) }
     {
-        self.inner
+        let inner = Arc::try_clone(&self.inner)?;
+        Ok(StepNames { inner })
     }
 }

@@ -16,7 +16,7 @@ use Rattle.saved_steps.specs.World.{Setting}
 use Rattle.saved_steps.specs.declared.fact.Fact.{Fact}
 use Rattle.depends.specs.Dependence.{depends_directly}
 use Rattle.depends.specs.Instance.{steps}
-use Rattle.depends.specs.Laws.{facts_of, RunsAreSeen, PlansAreConsequences, FreeStepsHaveNoDependent}
+use Rattle.depends.specs.Laws.{facts_of, RunsAreSeen, PlansAreConsequences, MaximalStepsHaveNoDependent}
 use Rattle.depends.specs.Plans.{first_dependent, depends_on_some, consequences_from, consequences_at, plan}
 use Rattle.depends.proofs.Named.{steps_have_names}
 
@@ -115,7 +115,7 @@ found_none : (p : Fact → Bool) (i : ℕ) (ts : List (Occurrence Step Fact Save
 found_none p i [] h = refl
 found_none p i (t ∷ ts) h = by_bool (p t.fact) _ (λ k. let e = rw k at h in cc) (λ k. rw k (found_none p (i + 1) ts (rw k at h)))
 
-pub free_steps_have_no_dependent : FreeStepsHaveNoDependent
+pub free_steps_have_no_dependent : MaximalStepsHaveNoDependent
 free_steps_have_no_dependent s base v ts place t from runs at =
     let a = cut ts place t at in
     subst (λ n. (first_dependent (facts_of ts) n ≡ None) ↔ IsMaximal (steps s) ts t) a.place

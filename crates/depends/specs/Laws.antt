@@ -69,8 +69,8 @@ PlansAreConsequences =
     → map (slice_get ts) (plan (facts_of ts) place) ≡ map Some (reverse (consequences (steps s) ts t.step))
 
 -- A step has no dependent just where it is free.
-abbrev pub FreeStepsHaveNoDependent : Type 0
-FreeStepsHaveNoDependent =
+abbrev pub MaximalStepsHaveNoDependent : Type 0
+MaximalStepsHaveNoDependent =
     (s : Setting) (base v : World) (ts : List TakenStep) (place : ℕ) (t : TakenStep)
     → IsFrom s base → IsRun (steps s) base ts v → slice_get ts place ≡ Some t
     → (first_dependent (facts_of ts) place ≡ None) ↔ IsMaximal (steps s) ts t

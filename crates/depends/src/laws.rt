@@ -4,7 +4,7 @@
 //! run reaches, each with its fact and with what it kept (`specs/Instance.antt`, over the definitions of the theory of commuting steps).
 
 ghost use Rattle.depends.specs.Reasons.{ReasonsAreDependences};
-ghost use Rattle.depends.specs.Laws.{RunsAreSeen, StepsAreReversible, StepsHaveNames, StepsSwap, StepsUndo, ConsequencesAreLeast, UndoOrdersAgree, StepLinearizationsAgree, HeldStepsAreLeft, PlansAreConsequences, FreeStepsHaveNoDependent};
+ghost use Rattle.depends.specs.Laws.{RunsAreSeen, StepsAreReversible, StepsHaveNames, StepsSwap, StepsUndo, ConsequencesAreLeast, UndoOrdersAgree, StepLinearizationsAgree, HeldStepsAreLeft, PlansAreConsequences, MaximalStepsHaveNoDependent};
 
 /// Steps commute where they do not depend on each other, in every world that a run reaches; and a run has each name once.
 pub fn steps_are_reversible()
@@ -49,7 +49,7 @@ pub fn held_consequences_are_left()
 /// The plan of a step of a run is its consequences, from the last to the first; and a step has no dependent just where it is free.
 pub fn plans_are_consequences()
     ensures plan { PlansAreConsequences }
-    ensures first { FreeStepsHaveNoDependent }
+    ensures first { MaximalStepsHaveNoDependent }
 {}
 
 /// A step depends directly on an earlier one just where there is a reason why.

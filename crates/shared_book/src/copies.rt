@@ -24,5 +24,5 @@ pub(crate) fn copy_names(alloc: Global, names: &[StepName]) -> Result<StepNames,
     for name in names {
         copies.push(name.copy()?)?;
     }
-    Ok(StepNames::new(copies))
+    StepNames::new(copies)
 }

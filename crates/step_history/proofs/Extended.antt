@@ -11,7 +11,7 @@ use Rattle.depends.specs.Instance.{steps}
 use Rattle.depends.proofs.Reversible.{steps_are_reversible}
 use Rattle.depends.proofs.Named.{steps_have_names}
 use Rattle.step_history.specs.History.{TakenStep}
-use Rattle.step_history.specs.Laws.{MoreMachinesKeepHistories, BackwardOrdersUndo, FreeStepsReturn}
+use Rattle.step_history.specs.Laws.{MoreMachinesKeepHistories, BackwardOrdersUndo, MaximalStepsReturn}
 use Rattle.depends.proofs.Extended.{runs_more}
 
 pub more_machines : MoreMachinesKeepHistories
@@ -30,7 +30,7 @@ orders_undo s base ts xs h is allowed =
       λ x y i j. orders_hold_after (steps s) base names (world_view h.world) ts xs x y is.runs allowed i j,
     )
 
-pub free_return : FreeStepsReturn
+pub free_return : MaximalStepsReturn
 free_return s base ts t h is free =
     let names = steps_have_names s base is.from in
     let p = place t ts free.0 in

@@ -30,7 +30,7 @@ BackwardOrdersUndo =
     × ((x y : TakenStep) → In x xs → In y (consequences (steps s) ts x.step) → In y xs)
 
 -- a free step that is undone can be taken again, and then stands last, with all as before
-abbrev pub FreeStepsReturn : Type 0
-FreeStepsReturn =
+abbrev pub MaximalStepsReturn : Type 0
+MaximalStepsReturn =
     (s : Setting) (base : World) (ts : List TakenStep) (t : TakenStep) (h : History) → IsHistory s base ts h → IsMaximal (steps s) ts t
     → Takes (steps s) (undone (steps s) (world_view h.world) t) t (world_view h.world) × IsRun (steps s) base (without (steps s) (t ∷ []) ts ++ t ∷ []) (world_view h.world)

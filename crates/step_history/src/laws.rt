@@ -1,7 +1,7 @@
 //! Laws of histories: each function's contract is the law, and it does nothing.
 
 ghost use Rattle.step_history.specs.Levels.{FramesStand, ThreadsMoveWhereReady};
-ghost use Rattle.step_history.specs.Laws.{FramesAreCounted, MoreMachinesKeepHistories, BackwardOrdersUndo, FreeStepsReturn};
+ghost use Rattle.step_history.specs.Laws.{FramesAreCounted, MoreMachinesKeepHistories, BackwardOrdersUndo, MaximalStepsReturn};
 
 /// A frame counts no further than the frames of the base and so many steps more, and a parked one has made one.
 pub fn frames_are_counted()
@@ -21,7 +21,7 @@ pub fn backward_orders_undo()
 
 /// A free step that is undone can be taken again, and then stands last, with all as before.
 pub fn free_steps_return()
-    ensures { FreeStepsReturn }
+    ensures { MaximalStepsReturn }
 {}
 
 /// In a setting whose machines are whole, every frame stands before a state of its machine, as deep as its thread's name.
