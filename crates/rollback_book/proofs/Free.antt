@@ -22,7 +22,7 @@ use Rattle.book_log.specs.Answers.{absent, undo_answer, found_answer, free_answe
 use Rattle.book_log.specs.Log.{setting_of, base_of, past_of, consequences_of}
 use Rattle.book_log.specs.declared.refusal.Refusal.TheVariants.{HasDependents}
 use Rattle.book_log.proofs.Standing.{fact_named, consequences_there, after_same}
-use Rattle.rollback_book.specs.Book.{BookView, BookInvariant, IsAt, IsFreePlace}
+use Rattle.rollback_book.specs.Book.{BookView, BookInvariant, IsAt, IsMaximalPlace}
 use Rattle.rollback_book.proofs.Searching.{step_at, no_step, dependent_at, no_dependent_at, behind}
 use Rattle.rollback_book.proofs.Tied.{stands, facts_are, as_many_records}
 
@@ -90,7 +90,7 @@ module _ (b : BookView) (tied : BookInvariant b) (name : StepName) where
         same_Some d.fact r.fact (sym d.there ∙ slice_get-map (λ (x : StepRecord). x.fact) (history_records b.history) dependent ∙ ap (option_map (λ (x : StepRecord). x.fact)) k) in
         answer_by ∙ ap (found_answer (absent b.log name) name) found ∙ ap (free_answer name) d.found ∙ ap (λ (f : Fact). Err (HasDependents f.name)) same
 
-    pub free_place : first_dependent (facts (history_records b.history)) at ≡ None → IsFreePlace b name at
+    pub free_place : first_dependent (facts (history_records b.history)) at ≡ None → IsMaximalPlace b name at
     free_place h = record {
       there = is_at;
       free = h;
@@ -123,5 +123,5 @@ module _ (b : BookView) (tied : BookInvariant b) (name : StepName) where
       (ap (λ (fs : List Fact). is_some (from_step name fs)) (sym (facts_are b tied)) ∙ ap is_some (no_step name (history_records b.history) h))
 
   -- the step at a place that may be undone is free
-  pub freed : (at : ℕ) (h : IsFreePlace b name at) → IsMaximal (steps (setting_of b.log)) (past_of b.log) (stood at h.there).step
+  pub freed : (at : ℕ) (h : IsMaximalPlace b name at) → IsMaximal (steps (setting_of b.log)) (past_of b.log) (stood at h.there).step
   freed at h = free_by (setting_of b.log) (base_of b.log) (past_of b.log) at (stood at h.there).step b.history tied.history (stood at h.there).there h.free

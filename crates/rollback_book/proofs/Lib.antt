@@ -23,4 +23,5 @@ pub mod Rerun
 pub mod Outlined
 pub mod Started
 pub mod Retaken
+pub mod Remaining
 pub mod Commuted

@@ -25,7 +25,7 @@ use Rattle.book_log.specs.declared.refusal.Refusal.TheVariants.{NoStep, Settled}
 use Rattle.book_log.proofs.Answered.{once, undo_said}
 use Rattle.book_log.proofs.Orders.{order_split}
 use Rattle.book_log.proofs.Standing.{StandsAt, from_start, past_there, fact_named, settled_next, stands_undone, step_same}
-use Rattle.rollback_book.specs.Book.{BookView, IsAt, IsFreePlace, BookInvariant}
+use Rattle.rollback_book.specs.Book.{BookView, IsAt, IsMaximalPlace, BookInvariant}
 use Rattle.rollback_book.specs.Ordering.{left_by, order_refusal, refused_or}
 use Rattle.rollback_book.proofs.Free.{dependent_answer, dependent_within, free_place}
 use Rattle.rollback_book.specs.Settling.{absent_in}
@@ -110,7 +110,7 @@ module _ (b : BookView) (tied : BookInvariant b) where
   element_there (x ∷ xs) (suc i) h = element_there xs i (omega (arith, h))
 
   module _ (name n : StepName) (a : undo_answer b.log name ≡ Ok n) where
-    free_by : (at : ℕ) → IsAt b name at → (o : Option ℕ) → first_dependent (facts (history_records b.history)) at ≡ o → IsFreePlace b name at
+    free_by : (at : ℕ) → IsAt b name at → (o : Option ℕ) → first_dependent (facts (history_records b.history)) at ≡ o → IsMaximalPlace b name at
     free_by at is_at None h = free_place b tied name at is_at h
     free_by at is_at (Some dependent) h =
         let r = element_there (history_records b.history) dependent (dependent_within b tied name at is_at dependent h) in
@@ -119,7 +119,7 @@ module _ (b : BookView) (tied : BookInvariant b) where
         cc
 
     -- and it is free
-    pub undone_free : (at : ℕ) → IsAt b name at → IsFreePlace b name at
+    pub undone_free : (at : ℕ) → IsAt b name at → IsMaximalPlace b name at
     undone_free at is_at = free_by at is_at (first_dependent (facts (history_records b.history)) at) refl
 
 -- ---- one after another

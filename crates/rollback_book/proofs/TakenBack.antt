@@ -23,7 +23,7 @@ use Rattle.book_log.specs.declared.entry.Entry.TheVariants.{Undo, Rollback}
 use Rattle.book_log.proofs.LegalRuns.{accepted_is_legal}
 use Rattle.book_log.proofs.Holding.{left_is_after, without_named}
 use Rattle.book_log.proofs.Standing.{after_same, base_kept, consequences_there, past_there, stands_undone, stands_rolled}
-use Rattle.rollback_book.specs.Book.{BookView, BookInvariant, IsFreePlace}
+use Rattle.rollback_book.specs.Book.{BookView, BookInvariant, IsMaximalPlace}
 use Rattle.rollback_book.specs.Holding.{CanTakeOut, TakesOut}
 use Rattle.rollback_book.specs.declared.hold.Hold.{Hold}
 use Rattle.rollback_book.proofs.Kept.{all_out, can_take_out, held_before, hold_fewer}
@@ -36,7 +36,7 @@ with_entry b entry history capacity held = record { log = appended b.log entry; 
 
 module _ (b : BookView) (tied : BookInvariant b) (name : StepName) where
   -- a step that may be undone can be taken out of what is left
-  pub undone_takes : (at : ℕ) → IsFreePlace b name at → CanTakeOut b.held (at ∷ [])
+  pub undone_takes : (at : ℕ) → IsMaximalPlace b name at → CanTakeOut b.held (at ∷ [])
   undone_takes at free =
       let s = setting_of b.log in
       let t = stood b tied name at free.there in
@@ -71,7 +71,7 @@ module _ (b : BookView) (tied : BookInvariant b) (name : StepName) (h : History)
       let n = ap length e in
       omega (arith, k, n)
 
-  pub tied_undone : (at : ℕ) → IsFreePlace b name at → TakesOut b.held (at ∷ []) held_now
+  pub tied_undone : (at : ℕ) → IsMaximalPlace b name at → TakesOut b.held (at ∷ []) held_now
       → ((s : Setting) (base : World) (ts : List TakenStep) (t : TakenStep) → IsHistory s base ts b.history → slice_get ts at ≡ Some t → IsHistory s base (without (steps s) (t ∷ []) ts) h)
       → BookInvariant (with_entry b (Undo name) h capacity held_now)
   tied_undone at free takes undone_it =

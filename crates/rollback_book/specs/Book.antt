@@ -67,7 +67,7 @@ abbrev pub IsAt : BookView → StepName → ℕ → Type 0
 IsAt b name at = position (λ r. is_same_step r.fact.name name) (history_records b.history) ≡ Some at
 
 -- it may be undone there
-pub record IsFreePlace (b : BookView) (name : StepName) (at : ℕ) : Type 0 where
+pub record IsMaximalPlace (b : BookView) (name : StepName) (at : ℕ) : Type 0 where
   pub there : IsAt b name at
   pub free : first_dependent (map (λ r. r.fact) (history_records b.history)) at ≡ None
   pub answer : undo_answer b.log name ≡ Ok name

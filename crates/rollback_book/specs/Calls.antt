@@ -1,6 +1,6 @@
 -- What the calls of a book promise, over what it began with and the commands that it accepted: `before` is that of before a call,
 -- `after` that of after it. A book and whatever stands for one in code over many callers promise the same.
-use Rattle.std.specs.Prelude.{◌≡◌, ◌<◌, ◌⊎◌, ℕ, List, [], ◌∷◌, ◌++◌, length, Bool, Option, Some, None, Result, Err, Ok, IfOk, IfErr, IsOk, OnOk, OnErr, MatchResult}
+use Rattle.std.specs.Prelude.{◌≡◌, ◌<◌, ◌⊎◌, ℕ, List, [], ◌∷◌, ◌++◌, length, Bool, true, Option, Some, None, Result, Err, Ok, IfOk, IfErr, IsOk, OnOk, OnErr, MatchResult}
 use Rattle.std.specs.Borrow.{Bor}
 use Rattle.json_tree.specs.declared.tree.Json.{Json}
 use Rattle.step_history.specs.Frame.{Frame}
@@ -8,7 +8,7 @@ use Rattle.step_history.specs.History.{TakenStep}
 use Rattle.saved_steps.specs.First.{IsFirstReady}
 use Rattle.step_names.specs.Thread.{Thread}
 use Rattle.step_names.specs.declared.step.StepName.{StepName}
-use Rattle.book_log.specs.Answers.{Gives, GivesOr, HoldLacks, SettleLacks, StepLacks, hold_answer, plan_answer, settle_answer, start_answer, step_answer, undo_answer}
+use Rattle.book_log.specs.Answers.{Gives, GivesOr, HoldLacks, SettleLacks, StepLacks, hold_answer, plan_answer, remains, settle_answer, start_answer, step_answer, undo_answer}
 use Rattle.book_log.specs.Laws.{IsRolledBack}
 use Rattle.book_log.specs.Legal.{IsLegal}
 use Rattle.book_log.specs.Log.{Log, appended, consequences_of, left_of, world_of}
@@ -57,6 +57,11 @@ IsLatestLeft log (Some name) = (front : List TakenStep) × (x : TakenStep) × (l
 pub record MakesRoom (step : StepName) (result : Result Room Refusal) : Type 0 where
   pub ok : IfOk result (λ r. r.step ≡ step)
   pub err : IfErr result (λ e. e ≡ Memory)
+
+-- the same, where want of memory is told only of a step that remains; of another it is told why it doesn't
+pub record MakesUndoRoom (log : Log) (step : StepName) (result : Result Room Refusal) : Type 0 where
+  pub ok : IfOk result (λ r. r.step ≡ step)
+  pub err : IfErr result (λ e. ((e ≡ Memory) × (remains log step ≡ true)) ⊎ (undo_answer log step ≡ Err e))
 
 -- an undoing is answered exactly as the log has it, since it takes no memory
 pub record Undoes (before after : Log) (step : StepName) (result : Result StepName Refusal) : Type 0 where

@@ -1,10 +1,16 @@
 -- Steps undone one by one in an order, as their facts tell it.
-use Rattle.std.specs.Prelude.{List, [], ◌∷◌, Option, None, Some, Result, Ok, Err, if◌then◌else◌}
+use Rattle.std.specs.Prelude.{◌≡◌, List, [], ◌∷◌, true, Option, None, Some, Result, Ok, Err, if◌then◌else◌}
 use Rattle.saved_steps.specs.World.{is_same_step}
 use Rattle.saved_steps.specs.declared.fact.Fact.{Fact}
 use Rattle.step_names.specs.declared.step.StepName.{StepName}
-use Rattle.book_log.specs.Answers.{from_step, found_answer}
+use Rattle.book_log.specs.Answers.{from_step, found_answer, remains}
+use Rattle.book_log.specs.Log.{Log}
 use Rattle.book_log.specs.declared.refusal.Refusal.{Refusal}
+
+-- the first of these steps remains, if there is one
+abbrev pub FirstRemains : Log → List StepName → Type 0
+FirstRemains log [] = Unit {0}
+FirstRemains log (name ∷ names) = remains log name ≡ true
 
 -- the facts but that of the step of a name
 abbrev pub left_by : StepName → List Fact → List Fact

@@ -1,14 +1,15 @@
 -- Steps of a book that are taken again in another.
-use Rattle.std.specs.Prelude.{◌≡◌, ◌⊎◌, ℕ, ◌-◌, ◌==◌, Bool, false, List, [], ◌∷◌, Option, None, Some, Result, Ok, Err, if◌then◌else◌}
+use Rattle.std.specs.Prelude.{◌≡◌, ◌⊎◌, ℕ, ◌-◌, ◌==◌, Bool, false, List, [], ◌∷◌, Option, None, Some, Result, Ok, Err, is_some, if◌then◌else◌}
 use Rattle.json_tree.specs.declared.tree.Json.{Json}
 use Rattle.step_history.specs.Frame.{Frame}
 use Rattle.saved_steps.specs.Steps.{Step, started, moved, start_name}
 use Rattle.saved_steps.specs.World.{is_same_thread}
 use Rattle.saved_steps.specs.declared.fact.Kind.{Kind}
 use Rattle.step_names.specs.Thread.{Thread, execution}
-use Rattle.book_log.specs.Answers.{start_answer, step_answer}
+use Rattle.step_names.specs.declared.step.StepName.{StepName}
+use Rattle.book_log.specs.Answers.{start_answer, step_answer, steps_named}
 use Rattle.book_log.specs.Legal.{IsAccepted}
-use Rattle.book_log.specs.Log.{Log, appended}
+use Rattle.book_log.specs.Log.{Log, appended, remaining}
 use Rattle.book_log.specs.declared.refusal.Refusal.{Refusal}
 use Rattle.book_log.specs.declared.refusal.Refusal.TheVariants.{NoStep, Memory}
 use Rattle.book_log.specs.declared.entry.Entry.{Entry}
@@ -36,6 +37,10 @@ or_earlier None earlier = earlier
 abbrev pub last_start : Thread → List Entry → Option Origin
 last_start t [] = None
 last_start t (e ∷ entries) = or_earlier (last_start t entries) (start_in t e)
+
+-- a step of each of these names remains
+abbrev pub all_remain : Log → List StepName → Bool
+all_remain log names = is_some (steps_named (remaining log) names)
 
 -- the step is accepted
 abbrev pub CanRetake : Log → Step → Type 0

@@ -1,13 +1,14 @@
 // The book: the history of its remaining steps, and the log of what was accepted.
-ghost use Rattle.std.specs.Prelude.{◌≡◌, ◌^◌, ◌<◌, ◌⊎◌, [], map, length, IfOk, IsOk, MatchResult, Some, None, Ok, Err};
+ghost use Rattle.std.specs.Prelude.{◌≡◌, ◌^◌, ◌<◌, ◌⊎◌, [], map, length, true, IfOk, IfErr, IsOk, OnOk, MatchResult, Some, None, Ok, Err};
 ghost use Rattle.item_store.specs.Listing.{IsListing, items_left};
 ghost use Rattle.saved_steps.specs.Steps.{name_of};
 ghost use Rattle.step_history.specs.History.{AreRecordsOf, history_items};
-ghost use Rattle.book_log.specs.Answers.{absent, undo_answer};
+ghost use Rattle.book_log.specs.Answers.{absent, remains, undo_answer};
 ghost use Rattle.book_log.specs.Beginning.{table_of};
+ghost use Rattle.book_log.specs.Legal.{IsLegal};
 ghost use Rattle.book_log.specs.Log.{appended, past_of, remaining, world_of};
-ghost use Rattle.rollback_book.specs.Book.{IsAt, IsFreePlace};
-ghost use Rattle.rollback_book.specs.Calls.{IsLogOf, MakesRoom, PlansRollback, RollsBack, Shows, Undoes};
+ghost use Rattle.rollback_book.specs.Book.{IsAt, IsMaximalPlace};
+ghost use Rattle.rollback_book.specs.Calls.{IsLogOf, MakesRoom, MakesUndoRoom, PlansRollback, RollsBack, Shows, Undoes};
 ghost use Rattle.rollback_book.specs.Making.{IsPlanned, WasPlanned};
 
 use crate::hold::{Hold, take_out};
@@ -95,11 +96,25 @@ impl Book {
         Ok(Room::new(alloc, step)?)
     }
 
+    /// The same for a step that remains. Want of memory is told of no other: where it is refused, the step is looked up.
+    ///
+    /// # Errors
+    ///
+    /// `NoStep`, `Settled` and `Memory`.
+    pub fn undo_room(&self, alloc: Global, step: &StepName) -> Result<Room, Refusal>
+        ensures { MakesUndoRoom self.now.log step.now result }
+    {
+        match Room::new(alloc, step) {
+            Ok(room) => Ok(room),
+            Err(AllocError) => Err(self.unroomed(step)),
+        }
+    }
+
     /// Whether a step may be undone; where it may, its room with the place at which it was found. Takes no memory; looks at those
     /// remaining steps alone that are near it by their names and keys.
     pub fn can_undo(&self, room: Room) -> Result<FreeRoom, Refusal>
         ensures { MatchResult result
-            (λ free. (free.room.step ≡ room.step) × IsFreePlace self.now free.room.step free.at)
+            (λ free. (free.room.step ≡ room.step) × IsMaximalPlace self.now free.room.step free.at)
             (λ e. undo_answer self.now.log room.step ≡ Err e) }
     {
         let Some(at) = self.history.find(&room.step) else {
@@ -117,7 +132,7 @@ impl Book {
 
     /// Takes back a step that may be undone, as `can_undo` found, and answers its name: it isn't looked for again. Takes no memory.
     pub fn undo_found(&mut self, free: FreeRoom) -> StepName
-        requires { IsFreePlace self.old free.room.step free.at }
+        requires { IsMaximalPlace self.old free.room.step free.at }
         ensures name { result ≡ free.room.step }
         ensures log { self.new.log ≡ appended self.old.log (Entry.Undo free.room.step) }
     {
@@ -136,7 +151,7 @@ impl Book {
         Ok(self.undo_found(free))
     }
 
-    /// Plans the rollback of a step: it and its consequences, the latest first. Takes memory for their names, twice, and places.
+    /// Plans the rollback of a step: it and its consequences, the latest first. Takes memory for their names and places.
     pub fn plan_room(&self, alloc: Global, step: &StepName) -> Result<PlanRoom, Refusal>
         ensures { PlansRollback self.now.log step.now result }
     {
@@ -208,6 +223,28 @@ impl Book {
         (&self.begin, self.entries.as_slice())
     }
 
+    /// Why a step can't be undone for which there is no room.
+    fn unroomed(&self, step: &StepName) -> Refusal
+        ensures { ((result ≡ Refusal.Memory) × (remains self.now.log step.now ≡ true)) ⊎ (undo_answer self.now.log step.now ≡ Err result) }
+    {
+        match self.check_remains(step) {
+            Ok(()) => Refusal::Memory,
+            Err(gone) => gone,
+        }
+    }
+
+    /// Refuses a step that doesn't remain. Takes no memory.
+    pub(crate) fn check_remains(&self, step: &StepName) -> Result<(), Refusal>
+        ensures ok { OnOk result (remains self.now.log step.now ≡ true) }
+        ensures err { IfErr result (λ gone. (gone ≡ absent self.now.log step.now) × (undo_answer self.now.log step.now ≡ Err gone)) }
+        ensures legal { IsLegal self.now.log }
+    {
+        let Some(_) = self.history.find(step) else {
+            return Err(self.absent(step));
+        };
+        Ok(())
+    }
+
     /// Why a step that doesn't remain can't be taken back.
     pub(crate) fn absent(&self, name: &StepName) -> Refusal
         ensures { result ≡ absent self.now.log name.now }
@@ -222,7 +259,7 @@ impl Book {
     {
         let places = self.history.plan(alloc, at)?;
         let names = names_at(alloc, self.history.records(), places.places())?;
-        let undone = names_at(alloc, self.history.records(), places.places())?;
+        let undone = names.copy()?;
         Ok(PlanRoom {
             step: step.copy()?,
             names,
@@ -234,7 +271,7 @@ impl Book {
 
     /// Takes back the step at a place.
     pub(crate) fn take_back(&mut self, at: usize, step: StepName)
-        requires { IsFreePlace self.old step at }
+        requires { IsMaximalPlace self.old step at }
         ensures { self.new.log ≡ appended self.old.log (Entry.Undo step) }
     {
         self.history.undo(at);

@@ -1,5 +1,5 @@
 // Commands that add to a book: everything is made for one, and then it is entered.
-ghost use Rattle.std.specs.Prelude.{◌≡◌, ◌≤◌, ◌⊎◌, [], IfOk, IfErr, IsTrue, OnOk, OnErr, MatchResult, Some, None, Ok, Err, is_some};
+ghost use Rattle.std.specs.Prelude.{◌≡◌, ◌≤◌, ◌⊎◌, [], IfOk, IfErr, IsTrue, false, OnOk, OnErr, MatchResult, Some, None, Ok, Err, is_some};
 ghost use Rattle.json_tree.specs.Data.{depth, most_levels};
 ghost use Rattle.json_tree.specs.View.{data_of};
 ghost use Rattle.serde_json.specs.View.{view};
@@ -173,7 +173,7 @@ impl Book {
         requires free { machine_of self.old.log name.now ≡ None }
         requires whole { IsWellFormedThroughout machine }
         ensures made { IfOk result (λ m. EntersWith m (Entry.Define name.now machine) Entered.Defined) }
-        ensures refused { IfErr result (λ e. ((e ≡ Refusal.Full) × IsTrue (is_full_for_define self.old.log)) ⊎ (e ≡ Refusal.Memory)) }
+        ensures refused { IfErr result (λ e. ((e ≡ Refusal.Full) × IsTrue (is_full_for_define self.old.log)) ⊎ ((e ≡ Refusal.Memory) × (is_full_for_define self.old.log ≡ false))) }
         ensures ready { IfOk result (λ m. CanEnter self.new m) }
         ensures log { self.new.log ≡ self.old.log }
     {

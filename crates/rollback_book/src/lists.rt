@@ -54,5 +54,5 @@ pub fn names_at(
     for place in places {
         names.push(records.get(*place).fact.name.copy()?)?;
     }
-    Ok(StepNames::new(names))
+    StepNames::new(names)
 }

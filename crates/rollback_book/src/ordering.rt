@@ -1,9 +1,10 @@
 // Steps taken back one by one in an order, or none of them: the order is looked at whole before anything is changed.
 ghost use Rattle.std.specs.Prelude.{◌≡◌, ◌⊎◌, ◌∷◌, ◌++◌, [], map, reverse, None, Some, Ok, Err, IfOk, IfErr, MatchResult, OnOk, OnErr};
 ghost use Rattle.book_log.specs.Answers.{from_step, found_answer, order_answer, undo_answer};
+ghost use Rattle.book_log.specs.Legal.{IsLegal};
 ghost use Rattle.book_log.specs.Log.{Log, appended};
 ghost use Rattle.rollback_book.specs.Commuting.{HasConsequences, IsOnlyResult, UndoesBackward};
-ghost use Rattle.rollback_book.specs.Ordering.{left_by, order_refusal};
+ghost use Rattle.rollback_book.specs.Ordering.{FirstRemains, left_by, order_refusal};
 ghost use Rattle.rollback_book.specs.Settling.{absent_in};
 
 use crate::book::Book;
@@ -22,8 +23,38 @@ impl Book {
     ///
     /// # Errors
     ///
-    /// That of the first name that can't be undone at its turn, `NoStep`, `Settled` or `HasDependents`; and `Memory`.
+    /// That of the first name that can't be undone at its turn, `NoStep`, `Settled` or `HasDependents`; and `Memory`, but not where the
+    /// first step doesn't remain.
     pub fn undo_order(&mut self, alloc: Global, steps: &[StepName]) -> Result<(), Refusal>
+        ensures answer { MatchResult result
+            (λ _. order_answer self.old.log steps.now ≡ Ok self.new.log)
+            (λ e. (e ≡ Refusal.Memory) ⊎ (order_answer self.old.log steps.now ≡ Err e)) }
+        ensures allowed { UndoesBackward self.old.log steps.now result self.new.log }
+        ensures whole { OnOk result (HasConsequences self.old.log steps.now) }
+        ensures one { OnOk result (IsOnlyResult self.old.log steps.now self.new.log) }
+        ensures err { OnErr result (self.new.log ≡ self.old.log) }
+        ensures known { result ≡ Err Refusal.Memory → FirstRemains self.old.log steps.now }
+    {
+        match self.check_first(steps) {
+            Ok(()) => self.undo_in_order(alloc, steps),
+            Err(gone) => Err(gone),
+        }
+    }
+
+    /// Refuses an order whose first step doesn't remain. Takes no memory.
+    fn check_first(&self, steps: &[StepName]) -> Result<(), Refusal>
+        ensures ok { OnOk result (FirstRemains self.now.log steps.now) }
+        ensures err { IfErr result (λ gone. order_answer self.now.log steps.now ≡ Err gone) }
+        ensures known { ¬ (result ≡ Err Refusal.Memory) }
+        ensures legal { OnErr result (IsLegal self.now.log) }
+    {
+        match steps {
+            [first, ..] => self.check_remains(first),
+            [] => Ok(()),
+        }
+    }
+
+    fn undo_in_order(&mut self, alloc: Global, steps: &[StepName]) -> Result<(), Refusal>
         ensures answer { MatchResult result
             (λ _. order_answer self.old.log steps.now ≡ Ok self.new.log)
             (λ e. (e ≡ Refusal.Memory) ⊎ (order_answer self.old.log steps.now ≡ Err e)) }

@@ -1,5 +1,5 @@
 // A book whose steps are taken again in another order.
-ghost use Rattle.std.specs.Prelude.{◌≡◌, ◌⊎◌, ◌≤◌, ◌++◌, ◌∷◌, [], Some, Ok, Err, IfOk, IfErr, IsSome, MatchResult, OnOk, drop, false, length, option_map, option_copied, take};
+ghost use Rattle.std.specs.Prelude.{◌≡◌, ◌⊎◌, ◌≤◌, ◌++◌, ◌∷◌, [], Some, Ok, Err, IfOk, IfErr, IsSome, MatchResult, OnOk, drop, false, true, length, option_map, option_copied, take};
 ghost use Rattle.std.specs.List.{list_any};
 ghost use Rattle.json_tree.specs.Data.{depth, most_levels};
 ghost use Rattle.json_tree.specs.View.{data_of};
@@ -9,7 +9,7 @@ ghost use Rattle.book_log.specs.Answers.{defines, is_settlement, outline, rerun_
 ghost use Rattle.book_log.specs.Legal.{IsAccepted, IsLegal};
 ghost use Rattle.book_log.specs.Log.{appended, remaining, world_of};
 ghost use Rattle.rollback_book.specs.Commuting.{CannotRun, IsRerunOf};
-ghost use Rattle.rollback_book.specs.Rerunning.{MayDefine, Retakes, is_numbered, last_start, start_in};
+ghost use Rattle.rollback_book.specs.Rerunning.{MayDefine, Retakes, all_remain, is_numbered, last_start, start_in};
 ghost use Rattle.step_history.specs.History.{history_world};
 
 use crate::book::Book;
@@ -30,8 +30,37 @@ impl Book {
     ///
     /// # Errors
     ///
-    /// `NoStep` where a name doesn't remain, isn't the next of its thread at its turn, or has no move then; and `Memory`.
+    /// `NoStep` where a name doesn't remain, isn't the next of its thread at its turn, or has no move then; and `Memory`, but not where a
+    /// name doesn't remain.
     pub fn rerun(&self, alloc: Global, steps: &[StepName]) -> Result<Book, Refusal>
+        ensures answer { MatchResult result
+            (λ b. rerun_answer self.now.log steps.now ≡ Ok b.log)
+            (λ e. (e ≡ Refusal.Memory) ⊎ (rerun_answer self.now.log steps.now ≡ Err e)) }
+        ensures ok { IfOk result (λ b. IsRerunOf self.now.log steps.now b.log) }
+        ensures err { IfErr result (λ e. (e ≡ Refusal.Memory) ⊎ ((e ≡ Refusal.NoStep) × CannotRun self.now.log steps.now)) }
+        ensures known { result ≡ Err Refusal.Memory → all_remain self.now.log steps.now ≡ true }
+    {
+        match self.check_all(steps) {
+            Ok(()) => self.rerun_remaining(alloc, steps),
+            Err(gone) => Err(gone),
+        }
+    }
+
+    /// Refuses names among which one doesn't remain. Takes no memory.
+    fn check_all(&self, steps: &[StepName]) -> Result<(), Refusal>
+        ensures ok { OnOk result (all_remain self.now.log steps.now ≡ true) }
+        ensures err { IfErr result (λ gone. (gone ≡ Refusal.NoStep) × (rerun_answer self.now.log steps.now ≡ Err gone)) }
+        ensures legal { IsLegal self.now.log }
+    {
+        for name in steps {
+            if self.history.find(name).is_none() {
+                return Err(Refusal::NoStep);
+            }
+        }
+        Ok(())
+    }
+
+    fn rerun_remaining(&self, alloc: Global, steps: &[StepName]) -> Result<Book, Refusal>
         ensures answer { MatchResult result
             (λ b. rerun_answer self.now.log steps.now ≡ Ok b.log)
             (λ e. (e ≡ Refusal.Memory) ⊎ (rerun_answer self.now.log steps.now ≡ Err e)) }

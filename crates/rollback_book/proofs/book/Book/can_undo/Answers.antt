@@ -2,7 +2,7 @@ use Rattle.std.proofs.Common.{◌≡◌, arith, refl, ◌∙◌, ap, sym, subst,
 use Rattle.step_names.specs.declared.step.StepName.{StepName}
 use Rattle.book_log.specs.Answers.{absent, undo_answer}
 use Rattle.book_log.specs.declared.refusal.Refusal.TheVariants.{HasDependents}
-use Rattle.rollback_book.specs.Book.{BookView, IsFreePlace}
+use Rattle.rollback_book.specs.Book.{BookView, IsMaximalPlace}
 use Rattle.rollback_book.proofs.Free.{no_step_answer, free_place, dependent_within, dependent_answer}
 use Rattle.rollback_book.proofs.book.Book.can_undo.Goals as goal
 
@@ -14,7 +14,7 @@ returns-in_default c =
 pub returns-in_default-first_dependent : goal.returns-in_default-first_dependent
 returns-in_default-first_dependent c = (
   refl,
-  subst (λ (b : BookView). IsFreePlace b c.args.room.step c.in-Some.at) c.self.view_is
+  subst (λ (b : BookView). IsMaximalPlace b c.args.room.step c.in-Some.at) c.self.view_is
       (free_place _ c.self.invariant c.args.room.step c.in-Some.at (sym c.in-Some.ensures) (sym c.in_default-first_dependent.ensures)),
 )
 

@@ -1,4 +1,4 @@
-use Rattle.std.proofs.Common.{◌≡◌, ◌∙◌, inl, refl, sym, subst, true, false}
+use Rattle.std.proofs.Common.{◌≡◌, ◌∙◌, inl, inr, refl, sym, subst, true, false}
 use Rattle.book_log.specs.Answers.{is_full_for_define}
 use Rattle.rollback_book.specs.Book.{BookView, book_view}
 use Rattle.rollback_book.proofs.Added.{define_ready, on_ok}
@@ -12,6 +12,28 @@ returns-then-is_full_for_define-clause-refused c =
       refl,
       subst (λ (b : BookView). is_full_for_define b.log ≡ true) c.self.view_is
           (define_full_by b c.self.invariant c.len.result c.len-2.result c.is_full_for_define.result (c.len.ensures ∙ c.self.inside.entries.ok.0) c.len-2.ensures c.is_full_for_define.ensures ∙ c.if-is_full_for_define.true),
+    )
+
+-- the book isn't full where it goes on
+abbrev IsMaximal : BookView → Type 0
+IsMaximal b = is_full_for_define b.log ≡ false
+
+pub returns-in_default-clause-refused : goal.returns-in_default-clause-refused
+returns-in_default-clause-refused c =
+    let b = book_view c.self.inside.begin c.self.inside.machines c.self.inside.history c.self.inside.entries c.self.inside.settled c.self.inside.held in
+    inr (
+      refl,
+      subst IsMaximal c.self.view_is
+          (define_full_by b c.self.invariant c.len.result c.len-2.result c.is_full_for_define.result (c.len.ensures ∙ c.self.inside.entries.ok.0) c.len-2.ensures c.is_full_for_define.ensures ∙ c.if-is_full_for_define.false),
+    )
+
+pub returns-then-is_err-clause-refused : goal.returns-then-is_err-clause-refused
+returns-then-is_err-clause-refused c =
+    let b = book_view c.self.inside.begin c.self.inside.machines c.self.inside.history c.self.inside.entries c.self.inside.settled c.self.inside.held in
+    inr (
+      refl,
+      subst IsMaximal c.self.view_is
+          (define_full_by b c.self.invariant c.len.result c.len-2.result c.is_full_for_define.result (c.len.ensures ∙ c.self.inside.entries.ok.0) c.len-2.ensures c.is_full_for_define.ensures ∙ c.if-is_full_for_define.false),
     )
 
 pub returns-clause-ready : goal.returns-clause-ready
