@@ -3,3 +3,4 @@ pub mod Given
 pub mod Kept
 pub mod Entering
 pub use Rattle.rollback_book.proofs.Threads
+pub mod Unopened

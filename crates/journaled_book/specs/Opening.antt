@@ -1,9 +1,12 @@
 -- Which book the lines of a journal give, and why they give none.
 use Rattle.std.specs.Prelude.{◌≡◌, ℕ, List, ◌∷◌, ◌++◌, length, Option, None, Some}
 use Rattle.sqlite.specs.Order.{Row}
+use Rattle.sqlite.specs.State.{State}
 use Rattle.book_log.specs.Legal.{IsLegal}
 use Rattle.book_log.specs.Log.{Log}
 use Rattle.book_journal.specs.Entries.{HoldLines, HaveGap}
+use Rattle.book_journal.specs.Faults.{RefusesRows}
+use Rattle.book_journal.specs.Kept.{lines_in}
 use Rattle.book_journal.specs.declared.fault.JournalFault.{JournalFault}
 use Rattle.book_journal.specs.declared.fault.JournalFault.TheVariants as journal_fault
 use Rattle.journaled_book.specs.Lines.{AreLinesOf, IsDamaged}
@@ -35,13 +38,14 @@ pub record HasDamageAt (lines : List (List ℕ)) (place : ℕ) : Type 0 where
 abbrev pub OpensTo : List Row → Option Log → Type 0
 OpensTo rows log = (lines : List (List ℕ)) × HoldLines rows lines × Give lines log
 
-abbrev pub RefusesJournal : List Row → JournalFault → Type 0
-RefusesJournal rows (journal_fault.Gap position) = HaveGap rows position
-RefusesJournal rows (journal_fault.Store cause) = Unit {0}
-RefusesJournal rows journal_fault.Memory = ⊥
+-- why the lines of a journal can't be had: a gap stands among its entries; or the database shows them not, for this cause
+abbrev pub RefusesJournal : State → State → JournalFault → Type 0
+RefusesJournal old new (journal_fault.Gap position) = HaveGap (lines_in old) position
+RefusesJournal old new (journal_fault.Store cause) = RefusesRows old new (lines_in old) cause
+RefusesJournal old new journal_fault.Memory = ⊥
 
--- why a journal with these entries isn't opened; want of memory and an error of the database say nothing of them
-abbrev pub RefusesOpen : List Row → OpenFault → Type 0
-RefusesOpen rows (Damaged place) = (lines : List (List ℕ)) × HoldLines rows lines × HasDamageAt lines place
-RefusesOpen rows (Journal fault) = RefusesJournal rows fault
-RefusesOpen rows Memory = Unit {0}
+-- why a journal isn't opened; want of memory says nothing of its entries
+abbrev pub RefusesOpen : State → State → OpenFault → Type 0
+RefusesOpen old new (Damaged place) = (lines : List (List ℕ)) × HoldLines (lines_in old) lines × HasDamageAt lines place
+RefusesOpen old new (Journal fault) = RefusesJournal old new fault
+RefusesOpen old new Memory = Unit {0}

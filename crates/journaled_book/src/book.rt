@@ -3,6 +3,7 @@ ghost use Rattle.sqlite.specs.Held.{state};
 ghost use Rattle.sqlite.specs.State.{HasCleanDisk};
 ghost use Rattle.book_log.specs.Beginning.{table_of};
 ghost use Rattle.book_journal.specs.Kept.{lines_in, IsAtRest};
+ghost use Rattle.rollback_book.specs.Calls.{MakesUndoRoom};
 ghost use Rattle.rollback_book.specs.Making.{Answers, IsPlanned, IsProper, WasPlanned};
 ghost use Rattle.journaled_book.specs.Changes.{AnswersRollback, AnswersUndo, Appends, IsRead, IsReady, IsStoreFault, PlansRollback, RefusesBegin};
 ghost use Rattle.journaled_book.specs.Journaled.{IsJournalOf, log_of, with_entry};
@@ -59,7 +60,7 @@ impl<S: Alter> JournaledBook<S> {
         journal: Journal<S>,
     ) -> Result<JournaledBook<S>, (OpenFault, Journal<S>)>
         ensures opened { IfOk result (λ j. HasCleanDisk (state S.Store j.journal) → OpensTo (lines_in (state S.Store journal)) (log_of j.book)) }
-        ensures refused { IfErr result (λ e. HasCleanDisk (state S.Store e.1) → RefusesOpen (lines_in (state S.Store journal)) e.0) }
+        ensures refused { IfErr result (λ e. HasCleanDisk (state S.Store e.1) → RefusesOpen (state S.Store journal) (state S.Store e.1) e.0) }
         ensures memory { IfErr result (λ e. ¬ (e.0 ≡ OpenFault.Journal JournalFault.Memory)) }
         ensures read { MatchResult result (λ j. IsRead (state S.Store journal) (state S.Store j.journal)) (λ e. IsRead (state S.Store journal) (state S.Store e.1)) }
     {
@@ -168,6 +169,17 @@ impl<S: Alter> JournaledBook<S> {
             unreachable!()
         };
         changing::undo(book, &mut self.journal, room, line)
+    }
+
+    /// Makes what the undoing of a step needs, as `Book::undo_room`.
+    pub fn undo_room(&self, alloc: Global, step: &StepName) -> Result<Room, Refusal>
+        requires { IsSome self.now.book }
+        ensures { IfSome self.now.book (λ b. MakesUndoRoom b.log step.now result) }
+    {
+        let Some(book) = &self.book else {
+            unreachable!()
+        };
+        book.undo_room(alloc, step)
     }
 
     /// Plans the rollback of a step, as `Book::plan_room`.

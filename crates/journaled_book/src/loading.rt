@@ -6,7 +6,7 @@ ghost use Rattle.book_journal.specs.Kept.{lines_in};
 ghost use Rattle.journaled_book.specs.Changes.{IsRead};
 ghost use Rattle.journaled_book.specs.Journaled.{log_of};
 ghost use Rattle.journaled_book.specs.Opening.{Give, HasDamageAt, OpensTo, RefusesOpen};
-ghost use Rattle.journaled_book.specs.Reading.{fault_at};
+ghost use Rattle.journaled_book.specs.Reading.{fault_at, open_fault_of};
 
 use crate::fault::{LineFault, OpenFault};
 use crate::lines::add_line;
@@ -21,12 +21,21 @@ pub(crate) fn load<S: Alter>(
     journal: &mut Journal<S>,
 ) -> Result<Option<Book>, OpenFault>
     ensures opened { HasCleanDisk (state S.Store journal.new) → IfOk result (λ book. OpensTo (lines_in (state S.Store journal.old)) (log_of book)) }
-    ensures refused { HasCleanDisk (state S.Store journal.new) → IfErr result (RefusesOpen (lines_in (state S.Store journal.old))) }
+    ensures refused { HasCleanDisk (state S.Store journal.new) → IfErr result (RefusesOpen (state S.Store journal.old) (state S.Store journal.new)) }
     ensures memory { ¬ (result ≡ Err (OpenFault.Journal JournalFault.Memory)) }
     ensures journal { IsRead (state S.Store journal.old) (state S.Store journal.new) }
 {
-    let lines = journal.load(alloc)?;
-    book_of(alloc, lines.as_slice())
+    match journal.load(alloc) {
+        Ok(lines) => book_of(alloc, lines.as_slice()),
+        Err(fault) => Err(open_fault(fault)),
+    }
+}
+
+/// How it is told that the journal doesn't show its lines.
+fn open_fault(fault: JournalFault) -> OpenFault
+    ensures { result ≡ open_fault_of fault }
+{
+    OpenFault::from(fault)
 }
 
 /// The book of these lines, which are applied one after another.
