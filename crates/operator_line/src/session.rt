@@ -79,7 +79,7 @@ impl<S: Alter> Session<S> {
     /// As `JournaledBook::open`; the journal is handed back as it was.
     pub fn open(alloc: Global, journal: Journal<S>) -> Result<Session<S>, (OpenFault, Journal<S>)>
         ensures opened { IfOk result (λ s. HasCleanDisk (state S.Store s.journal) → OpensTo (lines_in (state S.Store journal)) (told s)) }
-        ensures refused { IfErr result (λ e. HasCleanDisk (state S.Store e.1) → RefusesOpen (lines_in (state S.Store journal)) e.0) }
+        ensures refused { IfErr result (λ e. HasCleanDisk (state S.Store e.1) → RefusesOpen (state S.Store journal) (state S.Store e.1) e.0) }
         ensures memory { IfErr result (λ e. ¬ (e.0 ≡ OpenFault.Journal journal_fault.Memory)) }
         ensures read { MatchResult result (λ s. IsRead (state S.Store journal) (state S.Store s.journal)) (λ e. IsRead (state S.Store journal) (state S.Store e.1)) }
         ensures here { IfOk result (λ s. s.is_failed ≡ false) }

@@ -45,7 +45,7 @@ module _ {Held : Type 0} (show : Held → State) where
     pub journal : Held
     pub left : Held
     pub is_opened : HasCleanDisk (show journal) → IsOpened (show connection) (show journal)
-    pub refuses : HasCleanDisk (show left) → RefusesOpen (lines_in (show journal)) reason
+    pub refuses : HasCleanDisk (show left) → RefusesOpen (show journal) (show left) reason
 
   -- the database refuses to open a journal, or the journal gives no book
   abbrev pub GivesNone : Held → ExitCause → Type 0
