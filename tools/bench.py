@@ -160,6 +160,26 @@ def filled(count, size):
         yield f'start run-{at} fill {{"text":"{"t" * 16}"}}'
 
 
+def placing(fields):
+    """An execution over an object of so many fields, of a hundred states of which each places one more."""
+    machine = {f"P{at}": {"Type": "Pass", "Result": 1, "ResultPath": f"$.new-{at}", "Next": f"P{at + 1}"} for at in range(100)}
+    yield TABLE
+    yield define("place", {"StartAt": "P0", "States": {**machine, "P100": {"Type": "Pass", "End": True}}})
+    yield f'start run place {text_of({f"field-{at:05}": at for at in range(fields)})}'
+    yield "drive 1"
+
+
+def large_items(attributes):
+    """Executions that put an item of so many attributes, and that get it."""
+    item = {"id": {"S": "k"}, **{f"a-{at:05}": {"S": f"v-{at}"} for at in range(attributes)}}
+    yield TABLE
+    yield define("put", workloads.states("Put", Put={**workloads.call("putItem", Item=item), "End": True}))
+    yield define("get", workloads.states("Get", Get={**workloads.call("getItem", Key={"id": {"S": "k"}}), "End": True}))
+    for at in range(10):
+        yield from (f"start put-{at} put {{}}", f"start get-{at} get {{}}")
+    yield from ("step put-0", "step get-0")
+
+
 def single_calls():
     """Each call as its name, its unit, the lines before it, the lines that are it, and how many they are."""
     for remain in (600, 6_000, 60_000):
@@ -237,6 +257,9 @@ def single_calls():
                 yield f"start run-{at} three {value}"
         yield f"step over {said}", "instructions", given, [f"step run-{at}" for at in range(100)], 100
         yield f"start with {said}", "instructions", given, [f"start new-{at} three {value}" for at in range(100)], 100
+    yield "a field placed into 10,000", "instructions", lambda: placing(10_000), ["drive 99"], 99
+    for call in ("put", "get"):
+        yield f"{call} of an item of 5,000 attributes", "instructions", lambda: large_items(5_000), [f"step {call}-{at}" for at in range(1, 10)], 9
 
 
 def instructions(program, names, scale, jobs):
