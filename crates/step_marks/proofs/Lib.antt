@@ -1,0 +1,6 @@
+pub mod Anyone
+pub mod Rising
+pub mod Least
+pub mod Awaiting
+pub mod Kept
+pub mod Sought
