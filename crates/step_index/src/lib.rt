@@ -5,9 +5,12 @@
 mod buckets;
 mod found;
 mod held;
+mod looks;
 mod plans;
 mod records;
+mod seen;
 mod walks;
 
 pub use held::HeldSteps;
+pub use looks::Looks;
 pub use records::StepRecords;

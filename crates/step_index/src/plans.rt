@@ -1,6 +1,6 @@
 //! Which steps a rollback takes back.
 
-ghost use Rattle.std.specs.Prelude.{◌≡◌, ◌<◌, ◌∷◌, ◌++◌, [], length, map, IfOk, OnOk, Some, if◌then◌else◌, slice_get};
+ghost use Rattle.std.specs.Prelude.{◌≡◌, ◌<◌, ◌≤◌, ◌+◌, ◌-◌, ◌∷◌, ◌++◌, [], length, map, IfOk, OnOk, Some, if◌then◌else◌, slice_get};
 ghost use Rattle.depends.specs.Plans as plans;
 ghost use Rattle.saved_steps.specs.declared.record.StepRecord.{StepRecord as Kept};
 ghost use Rattle.step_index.specs.Buckets.{by_exec, by_key};
@@ -8,13 +8,13 @@ ghost use Rattle.step_index.specs.Finding.{AreFound};
 ghost use Rattle.step_index.specs.Records.{classes_by};
 
 use crate::found::FoundSteps;
+use crate::looks::Looks;
 use depends::Plan;
 use linked_classes::{ClassedPlaces, NumberedVec};
 use saved_steps::StepRecord;
 use std::alloc::{AllocError, Global};
 
-/// The step at a place and all its consequences, the latest first: one pass over the later steps. One of these is looked at only where a
-/// step that was found before it is in the class of its execution or of its key, and then as `FoundSteps::is_needed` says.
+/// The step at a place and all its consequences, the latest first, as `plan_with_looks` finds them.
 pub(crate) fn plan_of(
     alloc: Global,
     records: &NumberedVec<StepRecord>,
@@ -27,10 +27,34 @@ pub(crate) fn plan_of(
     requires keyed { keys.now.classes ≡ classes_by by_key records.now.items }
     ensures { IfOk result (λ p. p ≡ plans.plan (map (λ r. r.fact) records.now.items) at) }
 {
-    let mut found = begin(alloc, records, at)?;
+    let count = records.len();
+    prove!(at < count);
+    let mut looks = Looks::new();
+    plan_with_looks(alloc, records, execs, keys, at, &mut looks)
+}
+
+/// The step at a place and all its consequences, the latest first: one pass over the later steps. One of these is looked at only where a
+/// step that was found before it is in the class of its execution or of its key, and then once: whether it depends directly on one
+/// that was found is told by the marks of these.
+pub(crate) fn plan_with_looks(
+    alloc: Global,
+    records: &NumberedVec<StepRecord>,
+    execs: &ClassedPlaces,
+    keys: &ClassedPlaces,
+    at: usize,
+    looks: &mut Looks,
+) -> Result<Plan, AllocError>
+    requires there { at < length records.now.items }
+    requires run { execs.now.classes ≡ classes_by by_exec records.now.items }
+    requires keyed { keys.now.classes ≡ classes_by by_key records.now.items }
+    requires room { looks.old.count + length records.now.items ≤ 18446744073709551615 }
+    ensures plan { IfOk result (λ p. p ≡ plans.plan (map (λ r. r.fact) records.now.items) at) }
+    ensures looks { looks.new.count ≤ looks.old.count + (length records.now.items - at) }
+{
+    let mut found = begin(alloc, records, execs, keys, at, looks)?;
     let count = records.len();
     for place in at + 1..count {
-        add_if_follows(&mut found, records, execs, keys, place)?;
+        add_if_follows(&mut found, records, execs, keys, place, looks)?;
     }
     let mut places = found.into_places();
     places.reverse();
@@ -41,14 +65,22 @@ pub(crate) fn plan_of(
 fn begin(
     alloc: Global,
     records: &NumberedVec<StepRecord>,
+    execs: &ClassedPlaces,
+    keys: &ClassedPlaces,
     at: usize,
+    looks: &mut Looks,
 ) -> Result<FoundSteps, AllocError>
-    requires { at < length records.now.items }
+    requires there { at < length records.now.items }
+    requires run { execs.now.classes ≡ classes_by by_exec records.now.items }
+    requires keyed { keys.now.classes ≡ classes_by by_key records.now.items }
+    requires room { looks.old.count < 18446744073709551615 }
     ensures places { IfOk result (λ found. found.places.items ≡ at ∷ []) }
     ensures found { IfOk result (λ found. AreFound records.now.items found) }
+    ensures looks { looks.new.count ≡ looks.old.count + 1 }
 {
     let mut found = FoundSteps::new(alloc);
-    found.add(records, at)?;
+    let fact = &looks.look(records, at).fact;
+    found.add(at, fact, execs.class(at), keys.class(at))?;
     Ok(found)
 }
 
@@ -59,21 +91,26 @@ fn add_if_follows(
     execs: &ClassedPlaces,
     keys: &ClassedPlaces,
     place: usize,
+    looks: &mut Looks,
 ) -> Result<(), AllocError>
     requires there { place < length records.now.items }
     requires run { execs.now.classes ≡ classes_by by_exec records.now.items }
     requires keyed { keys.now.classes ≡ classes_by by_key records.now.items }
+    requires room { looks.old.count < 18446744073709551615 }
     requires found { AreFound records.now.items found.old }
     ensures places { (g : Kept) → slice_get records.now.items place ≡ Some g → OnOk result (found.new.places.items
         ≡ (if plans.depends_on_some (map (λ r. r.fact) records.now.items) found.old.places.items g.fact then found.old.places.items ++ place ∷ [] else found.old.places.items)) }
     ensures found { OnOk result (AreFound records.now.items found.new) }
+    ensures looks { looks.new.count ≤ looks.old.count + 1 }
 {
-    if !found.meets(execs.class(place), keys.class(place)) {
+    let exec = execs.class(place);
+    let key = keys.class(place);
+    if !found.meets(exec, key) {
         return Ok(());
     }
-    if !found.is_needed(records, &records.get(place).fact) {
+    let fact = &looks.look(records, place).fact;
+    if !found.is_needed(fact)? {
         return Ok(());
     }
-    found.add(records, place)?;
-    Ok(())
+    found.add(place, fact, exec, key)
 }

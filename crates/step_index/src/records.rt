@@ -1,6 +1,6 @@
 //! The records, and the classes of their places.
 
-ghost use Rattle.std.specs.Prelude.{◌≡◌, ◌<◌, ◌+◌, ◌==◌, ◌||◌, [], ◌∷◌, ◌++◌, true, length, map, position, slice_get, Some, IfOk, OnOk};
+ghost use Rattle.std.specs.Prelude.{◌≡◌, ◌<◌, ◌≤◌, ◌+◌, ◌-◌, ◌==◌, ◌||◌, [], ◌∷◌, ◌++◌, true, length, map, position, slice_get, Some, IfOk, OnOk};
 ghost use Rattle.std.specs.List.{remove};
 ghost use Rattle.depends.specs.Plans as plans;
 ghost use Rattle.depends.specs.Dependence.{is_start};
@@ -13,7 +13,8 @@ use crate::buckets::{
     BUCKETS, access_bucket, exec_bucket, gate_bucket, key_bucket, name_bucket, thread_bucket,
     write_bucket,
 };
-use crate::plans::plan_of;
+use crate::looks::Looks;
+use crate::plans::{plan_of, plan_with_looks};
 use crate::walks::{earlier, first_named, first_needing, first_needing_in};
 use depends::Plan;
 use item_store::AccessMode;
@@ -200,14 +201,29 @@ impl StepRecords {
         }
     }
 
-    /// The step at a place and all its consequences, the latest first. Takes some 130 bytes for each of them and 33,000 more. One
-    /// pass over the later steps: where one that was found is in the class of the execution or of the key of one of these, it looks
-    /// at the ones found of its thread and above it, and of its key, up to the first on which it depends.
+    /// The step at a place and all its consequences, the latest first, as `plan_with_looks` finds them.
     pub fn plan(&self, alloc: Global, at: usize) -> Result<Plan, AllocError>
         requires { at < length self.now.items }
         ensures { IfOk result (λ p. p ≡ plans.plan (map (λ r. r.fact) self.now.items) at) }
     {
         plan_of(alloc, &self.records, &self.execs, &self.keys, at)
+    }
+
+    /// The same, with its looks at records added to a count. One pass over the later steps: each is looked at once at most, and only
+    /// where one that was found is in the class of its execution or of its key. Takes memory for the marks of each step that was
+    /// found, and time in the logarithm of their number.
+    pub fn plan_with_looks(
+        &self,
+        alloc: Global,
+        at: usize,
+        looks: &mut Looks,
+    ) -> Result<Plan, AllocError>
+        requires there { at < length self.now.items }
+        requires room { looks.old.count + length self.now.items ≤ 18446744073709551615 }
+        ensures plan { IfOk result (λ p. p ≡ plans.plan (map (λ r. r.fact) self.now.items) at) }
+        ensures looks { looks.new.count ≤ looks.old.count + (length self.now.items - at) }
+    {
+        plan_with_looks(alloc, &self.records, &self.execs, &self.keys, at, looks)
     }
 
     /// The earliest step that depends directly on the one at a place, of those that do so by their names.

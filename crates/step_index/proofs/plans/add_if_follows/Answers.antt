@@ -1,5 +1,6 @@
-use Rattle.std.proofs.Common.{◌≡◌, ℕ, [], ◌∷◌, ◌++◌, true, cond, List, Some, refl, ap, sym, ◌∙◌}
+use Rattle.std.proofs.Common.{[], ◌∷◌, ◌++◌, cond, refl, ap, sym, ◌∙◌}
 use Rattle.std.proofs.lemmas.Option.{same_Some}
+use Rattle.std.proofs.lemmas.Result.{on_ok_weaker}
 use Rattle.saved_steps.specs.declared.record.StepRecord.{StepRecord}
 use Rattle.depends.specs.Plans.{depends_on_some}
 use Rattle.step_index.specs.Buckets.{by_exec, by_key}
@@ -11,22 +12,31 @@ pub returns-then-not-meets-clause-places : goal.returns-then-not-meets-clause-pl
 returns-then-not-meets-clause-places c g is =
     let rs = c.args.records.now.items in
     let places = c.args.found.now.places.items in
-    let exec = sym (class_there by_exec c.args.execs.now rs c.requires.run c.args.place g is) ∙ sym c.class.ensures in
-    let key = sym (class_there by_key c.args.keys.now rs c.requires.keyed c.args.place g is) ∙ sym c.class-2.ensures in
+    let exec = sym (class_there by_exec c.args.execs.now rs c.requires.run c.args.place g is) ∙ sym c.class-exec.ensures in
+    let key = sym (class_there by_key c.args.keys.now rs c.requires.keyed c.args.place g is) ∙ sym c.class-key.ensures in
     sym (ap (λ b. cond b (places ++ c.args.place ∷ []) places) (c.meets.ensures c.if-not-meets.true rs g c.requires.found exec key))
 
-pub returns-then-not-is_needed-clause-places : goal.returns-then-not-is_needed-clause-places
-returns-then-not-is_needed-clause-places c g is =
+pub returns-then-not-branch-clause-places : goal.returns-then-not-branch-clause-places
+returns-then-not-branch-clause-places c g is =
     let rs = c.args.records.now.items in
     let places = c.args.found.now.places.items in
-    let same = same_Some c.get.result.now g (sym (c.get.ensures) ∙ is) in
-    let told = ap (λ (r : StepRecord). depends_on_some (facts rs) places r.fact) (sym same) ∙ sym c.is_needed.ensures ∙ c.if-not-is_needed.true in
+    let same = same_Some c.look.result.now g (sym c.look.ensures.record ∙ is) in
+    let told = ap (λ (r : StepRecord). depends_on_some (facts rs) places r.fact) (sym same) ∙ sym (c.in_ok-is_needed.ensures rs c.requires.found) ∙ c.if-not-branch.true in
     sym (ap (λ b. cond b (places ++ c.args.place ∷ []) places) told)
+
+pub add-requires-clause-run : goal.add-requires-clause-run
+add-requires-clause-run c = sym (class_there by_exec c.args.execs.now c.args.records.now.items c.requires.run c.args.place c.look.result.now c.look.ensures.record) ∙ sym c.class-exec.ensures
+
+pub add-requires-clause-keyed : goal.add-requires-clause-keyed
+add-requires-clause-keyed c = sym (class_there by_key c.args.keys.now c.args.records.now.items c.requires.keyed c.args.place c.look.result.now c.look.ensures.record) ∙ sym c.class-key.ensures
 
 pub returns-clause-places : goal.returns-clause-places
 returns-clause-places c g is =
     let rs = c.args.records.now.items in
     let places = c.args.found.now.places.items in
-    let same = same_Some c.get.result.now g (sym (c.get.ensures) ∙ is) in
-    let told = ap (λ (r : StepRecord). depends_on_some (facts rs) places r.fact) (sym same) ∙ sym c.is_needed.ensures ∙ c.if-not-is_needed.false in
-    c.in_ok-add.ensures.places ∙ sym (ap (λ b. cond b (places ++ c.args.place ∷ []) places) told)
+    let same = same_Some c.look.result.now g (sym c.look.ensures.record ∙ is) in
+    let told = ap (λ (r : StepRecord). depends_on_some (facts rs) places r.fact) (sym same) ∙ sym (c.in_ok-is_needed.ensures rs c.requires.found) ∙ c.if-not-branch.false in
+    on_ok_weaker c.add.result (λ e. e ∙ sym (ap (λ b. cond b (places ++ c.args.place ∷ []) places) told)) c.add.ensures.places
+
+pub returns-clause-found : goal.returns-clause-found
+returns-clause-found c = on_ok_weaker c.add.result (λ add. add c.args.records.now.items c.look.result.now c.look.ensures.record refl c.requires.found) c.add.ensures.found

@@ -1,7 +1,7 @@
 use Rattle.std.proofs.Common.{◌<◌, arith, length}
 use Rattle.step_index.proofs.Listed.{there}
 use Rattle.step_index.proofs.Following.{passed_on}
-use Rattle.step_index.proofs.plans.plan_of.Goals as goal
+use Rattle.step_index.proofs.plans.plan_with_looks.Goals as goal
 
 pub loop-place-preserved : goal.loop-place-preserved
 loop-place-preserved c =
@@ -15,4 +15,5 @@ loop-place-preserved c =
     record {
       all = p.all;
       found = c.in_ok-add_if_follows.ensures.found;
+      looks = (let old = c.loop-place.invariant.looks in let one = c.in_ok-add_if_follows.ensures.looks in omega (arith, old, one));
     }
