@@ -9,6 +9,8 @@ mod looks;
 mod plans;
 mod records;
 mod seen;
+#[cfg(test)]
+mod tests;
 mod walks;
 
 pub use held::HeldSteps;
