@@ -96,5 +96,5 @@ unmet rs s g exec key found run keyed no_exec no_key = picked_any rs s.places.it
 
 -- ---- in which classes there is one
 
-pub none_seen : (by : Fact → Option ℕ) (bits : List Bool) → length bits ≡ 509 → AreSeen by [] bits
+pub none_seen : (by : Fact → Option ℕ) (bits : List Bool) → length bits ≡ 4093 → AreSeen by [] bits
 none_seen by bits e = record { many = e; seen = λ k r c at is. absurd (let x : None ≡ Some r = at in cc) }

@@ -18,11 +18,11 @@ picked rs (p ∷ ps) = pick (slice_get rs p) (picked rs ps)
 -- a class, where there are fewer, is one in which there is a step
 abbrev pub is_seen : List Bool → Option ℕ → Bool
 is_seen bits None = false
-is_seen bits (Some c) = slice_index_or bits (c % 509) false
+is_seen bits (Some c) = slice_index_or bits (c % 4093) false
 
 -- each step is in a class that is seen
 pub record AreSeen (by : Fact → Option ℕ) (fs : List StepRecord) (bits : List Bool) : Type 0 where
-  pub many : length bits ≡ 509
+  pub many : length bits ≡ 4093
   pub seen : (k : ℕ) (r : StepRecord) (c : ℕ) → slice_get fs k ≡ Some r → by r.fact ≡ Some c → is_seen bits (Some c) ≡ true
 
 pub record AreFound (rs : List StepRecord) (s : FoundSteps) : Type 0 where

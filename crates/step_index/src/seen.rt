@@ -6,7 +6,7 @@ ghost use Rattle.saved_steps.specs.declared.record.StepRecord.{StepRecord as Kep
 ghost use Rattle.step_index.specs.Finding.{AreSeen, is_seen};
 
 /// How many classes there are: a prime number. Fewer than for all records, since a plan makes them anew.
-const WIDTH: u32 = 509;
+const WIDTH: u32 = 4_093;
 
 /// Of each class whether a step is in it.
 #[derive(Drop)]

@@ -132,14 +132,17 @@ module _ (facts : List Fact) (m : KeyMarks) (later : Option Access) where
 
 -- ---- all of them
 
-in_turn : (t s m c k w : Bool) → (t || (s || (m || (c || (k || w))))) ≡ ((t || (s || k)) || (m || (c || w)))
-in_turn true s m c k w = refl
-in_turn false true m c k w = refl
+in_turn : (t s m c k w : Bool) → (t || (s || (m || (c || (k || w))))) ≡ ((k || (t || s)) || (m || (c || w)))
+in_turn true s m c true w = refl
+in_turn true s m c false w = refl
+in_turn false true m c true w = refl
+in_turn false true m c false w = refl
 in_turn false false true c true w = refl
 in_turn false false true c false w = refl
 in_turn false false false true true w = refl
 in_turn false false false true false w = refl
-in_turn false false false false k w = refl
+in_turn false false false false true w = refl
+in_turn false false false false false w = refl
 
 module _ (facts : List Fact) (f : Fact) where
   abbrev of_it : Bool
@@ -161,19 +164,19 @@ module _ (facts : List Fact) (f : Fact) where
   it_awaits = list_any (λ g. awaits f g.name.thread) facts
 
   abbrev told_itself : Bool
-  told_itself = of_it || (begin_it || conflict_with_it)
+  told_itself = conflict_with_it || (of_it || begin_it)
 
   abbrev told_above : Bool
   told_above = make_it || (it_closes || it_awaits)
 
+  pub by_item : conflict_with_it ≡ true → true ≡ told_itself
+  by_item h = or_first conflict_with_it of_it begin_it h
+
   pub by_thread : of_it ≡ true → true ≡ told_itself
-  by_thread h = or_first of_it begin_it conflict_with_it h
+  by_thread h = or_second conflict_with_it of_it begin_it h
 
-  pub by_start : begin_it ≡ true → true ≡ told_itself
-  by_start h = or_second of_it begin_it conflict_with_it h
-
-  pub or_by_item : (b : Bool) → of_it ≡ false → begin_it ≡ false → b ≡ conflict_with_it → b ≡ told_itself
-  or_by_item b h k e = or_third of_it begin_it conflict_with_it b h k e
+  pub or_by_start : (b : Bool) → conflict_with_it ≡ false → of_it ≡ false → b ≡ begin_it → b ≡ told_itself
+  or_by_start b h k e = or_third conflict_with_it of_it begin_it b h k e
 
   pub by_fork : make_it ≡ true → true ≡ told_above
   by_fork h = or_first make_it it_closes it_awaits h

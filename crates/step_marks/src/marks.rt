@@ -67,20 +67,20 @@ impl Marks {
         self.has_above(later)
     }
 
-    /// Whether it does for its thread, as a step of a started execution, or for an item.
+    /// Whether it does for an item, for its thread, or as a step of a started execution.
     fn has_itself(&self, later: &Fact) -> Result<bool, AllocError>
         ensures { IfOk result (λ b. (facts : List Step) → AreMarksOf facts self.now
-            → b ≡ (list_any (is_of later.now.name.thread) facts || (list_any (λ g. begins g later.now.name.thread) facts || list_any (λ g. conflicts g.access later.now.access) facts))) }
+            → b ≡ (list_any (λ g. conflicts g.access later.now.access) facts || (list_any (is_of later.now.name.thread) facts || list_any (λ g. begins g later.now.name.thread) facts))) }
     {
+        if self.keys.has(&later.access) {
+            return Ok(true);
+        }
         let thread = &later.name.thread;
         if self.threads.has(thread) {
             return Ok(true);
         }
         let exec = thread.exec_text()?;
-        if self.starts.has(&exec) {
-            return Ok(true);
-        }
-        Ok(self.keys.has(&later.access))
+        Ok(self.starts.has(&exec))
     }
 
     /// Whether it does for a fork: one above it, one that it closes, or its own under a bound.
