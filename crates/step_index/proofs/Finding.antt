@@ -93,8 +93,3 @@ unmet rs s g exec key found run keyed no_exec no_key = picked_any rs s.places.it
           let m = meet_in_key f.fact g.fact x in
           absurd (not_seen s.keys.bits m.0 key (sym keyed ∙ m.2) no_key (found.keyed.seen k f m.0 at m.1))
     ]
-
--- ---- in which classes there is one
-
-pub none_seen : (by : Fact → Option ℕ) (bits : List Bool) → length bits ≡ 4093 → AreSeen by [] bits
-none_seen by bits e = record { many = e; seen = λ k r c at is. absurd (let x : None ≡ Some r = at in cc) }

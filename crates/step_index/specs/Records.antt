@@ -1,5 +1,5 @@
 -- What contracts see of records in their order; and the classes in which the steps are.
-use Rattle.std.specs.Prelude.{◌≡◌, ℕ, Bool, ◌&&◌, nat_lt, nat_le, List, map, Option}
+use Rattle.std.specs.Prelude.{◌≡◌, ℕ, Bool, ◌&&◌, nat_le, List, map, Option}
 use Rattle.linked_classes.specs.Places.{Places}
 use Rattle.saved_steps.specs.declared.fact.Fact.{Fact}
 use Rattle.saved_steps.specs.declared.record.StepRecord.{StepRecord}
@@ -20,6 +20,11 @@ pub record AreIndexed (rs : List StepRecord) (names threads execs gates keys wri
   pub gated : gates.classes ≡ classes_by by_gate rs
   pub keyed : keys.classes ≡ classes_by by_key rs
   pub wrote : writes.classes ≡ classes_by by_write rs
+
+-- the classes of executions and of keys are those of these records
+pub record AreCounted (rs : List StepRecord) (execs keys : Places) : Type 0 where
+  pub run : execs.classes ≡ classes_by by_exec rs
+  pub keyed : keys.classes ≡ classes_by by_key rs
 
 -- there is room for one more place, and there is each class
 abbrev pub is_open : Places → Bool

@@ -8,7 +8,7 @@ ghost use Rattle.step_index.specs.Finding.{AreFound};
 ghost use Rattle.step_index.specs.Records.{classes_by};
 
 use crate::found::FoundSteps;
-use crate::looks::Looks;
+use crate::looks::{CountedRecords, Looks};
 use depends::Plan;
 use linked_classes::{ClassedPlaces, NumberedVec};
 use saved_steps::StepRecord;
@@ -30,7 +30,8 @@ pub(crate) fn plan_of(
     let count = records.len();
     prove!(at < count);
     let mut looks = Looks::new();
-    plan_with_looks(alloc, records, execs, keys, at, &mut looks)
+    let records = CountedRecords::new(records, execs, keys);
+    plan_with_looks(alloc, &records, at, &mut looks)
 }
 
 /// The step at a place and all its consequences, the latest first: one pass over the later steps. One of these is looked at only where a
@@ -38,23 +39,19 @@ pub(crate) fn plan_of(
 /// that was found is told by the marks of these.
 pub(crate) fn plan_with_looks(
     alloc: Global,
-    records: &NumberedVec<StepRecord>,
-    execs: &ClassedPlaces,
-    keys: &ClassedPlaces,
+    records: &CountedRecords,
     at: usize,
     looks: &mut Looks,
 ) -> Result<Plan, AllocError>
-    requires there { at < length records.now.items }
-    requires run { execs.now.classes ≡ classes_by by_exec records.now.items }
-    requires keyed { keys.now.classes ≡ classes_by by_key records.now.items }
-    requires room { looks.old.count + length records.now.items ≤ 18446744073709551615 }
-    ensures plan { IfOk result (λ p. p ≡ plans.plan (map (λ r. r.fact) records.now.items) at) }
-    ensures looks { looks.new.count ≤ looks.old.count + (length records.now.items - at) }
+    requires there { at < length records.now }
+    requires room { looks.old.count + length records.now ≤ 18446744073709551615 }
+    ensures plan { IfOk result (λ p. p ≡ plans.plan (map (λ r. r.fact) records.now) at) }
+    ensures looks { looks.new.count ≤ looks.old.count + (length records.now - at) }
 {
-    let mut found = begin(alloc, records, execs, keys, at, looks)?;
+    let mut found = begin(alloc, records, at, looks)?;
     let count = records.len();
     for place in at + 1..count {
-        add_if_follows(&mut found, records, execs, keys, place, looks)?;
+        add_if_follows(&mut found, records, place, looks)?;
     }
     let mut places = found.into_places();
     places.reverse();
@@ -64,51 +61,43 @@ pub(crate) fn plan_with_looks(
 /// The first step of a plan.
 fn begin(
     alloc: Global,
-    records: &NumberedVec<StepRecord>,
-    execs: &ClassedPlaces,
-    keys: &ClassedPlaces,
+    records: &CountedRecords,
     at: usize,
     looks: &mut Looks,
 ) -> Result<FoundSteps, AllocError>
-    requires there { at < length records.now.items }
-    requires run { execs.now.classes ≡ classes_by by_exec records.now.items }
-    requires keyed { keys.now.classes ≡ classes_by by_key records.now.items }
+    requires there { at < length records.now }
     requires room { looks.old.count < 18446744073709551615 }
     ensures places { IfOk result (λ found. found.places.items ≡ at ∷ []) }
-    ensures found { IfOk result (λ found. AreFound records.now.items found) }
+    ensures found { IfOk result (λ found. AreFound records.now found) }
     ensures looks { looks.new.count ≡ looks.old.count + 1 }
 {
     let mut found = FoundSteps::new(alloc);
-    let fact = &looks.look(records, at).fact;
-    found.add(at, fact, execs.class(at), keys.class(at))?;
+    let fact = &records.look(looks, at).fact;
+    found.add(at, fact, records.exec(at), records.key(at))?;
     Ok(found)
 }
 
 /// Adds a place to those that were found, if its step depends directly on one there.
 fn add_if_follows(
     found: &mut FoundSteps,
-    records: &NumberedVec<StepRecord>,
-    execs: &ClassedPlaces,
-    keys: &ClassedPlaces,
+    records: &CountedRecords,
     place: usize,
     looks: &mut Looks,
 ) -> Result<(), AllocError>
-    requires there { place < length records.now.items }
-    requires run { execs.now.classes ≡ classes_by by_exec records.now.items }
-    requires keyed { keys.now.classes ≡ classes_by by_key records.now.items }
+    requires there { place < length records.now }
     requires room { looks.old.count < 18446744073709551615 }
-    requires found { AreFound records.now.items found.old }
-    ensures places { (g : Kept) → slice_get records.now.items place ≡ Some g → OnOk result (found.new.places.items
-        ≡ (if plans.depends_on_some (map (λ r. r.fact) records.now.items) found.old.places.items g.fact then found.old.places.items ++ place ∷ [] else found.old.places.items)) }
-    ensures found { OnOk result (AreFound records.now.items found.new) }
+    requires found { AreFound records.now found.old }
+    ensures places { (g : Kept) → slice_get records.now place ≡ Some g → OnOk result (found.new.places.items
+        ≡ (if plans.depends_on_some (map (λ r. r.fact) records.now) found.old.places.items g.fact then found.old.places.items ++ place ∷ [] else found.old.places.items)) }
+    ensures found { OnOk result (AreFound records.now found.new) }
     ensures looks { looks.new.count ≤ looks.old.count + 1 }
 {
-    let exec = execs.class(place);
-    let key = keys.class(place);
+    let exec = records.exec(place);
+    let key = records.key(place);
     if !found.meets(exec, key) {
         return Ok(());
     }
-    let fact = &looks.look(records, place).fact;
+    let fact = &records.look(looks, place).fact;
     if !found.is_needed(fact)? {
         return Ok(());
     }

@@ -13,7 +13,7 @@ use crate::buckets::{
     BUCKETS, access_bucket, exec_bucket, gate_bucket, key_bucket, name_bucket, thread_bucket,
     write_bucket,
 };
-use crate::looks::Looks;
+use crate::looks::{CountedRecords, Looks};
 use crate::plans::{plan_of, plan_with_looks};
 use crate::walks::{earlier, first_named, first_needing, first_needing_in};
 use depends::Plan;
@@ -223,7 +223,8 @@ impl StepRecords {
         ensures plan { IfOk result (λ p. p ≡ plans.plan (map (λ r. r.fact) self.now.items) at) }
         ensures looks { looks.new.count ≤ looks.old.count + (length self.now.items - at) }
     {
-        plan_with_looks(alloc, &self.records, &self.execs, &self.keys, at, looks)
+        let records = CountedRecords::new(&self.records, &self.execs, &self.keys);
+        plan_with_looks(alloc, &records, at, looks)
     }
 
     /// The earliest step that depends directly on the one at a place, of those that do so by their names.

@@ -5,7 +5,7 @@ use Rattle.step_index.proofs.plans.plan_with_looks.Goals as goal
 
 pub loop-place-preserved : goal.loop-place-preserved
 loop-place-preserved c =
-    let rs = c.args.records.now.items in
+    let rs = c.args.records.now in
     let i = c.loop-place.place in
     let test = c.loop-place-test.true in
     let many = c.len-count.ensures in
