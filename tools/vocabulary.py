@@ -6,7 +6,8 @@
     vocabulary.py --apply   puts the new word in the place of the old one
 
 A row of tools/vocabulary.tsv: crates, the old word, the new one, and what is meant: all, or code (comments may use the word in
-another sense). A word is a whole token of a .rt, .antt or .edit file: letters, digits and underlines.
+another sense). A word is a whole token of a .rt, .antt or .edit file: letters, digits and underlines. Where the token stands for
+other things too, the row has what came behind it as well.
 """
 import pathlib
 import re
@@ -81,7 +82,7 @@ def main():
                 for number, (a, b) in enumerate(zip(text.split("\n"), after.split("\n")), 1):
                     if a != b:
                         print(f"{path.relative_to(TOP)}:{number}: an old word: {a.strip()[:120]}")
-                        standing.update(word for word in re.findall(r"\w+", a) if word in code)
+                        standing.update(pattern(code)[0].findall(a))
     print(f"{len(words - standing)} passed, {len(standing)} failed")
     if standing:
         sys.exit(1)

@@ -26,8 +26,8 @@ sitting_of (Open held) = sitting false held
 sitting_of (Failed held) = sitting true held
 
 -- the log of the journal's lines, none before a table is given
-abbrev pub told : {S : Type 0} → Sitting S → Option Log
-told session = log_of session.book
+abbrev pub session_log : {S : Type 0} → Sitting S → Option Log
+session_log session = log_of session.book
 
 -- the same of a session that hasn't failed
 abbrev pub log_in : {S : Type 0} → Journaled S → Option Log

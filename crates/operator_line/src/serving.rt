@@ -3,7 +3,7 @@ ghost use Rattle.std.specs.Prelude.{◌≡◌, ◌<◌, ◌≤◌, ℕ, List, �
 ghost use Rattle.std.specs.Io.KnownBytes.{Keeps};
 ghost use Rattle.operator_line.specs.Lines.{grown, ended_line, last_line, bytes_of, kept};
 ghost use Rattle.operator_line.specs.Serving.{AnswersRead, IsGone, has_failed, lost_reply, ServesLast, ServesLine, ServesPiece, ServesRead, Serves, WritesPart, WritesReply};
-ghost use Rattle.operator_line.specs.Sessions.{told};
+ghost use Rattle.operator_line.specs.Sessions.{session_log};
 ghost use Rattle.operator_line.specs.Texts.{has_no_feed};
 
 use crate::line::{Line, LineBuffer};
@@ -69,9 +69,9 @@ pub fn serve<T: Threads + Wait + Sync, R: Read, W: Write, S: Alter>(
     session: &mut Session<S>,
 ) -> Result<(), ServeFault>
     ensures answers { session.old.is_failed ≡ false → IfSome (R.remaining reader.old) (λ input.
-        Serves result input (told session.old) (told session.new) (W.contents writer.old) (W.contents writer.new)) }
+        Serves result input (session_log session.old) (session_log session.new) (W.contents writer.old) (W.contents writer.new)) }
     ensures read { result ≡ Err ServeFault.Read → IfSome (R.remaining reader.old) (λ input.
-        AnswersRead input (R.remaining reader.new) (told session.old) (told session.new) (W.contents writer.old) (W.contents writer.new)) }
+        AnswersRead input (R.remaining reader.new) (session_log session.old) (session_log session.new) (W.contents writer.old) (W.contents writer.new)) }
     ensures whole { IfSome (R.remaining reader.old) (λ _. OnOk result (R.remaining reader.new ≡ Some [])) }
     ensures failed { session.old.is_failed ≡ false → session.new.is_failed ≡ has_failed result }
     ensures gone { session.old.is_failed ≡ true → IsGone result session.old session.new (R.remaining reader.old) (R.remaining reader.new) (W.contents writer.old) (W.contents writer.new) }
@@ -92,9 +92,9 @@ fn serve_all<T: Threads + Wait + Sync, R: Read, W: Write, S: Alter>(
 ) -> Result<(), ServeFault>
     requires here { session.old.is_failed ≡ false }
     ensures answers { IfSome (R.remaining reader.old) (λ input.
-        Serves result input (told session.old) (told session.new) (W.contents writer.old) (W.contents writer.new)) }
+        Serves result input (session_log session.old) (session_log session.new) (W.contents writer.old) (W.contents writer.new)) }
     ensures read { result ≡ Err ServeFault.Read → IfSome (R.remaining reader.old) (λ input.
-        AnswersRead input (R.remaining reader.new) (told session.old) (told session.new) (W.contents writer.old) (W.contents writer.new)) }
+        AnswersRead input (R.remaining reader.new) (session_log session.old) (session_log session.new) (W.contents writer.old) (W.contents writer.new)) }
     ensures whole { IfSome (R.remaining reader.old) (λ _. OnOk result (R.remaining reader.new ≡ Some [])) }
     ensures failed { session.new.is_failed ≡ has_failed result }
 {
@@ -126,7 +126,7 @@ fn serve_read<T: Threads + Wait + Sync, R: Read, W: Write, S: Alter>(
     requires here { session.old.is_failed ≡ false }
     ensures failed { session.new.is_failed ≡ has_failed result }
     ensures read { (front : List ℕ) (text : List ℕ) → buffers.old.line ≡ kept front → R.remaining reader.old ≡ Some text
-        → ServesRead result front text (R.remaining reader.new) buffers.new.line (told session.old) (told session.new) (W.contents writer.old) (W.contents writer.new) }
+        → ServesRead result front text (R.remaining reader.new) buffers.new.line (session_log session.old) (session_log session.new) (W.contents writer.old) (W.contents writer.new) }
 {
     match reader.read(piece) {
         Ok(0) => Ok(false),
@@ -156,7 +156,7 @@ fn serve_piece<T: Threads + Wait + Sync, W: Write, S: Alter>(
     requires here { session.old.is_failed ≡ false }
     ensures failed { session.new.is_failed ≡ has_failed result }
     ensures piece { (front : List ℕ) → buffers.old.line ≡ kept front
-        → ServesPiece result front piece.now buffers.new.line (told session.old) (told session.new) (W.contents writer.old) (W.contents writer.new) }
+        → ServesPiece result front piece.now buffers.new.line (session_log session.old) (session_log session.new) (W.contents writer.old) (W.contents writer.new) }
 {
     let mut rest = piece;
     let mut has_line = false;
@@ -204,7 +204,7 @@ fn serve_line<T: Threads + Wait + Sync, W: Write, S: Alter>(
 ) -> Result<(), ServeFault>
     requires here { session.old.is_failed ≡ false }
     ensures failed { session.new.is_failed ≡ has_failed result }
-    ensures answers { ServesLine result (ended_line (grown front.now buffers.old.line)) (told session.old) (told session.new) (W.contents writer.old) (W.contents writer.new) }
+    ensures answers { ServesLine result (ended_line (grown front.now buffers.old.line)) (session_log session.old) (session_log session.new) (W.contents writer.old) (W.contents writer.new) }
     ensures begun { OnOk result (buffers.new.line ≡ Some []) }
 {
     add(&mut buffers.line, front)?;
@@ -229,7 +229,7 @@ fn serve_last<T: Threads + Wait + Sync, W: Write, S: Alter>(
 ) -> Result<(), ServeFault>
     requires here { session.old.is_failed ≡ false }
     ensures failed { session.new.is_failed ≡ has_failed result }
-    ensures last { ServesLast result (last_line buffers.old.line) (told session.old) (told session.new) (W.contents writer.old) (W.contents writer.new) }
+    ensures last { ServesLast result (last_line buffers.old.line) (session_log session.old) (session_log session.new) (W.contents writer.old) (W.contents writer.new) }
 {
     let Some(last) = buffers.line.last() else {
         return Ok(());
@@ -259,7 +259,7 @@ fn write_answer<T: Threads + Wait + Sync, W: Write, S: Alter>(
 ) -> Result<(), ServeFault>
     requires here { session.old.is_failed ≡ false }
     ensures failed { session.new.is_failed ≡ has_failed result }
-    ensures answers { ServesLine result (bytes_of line.entry) (told session.old) (told session.new) (W.contents writer.old) (W.contents writer.new) }
+    ensures answers { ServesLine result (bytes_of line.entry) (session_log session.old) (session_log session.new) (W.contents writer.old) (W.contents writer.new) }
     ensures no_memory { result ≡ Err ServeFault.Memory → ⊥ }
 {
     match session.answer(rt, line, reply) {

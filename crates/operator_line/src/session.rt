@@ -8,7 +8,7 @@ ghost use Rattle.journaled_book.specs.Changes.{IsRead};
 ghost use Rattle.journaled_book.specs.Journaled.{IsJournalOf};
 ghost use Rattle.journaled_book.specs.Opening.{OpensTo, RefusesOpen};
 ghost use Rattle.operator_line.specs.Answering.{AnswersBy, AnswersTextBy, WorksBy, is_gone, is_lost, is_work};
-ghost use Rattle.operator_line.specs.Sessions.{sitting_of, told};
+ghost use Rattle.operator_line.specs.Sessions.{session_log, sitting_of};
 ghost use Rattle.command_lines.specs.Grammar as grammar;
 ghost use Rattle.command_lines.specs.Grammar.{command_of, command_view};
 ghost use Rattle.operator_line.specs.Lines.{bytes_of};
@@ -78,7 +78,7 @@ impl<S: Alter> Session<S> {
     ///
     /// As `JournaledBook::open`; the journal is handed back as it was.
     pub fn open(alloc: Global, journal: Journal<S>) -> Result<Session<S>, (OpenFault, Journal<S>)>
-        ensures opened { IfOk result (λ s. HasCleanDisk (state S.Store s.journal) → OpensTo (lines_in (state S.Store journal)) (told s)) }
+        ensures opened { IfOk result (λ s. HasCleanDisk (state S.Store s.journal) → OpensTo (lines_in (state S.Store journal)) (session_log s)) }
         ensures refused { IfErr result (λ e. HasCleanDisk (state S.Store e.1) → RefusesOpen (state S.Store journal) (state S.Store e.1) e.0) }
         ensures memory { IfErr result (λ e. ¬ (e.0 ≡ OpenFault.Journal journal_fault.Memory)) }
         ensures read { MatchResult result (λ s. IsRead (state S.Store journal) (state S.Store s.journal)) (λ e. IsRead (state S.Store journal) (state S.Store e.1)) }
@@ -96,7 +96,7 @@ impl<S: Alter> Session<S> {
     /// The book, once its table was given, and none of a session that has failed. Takes no memory.
     pub fn book(&self) -> Option<&Book>
         ensures book { option_map (λ book. book.now) result ≡ (if self.now.is_failed then None else self.now.book) }
-        ensures journal { IsJournalOf (state S.Store self.now.journal) (told self.now) }
+        ensures journal { IsJournalOf (state S.Store self.now.journal) (session_log self.now) }
     {
         match &self.hand {
             Hand::Open(open) => open.book.book(),
@@ -118,7 +118,7 @@ impl<S: Alter> Session<S> {
     /// The journal, which holds the lines of the book, or of the one from before the round that was lost.
     pub fn into_journal(self) -> Journal<S>
         ensures same { result ≡ self.journal }
-        ensures journal { IsJournalOf (state S.Store result) (told self) }
+        ensures journal { IsJournalOf (state S.Store result) (session_log self) }
     {
         let Session { alloc: _, hand } = self;
         match hand {
@@ -140,8 +140,8 @@ impl<S: Alter> Session<S> {
         reply: &mut Reply,
     ) -> Result<Answered, AllocError>
         requires here { self.old.is_failed ≡ false }
-        ensures ok { IfOk result (λ answered. AnswersBy answered (told self.old) (bytes_of line.entry) (string_bytes reply.new.text) (told self.new)) }
-        ensures err { OnErr result (told self.new ≡ told self.old) }
+        ensures ok { IfOk result (λ answered. AnswersBy answered (session_log self.old) (bytes_of line.entry) (string_bytes reply.new.text) (session_log self.new)) }
+        ensures err { OnErr result (session_log self.new ≡ session_log self.old) }
         ensures empty { bytes_of line.entry ≡ Some [] → OnErr result ⊥ }
         ensures failed { self.new.is_failed ≡ is_lost result }
     {
@@ -161,8 +161,8 @@ impl<S: Alter> Session<S> {
     ) -> Result<Answered, AllocError>
         requires here { self.old.is_failed ≡ false }
         requires empty { string_bytes reply.old.text ≡ [] }
-        ensures ok { IfOk result (λ answered. AnswersTextBy answered (told self.old) (command_of line.now) (string_bytes reply.new.text) (told self.new)) }
-        ensures err { OnErr result (told self.new ≡ told self.old) }
+        ensures ok { IfOk result (λ answered. AnswersTextBy answered (session_log self.old) (command_of line.now) (string_bytes reply.new.text) (session_log self.new)) }
+        ensures err { OnErr result (session_log self.new ≡ session_log self.old) }
         ensures failed { self.new.is_failed ≡ is_lost result }
     {
         match str::from_utf8(line) {
@@ -180,8 +180,8 @@ impl<S: Alter> Session<S> {
     ) -> Result<Answered, AllocError>
         requires here { self.old.is_failed ≡ false }
         requires empty { string_bytes reply.old.text ≡ [] }
-        ensures ok { IfOk result (λ answered. AnswersTextBy answered (told self.old) (command_of line.now) (string_bytes reply.new.text) (told self.new)) }
-        ensures err { OnErr result (told self.new ≡ told self.old) }
+        ensures ok { IfOk result (λ answered. AnswersTextBy answered (session_log self.old) (command_of line.now) (string_bytes reply.new.text) (session_log self.new)) }
+        ensures err { OnErr result (session_log self.new ≡ session_log self.old) }
         ensures failed { self.new.is_failed ≡ is_lost result }
     {
         match Command::read(self.alloc, line.as_bytes()) {
@@ -202,8 +202,8 @@ impl<S: Alter> Session<S> {
         requires line { command_of line.now ≡ Some (command_view command) }
         requires alone { is_work (command_view command) ≡ false }
         requires empty { string_bytes reply.old.text ≡ [] }
-        ensures ok { IfOk result (λ answered. AnswersTextBy answered (told self.old) (Some (command_view command.entry)) (string_bytes reply.new.text) (told self.new)) }
-        ensures err { OnErr result (told self.new ≡ told self.old) }
+        ensures ok { IfOk result (λ answered. AnswersTextBy answered (session_log self.old) (Some (command_view command.entry)) (string_bytes reply.new.text) (session_log self.new)) }
+        ensures err { OnErr result (session_log self.new ≡ session_log self.old) }
         ensures failed { self.new.is_failed ≡ is_lost result }
     {
         let Hand::Open(open) = &mut self.hand else {
@@ -222,8 +222,8 @@ impl<S: Alter> Session<S> {
     ) -> Result<Answered, AllocError>
         requires here { self.old.is_failed ≡ false }
         requires few { (1 ≤ workers) × (workers ≤ 8) }
-        ensures ok { IfOk result (λ answered. AnswersTextBy answered (told self.old) (Some (grammar.work workers moves)) (string_bytes reply.new.text) (told self.new)) }
-        ensures err { OnErr result (told self.new ≡ told self.old) }
+        ensures ok { IfOk result (λ answered. AnswersTextBy answered (session_log self.old) (Some (grammar.work workers moves)) (string_bytes reply.new.text) (session_log self.new)) }
+        ensures err { OnErr result (session_log self.new ≡ session_log self.old) }
         ensures failed { self.new.is_failed ≡ is_lost result }
     {
         let worked = replace_with(
@@ -232,7 +232,7 @@ impl<S: Alter> Session<S> {
             |hand: Hand<S>, _: ()| -> (Hand<S>, Worked)
                 requires here { (sitting_of hand).is_failed ≡ false }
                 requires few { (1 ≤ workers) × (workers ≤ 8) }
-                ensures worked { WorksBy result.1 (told (sitting_of hand)) workers moves (told (sitting_of result.0)) }
+                ensures worked { WorksBy result.1 (session_log (sitting_of hand)) workers moves (session_log (sitting_of result.0)) }
                 ensures failed { (sitting_of result.0).is_failed ≡ is_gone result.1 }
             { work_on(rt, hand, workers, moves) },
         );

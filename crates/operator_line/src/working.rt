@@ -9,7 +9,7 @@ ghost use Rattle.journaled_book.specs.Journaled.{GoesOnBy, log_of};
 ghost use Rattle.journaled_book.specs.Lines.{AreEntryLines};
 ghost use Rattle.operator_line.specs.Answering.{GoesOnFrom, IsToldOr, Settles, Stays, TellsNone, WorksBy, is_gone, since, stepped_names};
 ghost use Rattle.operator_line.specs.Answers.{HasNoRoom};
-ghost use Rattle.operator_line.specs.Sessions.{sitting_of, told};
+ghost use Rattle.operator_line.specs.Sessions.{session_log, sitting_of};
 ghost use Rattle.reply_lines.specs.Replies.{names_reply, no_table, refused};
 ghost use Rattle.reply_lines.specs.Replying.{AreLines};
 
@@ -48,7 +48,7 @@ pub(crate) fn work_on<S: Alter, R: Threads + Wait + Sync>(
 ) -> (Hand<S>, Worked)
     requires here { (sitting_of hand).is_failed ≡ false }
     requires few { (1 ≤ workers) × (workers ≤ 8) }
-    ensures worked { WorksBy result.1 (told (sitting_of hand)) workers moves (told (sitting_of result.0)) }
+    ensures worked { WorksBy result.1 (session_log (sitting_of hand)) workers moves (session_log (sitting_of result.0)) }
     ensures failed { (sitting_of result.0).is_failed ≡ is_gone result.1 }
 {
     let Hand::Open(open) = hand else {
@@ -97,7 +97,7 @@ fn entry_count(book: &Book) -> usize
 /// A book that has the log from before.
 fn open_again<S: Alter>(alloc: Global, away: AwayBook<S>, book: Book) -> Hand<S>
     requires { log_of away.book ≡ Some book.log }
-    ensures same { told (sitting_of result) ≡ log_of away.book }
+    ensures same { session_log (sitting_of result) ≡ log_of away.book }
     ensures here { (sitting_of result).is_failed ≡ false }
 {
     Hand::Open(OpenSession {
@@ -147,7 +147,7 @@ pub(crate) fn tell_no_steps(alloc: Global, reply: &mut Reply) -> Result<(), Allo
 fn settle<S: Alter>(alloc: Global, away: AwayBook<S>, book: Book, begun: usize) -> (Hand<S>, Worked)
     requires goes { GoesOnFrom begun (log_of away.book) book.log }
     requires few { length (since begun book.log) < 2 ^ 32 }
-    ensures settled { Settles result.1 begun (log_of away.book) book.log (told (sitting_of result.0)) }
+    ensures settled { Settles result.1 begun (log_of away.book) book.log (session_log (sitting_of result.0)) }
     ensures failed { (sitting_of result.0).is_failed ≡ is_gone result.1 }
 {
     let Ok((reply, lines)) = tell(alloc, &book.entries().1[begun..]) else {

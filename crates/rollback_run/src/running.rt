@@ -5,7 +5,7 @@ ghost use Rattle.sqlite.specs.State.{HasCleanDisk};
 ghost use Rattle.book_journal.specs.Faults.{fault_of};
 ghost use Rattle.book_journal.specs.Kept.{IsOpened};
 ghost use Rattle.operator_line.specs.Serving.{WritesReply};
-ghost use Rattle.operator_line.specs.Sessions.{told};
+ghost use Rattle.operator_line.specs.Sessions.{session_log};
 ghost use Rattle.rollback_run.specs.Faults.{of_journal};
 ghost use Rattle.rollback_run.specs.Status.{GivesNone, Gives, HasOutcome, IsChecked, IsDone, IsPrinted, IsRefusal, IsRun, IsServed, IsStatus, Opens, OpensNone, Refuses, after_closing, is_check, is_left, sizes_of, sizes_text};
 
@@ -97,7 +97,7 @@ fn open<S: Alter + Drop>(
     connection: Result<Connection<S>, Error>,
 ) -> Result<Session<S>, ExitCause>
     ensures here { IfOk result (λ s. s.is_failed ≡ false) }
-    ensures ok { IfOk result (λ s. Opens (λ held. state S.Store held) connection (told s)) }
+    ensures ok { IfOk result (λ s. Opens (λ held. state S.Store held) connection (session_log s)) }
     ensures err { IfErr result (OpensNone (λ held. state S.Store held) connection) }
 {
     match connection {
@@ -111,7 +111,7 @@ fn open_connected<S: Alter + Drop>(
     connection: Connection<S>,
 ) -> Result<Session<S>, ExitCause>
     ensures here { IfOk result (λ s. s.is_failed ≡ false) }
-    ensures ok { IfOk result (λ s. Gives (λ held. state S.Store held) connection (told s)) }
+    ensures ok { IfOk result (λ s. Gives (λ held. state S.Store held) connection (session_log s)) }
     ensures err { IfErr result (GivesNone (λ held. state S.Store held) connection) }
 {
     match Journal::open(connection) {
@@ -135,7 +135,7 @@ fn run_owned<T: Threads + Wait + Sync, S: Alter + Drop, R: Read, W: Write>(
     writer: &mut W,
 ) -> (Result<(), ExitCause>, Option<Connection<S>>)
     requires here { session.is_failed ≡ false }
-    ensures run { IsRun mode.now result.0 (told session) (R.remaining reader.old) (R.remaining reader.new) (W.contents writer.old) (W.contents writer.new) }
+    ensures run { IsRun mode.now result.0 (session_log session) (R.remaining reader.old) (R.remaining reader.new) (W.contents writer.old) (W.contents writer.new) }
     ensures left { is_some result.1 ≡ is_left mode.now result.0 }
 {
     let mut session = session;
@@ -175,7 +175,7 @@ pub fn run_session<T: Threads + Wait + Sync, S: Alter, R: Read, W: Write>(
     reader: &mut R,
     writer: &mut W,
 ) -> Result<(), ExitCause>
-    ensures done { session.old.is_failed ≡ false → IsDone mode.now result (told session.old) (told session.new)
+    ensures done { session.old.is_failed ≡ false → IsDone mode.now result (session_log session.old) (session_log session.new)
         (R.remaining reader.old) (R.remaining reader.new) (W.contents writer.old) (W.contents writer.new) }
     ensures check { is_check mode.now ≡ true → session.new ≡ session.old }
     ensures failed { session.old.is_failed ≡ true → (result ≡ Err ExitCause.Store) × (session.new ≡ session.old)
@@ -198,7 +198,7 @@ fn serve_book<T: Threads + Wait + Sync, S: Alter, R: Read, W: Write>(
     writer: &mut W,
 ) -> Result<(), ExitCause>
     requires here { session.old.is_failed ≡ false }
-    ensures { IsServed result (told session.old) (told session.new) (R.remaining reader.old) (W.contents writer.old) (W.contents writer.new) }
+    ensures { IsServed result (session_log session.old) (session_log session.new) (R.remaining reader.old) (W.contents writer.old) (W.contents writer.new) }
 {
     match serve(rt, alloc, reader, writer, session) {
         Ok(()) => Ok(()),

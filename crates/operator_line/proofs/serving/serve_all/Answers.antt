@@ -4,7 +4,7 @@ use Rattle.std.proofs.lemmas.Result.{err_from_is_err_and}
 use Rattle.std.proofs.KnownBytes.{Keeps-refl}
 use Rattle.operator_line.proofs.Served.{Asks, none-before, if_some, reading-begins, reading-goes_on, reading-fails, reading-ends, reading-stops, on_ok-from, failed-answers, failed-read, failed-whole, last-reads_not, reading-failed, reading-read}
 use Rattle.operator_line.specs.declared.serving.ServeFault.{ServeFault}
-use Rattle.operator_line.specs.Sessions.{told}
+use Rattle.operator_line.specs.Sessions.{session_log}
 use Rattle.operator_line.proofs.serving.serve_all.Goals as goal
 
 pub returns-in_default-clause-answers : goal.returns-in_default-clause-answers
@@ -26,7 +26,7 @@ pub returns-in_err-serve_read-clause-answers : goal.returns-in_err-serve_read-cl
 returns-in_err-serve_read-clause-answers g c =
     let p = err_from_is_err_and c.from_residual.result c.from_residual.ensures.1 in
     failed-answers c.from_residual.result _ (p.1 ∙ ap (λ x. Err x) p.2) _ _ _ _ _ (λ input e. reading-fails input (g.R.Read.remaining c.loop.reader) (g.R.Read.remaining c.serve_read.new.reader) c.loop.buffers.line c.serve_read.new.buffers.line
-    (told c.args.session.now) (told c.loop.session) (told c.serve_read.new.session) (g.W.Write.contents c.args.writer.now) (g.W.Write.contents c.loop.writer) (g.W.Write.contents c.serve_read.new.writer)
+    (session_log c.args.session.now) (session_log c.loop.session) (session_log c.serve_read.new.session) (g.W.Write.contents c.args.writer.now) (g.W.Write.contents c.loop.writer) (g.W.Write.contents c.serve_read.new.writer)
     (c.loop.invariant.1 input e) _ c.in_err-serve_read.ensures.read)
 
 pub returns-in_err-serve_read-clause-whole : goal.returns-in_err-serve_read-clause-whole
@@ -42,9 +42,9 @@ returns-in_err-serve_read-clause-read g c =
     let w = g.W.Write.contents c.loop.writer in
     let n = g.W.Write.contents c.serve_read.new.writer in
     failed-read c.from_residual.result _ (p.1 ∙ ap (λ x. Err x) p.2) _
-    (λ input f same. reading-failed input left left' c.loop.buffers.line c.serve_read.new.buffers.line (told c.args.session.now) (told c.loop.session) (told c.serve_read.new.session)
+    (λ input f same. reading-failed input left left' c.loop.buffers.line c.serve_read.new.buffers.line (session_log c.args.session.now) (session_log c.loop.session) (session_log c.serve_read.new.session)
     (g.W.Write.contents c.args.writer.now) w n (c.loop.invariant.1 input f)
-    (subst (λ (x : ServeFault). Asks (Err x) left left' c.loop.buffers.line c.serve_read.new.buffers.line (told c.loop.session) (told c.serve_read.new.session) w n) same c.in_err-serve_read.ensures.read))
+    (subst (λ (x : ServeFault). Asks (Err x) left left' c.loop.buffers.line c.serve_read.new.buffers.line (session_log c.loop.session) (session_log c.serve_read.new.session) w n) same c.in_err-serve_read.ensures.read))
 
 pub returns-then-not-branch-clause-read : goal.returns-then-not-branch-clause-read
 returns-then-not-branch-clause-read g c = λ e. absurd (last-reads_not c.serve_last.result _ _ _ _ _ c.serve_last.ensures.last e)
@@ -59,11 +59,11 @@ returns-then-not-branch-clause-answers g c =
     let left' = g.R.Read.remaining c.serve_read.new.reader in
     let p = g.W.Write.contents c.loop.writer in
     let n = g.W.Write.contents c.serve_read.new.writer in
-    let asks : Asks (Ok false) left left' c.loop.buffers.line c.serve_read.new.buffers.line (told c.loop.session) (told c.serve_read.new.session) p n =
-    subst (λ (b : Bool). Asks (Ok b) left left' c.loop.buffers.line c.serve_read.new.buffers.line (told c.loop.session) (told c.serve_read.new.session) p n) over c.in_ok-serve_read.ensures.read
+    let asks : Asks (Ok false) left left' c.loop.buffers.line c.serve_read.new.buffers.line (session_log c.loop.session) (session_log c.serve_read.new.session) p n =
+    subst (λ (b : Bool). Asks (Ok b) left left' c.loop.buffers.line c.serve_read.new.buffers.line (session_log c.loop.session) (session_log c.serve_read.new.session) p n) over c.in_ok-serve_read.ensures.read
     in
-    if_some _ (λ input e. (reading-ends input left left' c.loop.buffers.line c.serve_read.new.buffers.line (told c.args.session.now) (told c.loop.session) (told c.serve_read.new.session)
-    (g.W.Write.contents c.args.writer.now) p n (c.loop.invariant.1 input e) (told c.serve_last.new.session) (g.W.Write.contents c.serve_last.new.writer) c.serve_last.result asks c.serve_last.ensures.last).0)
+    if_some _ (λ input e. (reading-ends input left left' c.loop.buffers.line c.serve_read.new.buffers.line (session_log c.args.session.now) (session_log c.loop.session) (session_log c.serve_read.new.session)
+    (g.W.Write.contents c.args.writer.now) p n (c.loop.invariant.1 input e) (session_log c.serve_last.new.session) (g.W.Write.contents c.serve_last.new.writer) c.serve_last.result asks c.serve_last.ensures.last).0)
 
 pub returns-then-not-branch-clause-whole : goal.returns-then-not-branch-clause-whole
 returns-then-not-branch-clause-whole g c =
@@ -72,11 +72,11 @@ returns-then-not-branch-clause-whole g c =
     let left' = g.R.Read.remaining c.serve_read.new.reader in
     let p = g.W.Write.contents c.loop.writer in
     let n = g.W.Write.contents c.serve_read.new.writer in
-    let asks : Asks (Ok false) left left' c.loop.buffers.line c.serve_read.new.buffers.line (told c.loop.session) (told c.serve_read.new.session) p n =
-    subst (λ (b : Bool). Asks (Ok b) left left' c.loop.buffers.line c.serve_read.new.buffers.line (told c.loop.session) (told c.serve_read.new.session) p n) over c.in_ok-serve_read.ensures.read
+    let asks : Asks (Ok false) left left' c.loop.buffers.line c.serve_read.new.buffers.line (session_log c.loop.session) (session_log c.serve_read.new.session) p n =
+    subst (λ (b : Bool). Asks (Ok b) left left' c.loop.buffers.line c.serve_read.new.buffers.line (session_log c.loop.session) (session_log c.serve_read.new.session) p n) over c.in_ok-serve_read.ensures.read
     in
-    if_some _ (λ input e. on_ok-from c.serve_last.result (left' ≡ Some []) (reading-ends input left left' c.loop.buffers.line c.serve_read.new.buffers.line (told c.args.session.now) (told c.loop.session) (told c.serve_read.new.session)
-    (g.W.Write.contents c.args.writer.now) p n (c.loop.invariant.1 input e) (told c.serve_last.new.session) (g.W.Write.contents c.serve_last.new.writer) c.serve_last.result asks c.serve_last.ensures.last).1)
+    if_some _ (λ input e. on_ok-from c.serve_last.result (left' ≡ Some []) (reading-ends input left left' c.loop.buffers.line c.serve_read.new.buffers.line (session_log c.args.session.now) (session_log c.loop.session) (session_log c.serve_read.new.session)
+    (g.W.Write.contents c.args.writer.now) p n (c.loop.invariant.1 input e) (session_log c.serve_last.new.session) (g.W.Write.contents c.serve_last.new.writer) c.serve_last.result asks c.serve_last.ensures.last).1)
 
 pub loop-preserved : goal.loop-preserved
 loop-preserved g c =
@@ -85,13 +85,13 @@ loop-preserved g c =
     let left' = g.R.Read.remaining c.serve_read.new.reader in
     let p = g.W.Write.contents c.loop.writer in
     let n = g.W.Write.contents c.serve_read.new.writer in
-    let asks : Asks (Ok true) left left' c.loop.buffers.line c.serve_read.new.buffers.line (told c.loop.session) (told c.serve_read.new.session) p n =
-    subst (λ (b : Bool). Asks (Ok b) left left' c.loop.buffers.line c.serve_read.new.buffers.line (told c.loop.session) (told c.serve_read.new.session) p n) goes c.in_ok-serve_read.ensures.read
+    let asks : Asks (Ok true) left left' c.loop.buffers.line c.serve_read.new.buffers.line (session_log c.loop.session) (session_log c.serve_read.new.session) p n =
+    subst (λ (b : Bool). Asks (Ok b) left left' c.loop.buffers.line c.serve_read.new.buffers.line (session_log c.loop.session) (session_log c.serve_read.new.session) p n) goes c.in_ok-serve_read.ensures.read
     in
     let new = c.serve_read.new.piece in
     let rest = drop (length new) c.loop.piece.items in (
       omega (arith, c.loop.invariant.0, c.loop.piece.ok.0, length-take c.loop.piece.len (new ++ rest), length-append new rest, length-drop (length new) c.loop.piece.items),
-      λ input e. reading-goes_on input left left' c.loop.buffers.line c.serve_read.new.buffers.line (told c.args.session.now) (told c.loop.session) (told c.serve_read.new.session)
+      λ input e. reading-goes_on input left left' c.loop.buffers.line c.serve_read.new.buffers.line (session_log c.args.session.now) (session_log c.loop.session) (session_log c.serve_read.new.session)
           (g.W.Write.contents c.args.writer.now) p n (c.loop.invariant.1 input e) asks,
       c.in_ok-serve_read.ensures.failed,
     )

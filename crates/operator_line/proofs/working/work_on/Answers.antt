@@ -2,7 +2,7 @@ use Rattle.std.proofs.Common.{◌≡◌, Option, Some, sym, ap, subst, ◌∙◌
 use Rattle.book_log.specs.Log.{Log}
 use Rattle.journaled_book.specs.Journaled.{log_of}
 use Rattle.operator_line.specs.Answering.{Stays}
-use Rattle.operator_line.specs.Sessions.{sitting_of, told}
+use Rattle.operator_line.specs.Sessions.{session_log, sitting_of}
 use Rattle.operator_line.proofs.Settling.{round_goes, round_still, stayed_works}
 use Rattle.operator_line.proofs.working.work_on.Goals as goal
 
@@ -15,8 +15,8 @@ pub returns-then-entry_count-begun-clause-worked : goal.returns-then-entry_count
 returns-then-entry_count-begun-clause-worked g c =
     let was = c.take_out-book.result.0.log in
     let after = c.in-Ok.field-0.book.log in
-    let before : told (sitting_of c.args.hand) ≡ Some was = ap (λ h. told (sitting_of h)) c.in-Open.is ∙ ap (λ o. log_of o.book) (sym c.open.view_is) ∙ ap log_of c.take_out-book.ensures.book in
+    let before : session_log (sitting_of c.args.hand) ≡ Some was = ap (λ h. session_log (sitting_of h)) c.in-Open.is ∙ ap (λ o. log_of o.book) (sym c.open.view_is) ∙ ap log_of c.take_out-book.ensures.book in
     let away : log_of c.take_out-book.result.1.book ≡ Some was = ap log_of (ap (λ j. j.book) c.take_out-book.ensures.away ∙ c.take_out-book.ensures.book) in
     let still : after ≡ was = round_still c.entry_count-begun.result c.args.moves was after c.entry_count-begun.ensures c.in-Ok.ensures.ok (sym c.entry_count.ensures ∙ c.if-entry_count-begun.true) in
-    stayed_works c.stay-worked.result was (told (sitting_of c.args.hand)) (told (sitting_of c.open_again.result)) c.args.workers c.args.moves before
+    stayed_works c.stay-worked.result was (session_log (sitting_of c.args.hand)) (session_log (sitting_of c.open_again.result)) c.args.workers c.args.moves before
     (c.open_again.ensures.same ∙ away ∙ sym before) (subst (Stays c.stay-worked.result) still c.stay-worked.ensures)
