@@ -14,7 +14,7 @@ use crate::working::tell_no_steps;
 use attr_values::{ItemFault, KeySchema};
 use book_log::Refusal;
 use command_lines::{Command, Execution};
-use journaled_book::books::{Begin, Book, Room};
+use journaled_book::books::{Begin, Book};
 use journaled_book::{BeginRefusal, EntryFault, JournaledBook};
 use json_tree::{Json, JsonFault, Text, read};
 use reply_lines::Reply;
@@ -231,7 +231,10 @@ impl<S: Alter> OpenSession<S> {
             return reply.refuse(NO_TABLE);
         }
         reply.reserve_step()?;
-        let room = Room::new(self.alloc, step)?;
+        let room = match self.book.undo_room(self.alloc, step) {
+            Ok(room) => room,
+            Err(refusal) => return reply.refuse_command(self.alloc, refusal),
+        };
         match self.book.undo(room, line) {
             Ok(_step) => reply.accept(),
             Err(fault) => refuse_change(self.alloc, fault, reply),
