@@ -8,11 +8,14 @@ use Rattle.book_log.specs.declared.entry.Entry.{Entry}
 use Rattle.command_lines.specs.Grammar.{CommandView, command_of, text_command, command_view}
 use Rattle.command_lines.specs.declared.command.Command.{Command}
 use Rattle.command_lines.specs.declared.command.Command.TheVariants.{Table, Define, Start, Step, Undo, Plan, Rollback, Settle, Hold, Drive, Work, Show, Items, History, Held}
+use Rattle.sqlite.specs.State.{State}
 use Rattle.journaled_book.specs.Book.{BookView}
+use Rattle.journaled_book.specs.Changes.{Appends}
 use Rattle.journaled_book.specs.Journaled.{log_of, with_entry}
 use Rattle.reply_lines.specs.Replies.{refused}
 use Rattle.operator_line.specs.Answers.{AnswersOpen, AnswersClosed, AnswersCommand, AnswersView}
 use Rattle.operator_line.specs.Answering.{AnswersBy, AnswersTextBy, is_work}
+use Rattle.operator_line.specs.Sessions.{KeepsLine}
 use Rattle.operator_line.specs.declared.session.Answered.{Answered}
 use Rattle.operator_line.specs.declared.session.Answered.TheVariants.{Told, Lost}
 
@@ -97,3 +100,10 @@ no_round (Show thread) apart = refl
 no_round Items apart = refl
 no_round History apart = refl
 no_round Held apart = refl
+
+-- ---- the line of a command
+
+-- a command's line is appended, or the journal is as it was
+pub kept_by : {S T E : Type 0} → (shown : S → State) (line : List ℕ) (old new : S) (r : Result T E) → Appends (shown old) (shown new) line r → KeepsLine shown line old new
+kept_by shown line old new (Ok done) appended = record { lines = λ clean. inl (appended.ok clean) }
+kept_by shown line old new (Err fault) appended = record { lines = λ clean. inr (appended.err clean) }

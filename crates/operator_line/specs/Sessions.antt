@@ -1,10 +1,15 @@
 -- A session, as its contracts see it: a book whose commands stand in a journal; or, where the book was lost, that journal, and the
 -- book that its lines are of.
-use Rattle.std.specs.Prelude.{Bool, true, false, Option, refl}
+use Rattle.std.specs.Prelude.{◌≡◌, ◌⊎◌, ℕ, List, [], ◌∷◌, Bool, true, false, Option, None, Some, refl}
 use Rattle.std.specs.Coded.{Coded, code_by, coded×, coded_bool}
 use Rattle.sqlite.specs.Held.{Held}
+use Rattle.sqlite.specs.State.{State, HasCleanDisk}
+use Rattle.book_journal.specs.Kept.{IsSame}
 use Rattle.book_log.specs.Log.{Log}
+use Rattle.command_lines.specs.Grammar as command_view
+use Rattle.command_lines.specs.Grammar.{CommandView, command_of}
 use Rattle.journaled_book.specs.Book.{BookView}
+use Rattle.journaled_book.specs.Changes.{HasLines}
 use Rattle.journaled_book.specs.Journaled.{Journaled, log_of}
 use Rattle.operator_line.specs.declared.session.Hand.{Hand}
 use Rattle.operator_line.specs.declared.session.Hand.TheVariants.{Open, Failed}
@@ -32,3 +37,20 @@ session_log session = log_of session.book
 -- the same of a session that hasn't failed
 abbrev pub log_in : {S : Type 0} → Journaled S → Option Log
 log_in held = log_of held.book
+
+-- ---- the line of a command
+
+-- each step of the command has a line of its own, which the session writes
+abbrev pub has_own_lines : Option CommandView → Bool
+has_own_lines (Some (command_view.drive count)) = true
+has_own_lines (Some (command_view.work workers moves)) = true
+has_own_lines _ = false
+
+-- While the disk is clean, the journal's lines are those from before, or those and this line behind them.
+pub record KeepsLine {S : Type 0} (shown : S → State) (line : List ℕ) (old new : S) : Type 0 where
+  pub lines : HasCleanDisk (shown new) → HasLines (shown old) (shown new) (line ∷ []) ⊎ IsSame (shown old) (shown new)
+
+-- what was read of a line that is no such command's; of one that is too long nothing is kept
+abbrev pub KeepsRead : {S : Type 0} → (S → State) → Option (List ℕ) → S → S → Type 0
+KeepsRead shown None old new = HasCleanDisk (shown new) → IsSame (shown old) (shown new)
+KeepsRead shown (Some line) old new = has_own_lines (command_of line) ≡ false → KeepsLine shown line old new

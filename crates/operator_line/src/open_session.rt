@@ -1,9 +1,11 @@
 // The commands that are given to a book whose commands stand in a journal, but for a round of workers.
-ghost use Rattle.std.specs.Prelude.{◌≡◌, [], Some, None, false, string_bytes, IsSome, OnOk, OnErr};
+ghost use Rattle.std.specs.Prelude.{◌≡◌, [], Some, None, false, string_bytes, IfSome, IsSome, OnOk, OnErr};
+ghost use Rattle.sqlite.specs.Held.{state};
 ghost use Rattle.journaled_book.specs.Lines.{IsBeginLine};
+ghost use Rattle.journaled_book.specs.Making.{IsPlanned};
 ghost use Rattle.operator_line.specs.Answering.{is_work};
 ghost use Rattle.operator_line.specs.Answers.{AnswersBeginning, AnswersCommand, change_reply, left_names};
-ghost use Rattle.operator_line.specs.Sessions.{log_in};
+ghost use Rattle.operator_line.specs.Sessions.{KeepsLine, has_own_lines, log_in};
 ghost use Rattle.command_lines.specs.Grammar as grammar;
 ghost use Rattle.command_lines.specs.Grammar.{command_of, command_view};
 ghost use Rattle.reply_lines.specs.Replies.{json_reply, item_fault_reply, names_reply};
@@ -14,7 +16,7 @@ use crate::working::tell_no_steps;
 use attr_values::{ItemFault, KeySchema};
 use book_log::Refusal;
 use command_lines::{Command, Execution};
-use journaled_book::books::{Begin, Book};
+use journaled_book::books::{Begin, Book, PlanRoom};
 use journaled_book::{BeginRefusal, EntryFault, JournaledBook};
 use json_tree::{Json, JsonFault, Text, read};
 use reply_lines::Reply;
@@ -68,6 +70,7 @@ impl<S: Alter> OpenSession<S> {
         requires empty { string_bytes reply.old.text ≡ [] }
         ensures ok { OnOk result (AnswersCommand (log_in self.old) (command_view command.entry) (string_bytes reply.new.text) (log_in self.new)) }
         ensures err { OnErr result (log_in self.new ≡ log_in self.old) }
+        ensures kept { has_own_lines (Some (command_view command.entry)) ≡ false → KeepsLine (λ held. state S.Store held) line.now self.old.journal self.new.journal }
     {
         match command {
             Command::Table {
@@ -108,6 +111,7 @@ impl<S: Alter> OpenSession<S> {
         requires empty { string_bytes reply.old.text ≡ [] }
         ensures ok { OnOk result (AnswersCommand (log_in self.old) (grammar.table table schema items.now) (string_bytes reply.new.text) (log_in self.new)) }
         ensures err { OnErr result (log_in self.new ≡ log_in self.old) }
+        ensures kept { KeepsLine (λ held. state S.Store held) line.now self.old.journal self.new.journal }
     {
         if self.book.is_open() {
             return reply.refuse(TABLE_TAKEN);
@@ -135,6 +139,7 @@ impl<S: Alter> OpenSession<S> {
         requires empty { string_bytes reply.old.text ≡ [] }
         ensures ok { OnOk result (AnswersBeginning begin (string_bytes reply.new.text) (log_in self.new)) }
         ensures err { OnErr result (log_in self.new ≡ None) }
+        ensures kept { KeepsLine (λ held. state S.Store held) line.now self.old.journal self.new.journal }
     {
         reply.reserve_step()?;
         match self.book.begin(self.alloc, begin, line) {
@@ -155,6 +160,7 @@ impl<S: Alter> OpenSession<S> {
         requires empty { string_bytes reply.old.text ≡ [] }
         ensures ok { OnOk result (AnswersCommand (log_in self.old) (grammar.define name.now definition.now) (string_bytes reply.new.text) (log_in self.new)) }
         ensures err { OnErr result (log_in self.new ≡ log_in self.old) }
+        ensures kept { KeepsLine (λ held. state S.Store held) line.now self.old.journal self.new.journal }
     {
         if !self.book.is_open() {
             return reply.refuse(NO_TABLE);
@@ -187,6 +193,7 @@ impl<S: Alter> OpenSession<S> {
         requires empty { string_bytes reply.old.text ≡ [] }
         ensures ok { OnOk result (AnswersCommand (log_in self.old) (grammar.start exec.now.thread machine.now input.now) (string_bytes reply.new.text) (log_in self.new)) }
         ensures err { OnErr result (log_in self.new ≡ log_in self.old) }
+        ensures kept { KeepsLine (λ held. state S.Store held) line.now self.old.journal self.new.journal }
     {
         if !self.book.is_open() {
             return reply.refuse(NO_TABLE);
@@ -210,6 +217,7 @@ impl<S: Alter> OpenSession<S> {
         requires empty { string_bytes reply.old.text ≡ [] }
         ensures ok { OnOk result (AnswersCommand (log_in self.old) (grammar.step thread.now) (string_bytes reply.new.text) (log_in self.new)) }
         ensures err { OnErr result (log_in self.new ≡ log_in self.old) }
+        ensures kept { KeepsLine (λ held. state S.Store held) line.now self.old.journal self.new.journal }
     {
         if !self.book.is_open() {
             return reply.refuse(NO_TABLE);
@@ -226,6 +234,7 @@ impl<S: Alter> OpenSession<S> {
         requires empty { string_bytes reply.old.text ≡ [] }
         ensures ok { OnOk result (AnswersCommand (log_in self.old) (grammar.undo step.now) (string_bytes reply.new.text) (log_in self.new)) }
         ensures err { OnErr result (log_in self.new ≡ log_in self.old) }
+        ensures kept { KeepsLine (λ held. state S.Store held) line.now self.old.journal self.new.journal }
     {
         if !self.book.is_open() {
             return reply.refuse(NO_TABLE);
@@ -254,22 +263,42 @@ impl<S: Alter> OpenSession<S> {
         }
     }
 
-    /// The reply is written first, since the book can't be changed back where memory for it is refused.
     fn rollback(&mut self, step: &StepName, line: &str, reply: &mut Reply) -> Result<(), AllocError>
         requires line { command_of line.now ≡ Some (grammar.rollback step.now) }
         requires empty { string_bytes reply.old.text ≡ [] }
         ensures ok { OnOk result (AnswersCommand (log_in self.old) (grammar.rollback step.now) (string_bytes reply.new.text) (log_in self.new)) }
         ensures err { OnErr result (log_in self.new ≡ log_in self.old) }
+        ensures kept { KeepsLine (λ held. state S.Store held) line.now self.old.journal self.new.journal }
     {
         if !self.book.is_open() {
             return reply.refuse(NO_TABLE);
         }
-        let room = match self.book.plan_room(self.alloc, step) {
-            Ok(room) => room,
-            Err(refusal) => return reply.refuse_command(self.alloc, refusal),
-        };
-        reply.accept_names(room.names())?;
-        match self.book.rollback(room, line) {
+        match self.book.plan_room(self.alloc, step) {
+            Ok(plan) => self.rollback_planned(plan, line, reply),
+            Err(refusal) => reply.refuse_command(self.alloc, refusal),
+        }
+    }
+
+    /// Takes back what was planned. The reply is written first, since the book can't be changed back where memory for it is refused.
+    fn rollback_planned(
+        &mut self,
+        plan: PlanRoom,
+        line: &str,
+        reply: &mut Reply,
+    ) -> Result<(), AllocError>
+        requires open { IsSome self.old.book }
+        requires planned { IfSome self.old.book (λ b. IsPlanned b.log plan) }
+        requires line { command_of line.now ≡ Some (grammar.rollback plan.step) }
+        requires empty { string_bytes reply.old.text ≡ [] }
+        ensures ok { OnOk result (AnswersCommand (log_in self.old) (grammar.rollback plan.step) (string_bytes reply.new.text) (log_in self.new)) }
+        ensures err { OnErr result (log_in self.new ≡ log_in self.old) }
+        ensures kept { KeepsLine (λ held. state S.Store held) line.now self.old.journal self.new.journal }
+    {
+        if let Err(AllocError) = reply.accept_names(plan.names()) {
+            drop(plan);
+            return Err(AllocError);
+        }
+        match self.book.rollback(plan, line) {
             Ok(_names) => Ok(()),
             Err(EntryFault::Book(_)) => unreachable!(),
             Err(EntryFault::Journal(_)) => {
@@ -284,6 +313,7 @@ impl<S: Alter> OpenSession<S> {
         requires empty { string_bytes reply.old.text ≡ [] }
         ensures ok { OnOk result (AnswersCommand (log_in self.old) grammar.settle (string_bytes reply.new.text) (log_in self.new)) }
         ensures err { OnErr result (log_in self.new ≡ log_in self.old) }
+        ensures kept { KeepsLine (λ held. state S.Store held) line.now self.old.journal self.new.journal }
     {
         if !self.book.is_open() {
             return reply.refuse(NO_TABLE);
@@ -300,6 +330,7 @@ impl<S: Alter> OpenSession<S> {
         requires empty { string_bytes reply.old.text ≡ [] }
         ensures ok { OnOk result (AnswersCommand (log_in self.old) (grammar.hold step.now) (string_bytes reply.new.text) (log_in self.new)) }
         ensures err { OnErr result (log_in self.new ≡ log_in self.old) }
+        ensures kept { KeepsLine (λ held. state S.Store held) line.now self.old.journal self.new.journal }
     {
         if !self.book.is_open() {
             return reply.refuse(NO_TABLE);

@@ -8,7 +8,7 @@ ghost use Rattle.journaled_book.specs.Changes.{IsRead};
 ghost use Rattle.journaled_book.specs.Journaled.{IsJournalOf};
 ghost use Rattle.journaled_book.specs.Opening.{OpensTo, RefusesOpen};
 ghost use Rattle.operator_line.specs.Answering.{AnswersBy, AnswersTextBy, WorksBy, is_gone, is_lost, is_work};
-ghost use Rattle.operator_line.specs.Sessions.{session_log, sitting_of};
+ghost use Rattle.operator_line.specs.Sessions.{KeepsLine, KeepsRead, has_own_lines, session_log, sitting_of};
 ghost use Rattle.command_lines.specs.Grammar as grammar;
 ghost use Rattle.command_lines.specs.Grammar.{command_of, command_view};
 ghost use Rattle.operator_line.specs.Lines.{bytes_of};
@@ -142,6 +142,7 @@ impl<S: Alter> Session<S> {
         requires here { self.old.is_failed ≡ false }
         ensures ok { IfOk result (λ answered. AnswersBy answered (session_log self.old) (bytes_of line.entry) (string_bytes reply.new.text) (session_log self.new)) }
         ensures err { OnErr result (session_log self.new ≡ session_log self.old) }
+        ensures kept { KeepsRead (λ held. state S.Store held) (bytes_of line.entry) self.old.journal self.new.journal }
         ensures empty { bytes_of line.entry ≡ Some [] → OnErr result ⊥ }
         ensures failed { self.new.is_failed ≡ is_lost result }
     {
@@ -163,6 +164,7 @@ impl<S: Alter> Session<S> {
         requires empty { string_bytes reply.old.text ≡ [] }
         ensures ok { IfOk result (λ answered. AnswersTextBy answered (session_log self.old) (command_of line.now) (string_bytes reply.new.text) (session_log self.new)) }
         ensures err { OnErr result (session_log self.new ≡ session_log self.old) }
+        ensures kept { has_own_lines (command_of line.now) ≡ false → KeepsLine (λ held. state S.Store held) line.now self.old.journal self.new.journal }
         ensures failed { self.new.is_failed ≡ is_lost result }
     {
         match str::from_utf8(line) {
@@ -182,6 +184,7 @@ impl<S: Alter> Session<S> {
         requires empty { string_bytes reply.old.text ≡ [] }
         ensures ok { IfOk result (λ answered. AnswersTextBy answered (session_log self.old) (command_of line.now) (string_bytes reply.new.text) (session_log self.new)) }
         ensures err { OnErr result (session_log self.new ≡ session_log self.old) }
+        ensures kept { has_own_lines (command_of line.now) ≡ false → KeepsLine (λ held. state S.Store held) line.now self.old.journal self.new.journal }
         ensures failed { self.new.is_failed ≡ is_lost result }
     {
         match Command::read(self.alloc, line.as_bytes()) {
@@ -204,6 +207,7 @@ impl<S: Alter> Session<S> {
         requires empty { string_bytes reply.old.text ≡ [] }
         ensures ok { IfOk result (λ answered. AnswersTextBy answered (session_log self.old) (Some (command_view command.entry)) (string_bytes reply.new.text) (session_log self.new)) }
         ensures err { OnErr result (session_log self.new ≡ session_log self.old) }
+        ensures kept { has_own_lines (Some (command_view command.entry)) ≡ false → KeepsLine (λ held. state S.Store held) line.now self.old.journal self.new.journal }
         ensures failed { self.new.is_failed ≡ is_lost result }
     {
         let Hand::Open(open) = &mut self.hand else {

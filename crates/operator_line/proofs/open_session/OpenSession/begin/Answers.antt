@@ -1,10 +1,12 @@
 use Rattle.std.proofs.Common.{◌≡◌, [], ◌++◌, inl, inr, string_bytes, ap, ◌∙◌}
 use Rattle.std.proofs.lemmas.Result.{on_ok_weaker}
+use Rattle.sqlite.specs.Held.{state}
 use Rattle.book_log.specs.Beginning.{table_of}
 use Rattle.journaled_book.specs.Journaled.{log_of}
 use Rattle.operator_line.specs.Answers.{journal_reply}
 use Rattle.reply_lines.specs.Replies.{done_reply, item_fault_reply}
 use Rattle.operator_line.proofs.Json.{begin-done, begin-item, begin-journal, begin-refused, begin-unwritten}
+use Rattle.operator_line.proofs.Sessions.{kept_by}
 use Rattle.operator_line.proofs.open_session.OpenSession.begin.Goals as goal
 use Rattle.operator_line.proofs.open_session.OpenSession.begin.Goals.{in-Ok, in-Err-Item, in-Err-Journal}
 
@@ -23,3 +25,6 @@ returns-clause-ok g c =
       | in-Err-Journal w ↦ rw (w.result-is, w.reply-is)
           (on_ok_weaker w.refuse.result (λ e. begin-unwritten begin (table_of begin) _ _ (begin-journal begin w.in-Err-Journal.field-0 w.in-Err-Journal.field-0-0 w.in-Err-Journal.field-0-is w.in-Err-Journal.ensures.refused) (e ∙ ap (λ l. l ++ journal_reply) empty, ap log_of w.in-Err-Journal.ensures.err)) w.refuse.ensures.ok)
     ]
+
+pub returns-clause-kept : goal.returns-clause-kept
+returns-clause-kept g c = rw (← c.self.view_is) (kept_by (λ held. state g.S.Store held) c.args.line.now _ _ c.begin-2.result c.begin-2.ensures.journal)

@@ -1,6 +1,7 @@
 use Rattle.std.proofs.Common.{rules, ◌≡◌, [], ◌++◌, true, Option, string_bytes, ap, ◌∙◌, subst}
 use Rattle.std.specs.Prelude.{is_some, IfSome}
 use Rattle.std.proofs.lemmas.Result.{on_ok_weaker}
+use Rattle.sqlite.specs.Held.{state}
 use Rattle.book_log.specs.Answers.{HoldLacks, hold_answer}
 use Rattle.book_log.specs.declared.entry.Entry.TheVariants.{Hold}
 use Rattle.command_lines.specs.Grammar as grammar
@@ -11,7 +12,7 @@ use Rattle.operator_line.specs.Answers.{change_reply}
 use Rattle.operator_line.specs.Sessions.{log_in}
 use Rattle.reply_lines.specs.Replies.{count_reply}
 use Rattle.operator_line.proofs.Replied.{hold-done, hold-refused}
-use Rattle.operator_line.proofs.Sessions.{answers_open}
+use Rattle.operator_line.proofs.Sessions.{answers_open, kept_by}
 use Rattle.operator_line.proofs.open_session.OpenSession.hold.Goals as goal
 use Rattle.operator_line.proofs.open_session.OpenSession.hold.Goals.{in-Ok, in-Err}
 
@@ -39,3 +40,6 @@ returns-clause-ok g c =
           w.refuse_change.ensures.memory
           (on_ok_weaker w.refuse_change.result (λ e. e ∙ ap (λ l. l ++ change_reply w.in-Err.fault) empty) w.refuse_change.ensures.ok))
     ]))
+
+pub returns-clause-kept : goal.returns-clause-kept
+returns-clause-kept g c = rw (← c.self.view_is) (kept_by (λ held. state g.S.Store held) c.args.line.now _ _ c.hold.result c.hold.ensures.journal)

@@ -1,6 +1,7 @@
 use Rattle.std.proofs.Common.{rules, ◌≡◌, [], ◌++◌, true, Option, string_bytes, ap, ◌∙◌, subst}
 use Rattle.std.specs.Prelude.{is_some, IfSome}
 use Rattle.std.proofs.lemmas.Result.{on_ok_weaker}
+use Rattle.sqlite.specs.Held.{state}
 use Rattle.book_log.specs.Answers.{SettleLacks, settle_answer}
 use Rattle.book_log.specs.declared.entry.Entry.TheVariants.{Settle}
 use Rattle.command_lines.specs.Grammar as grammar
@@ -11,7 +12,7 @@ use Rattle.operator_line.specs.Answers.{change_reply}
 use Rattle.operator_line.specs.Sessions.{log_in}
 use Rattle.reply_lines.specs.Replies.{done_reply}
 use Rattle.operator_line.proofs.Replied.{settle-done, settle-refused}
-use Rattle.operator_line.proofs.Sessions.{answers_open}
+use Rattle.operator_line.proofs.Sessions.{answers_open, kept_by}
 use Rattle.operator_line.proofs.open_session.OpenSession.settle.Goals as goal
 use Rattle.operator_line.proofs.open_session.OpenSession.settle.Goals.{in-Ok, in-Err}
 
@@ -38,3 +39,6 @@ returns-clause-ok g c =
           w.refuse_change.ensures.memory
           (on_ok_weaker w.refuse_change.result (λ e. e ∙ ap (λ l. l ++ change_reply w.in-Err.fault) empty) w.refuse_change.ensures.ok))
     ]))
+
+pub returns-clause-kept : goal.returns-clause-kept
+returns-clause-kept g c = rw (← c.self.view_is) (kept_by (λ held. state g.S.Store held) c.args.line.now _ _ c.settle.result c.settle.ensures.journal)

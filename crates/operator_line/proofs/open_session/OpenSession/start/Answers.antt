@@ -1,6 +1,7 @@
 use Rattle.std.proofs.Common.{rules, ◌≡◌, [], ◌++◌, true, Option, Some, OnOk, string_bytes, refl, sym, ap, ◌∙◌, subst}
 use Rattle.std.specs.Prelude.{is_some, IfSome}
 use Rattle.std.proofs.lemmas.Result.{on_ok_weaker}
+use Rattle.sqlite.specs.Held.{state}
 use Rattle.json_tree.specs.Reading.{read_json}
 use Rattle.json_tree.specs.View.{data_of}
 use Rattle.book_log.specs.Answers.{start_answer}
@@ -14,7 +15,7 @@ use Rattle.operator_line.specs.Sessions.{log_in}
 use Rattle.reply_lines.specs.Replies.{step_reply}
 use Rattle.operator_line.proofs.Json.{json-read}
 use Rattle.operator_line.proofs.Replied.{start-done, start-refused}
-use Rattle.operator_line.proofs.Sessions.{answers_open}
+use Rattle.operator_line.proofs.Sessions.{answers_open, kept_by}
 use Rattle.operator_line.proofs.open_session.OpenSession.start.Goals as goal
 use Rattle.operator_line.proofs.open_session.OpenSession.start.Goals.{in-Ok-start, in-Err-start}
 
@@ -48,3 +49,6 @@ returns-clause-ok g c =
     ] in
     on_ok_weaker c.match-start.result
     (λ t. json-read c.args.input.now (data_of input) (λ told'. AnswersUnchanged told' (Some b.log) text after) (λ d. AnswersInput b.log exec machine d text after) is_read (record { input = input; is_read = refl; told = t })) said))
+
+pub returns-clause-kept : goal.returns-clause-kept
+returns-clause-kept g c = rw (← c.self.view_is) (kept_by (λ held. state g.S.Store held) c.args.line.now _ _ c.start.result c.start.ensures.journal)
