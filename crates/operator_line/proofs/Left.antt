@@ -1,5 +1,5 @@
 -- What is left of a hold, as it is told.
-use Rattle.std.proofs.Common.{◌≡◌, Bool, true, false, List, [], if◌then◌else◌, Option, None, Some, Result, Ok, Err, refl, sym, ap, ◌∙◌}
+use Rattle.std.proofs.Common.{◌≡◌, Bool, true, false, List, [], if◌then◌else◌, None, Some, Ok, Err, sym, ap, ◌∙◌}
 use Rattle.std.specs.Prelude.{reverse}
 use Rattle.step_names.specs.declared.step.StepName.{StepName}
 use Rattle.book_log.specs.Answers.{absent, names_of_facts, plan_answer, remains}

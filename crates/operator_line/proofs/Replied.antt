@@ -1,6 +1,6 @@
 -- What a book answers, as it is told.
 use Rattle.std.proofs.Common.{◌≡◌, ℕ, List, [], ◌∷◌, map, Option, None, Some, Ok, Err, OnOk, inl, inr, refl, sym, ap, ◌∙◌, subst}
-use Rattle.std.specs.Prelude.{◌⊎◌, Result, IfSome}
+use Rattle.std.specs.Prelude.{Result, IfSome}
 use Rattle.serde_json.specs.Data as source
 use Rattle.std.specs.declared.alloc.AllocError.{AllocError}
 use Rattle.std.proofs.lemmas.Result.{on_ok_weaker}

@@ -1,11 +1,10 @@
 -- What a round of workers comes to.
-use Rattle.std.proofs.Common.{◌≡◌, ◌≤◌, ◌+◌, ◌<◌, ℕ, zero, suc, true, false, List, [], ◌∷◌, ◌++◌, length, length-append, map, take, drop, get_or, string_bytes, Option, None, Some, inl, inr, refl, sym, ap, subst, ◌∙◌, arith}
+use Rattle.std.proofs.Common.{◌≡◌, ◌≤◌, ◌+◌, ◌<◌, ℕ, zero, suc, List, [], ◌∷◌, ◌++◌, length, length-append, map, take, get_or, string_bytes, Option, Some, inl, inr, refl, sym, ap, subst, ◌∙◌, arith}
 use Rattle.std.specs.Prelude.{Result, Ok, Err, IsSome, OnOk}
 use Rattle.std.proofs.Math.Seq.{drop-append_seam}
 use Rattle.std.proofs.lemmas.List.{map-append, take_more}
 use Rattle.step_names.specs.Written.{step_text}
 use Rattle.step_names.specs.declared.step.StepName.{StepName}
-use Rattle.book_log.specs.Answers.{step_answer}
 use Rattle.book_log.specs.Legal.{GoesOnLegally}
 use Rattle.book_log.specs.Log.{Log, appended}
 use Rattle.book_log.specs.declared.entry.Entry.{Entry}
@@ -17,7 +16,7 @@ use Rattle.journaled_book.specs.Journaled.{GoesOnBy}
 use Rattle.journaled_book.specs.Lines.{AreEntryLines, IsLineOf}
 use Rattle.journaled_book.proofs.Given.{both_entry_lines}
 use Rattle.reply_lines.specs.Replies.{names_reply}
-use Rattle.operator_line.specs.Answers.{Takes, Works, AnswersWork}
+use Rattle.operator_line.specs.Answers.{Takes, Works}
 use Rattle.operator_line.specs.Answering.{GoesOnFrom, Settles, Stays, WorksBy, since, stepped_names}
 use Rattle.operator_line.specs.declared.working.Worked.{Worked}
 use Rattle.operator_line.specs.declared.working.Worked.TheVariants as worked

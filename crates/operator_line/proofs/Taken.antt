@@ -3,10 +3,9 @@ use Rattle.std.proofs.Common.{◌≡◌, ◌<◌, ◌+◌, ◌-◌, ◌^◌, ℕ
 use Rattle.std.specs.Prelude.{◌⊎◌, IfOk, IfSome}
 use Rattle.std.specs.BTreeSet.{BTreeSet}
 use Rattle.std.specs.Ordering.{eq_by_cmp}
-use Rattle.std.specs.declared.cmp.Ordering.TheVariants.{Less}
 use Rattle.std.proofs.lemmas.List.{append_assoc, append-nil, length-append, length-map, map-append}
 use Rattle.step_names.specs.Order.{thread_cmp}
-use Rattle.step_names.specs.Thread.{Thread, IsThread}
+use Rattle.step_names.specs.Thread.{Thread}
 use Rattle.step_names.specs.Written.{step_text}
 use Rattle.step_names.specs.declared.step.StepName.{StepName}
 use Rattle.book_log.specs.Answers.{StepLacks, is_enabled, step_answer}
@@ -23,7 +22,7 @@ use Rattle.reply_lines.specs.Replies.{names_reply}
 use Rattle.reply_lines.specs.Replying.{AreLines}
 use Rattle.reply_lines.specs.declared.lines.Lines.{Lines}
 use Rattle.operator_line.specs.Answers.{DrivesAtMost, IsLeastEnabled, NeedsHeld, NoneMoves, StopsDrive, Turn, took, skipped, drive_reply, is_held, is_passed, taken_in}
-use Rattle.operator_line.specs.Driving.{AddsThread, IsFirst, KeepsLines, PassesBy, Taken, TakesOne, is_for_hold, passed_in}
+use Rattle.operator_line.specs.Driving.{IsFirst, KeepsLines, PassesBy, Taken, TakesOne, is_for_hold, passed_in}
 use Rattle.operator_line.specs.declared.driving.Tried.{Tried}
 use Rattle.operator_line.specs.declared.driving.Tried.TheVariants.{Taken as StepTaken, PassedBy, NoMove}
 

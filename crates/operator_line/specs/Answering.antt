@@ -1,5 +1,5 @@
 -- What comes of a line, and of a round of workers, in the program's own words.
-use Rattle.std.specs.Prelude.{◌≡◌, ◌⊎◌, ℕ, Bool, true, false, List, [], ◌∷◌, ◌++◌, drop, length, Option, None, Some, option_and_then, Result, Ok, Err, IsSome, string_bytes}
+use Rattle.std.specs.Prelude.{◌≡◌, ◌⊎◌, ℕ, Bool, true, false, List, [], ◌∷◌, drop, length, Option, Some, Result, Ok, Err, IsSome, string_bytes}
 use Rattle.std.specs.declared.alloc.AllocError.{AllocError}
 use Rattle.step_names.specs.declared.step.StepName.{StepName}
 use Rattle.book_log.specs.Log.{Log}
@@ -9,7 +9,7 @@ use Rattle.book_rounds.specs.Rounds.{AreSteps, with_entries}
 use Rattle.command_lines.specs.Grammar as command_view
 use Rattle.command_lines.specs.Grammar.{CommandView, command_of}
 use Rattle.reply_lines.specs.Replies.{names_reply}
-use Rattle.operator_line.specs.Answers.{AnswersLine, AnswersView, AnswersCommand, HasNoRoom, AnswersUnchanged}
+use Rattle.operator_line.specs.Answers.{AnswersLine, AnswersView, AnswersCommand, HasNoRoom}
 use Rattle.operator_line.specs.Serving.{IsWork}
 use Rattle.operator_line.specs.declared.session.Answered.{Answered}
 use Rattle.operator_line.specs.declared.session.Answered.TheVariants.{Told, Lost}

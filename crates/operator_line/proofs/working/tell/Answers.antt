@@ -1,4 +1,4 @@
-use Rattle.std.proofs.Common.{[], ◌∷◌, ◌+◌, ◌++◌, ℕ, List, map, string_bytes, take, sym, ap, subst, ◌∙◌}
+use Rattle.std.proofs.Common.{[], ◌∷◌, ◌+◌, ◌++◌, ℕ, map, string_bytes, take, sym, ap, subst, ◌∙◌}
 use Rattle.std.proofs.lemmas.List.{take_more}
 use Rattle.step_names.specs.Written.{step_text}
 use Rattle.book_log.specs.declared.entry.Entry.{Entry}

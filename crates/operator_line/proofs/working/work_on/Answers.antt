@@ -1,5 +1,4 @@
-use Rattle.std.proofs.Common.{◌≡◌, Option, Some, sym, ap, subst, ◌∙◌}
-use Rattle.book_log.specs.Log.{Log}
+use Rattle.std.proofs.Common.{◌≡◌, Some, sym, ap, subst, ◌∙◌}
 use Rattle.journaled_book.specs.Journaled.{log_of}
 use Rattle.operator_line.specs.Answering.{Stays}
 use Rattle.operator_line.specs.Sessions.{session_log, sitting_of}
