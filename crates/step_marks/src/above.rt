@@ -8,7 +8,7 @@ use std::alloc::{AllocError, Global};
 use step_names::{NameFault, StepName, ThreadName};
 
 /// A fork above a thread: one under which it lies.
-#[derive(Debug, Drop)]
+#[derive(Drop)]
 pub(crate) struct Above {
     pub fork: StepName,
     /// The index of the branch by which it does.
