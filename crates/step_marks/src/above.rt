@@ -1,6 +1,6 @@
 //! The forks above a thread.
 
-ghost use Rattle.std.specs.Prelude.{◌≡◌, IfOk, map};
+ghost use Rattle.std.specs.Prelude.{◌≡◌, IfOk};
 ghost use Rattle.step_names.specs.Thread.{child_of, execution};
 ghost use Rattle.step_marks.specs.Above.{forks_above};
 
