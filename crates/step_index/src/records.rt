@@ -211,7 +211,7 @@ impl StepRecords {
 
     /// The same, with its looks at records added to a count. One pass over the later steps: each is looked at once at most, and only
     /// where one that was found is in the class of its execution or of its key. Takes memory for the marks of each step that was
-    /// found, and time in the logarithm of their number.
+    /// found, and for each record that is looked at a few look-ups among these.
     pub fn plan_with_looks(
         &self,
         alloc: Global,

@@ -4,3 +4,4 @@ pub mod Least
 pub mod Awaiting
 pub mod Kept
 pub mod Sought
+pub mod Hashed

@@ -8,7 +8,7 @@ use Rattle.std.specs.Ordering.{eq_by_cmp}
 use Rattle.std.proofs.lemmas.Option.{same_Some}
 use Rattle.item_store.specs.Table.{is_same_key}
 use Rattle.item_store.specs.declared.access.AccessMode.TheVariants.{Read, Write}
-use Rattle.attr_values.specs.Key.{key_cmp}
+use Rattle.std.specs.HashSet.{contains as has_key}
 use Rattle.step_names.specs.Order.{step_cmp}
 use Rattle.step_names.specs.Thread.{Thread}
 use Rattle.step_names.specs.Under.{is_under}
@@ -124,10 +124,10 @@ module _ (facts : List Fact) (m : KeyMarks) (later : Option Access) where
   pub accesses_none : later ≡ None → false ≡ list_any (λ g. conflicts g.access later) facts
   accesses_none e = sym (any_never (λ g. conflicts g.access later) facts (λ g. ap (conflicts g.access) e ∙ no_access g.access))
 
-  pub written_to : (a : Access) → later ≡ Some a → a.mode ≡ Write → AreKeys facts m → contains key_cmp m.touched a.key ≡ list_any (λ g. conflicts g.access later) facts
+  pub written_to : (a : Access) → later ≡ Some a → a.mode ≡ Write → AreKeys facts m → has_key is_same_key m.touched a.key ≡ list_any (λ g. conflicts g.access later) facts
   written_to a e w are = are.touched a.key ∙ any_same (touches a.key) (λ g. conflicts g.access later) facts (λ g. by_a_write g.access a (ap is_write w) ∙ ap (conflicts g.access) (sym e))
 
-  pub read_from : (a : Access) → later ≡ Some a → a.mode ≡ Read → AreKeys facts m → contains key_cmp m.written a.key ≡ list_any (λ g. conflicts g.access later) facts
+  pub read_from : (a : Access) → later ≡ Some a → a.mode ≡ Read → AreKeys facts m → has_key is_same_key m.written a.key ≡ list_any (λ g. conflicts g.access later) facts
   read_from a e r are = are.wrote a.key ∙ any_same (writes a.key) (λ g. conflicts g.access later) facts (λ g. by_a_read g.access a (ap is_write r) ∙ ap (conflicts g.access) (sym e))
 
 -- ---- all of them

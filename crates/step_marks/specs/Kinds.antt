@@ -1,12 +1,14 @@
 -- The marks that steps leave, of each kind by itself: what it tells is told by one of the steps.
-use Rattle.std.specs.Prelude.{◌≡◌, ℕ, Bool, ◌&&◌, List}
+use Rattle.std.specs.Prelude.{◌≡◌, ℕ, Bool, false, ◌&&◌, ◌||◌, List, Option, None, Some, nat_eq}
 use Rattle.std.specs.BTreeMap.{get}
 use Rattle.std.specs.BTreeSet.{contains}
+use Rattle.std.specs.HashMap.{get as get_first}
+use Rattle.std.specs.HashSet.{contains as has_key}
 use Rattle.std.specs.List.{list_any}
 use Rattle.std.specs.Ordering.{eq_by_cmp}
 use Rattle.json_tree.specs.Fields.{text_cmp}
 use Rattle.item_store.specs.Condition.{is_text}
-use Rattle.attr_values.specs.Key.{key_cmp}
+use Rattle.item_store.specs.Table.{is_same_key}
 use Rattle.attr_values.specs.declared.key.Key.{Key}
 use Rattle.step_names.specs.Order.{step_cmp, thread_cmp}
 use Rattle.step_names.specs.Thread.{Thread}
@@ -16,6 +18,7 @@ use Rattle.saved_steps.specs.World.{is_same_thread}
 use Rattle.saved_steps.specs.declared.fact.Fact.{Fact}
 use Rattle.depends.specs.Dependence.{is_start}
 use Rattle.step_marks.specs.Above.{IsDownward, forks_above, goes_by, passes}
+use Rattle.step_marks.specs.Hashes.{thread_hash}
 use Rattle.step_marks.specs.declared.forks.ForkMarks.{ForkMarks}
 use Rattle.step_marks.specs.declared.keys.KeyMarks.{KeyMarks}
 use Rattle.step_marks.specs.declared.starts.StartMarks.{StartMarks}
@@ -49,8 +52,16 @@ writes key g = writes_key g key
 
 -- ---- of some steps
 
+abbrev pub is_it : Option Thread → Thread → Bool
+is_it None t = false
+is_it (Some u) t = is_same_thread u t
+
+-- it is the first of its hash, or among the others
+abbrev pub has_thread : ThreadMarks → Thread → Bool
+has_thread m t = is_it (get_first nat_eq m.first (thread_hash t)) t || contains thread_cmp m.others t
+
 abbrev pub AreThreads : List Fact → ThreadMarks → Type 0
-AreThreads facts m = (t : Thread) → contains thread_cmp m.names t ≡ list_any (is_of t) facts
+AreThreads facts m = (t : Thread) → has_thread m t ≡ list_any (is_of t) facts
 
 abbrev pub AreStarts : List Fact → StartMarks → Type 0
 AreStarts facts m = (exec : List ℕ) → contains text_cmp m.execs exec ≡ list_any (starts exec) facts
@@ -62,5 +73,5 @@ abbrev pub AreUnder : List Fact → UnderMarks → Type 0
 AreUnder facts m = (s : StepName) (test : ℕ → Bool) → IsDownward test → passes test (get step_cmp m.least s) ≡ list_any (lies_by s test) facts
 
 pub record AreKeys (facts : List Fact) (m : KeyMarks) : Type 0 where
-  pub touched : (key : Key) → contains key_cmp m.touched key ≡ list_any (touches key) facts
-  pub wrote : (key : Key) → contains key_cmp m.written key ≡ list_any (writes key) facts
+  pub touched : (key : Key) → has_key is_same_key m.touched key ≡ list_any (touches key) facts
+  pub wrote : (key : Key) → has_key is_same_key m.written key ≡ list_any (writes key) facts

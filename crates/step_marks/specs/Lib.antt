@@ -1,3 +1,4 @@
 pub mod Above
+pub mod Hashes
 pub mod Kinds
 pub mod Marks

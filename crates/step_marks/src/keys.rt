@@ -1,8 +1,8 @@
 // Marks of keys.
 ghost use Rattle.std.specs.Prelude.{◌≡◌, ◌∷◌, ◌++◌, [], true, List, OnOk};
-ghost use Rattle.std.specs.BTreeSet.{Updates};
+ghost use Rattle.std.specs.HashSet.{Updates};
 ghost use Rattle.std.specs.List.{list_any};
-ghost use Rattle.attr_values.specs.Key.{key_cmp};
+ghost use Rattle.item_store.specs.Table.{is_same_key};
 ghost use Rattle.depends.specs.Dependence.{conflicts};
 ghost use Rattle.saved_steps.specs.declared.fact.Fact.{Fact as Step};
 ghost use Rattle.step_marks.specs.Kinds.{AreKeys};
@@ -11,13 +11,13 @@ use attr_values::Key;
 use item_store::AccessMode;
 use saved_steps::{Access, Fact};
 use std::alloc::{AllocError, Global};
-use std::collections::BTreeSet;
+use std::collections::HashSet;
 
 /// The keys of the items that some steps accessed, and of those that they wrote.
 #[derive(Drop)]
 pub(crate) struct KeyMarks {
-    touched: BTreeSet<Key>,
-    written: BTreeSet<Key>,
+    touched: HashSet<Key>,
+    written: HashSet<Key>,
 }
 
 impl KeyMarks {
@@ -25,8 +25,8 @@ impl KeyMarks {
         ensures { AreKeys [] result }
     {
         KeyMarks {
-            touched: BTreeSet::new(alloc),
-            written: BTreeSet::new(alloc),
+            touched: HashSet::new(alloc),
+            written: HashSet::new(alloc),
         }
     }
 
@@ -57,8 +57,8 @@ impl KeyMarks {
     }
 }
 
-fn put(keys: &mut BTreeSet<Key>, key: &Key) -> Result<(), AllocError>
-    ensures { OnOk result (Updates key_cmp keys.old keys.new key.now true) }
+fn put(keys: &mut HashSet<Key>, key: &Key) -> Result<(), AllocError>
+    ensures { OnOk result (Updates is_same_key keys.old keys.new key.now true) }
 {
     keys.insert(key.copy()?)?;
     Ok(())

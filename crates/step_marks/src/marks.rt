@@ -45,7 +45,8 @@ impl Marks {
     }
 
     /// Adds the marks of a step. Takes memory for its name, for that of each fork above it and for its key, where these have no mark
-    /// yet, and time in the logarithm of the marks. After an error the marks are of no use any more.
+    /// yet. Takes a look-up by hash for the name and the key, and for each fork time in the logarithm of their number. After an error
+    /// the marks are of no use any more.
     pub fn add(&mut self, fact: &Fact) -> Result<(), AllocError>
         ensures { OnOk result ((facts : List Step) → AreMarksOf facts self.old → AreMarksOf (facts ++ fact.now ∷ []) self.new) }
     {
@@ -56,8 +57,8 @@ impl Marks {
         self.keys.add(fact)
     }
 
-    /// Whether a later step depends directly on one of those that left the marks. None of these is looked at. Takes time in the
-    /// logarithm of the marks, for each fork above it; and memory for the names of these forks.
+    /// Whether a later step depends directly on one of those that left the marks. None of these is looked at. Takes the time
+    /// of `add`, and memory for the names of the forks above it.
     pub fn marks(&self, later: &Fact) -> Result<bool, AllocError>
         ensures { IfOk result (λ b. (facts : List Step) → AreMarksOf facts self.now → b ≡ list_any (λ g. depends_directly g later.now) facts) }
     {
