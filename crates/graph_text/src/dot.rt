@@ -8,7 +8,7 @@ use step_graph::{Edge, Reason};
 use step_names::ThreadName;
 
 const HEAD: &str =
-    "digraph rollback {\n  node [shape=box, fontname=\"monospace\"];\n  edge [fontname=\"monospace\", fontsize=10];\n";
+    "digraph rollback {\n  newrank=true;\n  node [shape=box, fontname=\"monospace\"];\n  edge [fontname=\"monospace\", fontsize=10];\n";
 
 /// The picture of these steps. Takes time in what is shown.
 pub(crate) fn write_dot(

@@ -10,6 +10,8 @@ mod picture;
 mod planned;
 mod words;
 
-pub use asking::{Answer, Question, ask};
+pub use asking::{Answer, Question, ask, find};
 pub use page::Page;
+pub use picture::{Look, Picture};
 pub use rollback_book as books;
+pub use words::{kind_word, reason_word, record_at};

@@ -24,12 +24,13 @@ enum Progress {
     Ended,
 }
 
-/// The book's sizes, and a line for each thread that has a frame or steps. Takes time in the numbers of entries, of steps and of
+/// The book's sizes, what is held, and a line for each thread that has a frame or steps. Takes time in the numbers of entries, of steps and of
 /// threads, logarithms aside.
 pub(crate) fn tell_book(page: &mut Page, alloc: Global, book: &Book) -> Result<(), AllocError> {
     let (_, entries) = book.entries();
     let steps = book.history().len();
     tell_sizes(page, steps as u64, entries.len() as u64)?;
+    tell_hold(page, alloc, book)?;
     let mut counts = BTreeMap::new(alloc);
     count_executions(book, &mut counts)?;
     count_steps(book, &mut counts)?;
@@ -49,6 +50,18 @@ fn tell_sizes(page: &mut Page, steps: u64, entries: u64) -> Result<(), AllocErro
     page.number(entries.saturating_add(steps))?;
     page.word(" of ")?;
     page.number(MOST_ENTRIES)?;
+    page.word("\n")
+}
+
+/// The hold that stands, if one does, and how many steps of it are left.
+fn tell_hold(page: &mut Page, alloc: Global, book: &Book) -> Result<(), AllocError> {
+    let Some(step) = book.held() else {
+        return Ok(());
+    };
+    page.word("held: ")?;
+    page.step(alloc, step)?;
+    page.word("; left: ")?;
+    page.number(book.held_left() as u64)?;
     page.word("\n")
 }
 

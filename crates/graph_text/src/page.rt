@@ -35,7 +35,7 @@ impl Page {
     }
 
     /// Adds a text as it is.
-    pub(crate) fn word(&mut self, word: &str) -> Result<(), AllocError>
+    pub fn word(&mut self, word: &str) -> Result<(), AllocError>
         ensures { Writes result self.old self.new word.now }
     {
         self.bytes.extend_from_slice(word.as_bytes())
@@ -48,21 +48,24 @@ impl Page {
         self.bytes.extend_from_slice(other.as_bytes())
     }
 
-    pub(crate) fn number(&mut self, number: u64) -> Result<(), AllocError>
+    /// Adds a number in digits.
+    pub fn number(&mut self, number: u64) -> Result<(), AllocError>
         ensures { Writes result self.old self.new (decimal number) }
     {
         let mut digits = Buffer::new();
         self.word(digits.format(number))
     }
 
-    pub(crate) fn step(&mut self, alloc: Global, step: &StepName) -> Result<(), AllocError>
+    /// Adds the name of a step.
+    pub fn step(&mut self, alloc: Global, step: &StepName) -> Result<(), AllocError>
         ensures { Writes result self.old self.new (step_text step.now) }
     {
         let text = step.write_text(alloc)?;
         self.word(text.as_str())
     }
 
-    pub(crate) fn thread(&mut self, alloc: Global, thread: &ThreadName) -> Result<(), AllocError>
+    /// Adds the name of a thread.
+    pub fn thread(&mut self, alloc: Global, thread: &ThreadName) -> Result<(), AllocError>
         ensures { Writes result self.old self.new (thread_text thread.now) }
     {
         let text = thread.write_text(alloc)?;
@@ -102,12 +105,13 @@ impl Page {
         match byte {
             b'"' => self.word("\\\""),
             b'\\' => self.word("\\\\"),
+            b'&' => self.word("&amp;"),
             other => self.byte(other),
         }
     }
 
     /// Adds a page so that it may stand in the text of HTML, and there in double quotes.
-    pub(crate) fn html(&mut self, other: &Page) -> Result<(), AllocError>
+    pub fn html(&mut self, other: &Page) -> Result<(), AllocError>
         ensures { Writes result self.old self.new (html_text other.now.bytes.items) }
     {
         for byte in other.as_bytes() {

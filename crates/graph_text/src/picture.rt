@@ -8,7 +8,7 @@ use step_names::ThreadName;
 
 /// How a step stands in a picture.
 #[derive(Clone, Copy, Debug, PartialEq, Eq)]
-pub(crate) enum Look {
+pub enum Look {
     /// It is the step that was asked for.
     Asked,
     /// It is a consequence of that step.
@@ -19,9 +19,11 @@ pub(crate) enum Look {
 
 /// The steps that are shown, by their places in their threads, and the dependences among them. Contracts say nothing of it.
 #[derive(Drop)]
-pub(crate) struct Picture {
-    pub(crate) threads: BTreeMap<ThreadName, Vec<usize>>,
-    pub(crate) edges: Vec<Edge>,
+pub struct Picture {
+    /// The places of the shown steps of each thread, which ascend.
+    pub threads: BTreeMap<ThreadName, Vec<usize>>,
+    /// By the later step, and then by the earlier one.
+    pub edges: Vec<Edge>,
     from: Option<usize>,
     marks: Option<Marks>,
 }
@@ -29,7 +31,7 @@ pub(crate) struct Picture {
 impl Picture {
     /// All steps, or the one at a place with its consequences and the steps on which these hang directly. Takes time in the number of
     /// records and, logarithms aside, of what is shown; memory for each step and dependence shown, and each thread and key.
-    pub(crate) fn new(
+    pub fn new(
         alloc: Global,
         records: &StepRecords,
         from: Option<usize>,
@@ -53,7 +55,7 @@ impl Picture {
     }
 
     /// Whether a place is that of the step that was asked for or of a consequence.
-    pub(crate) fn is_marked(&self, place: usize) -> bool {
+    pub fn is_marked(&self, place: usize) -> bool {
         match &self.marks {
             Some(marks) => marks.has(place),
             None => false,
@@ -61,7 +63,7 @@ impl Picture {
     }
 
     /// How the step at a place stands in it.
-    pub(crate) fn look(&self, place: usize) -> Look {
+    pub fn look(&self, place: usize) -> Look {
         if self.from == Some(place) {
             return Look::Asked;
         }
