@@ -6,7 +6,7 @@ ghost use Rattle.graph_run.specs.Words.{unread_refusal};
 
 use clap::error::ErrorKind;
 use clap::{Arg, ArgAction, ArgMatches, Command, Error};
-use graph_text::Question;
+use graph_page::{Question, texts};
 use std::alloc::{AllocError, Global};
 use std::io;
 use step_names::{NameFault, StepName};
@@ -92,10 +92,15 @@ fn command<'a>(alloc: Global) -> Result<Command<'a>, AllocError> {
             "dot",
             "Write the steps and their dependences as a graph for Graphviz",
         ))?
+        .arg(flag(
+            alloc,
+            "html",
+            "Write them as a page for a browser, with what each step changed",
+        ))?
         .arg(option(
             alloc,
             "from",
-            "Of a graph, show this step, its consequences and what they hang on alone",
+            "Of a graph or a page, show this step, its consequences and what they hang on alone",
         ))
 }
 
@@ -134,25 +139,51 @@ fn asked_in(alloc: Global, matches: &ArgMatches<'_>) -> Result<Asked, AskRefusal
 
 /// The one question that is asked.
 fn question_in(alloc: Global, matches: &ArgMatches<'_>) -> Result<Question, AskRefusal> {
-    let plan = matches.get_str("plan");
-    let why = matches.get_strs("why");
-    let from = matches.get_str("from");
     match (
         matches.get_flag("list"),
-        plan,
-        why,
+        matches.get_str("plan"),
+        matches.get_strs("why"),
         matches.get_flag("dot"),
-        from,
+        matches.get_flag("html"),
+        matches.get_str("from"),
     ) {
-        (true, None, None, false, None) => Ok(Question::List),
-        (false, Some(step), None, false, None) => Ok(Question::Plan(step_of(alloc, step)?)),
-        (false, None, Some([from, to]), false, None) => {
-            let from = step_of(alloc, from)?;
-            Ok(Question::Why(from, step_of(alloc, to)?))
-        }
-        (false, None, None, true, None) => Ok(Question::Dot(None)),
-        (false, None, None, true, Some(step)) => Ok(Question::Dot(Some(step_of(alloc, step)?))),
+        (true, None, None, false, false, None) => Ok(Question::Lines(texts::Question::List)),
+        (false, Some(step), None, false, false, None) => plan_of(alloc, step),
+        (false, None, Some([from, to]), false, false, None) => why_of(alloc, from, to),
+        (false, None, None, true, false, from) => dot_of(alloc, from),
+        (false, None, None, false, true, from) => html_of(alloc, from),
         _ => Err(AskRefusal::Usage),
+    }
+}
+
+fn plan_of(alloc: Global, step: &str) -> Result<Question, AskRefusal> {
+    let step = step_of(alloc, step)?;
+    Ok(Question::Lines(texts::Question::Plan(step)))
+}
+
+fn why_of(alloc: Global, from: &str, to: &str) -> Result<Question, AskRefusal> {
+    let from = step_of(alloc, from)?;
+    let to = step_of(alloc, to)?;
+    Ok(Question::Lines(texts::Question::Why(from, to)))
+}
+
+fn dot_of(alloc: Global, from: Option<&str>) -> Result<Question, AskRefusal> {
+    let from = from_of(alloc, from)?;
+    Ok(Question::Lines(texts::Question::Dot(from)))
+}
+
+fn html_of(alloc: Global, from: Option<&str>) -> Result<Question, AskRefusal> {
+    let from = from_of(alloc, from)?;
+    Ok(Question::Html(from))
+}
+
+fn from_of(alloc: Global, from: Option<&str>) -> Result<Option<StepName>, AskRefusal> {
+    match from {
+        Some(step) => match step_of(alloc, step) {
+            Ok(step) => Ok(Some(step)),
+            Err(refusal) => Err(refusal),
+        },
+        None => Ok(None),
     }
 }
 

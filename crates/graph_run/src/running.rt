@@ -6,7 +6,8 @@ ghost use Rattle.graph_run.specs.Status.{IsTold, status_of};
 
 use crate::asked::AskRefusal;
 use book_journal::{Journal, JournalFault};
-use graph_text::{Answer, Question, ask};
+use graph_page::texts::Answer;
+use graph_page::{Question, ask};
 use journaled_book::{JournaledBook, OpenFault};
 use operator_line::{ServeFault, flush, write_all};
 use rollback_run::{ExitCause, ModeRefusal, USAGE, finish};
@@ -18,7 +19,7 @@ use std::io::Write;
 pub const ABSENT: u8 = 1;
 
 const USAGE_TEXT: &[u8] =
-    b"usage: rollback_graph FILE (--list | --plan STEP | --why STEP CONSEQUENCE | --dot [--from STEP])\n";
+    b"usage: rollback_graph FILE (--list | --plan STEP | --why STEP CONSEQUENCE | (--dot | --html) [--from STEP])\n";
 
 /// Answers a question from the journal of this connection, and tells whether there was what was asked. The journal's lines stay as they are.
 /// Takes what opening it takes, and what [`ask`] takes.

@@ -1,0 +1,217 @@
+// The picture: heads for executions and threads, and under them the steps with the lines between them.
+use crate::lines::{BOX_HEIGHT, BOX_WIDTH, height, left, top, width, write_line};
+use crate::markup::Markup;
+use crate::view::View;
+use graph_text::books::{Fact, Kind};
+use graph_text::{Page, kind_word, reason_word, record_at};
+use item_store::AccessMode;
+use std::alloc::{AllocError, Global};
+use step_graph::Edge;
+use step_names::ThreadName;
+
+/// How high the heads are.
+const HEADS: usize = 46;
+
+/// Both parts. Takes time in what is shown.
+pub(crate) fn write_picture(
+    html: &mut Markup,
+    alloc: Global,
+    view: &View<'_>,
+) -> Result<(), AllocError> {
+    html.tags("<div id=\"picture\" tabindex=\"0\">\n")?;
+    write_heads(html, alloc, view)?;
+    write_steps(html, alloc, view)?;
+    html.tags("</div>\n")
+}
+
+fn begin_svg(
+    html: &mut Markup,
+    id: &'static str,
+    wide: usize,
+    high: usize,
+) -> Result<(), AllocError> {
+    html.tags("<svg id=\"")?;
+    html.tags(id)?;
+    html.between(
+        "\" xmlns=\"http://www.w3.org/2000/svg\" width=\"",
+        wide,
+        "\"",
+    )?;
+    html.between(" height=\"", high, "\"")?;
+    html.between(" viewBox=\"0 0 ", wide, " ")?;
+    html.between("", high, "\" preserveAspectRatio=\"xMinYMin\">\n")
+}
+
+// ---- heads
+
+fn write_heads(html: &mut Markup, alloc: Global, view: &View<'_>) -> Result<(), AllocError> {
+    begin_svg(html, "heads", width(view.picture.threads.len()), HEADS)?;
+    let mut before: Option<&ThreadName> = None;
+    let mut column: usize = 0;
+    for name in view.picture.threads.keys() {
+        if is_other_execution(before, name) {
+            write_execution(html, alloc, name, column)?;
+        }
+        write_thread(html, alloc, name, column)?;
+        before = Some(name);
+        column = column.saturating_add(1);
+    }
+    html.tags("</svg>\n")
+}
+
+fn is_other_execution(before: Option<&ThreadName>, name: &ThreadName) -> bool {
+    match before {
+        Some(before) => before.exec() != name.exec(),
+        None => true,
+    }
+}
+
+/// The name of an execution over its first column, with a line before it.
+fn write_execution(
+    html: &mut Markup,
+    alloc: Global,
+    name: &ThreadName,
+    column: usize,
+) -> Result<(), AllocError> {
+    html.between(
+        "<g class=\"execution\"><path d=\"M",
+        left(column).saturating_sub(26),
+        "",
+    )?;
+    html.between(",2V", HEADS, "\"/>")?;
+    html.between("<text x=\"", left(column), "\" y=\"17\">")?;
+    html.execution(alloc, name.exec())?;
+    html.tags("</text></g>\n")
+}
+
+fn write_thread(
+    html: &mut Markup,
+    alloc: Global,
+    name: &ThreadName,
+    column: usize,
+) -> Result<(), AllocError> {
+    html.between("<svg class=\"thread\" x=\"", left(column), "\" y=\"22\"")?;
+    html.between(" width=\"", BOX_WIDTH, "\" height=\"22\"><title>")?;
+    html.thread(alloc, name)?;
+    html.tags("</title><text x=\"0\" y=\"15\">")?;
+    html.thread(alloc, name)?;
+    html.tags("</text></svg>\n")
+}
+
+// ---- steps
+
+fn write_steps(html: &mut Markup, alloc: Global, view: &View<'_>) -> Result<(), AllocError> {
+    begin_svg(
+        html,
+        "steps",
+        width(view.picture.threads.len()),
+        height(view.layout.cells.len()),
+    )?;
+    html.tags(ARROW)?;
+    for edge in &view.picture.edges {
+        write_edge(html, alloc, view, *edge)?;
+    }
+    for place in view.layout.cells.keys() {
+        write_node(html, alloc, view, *place)?;
+    }
+    html.tags("</svg>\n")
+}
+
+const ARROW: &str =
+    "<defs><marker id=\"arrow\" viewBox=\"0 0 8 8\" refX=\"7\" refY=\"4\" markerWidth=\"8\" markerHeight=\"8\" markerUnits=\"userSpaceOnUse\" orient=\"auto\"><path d=\"M0,0 8,4 0,8z\"/></marker></defs>\n";
+
+/// A line, with its reason as its title. It is drawn once more, wide and unseen, so that it can be met.
+fn write_edge(
+    html: &mut Markup,
+    alloc: Global,
+    view: &View<'_>,
+    edge: Edge,
+) -> Result<(), AllocError> {
+    let (Some(from), Some(to)) = (view.layout.cell(edge.earlier), view.layout.cell(edge.later))
+    else {
+        return Ok(());
+    };
+    html.tags("<g class=\"edge ")?;
+    html.tags(reason_word(edge.reason))?;
+    html.between("\" data-from=\"", from.row, "\"")?;
+    html.between(" data-to=\"", to.row, "\"><title>")?;
+    write_reason(html, alloc, view, edge)?;
+    html.tags("</title><path class=\"hit\" d=\"")?;
+    write_line(html, from, to, edge.reason)?;
+    html.tags("\"/><path class=\"line\" d=\"")?;
+    write_line(html, from, to, edge.reason)?;
+    html.tags("\"/></g>\n")
+}
+
+/// Why the later step of a dependence depends on the earlier one.
+pub(crate) fn write_reason(
+    html: &mut Markup,
+    alloc: Global,
+    view: &View<'_>,
+    edge: Edge,
+) -> Result<(), AllocError> {
+    let (Some(earlier), Some(later)) = (
+        record_at(view.records, edge.earlier),
+        record_at(view.records, edge.later),
+    ) else {
+        return Ok(());
+    };
+    let mut text = Page::new(alloc);
+    text.because(alloc, &earlier.fact, &later.fact, edge.reason)?;
+    html.text(&text)
+}
+
+/// A box with the name and the kind of the step at a place.
+fn write_node(
+    html: &mut Markup,
+    alloc: Global,
+    view: &View<'_>,
+    place: usize,
+) -> Result<(), AllocError> {
+    let (Some(kept), Some(cell)) = (record_at(view.records, place), view.layout.cell(place)) else {
+        return Ok(());
+    };
+    html.between("<svg id=\"s", cell.row, "\" class=\"step ")?;
+    html.tags(kind_class(&kept.fact))?;
+    html.tags(view.look_class(place))?;
+    html.between("\" x=\"", left(cell.column), "\"")?;
+    html.between(" y=\"", top(cell.row), "\"")?;
+    html.between(" width=\"", BOX_WIDTH, "\"")?;
+    html.between(" height=\"", BOX_HEIGHT, "\" tabindex=\"0\"><title>")?;
+    write_step(html, alloc, &kept.fact, " ")?;
+    html.tags(
+        "</title><rect x=\"1\" y=\"1\" width=\"182\" height=\"34\" rx=\"4\"/><text x=\"8\" y=\"15\">",
+    )?;
+    write_step(html, alloc, &kept.fact, "</text><text x=\"8\" y=\"29\">")?;
+    html.tags("</text></svg>\n")
+}
+
+/// The name of a step and its kind, with tags between them.
+fn write_step(
+    html: &mut Markup,
+    alloc: Global,
+    fact: &Fact,
+    between: &'static str,
+) -> Result<(), AllocError> {
+    html.step(alloc, &fact.name)?;
+    html.tags(between)?;
+    write_kind(html, alloc, fact)
+}
+
+/// The kind of a step, and the key of a call.
+pub(crate) fn write_kind(html: &mut Markup, alloc: Global, fact: &Fact) -> Result<(), AllocError> {
+    let mut text = Page::new(alloc);
+    text.kind(alloc, fact)?;
+    html.text(&text)
+}
+
+/// The class by which a kind is coloured: reads and writes have their own.
+fn kind_class(fact: &Fact) -> &'static str {
+    match (&fact.access, fact.kind) {
+        (Some(access), Kind::Call) => match access.mode {
+            AccessMode::Read => "read",
+            AccessMode::Write => "write",
+        },
+        (_, kind) => kind_word(kind),
+    }
+}

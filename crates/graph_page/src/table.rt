@@ -1,0 +1,91 @@
+// The steps as a table, which needs no script. What the page shows at a click stands in it.
+use crate::after::{After, frame_before};
+use crate::detail::{write_frame, write_item, write_state};
+use crate::markup::Markup;
+use crate::svg::{write_kind, write_reason};
+use crate::view::View;
+use graph_text::books::StepRecord;
+use graph_text::record_at;
+use std::alloc::{AllocError, Global};
+
+const HEAD: &str =
+    "<section id=\"table\">\n<h2>Steps</h2>\n<table>\n<thead><tr><th>Step</th><th>Kind</th><th>State</th><th>Thread before</th><th>Thread after</th><th>Item before</th><th>Item after</th><th>Hangs on</th></tr></thead>\n<tbody>\n";
+
+const FOOT: &str = "</tbody>\n</table>\n</section>\n";
+
+/// A row for each step that is shown. Takes time in what is shown.
+pub(crate) fn write_table(
+    html: &mut Markup,
+    alloc: Global,
+    view: &View<'_>,
+) -> Result<(), AllocError> {
+    html.tags(HEAD)?;
+    for place in view.layout.cells.keys() {
+        write_row(html, alloc, view, *place)?;
+    }
+    html.tags(FOOT)
+}
+
+fn write_row(
+    html: &mut Markup,
+    alloc: Global,
+    view: &View<'_>,
+    place: usize,
+) -> Result<(), AllocError> {
+    let (Some(kept), Some(cell), Some(after)) = (
+        record_at(view.records, place),
+        view.layout.cell(place),
+        view.afters.get(&place),
+    ) else {
+        return Ok(());
+    };
+    html.between("<tr id=\"t", cell.row, "\" class=\"row")?;
+    html.tags(view.look_class(place))?;
+    html.between("\"><th><a href=\"#s", cell.row, "\">")?;
+    html.step(alloc, &kept.fact.name)?;
+    html.tags("</a></th><td>")?;
+    write_kind(html, alloc, &kept.fact)?;
+    write_changes(html, alloc, kept, after)?;
+    html.tags("</td><td>")?;
+    write_befores(html, alloc, view, place)?;
+    html.tags("</td></tr>\n")
+}
+
+/// The cells of what stood before and after a step.
+fn write_changes(
+    html: &mut Markup,
+    alloc: Global,
+    kept: &StepRecord,
+    after: &After<'_>,
+) -> Result<(), AllocError> {
+    let before = frame_before(kept);
+    html.tags("</td><td>")?;
+    write_state(html, alloc, before)?;
+    html.tags("</td><td>")?;
+    write_frame(html, alloc, before, "not there")?;
+    html.tags("</td><td>")?;
+    write_frame(html, alloc, after.frame, "closed with a branch above")?;
+    html.tags("</td><td>")?;
+    write_item(html, alloc, &kept.fact, after.item_before)?;
+    html.tags("</td><td>")?;
+    write_item(html, alloc, &kept.fact, after.item)
+}
+
+/// The dependences of the step at a place, each with its reason.
+fn write_befores(
+    html: &mut Markup,
+    alloc: Global,
+    view: &View<'_>,
+    place: usize,
+) -> Result<(), AllocError> {
+    let Some(edges) = view.layout.befores.get(&place) else {
+        return Ok(());
+    };
+    html.tags("<ul>")?;
+    for edge in edges {
+        html.tags("<li>")?;
+        write_reason(html, alloc, view, *edge)?;
+        html.tags("</li>")?;
+    }
+    html.tags("</ul>")
+}

@@ -1,0 +1,98 @@
+// The whole page: its heads, the picture, and the table.
+use crate::markup::Markup;
+use crate::script::SCRIPT;
+use crate::style::STYLE;
+use crate::svg::write_picture;
+use crate::table::write_table;
+use crate::view::View;
+use graph_text::books::{Book, StepRecords};
+use graph_text::{Page, Picture, record_at};
+use std::alloc::{AllocError, Global};
+
+const HEAD: &str =
+    "<!DOCTYPE html>\n<html lang=\"en\">\n<head>\n<meta charset=\"utf-8\">\n<meta name=\"viewport\" content=\"width=device-width\">\n<title>What depends on what</title>\n<style>";
+
+const LEGEND: &str =
+    "<p class=\"legend\"><span><i class=\"start\"></i>start</span><span><i class=\"plain\"></i>plain</span><span><i class=\"read\"></i>call that reads</span><span><i class=\"write\"></i>call that writes</span><span><i class=\"fork\"></i>fork</span><span><i class=\"join\"></i>join</span><span><i class=\"terminate\"></i>terminate</span></p>\n<p class=\"legend\"><span><b class=\"thread\"></b>thread</span><span><b class=\"start\"></b>start</span><span><b class=\"fork\"></b>fork, join</span><span><b class=\"item\"></b>item</span><span><b class=\"bound\"></b>bound</span></p>\n";
+
+const SEARCH: &str =
+    "<form id=\"search\"><label>Search a step <input type=\"search\" placeholder=\"part of its name, Enter\"></label> <output></output></form>\n</header>\n<main>\n";
+
+const DETAIL: &str = "<aside id=\"detail\" aria-live=\"polite\" hidden></aside>\n</main>\n";
+
+const FOOT: &str = "</script>\n</body>\n</html>\n";
+
+/// The page of a picture. Takes time in the numbers of records and of items, and of what is shown, logarithms aside.
+pub(crate) fn page_of(
+    alloc: Global,
+    book: Option<&Book>,
+    records: &StepRecords,
+    picture: &Picture,
+    from: Option<usize>,
+) -> Result<Page, AllocError> {
+    let view = View::new(alloc, book, records, picture)?;
+    let mut html = Markup::new(alloc);
+    write_whole(&mut html, alloc, &view, from)?;
+    Ok(html.into_page())
+}
+
+fn write_whole(
+    html: &mut Markup,
+    alloc: Global,
+    view: &View<'_>,
+    from: Option<usize>,
+) -> Result<(), AllocError> {
+    write_head(html)?;
+    write_title(html, alloc, view, from)?;
+    html.tags(SEARCH)?;
+    write_picture(html, alloc, view)?;
+    html.tags(DETAIL)?;
+    write_table(html, alloc, view)?;
+    write_foot(html)
+}
+
+fn write_head(html: &mut Markup) -> Result<(), AllocError> {
+    html.tags(HEAD)?;
+    html.tags(STYLE)?;
+    html.tags("</style>\n</head>\n<body>\n<header>\n")
+}
+
+fn write_foot(html: &mut Markup) -> Result<(), AllocError> {
+    html.tags("<script>")?;
+    html.tags(SCRIPT)?;
+    html.tags(FOOT)
+}
+
+/// What is shown, and what the colours mean.
+fn write_title(
+    html: &mut Markup,
+    alloc: Global,
+    view: &View<'_>,
+    from: Option<usize>,
+) -> Result<(), AllocError> {
+    html.tags("<div><h1>")?;
+    write_subject(html, alloc, view, from)?;
+    html.between("</h1>\n<p>steps: ", view.layout.cells.len(), "")?;
+    html.between("; dependences: ", view.picture.edges.len(), "</p>\n")?;
+    html.tags(LEGEND)?;
+    html.tags("</div>\n")
+}
+
+/// Of which steps the picture is.
+fn write_subject(
+    html: &mut Markup,
+    alloc: Global,
+    view: &View<'_>,
+    from: Option<usize>,
+) -> Result<(), AllocError> {
+    let Some(at) = from else {
+        return html.tags("What depends on what");
+    };
+    match record_at(view.records, at) {
+        Some(kept) => {
+            html.step(alloc, &kept.fact.name)?;
+            html.tags(", its consequences, and what they hang on")
+        }
+        None => Ok(()),
+    }
+}
