@@ -15,7 +15,10 @@ from its definition, pair by pair. Then
 - --why has to be a shortest chain, of direct dependences each with its reason; or to end with status 1 where the plan lacks the step;
 - --plan has to list the plan, each step with a direct dependence on another one of the plan; its last lines have to be the threads that
   `show` tells to be ready after the rollback, of those that stood elsewhere before;
-- --list has to tell each thread as `show` does, with its remaining steps counted.
+- --list has to tell each thread as `show` does, with its remaining steps counted;
+- --html has to show the nodes and edges of --dot with the same words, each once, in a table too; each step has to begin at the frame and the
+  item that the one before it left, and the last ones have to leave what `show` and `items` tell. Names and items have signs in them that mean
+  something in HTML, and no element may come of these.
 
 Where Graphviz's `dot` is there, it has to read each picture. The last line is `N passed, M failed`; the status is 1 where one failed, or
 none was run.
@@ -35,6 +38,7 @@ import tempfile
 
 sys.dont_write_bytecode = True
 from drawn_steps import Difference, Session, lies_under, path_of  # noqa: E402: beside this file
+from graph_pages import check_changes, check_page, ensure  # noqa: E402: beside this file
 
 TOP = pathlib.Path(__file__).resolve().parent.parent
 PROGRAM = TOP / "crates/rollback_program/out/rollback_program"
@@ -103,7 +107,8 @@ def run_row(program, graph, row):
             return [f"{row.place}: the session ended with status {served.returncode}"]
         for question in row.questions:
             words = question.words if "FILE" in question.words or "(none)" in question.words else ["FILE", *question.words]
-            text, status, errors = answer(graph, journal, [word for word in words if word != "(none)"])
+            words = [word for word in words if word != "(none)"]
+            text, status, errors = answer(graph, journal, words)
             wanted = "".join(line + "\n" for line in question.wanted)
             parts = [line[2:].strip() for line in question.wanted if line.startswith("..")]
             is_met = all(part in text for part in parts) if parts else text == wanted
@@ -113,27 +118,42 @@ def run_row(program, graph, row):
                     f"  found, with status {status}:\n{text}{errors}"
                 )
             told += unread_by_graphviz(question.place, text, status, question.words)
+            told += other_page(graph, journal, question.place, text, status, words)
     return told
 
 
 def unread_by_graphviz(place, text, status, words):
     if DOT is None or "--dot" not in words or status != 0:
         return []
-    found = ran(DOT, ["-Gnewrank=true", "-Tplain"], text.encode())
+    found = ran(DOT, ["-Tplain"], text.encode())
     if found.returncode == 0:
         return []
     return [f"{place}: Graphviz refuses: {found.stderr.decode()[:300]}"]
 
 
+def other_page(graph, journal, place, text, status, words):
+    """What of a page differs from the picture for Graphviz."""
+    if "--html" not in words or status != 0:
+        return []
+    drawn = answer(graph, journal, ["--dot" if word == "--html" else word for word in words])[0]
+    try:
+        check_page(text, Graph(drawn))
+    except Difference as difference:
+        return [f"{place}: {difference}"]
+    return []
+
+
 # ---- drawn sessions: tables and machines
 
-KEYS = ("k0", "k1", 'k"2\\')
+# some with signs that mean something in HTML or to Graphviz
+KEYS = ("k0", "k1", 'k"2\\', "</script>&lt;<b>'3'")
+ENDINGS = ("", "", "", "<i>&amp;\"'</script>")
 
 
 def task(chance, next_state, made):
     """A state that calls for an item. Its name says how: R, W or D, and the key's number."""
     mode, key = chance.choice("RRWWD"), chance.randrange(len(KEYS))
-    name = f"{mode}{key}x{made()}"
+    name = f"{mode}{key}x{made()}{chance.choice(ENDINGS)}"
     item = {"id": {"S": KEYS[key]}}
     call = {"TableName": "t", "Item" if mode == "W" else "Key": item}
     word = {"R": "getItem", "W": "putItem", "D": "deleteItem"}[mode]
@@ -271,7 +291,7 @@ class Drawn:
 
     def __init__(self, chance, program, journal):
         self.chance, self.session = chance, Session(str(program), ["--journal", journal])
-        self.facts, self.starts, self.lines, self.settled = {}, 0, [], 0
+        self.facts, self.starts, self.lines, self.settled, self.held = {}, 0, [], 0, None
 
     def ask(self, line):
         self.lines.append(line)
@@ -346,6 +366,12 @@ class Drawn:
         if steps:
             self.ask(f"{self.chance.choice(('undo', 'rollback', 'undo'))} {self.chance.choice(steps)}")
 
+    def hold(self):
+        steps = self.history()
+        if steps:
+            self.held = self.chance.choice(steps)
+            self.ask(f"hold {self.held}")
+
     def line(self):
         drawn = self.chance.random()
         if drawn < 0.12 or not self.starts:
@@ -366,11 +392,11 @@ class Drawn:
 
 NODE = re.compile(r'^ {6}"([^"]+)" \[label="([^"#]+#\d+)\\n((?:[^"\\]|\\.)*)"(.*)\];$')
 EDGE = re.compile(r'^ {2}"([^"]+)" -> "([^"]+)" \[label="((?:[^"\\]|\\.)*)"\];$')
-OTHERS = re.compile(r'^(digraph rollback \{| {2}node .*| {2}edge .*| *subgraph "cluster (execution|thread) [^"]+" \{| *label="[^"]+";| *\})$')
+OTHERS = re.compile(r'^(digraph rollback \{| {2}newrank=true;| {2}node .*| {2}edge .*| *subgraph "cluster (execution|thread) [^"]+" \{| *label="[^"]+";| *\})$')
 
 
 def unquoted(text):
-    return re.sub(r"\\(.)", r"\1", text)
+    return re.sub(r"\\(.)", r"\1", text).replace("&amp;", "&")
 
 
 class Graph:
@@ -394,11 +420,6 @@ class Graph:
                 self.edges[edge[1], edge[2]] = unquoted(edge[3])
             elif not OTHERS.match(line):
                 raise Difference(f"a line of another form: {line}")
-
-
-def ensure(holds, why):
-    if not holds:
-        raise Difference(why)
 
 
 def check_edges(reference, graph):
@@ -493,7 +514,10 @@ def check_list(drawn, text, steps):
     ensure(lines[0] == f"remaining steps: {len(steps)} of 65536", lines[0])
     counts = collections.Counter(drawn.thread_of(step) for step in steps)
     told = {}
-    for line in lines[2:]:
+    held = drawn.ask("held")
+    wanted = [f"held: {drawn.held}; left: {len(held) - 1}"] if held != ["ok 0"] else []
+    ensure([line for line in lines if line.startswith("held: ")] == wanted, f"another hold: {lines[2]}, wanted {wanted}")
+    for line in lines[2 + len(wanted) :]:
         name, _, rest = line.partition(" ")
         ensure(name not in told, f"twice: {line}")
         told[name] = rest
@@ -524,12 +548,15 @@ def check_session(program, graph, chance, count):
         drawn.begin(chance.randrange(1, 4))
         for _ in range(count):
             drawn.line()
+        if chance.random() < 0.3:
+            drawn.hold()
         names = drawn.history()
         drawn.close()
         kept = os.path.join(folder, "kept.db")
         shutil.copy(journal, kept)
         reference = Reference([drawn.facts[name] for name in names])
         whole = check_pictures(graph, journal, reference, chance)
+        check_pages(program, graph, journal, kept, reference, whole, drawn)
         check_chains(graph, journal, reference, chance)
         check_plans(program, graph, journal, kept, reference, chance, drawn)
         drawn.session = Session(str(program), ["--journal", kept])
@@ -550,8 +577,21 @@ def check_pictures(graph, journal, reference, chance):
     whole = picture(graph, journal, [])
     check_whole(reference, whole)
     for at in chance.sample(range(len(reference.steps)), min(4, len(reference.steps))):
-        check_from(reference, whole, picture(graph, journal, ["--from", reference.steps[at].name]), at)
+        words = ["--from", reference.steps[at].name]
+        part = picture(graph, journal, words)
+        check_from(reference, whole, part, at)
+        check_page(answer(graph, journal, ["FILE", "--html", *words])[0], part)
     return whole
+
+
+def check_pages(program, graph, journal, kept, reference, whole, drawn):
+    by_name = {step.name: step for step in reference.steps}
+    text, status, errors = answer(graph, journal, ["FILE", "--html"])
+    ensure(status == 0 and errors == "", f"a page ends with {status} {errors}")
+    page = check_page(text, whole, lambda later, earlier: because(by_name[later], by_name[earlier]))
+    drawn.session = Session(str(program), ["--journal", kept])
+    check_changes(page, drawn.threads(), drawn.ask("items")[1:])
+    drawn.close()
 
 
 def check_chains(graph, journal, reference, chance):
