@@ -1,1 +1,5 @@
 pub mod Markup
+-- what stands below and is named by the crates above
+pub use Rattle.graph_text.specs.Writing
+pub use Rattle.graph_text.specs.declared.asking.Answer
+pub use Rattle.graph_text.specs.declared.asking.Question

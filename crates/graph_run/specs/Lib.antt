@@ -1,2 +1,4 @@
 pub mod Status
+pub mod Answering
+pub mod Questions
 pub mod Words

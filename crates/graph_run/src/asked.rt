@@ -1,8 +1,10 @@
 // What the words of the command line ask for.
-ghost use Rattle.std.specs.Prelude.{◌≡◌, None, Some, Err, IfOk};
+ghost use Rattle.std.specs.Prelude.{◌≡◌, map, false, IfOk, IfErr, string_bytes};
 ghost use Rattle.std.specs.IoError.{error_kind};
+ghost use Rattle.clap.specs.Words.{app_of, rule_of, rows_of, found_of, kind_of};
 ghost use Rattle.step_names.specs.Grammar.{read_step};
-ghost use Rattle.graph_run.specs.Words.{unread_refusal};
+ghost use Rattle.graph_run.specs.Words.{program, with_lines, with_pictures, file_rule, flag_rule, option_rule, why_rule, unread_refusal, IsRefusedBy, Names, Refuses};
+ghost use Rattle.graph_run.specs.Questions.{from_of, plan_of, why_of, list_of, dot_of, html_of, steps_of, pair_of, question_of, text_in, texts_in, Gives, IsAskedIn, IsAnsweredIn};
 
 use clap::error::ErrorKind;
 use clap::{Arg, ArgAction, ArgMatches, Command, Error};
@@ -59,23 +61,34 @@ pub fn unread_words(error: &io::Error) -> AskRefusal
 ///
 /// `Shown` where help or the version is asked for, `Usage` where the words name no file, not just one question, or a step by no name of
 /// one, and `Memory`.
-pub fn asked_of(alloc: Global, words: &[String]) -> Result<Asked, AskRefusal> {
-    let command = command(alloc)?;
-    match command.try_get_matches_from(words) {
-        Ok(matches) => asked_in(alloc, &matches),
-        Err(error) => Err(refusal(alloc, &error)),
+pub fn asked_of(alloc: Global, words: &[String]) -> Result<Asked, AskRefusal>
+    ensures ok { IfOk result (Names (map string_bytes words.now)) }
+    ensures err { IfErr result (Refuses (map string_bytes words.now)) }
+{
+    match command(alloc) {
+        Ok(command) => match command.try_get_matches_from(words) {
+            Ok(matches) => asked_in(alloc, &matches),
+            Err(error) => Err(refusal(alloc, &error)),
+        },
+        Err(AllocError) => Err(AskRefusal::Memory),
     }
 }
 
-fn command<'a>(alloc: Global) -> Result<Command<'a>, AllocError> {
-    let file = Arg::new(alloc, "file")
-        .required(true)
-        .value_name("FILE")
-        .help("The journal's file");
-    Command::new(alloc, "rollback_graph")
+fn command<'a>(alloc: Global) -> Result<Command<'a>, AllocError>
+    ensures { IfOk result (λ c. app_of c ≡ program) }
+{
+    let command = Command::new(alloc, "rollback_graph")
         .version(VERSION)
         .about(ABOUT)
-        .arg(file)?
+        .arg(file(alloc))?;
+    with_pictures(alloc, with_lines(alloc, command)?)
+}
+
+/// With the questions that are answered in lines.
+fn with_lines<'a>(alloc: Global, command: Command<'a>) -> Result<Command<'a>, AllocError>
+    ensures { IfOk result (λ c. app_of c ≡ with_lines (app_of command.entry)) }
+{
+    command
         .arg(flag(
             alloc,
             "list",
@@ -86,7 +99,14 @@ fn command<'a>(alloc: Global) -> Result<Command<'a>, AllocError> {
             "plan",
             "Tell what a rollback of this step would take back, why, and what it gives back",
         ))?
-        .arg(pair(alloc))?
+        .arg(pair(alloc))
+}
+
+/// With those that are answered with a picture.
+fn with_pictures<'a>(alloc: Global, command: Command<'a>) -> Result<Command<'a>, AllocError>
+    ensures { IfOk result (λ c. app_of c ≡ with_pictures (app_of command.entry)) }
+{
+    command
         .arg(flag(
             alloc,
             "dot",
@@ -104,21 +124,40 @@ fn command<'a>(alloc: Global) -> Result<Command<'a>, AllocError> {
         ))
 }
 
-fn flag<'a>(alloc: Global, name: &'a str, help: &'a str) -> Arg<'a> {
+fn file<'a>(alloc: Global) -> Arg<'a>
+    ensures rule { rule_of result ≡ file_rule }
+    ensures local { result.global ≡ false }
+{
+    Arg::new(alloc, "file")
+        .required(true)
+        .value_name("FILE")
+        .help("The journal's file")
+}
+
+fn flag<'a>(alloc: Global, name: &'a str, help: &'a str) -> Arg<'a>
+    ensures rule { rule_of result ≡ flag_rule name.entry.now }
+    ensures local { result.global ≡ false }
+{
     Arg::new(alloc, name)
         .long(name)
         .action(ArgAction::SetTrue)
         .help(help)
 }
 
-fn option<'a>(alloc: Global, name: &'a str, help: &'a str) -> Arg<'a> {
+fn option<'a>(alloc: Global, name: &'a str, help: &'a str) -> Arg<'a>
+    ensures rule { rule_of result ≡ option_rule name.entry.now }
+    ensures local { result.global ≡ false }
+{
     Arg::new(alloc, name)
         .long(name)
         .value_name("STEP")
         .help(help)
 }
 
-fn pair<'a>(alloc: Global) -> Arg<'a> {
+fn pair<'a>(alloc: Global) -> Arg<'a>
+    ensures rule { rule_of result ≡ why_rule }
+    ensures local { result.global ≡ false }
+{
     Arg::new(alloc, "why")
         .long("why")
         .num_args(2)
@@ -126,58 +165,167 @@ fn pair<'a>(alloc: Global) -> Arg<'a> {
         .help("Tell why the second step is a consequence of the first")
 }
 
-fn asked_in(alloc: Global, matches: &ArgMatches<'_>) -> Result<Asked, AskRefusal> {
-    let Some(file) = matches.get_str("file") else {
-        return Err(AskRefusal::Usage);
-    };
-    let question = question_in(alloc, matches)?;
-    Ok(Asked {
-        file: String::from_str(alloc, file)?,
-        question,
-    })
+/// What the values of a line ask for.
+fn asked_in(alloc: Global, matches: &ArgMatches<'_>) -> Result<Asked, AskRefusal>
+    ensures { IsAskedIn (rows_of (found_of matches.now)) result }
+{
+    match matches.get_str("file") {
+        Some(file) => match question_in(alloc, matches) {
+            Ok(question) => asked_by(alloc, file, question),
+            Err(refusal) => Err(refusal),
+        },
+        None => Err(AskRefusal::Usage),
+    }
 }
 
-/// The one question that is asked.
-fn question_in(alloc: Global, matches: &ArgMatches<'_>) -> Result<Question, AskRefusal> {
-    match (
+fn asked_by(alloc: Global, file: &str, question: Question) -> Result<Asked, AskRefusal>
+    ensures ok { IfOk result (λ asked. (string_bytes asked.file ≡ file.now) × (asked.question ≡ question)) }
+    ensures err { IfErr result (λ refusal. refusal ≡ AskRefusal.Memory) }
+{
+    match String::from_str(alloc, file) {
+        Ok(file) => Ok(Asked { file, question }),
+        Err(AllocError) => {
+            drop(question);
+            Err(AskRefusal::Memory)
+        }
+    }
+}
+
+/// The one question that the values of a line ask.
+fn question_in(alloc: Global, matches: &ArgMatches<'_>) -> Result<Question, AskRefusal>
+    ensures { IsAnsweredIn (rows_of (found_of matches.now)) result }
+{
+    let flags = (
         matches.get_flag("list"),
-        matches.get_str("plan"),
-        matches.get_strs("why"),
         matches.get_flag("dot"),
         matches.get_flag("html"),
-        matches.get_str("from"),
-    ) {
-        (true, None, None, false, false, None) => Ok(Question::Lines(texts::Question::List)),
-        (false, Some(step), None, false, false, None) => plan_of(alloc, step),
-        (false, None, Some([from, to]), false, false, None) => why_of(alloc, from, to),
-        (false, None, None, true, false, from) => dot_of(alloc, from),
-        (false, None, None, false, true, from) => html_of(alloc, from),
+    );
+    let plan = matches.get_str("plan");
+    let why = matches.get_strs("why");
+    let from = matches.get_str("from");
+    question_of(alloc, flags, plan, why, from)
+}
+
+/// The one question that these values ask: of `--list`, `--dot` and `--html`, and of `--plan`, `--why` and `--from`.
+fn question_of(
+    alloc: Global,
+    flags: (bool, bool, bool),
+    plan: Option<&str>,
+    why: Option<&[&str]>,
+    from: Option<&str>,
+) -> Result<Question, AskRefusal>
+    ensures { Gives result (question_of flags.0 flags.1 flags.2 (text_in plan.entry) (texts_in why.entry) (text_in from.entry)) }
+{
+    match flags {
+        (true, false, false) => list_of(plan, why, from),
+        (false, true, false) => dot_of(alloc, plan, why, from),
+        (false, false, true) => html_of(alloc, plan, why, from),
+        (false, false, false) => steps_of(alloc, plan, why, from),
         _ => Err(AskRefusal::Usage),
     }
 }
 
-fn plan_of(alloc: Global, step: &str) -> Result<Question, AskRefusal> {
-    let step = step_of(alloc, step)?;
-    Ok(Question::Lines(texts::Question::Plan(step)))
+fn list_of(
+    plan: Option<&str>,
+    why: Option<&[&str]>,
+    from: Option<&str>,
+) -> Result<Question, AskRefusal>
+    ensures { Gives result (list_of (text_in plan.entry) (texts_in why.entry) (text_in from.entry)) }
+{
+    match (plan, why, from) {
+        (None, None, None) => Ok(Question::Lines(texts::Question::List)),
+        _ => Err(AskRefusal::Usage),
+    }
 }
 
-fn why_of(alloc: Global, from: &str, to: &str) -> Result<Question, AskRefusal> {
-    let from = step_of(alloc, from)?;
-    let to = step_of(alloc, to)?;
-    Ok(Question::Lines(texts::Question::Why(from, to)))
+fn dot_of(
+    alloc: Global,
+    plan: Option<&str>,
+    why: Option<&[&str]>,
+    from: Option<&str>,
+) -> Result<Question, AskRefusal>
+    ensures { Gives result (dot_of (text_in plan.entry) (texts_in why.entry) (text_in from.entry)) }
+{
+    match (plan, why) {
+        (None, None) => match from_of(alloc, from) {
+            Ok(from) => Ok(Question::Lines(texts::Question::Dot(from))),
+            Err(refusal) => Err(refusal),
+        },
+        _ => Err(AskRefusal::Usage),
+    }
 }
 
-fn dot_of(alloc: Global, from: Option<&str>) -> Result<Question, AskRefusal> {
-    let from = from_of(alloc, from)?;
-    Ok(Question::Lines(texts::Question::Dot(from)))
+fn html_of(
+    alloc: Global,
+    plan: Option<&str>,
+    why: Option<&[&str]>,
+    from: Option<&str>,
+) -> Result<Question, AskRefusal>
+    ensures { Gives result (html_of (text_in plan.entry) (texts_in why.entry) (text_in from.entry)) }
+{
+    match (plan, why) {
+        (None, None) => match from_of(alloc, from) {
+            Ok(from) => Ok(Question::Html(from)),
+            Err(refusal) => Err(refusal),
+        },
+        _ => Err(AskRefusal::Usage),
+    }
 }
 
-fn html_of(alloc: Global, from: Option<&str>) -> Result<Question, AskRefusal> {
-    let from = from_of(alloc, from)?;
-    Ok(Question::Html(from))
+/// The question of one step's plan, or of why a step follows from another.
+fn steps_of(
+    alloc: Global,
+    plan: Option<&str>,
+    why: Option<&[&str]>,
+    from: Option<&str>,
+) -> Result<Question, AskRefusal>
+    ensures { Gives result (steps_of (text_in plan.entry) (texts_in why.entry) (text_in from.entry)) }
+{
+    match (plan, why, from) {
+        (Some(step), None, None) => plan_of(alloc, step),
+        (None, Some(steps), None) => pair_of(alloc, steps),
+        _ => Err(AskRefusal::Usage),
+    }
 }
 
-fn from_of(alloc: Global, from: Option<&str>) -> Result<Option<StepName>, AskRefusal> {
+fn pair_of(alloc: Global, steps: &[&str]) -> Result<Question, AskRefusal>
+    ensures { Gives result (pair_of (map (λ step. step.now) steps.now)) }
+{
+    if steps.len() != 2 {
+        return Err(AskRefusal::Usage);
+    }
+    why_of(alloc, steps[0], steps[1])
+}
+
+fn plan_of(alloc: Global, step: &str) -> Result<Question, AskRefusal>
+    ensures { Gives result (plan_of step.now) }
+{
+    match step_of(alloc, step) {
+        Ok(step) => Ok(Question::Lines(texts::Question::Plan(step))),
+        Err(refusal) => Err(refusal),
+    }
+}
+
+fn why_of(alloc: Global, first: &str, last: &str) -> Result<Question, AskRefusal>
+    ensures { Gives result (why_of first.now last.now) }
+{
+    let from = match step_of(alloc, first) {
+        Ok(from) => from,
+        Err(refusal) => return Err(refusal),
+    };
+    match step_of(alloc, last) {
+        Ok(to) => Ok(Question::Lines(texts::Question::Why(from, to))),
+        Err(refusal) => {
+            drop(from);
+            Err(refusal)
+        }
+    }
+}
+
+/// The step of a picture, if one is named.
+fn from_of(alloc: Global, from: Option<&str>) -> Result<Option<StepName>, AskRefusal>
+    ensures { Gives result (from_of (text_in from.entry)) }
+{
     match from {
         Some(step) => match step_of(alloc, step) {
             Ok(step) => Ok(Some(step)),
@@ -188,8 +336,7 @@ fn from_of(alloc: Global, from: Option<&str>) -> Result<Option<StepName>, AskRef
 }
 
 fn step_of(alloc: Global, text: &str) -> Result<StepName, AskRefusal>
-    ensures ok { IfOk result (λ step. read_step text.now ≡ Some step) }
-    ensures usage { result ≡ Err AskRefusal.Usage → read_step text.now ≡ None }
+    ensures { Gives result (read_step text.now) }
 {
     match StepName::read(alloc, text) {
         Ok(step) => Ok(step),
@@ -198,7 +345,9 @@ fn step_of(alloc: Global, text: &str) -> Result<StepName, AskRefusal>
     }
 }
 
-fn refusal(alloc: Global, error: &Error) -> AskRefusal {
+fn refusal(alloc: Global, error: &Error) -> AskRefusal
+    ensures { IsRefusedBy (kind_of error.now) result }
+{
     match error.kind() {
         ErrorKind::DisplayHelp | ErrorKind::DisplayVersion => match format!(in alloc; "{error}") {
             Ok(text) => AskRefusal::Shown(text),

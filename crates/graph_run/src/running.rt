@@ -1,7 +1,10 @@
 // Answering a question from a journal, over any streams and any store.
-ghost use Rattle.std.specs.Prelude.{◌≡◌};
+ghost use Rattle.std.specs.Prelude.{◌≡◌, IfOk, IfErr};
+ghost use Rattle.sqlite.specs.Held.{state};
+ghost use Rattle.journaled_book.specs.Journaled.{log_of};
 ghost use Rattle.operator_line.specs.Serving.{WritesReply};
 ghost use Rattle.rollback_run.specs.Faults.{of_journal, of_open};
+ghost use Rattle.graph_run.specs.Answering.{Answers, Gives, GivesNone, HasOutcome, IsAnswered, IsRefusal, IsWritten, Opens, OpensNone};
 ghost use Rattle.graph_run.specs.Status.{IsTold, status_of};
 
 use crate::asked::AskRefusal;
@@ -28,10 +31,33 @@ pub fn run<S: Alter + Drop, W: Write>(
     question: &Question,
     connection: Result<Connection<S>, Error>,
     writer: &mut W,
-) -> Result<bool, ExitCause> {
-    let book = open(alloc, connection)?;
+) -> Result<bool, ExitCause>
+    ensures { HasOutcome (λ held. state S.Store held) connection result (W.contents writer.old) (W.contents writer.new) }
+{
+    match open(alloc, connection) {
+        Ok(book) => answer_from(alloc, question, book, writer),
+        Err(cause) => Err(cause),
+    }
+}
+
+/// Answers a question of a book, and lets the book go.
+fn answer_from<S: Alter + Drop, W: Write>(
+    alloc: Global,
+    question: &Question,
+    book: JournaledBook<S>,
+    writer: &mut W,
+) -> Result<bool, ExitCause>
+    ensures { Answers result (W.contents writer.old) (W.contents writer.new) }
+{
     let answered = ask(alloc, book.book(), question);
     drop(book);
+    tell(answered, writer)
+}
+
+/// Writes what was answered.
+fn tell<W: Write>(answered: Result<Answer, AllocError>, writer: &mut W) -> Result<bool, ExitCause>
+    ensures { IsAnswered answered result (W.contents writer.old) (W.contents writer.new) }
+{
     match answered {
         Ok(answer) => show_answer(answer, writer),
         Err(AllocError) => Err(ExitCause::Memory),
@@ -39,10 +65,11 @@ pub fn run<S: Alter + Drop, W: Write>(
 }
 
 /// Writes an answer, and tells whether it is what was asked.
-fn show_answer<W: Write>(answer: Answer, writer: &mut W) -> Result<bool, ExitCause> {
-    let Answer { page, is_found } = answer;
-    match show(writer, page.as_bytes()) {
-        Ok(()) => Ok(is_found),
+fn show_answer<W: Write>(answer: Answer, writer: &mut W) -> Result<bool, ExitCause>
+    ensures { IsWritten answer result (W.contents writer.old) (W.contents writer.new) }
+{
+    match show(writer, answer.page.as_bytes()) {
+        Ok(()) => Ok(answer.is_found),
         Err(_) => Err(ExitCause::Output),
     }
 }
@@ -60,7 +87,9 @@ pub fn status_of<W: Write>(outcome: Result<bool, ExitCause>, faults: &mut W) -> 
 }
 
 /// Tells why the words ask for nothing, and answers the program's status.
-pub fn refuse<W: Write, E: Write>(refusal: AskRefusal, writer: &mut W, faults: &mut E) -> u8 {
+pub fn refuse<W: Write, E: Write>(refusal: AskRefusal, writer: &mut W, faults: &mut E) -> u8
+    ensures { IsRefusal refusal result (W.contents writer.old) (W.contents writer.new) (E.contents faults.old) (E.contents faults.new) }
+{
     match refusal {
         AskRefusal::Shown(text) => rollback_run::refuse(ModeRefusal::Shown(text), writer, faults),
         AskRefusal::Usage => {
@@ -84,18 +113,29 @@ fn show<W: Write>(writer: &mut W, text: &[u8]) -> Result<(), ServeFault>
 fn open<S: Alter + Drop>(
     alloc: Global,
     connection: Result<Connection<S>, Error>,
-) -> Result<JournaledBook<S>, ExitCause> {
-    let connection = match connection {
-        Ok(connection) => connection,
-        Err(cause) => return Err(of_journal(JournalFault::from(cause))),
-    };
-    let journal = match Journal::open(connection) {
-        Ok(journal) => journal,
-        Err((fault, _)) => return Err(of_journal(fault)),
-    };
-    match JournaledBook::open(alloc, journal) {
-        Ok(book) => Ok(book),
-        Err((fault, _)) => Err(of_open(fault)),
+) -> Result<JournaledBook<S>, ExitCause>
+    ensures ok { IfOk result (λ j. Opens (λ held. state S.Store held) connection (log_of j.book)) }
+    ensures err { IfErr result (OpensNone (λ held. state S.Store held) connection) }
+{
+    match connection {
+        Ok(connection) => open_connected(alloc, connection),
+        Err(cause) => Err(of_journal(JournalFault::from(cause))),
+    }
+}
+
+fn open_connected<S: Alter + Drop>(
+    alloc: Global,
+    connection: Connection<S>,
+) -> Result<JournaledBook<S>, ExitCause>
+    ensures ok { IfOk result (λ j. Gives (λ held. state S.Store held) connection (log_of j.book)) }
+    ensures err { IfErr result (GivesNone (λ held. state S.Store held) connection) }
+{
+    match Journal::open(connection) {
+        Ok(journal) => match JournaledBook::open(alloc, journal) {
+            Ok(book) => Ok(book),
+            Err((fault, _)) => Err(of_open(fault)),
+        },
+        Err((fault, _)) => Err(of_journal(fault)),
     }
 }
 

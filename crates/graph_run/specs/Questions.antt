@@ -1,0 +1,107 @@
+-- Which question the values of a line ask.
+use Rattle.std.specs.Prelude.{◌≡◌, ◌⊎◌, Bool, true, false, List, [], ◌∷◌, Option, None, Some, Result, Ok, Err, map, option_map, option_and_then, codes, string_bytes}
+use Rattle.std.specs.Borrow.{Bor}
+use Rattle.clap.specs.Words.{Row, Text, all_of, first_of, one_of}
+use Rattle.step_names.specs.Grammar.{read_step}
+use Rattle.step_names.specs.declared.step.StepName.{StepName}
+use Rattle.graph_page.specs.Question.TheVariants as lines
+use Rattle.graph_page.specs.declared.asking.Question.{Question}
+use Rattle.graph_page.specs.declared.asking.Question.TheVariants.{Lines, Html}
+use Rattle.graph_run.specs.declared.asked.Asked.{Asked}
+use Rattle.graph_run.specs.declared.asked.AskRefusal.{AskRefusal}
+use Rattle.graph_run.specs.declared.asked.AskRefusal.TheVariants.{Shown, Usage, Memory}
+
+-- ---- which question the values ask
+
+-- a step that is named, or none
+abbrev pub from_of : Option Text → Option (Option StepName)
+from_of None = Some None
+from_of (Some text) = option_map Some (read_step text)
+
+abbrev pub plan_of : Text → Option Question
+plan_of text = option_map (λ step. Lines (lines.Plan step)) (read_step text)
+
+abbrev pub why_of : Text → Text → Option Question
+why_of first last = option_and_then (λ from. option_map (λ to. Lines (lines.Why from to)) (read_step last)) (read_step first)
+
+abbrev pub pair_of : List Text → Option Question
+pair_of (first ∷ last ∷ []) = why_of first last
+pair_of _ = None
+
+-- the values of a question about steps: of --plan, of --why, and of --from
+abbrev pub steps_of : Option Text → Option (List Text) → Option Text → Option Question
+steps_of (Some step) None None = plan_of step
+steps_of None (Some steps) None = pair_of steps
+steps_of _ _ _ = None
+
+abbrev pub list_of : Option Text → Option (List Text) → Option Text → Option Question
+list_of None None None = Some (Lines lines.List)
+list_of _ _ _ = None
+
+abbrev pub dot_of : Option Text → Option (List Text) → Option Text → Option Question
+dot_of None None from = option_map (λ step. Lines (lines.Dot step)) (from_of from)
+dot_of _ _ _ = None
+
+abbrev pub html_of : Option Text → Option (List Text) → Option Text → Option Question
+html_of None None from = option_map Html (from_of from)
+html_of _ _ _ = None
+
+-- the one question that these values ask: of --list, --dot, --html, --plan, --why, and --from
+abbrev pub question_of : Bool → Bool → Bool → Option Text → Option (List Text) → Option Text → Option Question
+question_of true false false plan why from = list_of plan why from
+question_of false true false plan why from = dot_of plan why from
+question_of false false true plan why from = html_of plan why from
+question_of false false false plan why from = steps_of plan why from
+question_of _ _ _ _ _ _ = None
+
+-- What is answered to that: the question, or that there is none. Want of memory says nothing.
+abbrev pub Gives : {T : Type 0} → Result T AskRefusal → Option T → Type 0
+Gives (Ok given) asked = asked ≡ Some given
+Gives (Err Usage) asked = asked ≡ None
+Gives (Err Memory) asked = Unit {0}
+Gives (Err (Shown text)) asked = ⊥
+
+-- ---- the values of a line
+
+abbrev pub text_in : Option (Bor Text) → Option Text
+text_in text = option_map (λ t. t.now) text
+
+abbrev pub texts_in : Option (Bor (List (Bor Text))) → Option (List Text)
+texts_in texts = option_map (λ ts. map (λ t. t.now) ts.now) texts
+
+-- a flag's value, of the text that it has: false where it has none
+pub record IsFlag (text : Option Text) (value : Bool) : Type 0 where
+  pub absent : text ≡ None → value ≡ false
+  pub given : text ≡ Some (codes "true") → value ≡ true
+  pub withheld : text ≡ Some (codes "false") → value ≡ false
+
+-- these flags and the other values of the rows ask just for this, if for anything
+pub record Asks (rows : List Row) (question : Option Question) : Type 0 where
+  pub list : Bool
+  pub dot : Bool
+  pub html : Bool
+  pub is_list : IsFlag (one_of (codes "list") rows) list
+  pub is_dot : IsFlag (one_of (codes "dot") rows) dot
+  pub is_html : IsFlag (one_of (codes "html") rows) html
+  pub asked : question ≡ question_of list dot html (first_of (codes "plan") rows) (all_of (codes "why") rows) (first_of (codes "from") rows)
+
+-- the answer to what they ask
+pub record IsAnsweredIn (rows : List Row) (result : Result Question AskRefusal) : Type 0 where
+  pub question : Option Question
+  pub asks : Asks rows question
+  pub gives : Gives result question
+
+-- why a line asks for nothing: it names no file, or asks not just one question
+abbrev pub AsksNothing : List Row → Type 0
+AsksNothing rows = (first_of (codes "file") rows ≡ None) ⊎ Asks rows None
+
+-- the file and the question of a line
+pub record NamesIn (rows : List Row) (asked : Asked) : Type 0 where
+  pub file : first_of (codes "file") rows ≡ Some (string_bytes asked.file)
+  pub asks : Asks rows (Some asked.question)
+
+abbrev pub IsAskedIn : List Row → Result Asked AskRefusal → Type 0
+IsAskedIn rows (Ok asked) = NamesIn rows asked
+IsAskedIn rows (Err Usage) = AsksNothing rows
+IsAskedIn rows (Err Memory) = Unit {0}
+IsAskedIn rows (Err (Shown text)) = ⊥
