@@ -1,4 +1,7 @@
 // Questions of which one is answered with a page.
+ghost use Rattle.std.specs.Prelude.{IfOk};
+ghost use Rattle.graph_page.specs.Pages.{Answers, IsPage};
+
 use crate::whole::page_of;
 use graph_text::books::{Book, StepRecords};
 use graph_text::{Answer, Page, Picture, find};
@@ -18,7 +21,9 @@ pub enum Question {
 ///
 /// Lines take what [`graph_text::ask`] takes. A page takes time and memory in the number of records, of items and of what is shown,
 /// each with logarithms.
-pub fn ask(alloc: Global, book: Option<&Book>, question: &Question) -> Result<Answer, AllocError> {
+pub fn ask(alloc: Global, book: Option<&Book>, question: &Question) -> Result<Answer, AllocError>
+    ensures { IfOk result (Answers question.now) }
+{
     match question {
         Question::Lines(question) => graph_text::ask(alloc, book, question),
         Question::Html(from) => ask_page(alloc, book, from.as_ref()),
@@ -29,7 +34,9 @@ fn ask_page(
     alloc: Global,
     book: Option<&Book>,
     from: Option<&StepName>,
-) -> Result<Answer, AllocError> {
+) -> Result<Answer, AllocError>
+    ensures { IfOk result IsPage }
+{
     match book {
         Some(book) => tell_page(alloc, Some(book), book.history(), from),
         None => {
@@ -47,7 +54,9 @@ fn tell_page(
     book: Option<&Book>,
     records: &StepRecords,
     from: Option<&StepName>,
-) -> Result<Answer, AllocError> {
+) -> Result<Answer, AllocError>
+    ensures { IfOk result IsPage }
+{
     let Some(from) = from else {
         return draw(alloc, book, records, None);
     };
@@ -66,7 +75,9 @@ fn draw(
     book: Option<&Book>,
     records: &StepRecords,
     from: Option<usize>,
-) -> Result<Answer, AllocError> {
+) -> Result<Answer, AllocError>
+    ensures { IfOk result IsPage }
+{
     let picture = Picture::new(alloc, records, from)?;
     let page = page_of(alloc, book, records, &picture, from)?;
     Ok(Answer {

@@ -1,4 +1,6 @@
 // What stood before and after a step, as texts.
+ghost use Rattle.graph_page.specs.Markup.{Grows};
+
 use crate::markup::Markup;
 use attr_values::Item;
 use graph_text::Page;
@@ -11,7 +13,9 @@ pub(crate) fn write_state(
     html: &mut Markup,
     alloc: Global,
     frame: Option<&Frame>,
-) -> Result<(), AllocError> {
+) -> Result<(), AllocError>
+    ensures { Grows result html.old html.new }
+{
     let Some(frame) = frame else {
         return Ok(());
     };
@@ -26,7 +30,9 @@ pub(crate) fn write_frame(
     alloc: Global,
     frame: Option<&Frame>,
     none: &'static str,
-) -> Result<(), AllocError> {
+) -> Result<(), AllocError>
+    ensures { Grows result html.old html.new }
+{
     let Some(frame) = frame else {
         return html.tags(none);
     };
@@ -41,7 +47,9 @@ pub(crate) fn write_item(
     alloc: Global,
     fact: &Fact,
     item: Option<&Item>,
-) -> Result<(), AllocError> {
+) -> Result<(), AllocError>
+    ensures { Grows result html.old html.new }
+{
     match (&fact.access, item) {
         (None, _) => Ok(()),
         (Some(_), None) => html.tags("not there"),

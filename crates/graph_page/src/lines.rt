@@ -1,4 +1,6 @@
 // Where boxes and lines lie, in pixels.
+ghost use Rattle.graph_page.specs.Markup.{Grows};
+
 use crate::layout::Cell;
 use crate::markup::Markup;
 use std::alloc::AllocError;
@@ -62,7 +64,9 @@ pub(crate) fn write_line(
     from: Cell,
     to: Cell,
     reason: Reason,
-) -> Result<(), AllocError> {
+) -> Result<(), AllocError>
+    ensures { Grows result html.old html.new }
+{
     html.between("M", middle(from.column), ",")?;
     html.number(bottom(from.row))?;
     if from.column == to.column {

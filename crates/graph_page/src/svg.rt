@@ -1,4 +1,6 @@
 // The picture: heads for executions and threads, and under them the steps with the lines between them.
+ghost use Rattle.graph_page.specs.Markup.{Grows};
+
 use crate::lines::{BOX_HEIGHT, BOX_WIDTH, height, left, top, width, write_line};
 use crate::markup::Markup;
 use crate::view::View;
@@ -17,7 +19,9 @@ pub(crate) fn write_picture(
     html: &mut Markup,
     alloc: Global,
     view: &View<'_>,
-) -> Result<(), AllocError> {
+) -> Result<(), AllocError>
+    ensures { Grows result html.old html.new }
+{
     html.tags("<div id=\"picture\" tabindex=\"0\">\n")?;
     write_heads(html, alloc, view)?;
     write_steps(html, alloc, view)?;
@@ -29,7 +33,9 @@ fn begin_svg(
     id: &'static str,
     wide: usize,
     high: usize,
-) -> Result<(), AllocError> {
+) -> Result<(), AllocError>
+    ensures { Grows result html.old html.new }
+{
     html.tags("<svg id=\"")?;
     html.tags(id)?;
     html.between(
@@ -44,19 +50,41 @@ fn begin_svg(
 
 // ---- heads
 
-fn write_heads(html: &mut Markup, alloc: Global, view: &View<'_>) -> Result<(), AllocError> {
+fn write_heads(html: &mut Markup, alloc: Global, view: &View<'_>) -> Result<(), AllocError>
+    ensures { Grows result html.old html.new }
+{
     begin_svg(html, "heads", width(view.picture.threads.len()), HEADS)?;
+    write_names(html, alloc, view)?;
+    html.tags("</svg>\n")
+}
+
+fn write_names(html: &mut Markup, alloc: Global, view: &View<'_>) -> Result<(), AllocError>
+    ensures { Grows result html.old html.new }
+{
     let mut before: Option<&ThreadName> = None;
     let mut column: usize = 0;
     for name in view.picture.threads.keys() {
-        if is_other_execution(before, name) {
-            write_execution(html, alloc, name, column)?;
-        }
-        write_thread(html, alloc, name, column)?;
+        write_name(html, alloc, before, name, column)?;
         before = Some(name);
         column = column.saturating_add(1);
     }
-    html.tags("</svg>\n")
+    Ok(())
+}
+
+/// The name of a thread over its column, and that of its execution over the first of these.
+fn write_name(
+    html: &mut Markup,
+    alloc: Global,
+    before: Option<&ThreadName>,
+    name: &ThreadName,
+    column: usize,
+) -> Result<(), AllocError>
+    ensures { Grows result html.old html.new }
+{
+    if is_other_execution(before, name) {
+        write_execution(html, alloc, name, column)?;
+    }
+    write_thread(html, alloc, name, column)
 }
 
 fn is_other_execution(before: Option<&ThreadName>, name: &ThreadName) -> bool {
@@ -72,7 +100,9 @@ fn write_execution(
     alloc: Global,
     name: &ThreadName,
     column: usize,
-) -> Result<(), AllocError> {
+) -> Result<(), AllocError>
+    ensures { Grows result html.old html.new }
+{
     html.between(
         "<g class=\"execution\"><path d=\"M",
         left(column).saturating_sub(26),
@@ -89,7 +119,9 @@ fn write_thread(
     alloc: Global,
     name: &ThreadName,
     column: usize,
-) -> Result<(), AllocError> {
+) -> Result<(), AllocError>
+    ensures { Grows result html.old html.new }
+{
     html.between("<svg class=\"thread\" x=\"", left(column), "\" y=\"22\"")?;
     html.between(" width=\"", BOX_WIDTH, "\" height=\"22\"><title>")?;
     html.thread(alloc, name)?;
@@ -100,7 +132,9 @@ fn write_thread(
 
 // ---- steps
 
-fn write_steps(html: &mut Markup, alloc: Global, view: &View<'_>) -> Result<(), AllocError> {
+fn write_steps(html: &mut Markup, alloc: Global, view: &View<'_>) -> Result<(), AllocError>
+    ensures { Grows result html.old html.new }
+{
     begin_svg(
         html,
         "steps",
@@ -108,13 +142,27 @@ fn write_steps(html: &mut Markup, alloc: Global, view: &View<'_>) -> Result<(), 
         height(view.layout.cells.len()),
     )?;
     html.tags(ARROW)?;
+    write_edges(html, alloc, view)?;
+    write_nodes(html, alloc, view)?;
+    html.tags("</svg>\n")
+}
+
+fn write_edges(html: &mut Markup, alloc: Global, view: &View<'_>) -> Result<(), AllocError>
+    ensures { Grows result html.old html.new }
+{
     for edge in &view.picture.edges {
         write_edge(html, alloc, view, *edge)?;
     }
+    Ok(())
+}
+
+fn write_nodes(html: &mut Markup, alloc: Global, view: &View<'_>) -> Result<(), AllocError>
+    ensures { Grows result html.old html.new }
+{
     for place in view.layout.cells.keys() {
         write_node(html, alloc, view, *place)?;
     }
-    html.tags("</svg>\n")
+    Ok(())
 }
 
 const ARROW: &str =
@@ -126,7 +174,9 @@ fn write_edge(
     alloc: Global,
     view: &View<'_>,
     edge: Edge,
-) -> Result<(), AllocError> {
+) -> Result<(), AllocError>
+    ensures { Grows result html.old html.new }
+{
     let (Some(from), Some(to)) = (view.layout.cell(edge.earlier), view.layout.cell(edge.later))
     else {
         return Ok(());
@@ -149,7 +199,9 @@ pub(crate) fn write_reason(
     alloc: Global,
     view: &View<'_>,
     edge: Edge,
-) -> Result<(), AllocError> {
+) -> Result<(), AllocError>
+    ensures { Grows result html.old html.new }
+{
     let (Some(earlier), Some(later)) = (
         record_at(view.records, edge.earlier),
         record_at(view.records, edge.later),
@@ -167,7 +219,9 @@ fn write_node(
     alloc: Global,
     view: &View<'_>,
     place: usize,
-) -> Result<(), AllocError> {
+) -> Result<(), AllocError>
+    ensures { Grows result html.old html.new }
+{
     let (Some(kept), Some(cell)) = (record_at(view.records, place), view.layout.cell(place)) else {
         return Ok(());
     };
@@ -192,14 +246,18 @@ fn write_step(
     alloc: Global,
     fact: &Fact,
     between: &'static str,
-) -> Result<(), AllocError> {
+) -> Result<(), AllocError>
+    ensures { Grows result html.old html.new }
+{
     html.step(alloc, &fact.name)?;
     html.tags(between)?;
     write_kind(html, alloc, fact)
 }
 
 /// The kind of a step, and the key of a call.
-pub(crate) fn write_kind(html: &mut Markup, alloc: Global, fact: &Fact) -> Result<(), AllocError> {
+pub(crate) fn write_kind(html: &mut Markup, alloc: Global, fact: &Fact) -> Result<(), AllocError>
+    ensures { Grows result html.old html.new }
+{
     let mut text = Page::new(alloc);
     text.kind(alloc, fact)?;
     html.text(&text)

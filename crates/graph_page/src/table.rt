@@ -1,4 +1,6 @@
 // The steps as a table, which needs no script. What the page shows at a click stands in it.
+ghost use Rattle.graph_page.specs.Markup.{Grows};
+
 use crate::after::{After, frame_before};
 use crate::detail::{write_frame, write_item, write_state};
 use crate::markup::Markup;
@@ -7,6 +9,7 @@ use crate::view::View;
 use graph_text::books::StepRecord;
 use graph_text::record_at;
 use std::alloc::{AllocError, Global};
+use step_graph::Edge;
 
 const HEAD: &str =
     "<section id=\"table\">\n<h2>Steps</h2>\n<table>\n<thead><tr><th>Step</th><th>Kind</th><th>State</th><th>Thread before</th><th>Thread after</th><th>Item before</th><th>Item after</th><th>Hangs on</th></tr></thead>\n<tbody>\n";
@@ -18,12 +21,21 @@ pub(crate) fn write_table(
     html: &mut Markup,
     alloc: Global,
     view: &View<'_>,
-) -> Result<(), AllocError> {
+) -> Result<(), AllocError>
+    ensures { Grows result html.old html.new }
+{
     html.tags(HEAD)?;
+    write_rows(html, alloc, view)?;
+    html.tags(FOOT)
+}
+
+fn write_rows(html: &mut Markup, alloc: Global, view: &View<'_>) -> Result<(), AllocError>
+    ensures { Grows result html.old html.new }
+{
     for place in view.layout.cells.keys() {
         write_row(html, alloc, view, *place)?;
     }
-    html.tags(FOOT)
+    Ok(())
 }
 
 fn write_row(
@@ -31,7 +43,9 @@ fn write_row(
     alloc: Global,
     view: &View<'_>,
     place: usize,
-) -> Result<(), AllocError> {
+) -> Result<(), AllocError>
+    ensures { Grows result html.old html.new }
+{
     let (Some(kept), Some(cell), Some(after)) = (
         record_at(view.records, place),
         view.layout.cell(place),
@@ -57,7 +71,9 @@ fn write_changes(
     alloc: Global,
     kept: &StepRecord,
     after: &After<'_>,
-) -> Result<(), AllocError> {
+) -> Result<(), AllocError>
+    ensures { Grows result html.old html.new }
+{
     let before = frame_before(kept);
     html.tags("</td><td>")?;
     write_state(html, alloc, before)?;
@@ -77,15 +93,29 @@ fn write_befores(
     alloc: Global,
     view: &View<'_>,
     place: usize,
-) -> Result<(), AllocError> {
+) -> Result<(), AllocError>
+    ensures { Grows result html.old html.new }
+{
     let Some(edges) = view.layout.befores.get(&place) else {
         return Ok(());
     };
     html.tags("<ul>")?;
+    write_reasons(html, alloc, view, edges.as_slice())?;
+    html.tags("</ul>")
+}
+
+fn write_reasons(
+    html: &mut Markup,
+    alloc: Global,
+    view: &View<'_>,
+    edges: &[Edge],
+) -> Result<(), AllocError>
+    ensures { Grows result html.old html.new }
+{
     for edge in edges {
         html.tags("<li>")?;
         write_reason(html, alloc, view, *edge)?;
         html.tags("</li>")?;
     }
-    html.tags("</ul>")
+    Ok(())
 }

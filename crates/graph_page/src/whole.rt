@@ -1,4 +1,8 @@
 // The whole page: its heads, the picture, and the table.
+ghost use Rattle.std.specs.Prelude.{IfOk};
+ghost use Rattle.graph_text.specs.Writing.{text_on};
+ghost use Rattle.graph_page.specs.Markup.{Grows, IsWhole};
+
 use crate::markup::Markup;
 use crate::script::SCRIPT;
 use crate::style::STYLE;
@@ -9,8 +13,10 @@ use graph_text::books::{Book, StepRecords};
 use graph_text::{Page, Picture, record_at};
 use std::alloc::{AllocError, Global};
 
+const BEGIN: &str = "<!DOCTYPE html>\n<html lang=\"en\">\n";
+
 const HEAD: &str =
-    "<!DOCTYPE html>\n<html lang=\"en\">\n<head>\n<meta charset=\"utf-8\">\n<meta name=\"viewport\" content=\"width=device-width\">\n<title>What depends on what</title>\n<style>";
+    "<head>\n<meta charset=\"utf-8\">\n<meta name=\"viewport\" content=\"width=device-width\">\n<title>What depends on what</title>\n<style>";
 
 const LEGEND: &str =
     "<p class=\"legend\"><span><i class=\"start\"></i>start</span><span><i class=\"plain\"></i>plain</span><span><i class=\"read\"></i>call that reads</span><span><i class=\"write\"></i>call that writes</span><span><i class=\"fork\"></i>fork</span><span><i class=\"join\"></i>join</span><span><i class=\"terminate\"></i>terminate</span></p>\n<p class=\"legend\"><span><b class=\"thread\"></b>thread</span><span><b class=\"start\"></b>start</span><span><b class=\"fork\"></b>fork, join</span><span><b class=\"item\"></b>item</span><span><b class=\"bound\"></b>bound</span></p>\n";
@@ -20,7 +26,7 @@ const SEARCH: &str =
 
 const DETAIL: &str = "<aside id=\"detail\" aria-live=\"polite\" hidden></aside>\n</main>\n";
 
-const FOOT: &str = "</script>\n</body>\n</html>\n";
+const END: &str = "</body>\n</html>\n";
 
 /// The page of a picture. Takes time in the numbers of records and of items, and of what is shown, logarithms aside.
 pub(crate) fn page_of(
@@ -29,38 +35,49 @@ pub(crate) fn page_of(
     records: &StepRecords,
     picture: &Picture,
     from: Option<usize>,
-) -> Result<Page, AllocError> {
+) -> Result<Page, AllocError>
+    ensures { IfOk result (λ page. IsWhole (text_on page)) }
+{
     let view = View::new(alloc, book, records, picture)?;
     let mut html = Markup::new(alloc);
+    html.tags(BEGIN)?;
     write_whole(&mut html, alloc, &view, from)?;
+    html.tags(END)?;
     Ok(html.into_page())
 }
 
+/// All that stands between the beginning and the end.
 fn write_whole(
     html: &mut Markup,
     alloc: Global,
     view: &View<'_>,
     from: Option<usize>,
-) -> Result<(), AllocError> {
+) -> Result<(), AllocError>
+    ensures { Grows result html.old html.new }
+{
     write_head(html)?;
     write_title(html, alloc, view, from)?;
     html.tags(SEARCH)?;
     write_picture(html, alloc, view)?;
     html.tags(DETAIL)?;
     write_table(html, alloc, view)?;
-    write_foot(html)
+    write_script(html)
 }
 
-fn write_head(html: &mut Markup) -> Result<(), AllocError> {
+fn write_head(html: &mut Markup) -> Result<(), AllocError>
+    ensures { Grows result html.old html.new }
+{
     html.tags(HEAD)?;
     html.tags(STYLE)?;
     html.tags("</style>\n</head>\n<body>\n<header>\n")
 }
 
-fn write_foot(html: &mut Markup) -> Result<(), AllocError> {
+fn write_script(html: &mut Markup) -> Result<(), AllocError>
+    ensures { Grows result html.old html.new }
+{
     html.tags("<script>")?;
     html.tags(SCRIPT)?;
-    html.tags(FOOT)
+    html.tags("</script>\n")
 }
 
 /// What is shown, and what the colours mean.
@@ -69,7 +86,9 @@ fn write_title(
     alloc: Global,
     view: &View<'_>,
     from: Option<usize>,
-) -> Result<(), AllocError> {
+) -> Result<(), AllocError>
+    ensures { Grows result html.old html.new }
+{
     html.tags("<div><h1>")?;
     write_subject(html, alloc, view, from)?;
     html.between("</h1>\n<p>steps: ", view.layout.cells.len(), "")?;
@@ -84,7 +103,9 @@ fn write_subject(
     alloc: Global,
     view: &View<'_>,
     from: Option<usize>,
-) -> Result<(), AllocError> {
+) -> Result<(), AllocError>
+    ensures { Grows result html.old html.new }
+{
     let Some(at) = from else {
         return html.tags("What depends on what");
     };
