@@ -75,17 +75,23 @@ pub(crate) fn write_line(
     let lane = lane(reason);
     html.between(
         "V",
-        bottom(from.row).saturating_add(3).saturating_add(2 * lane),
+        bottom(from.row)
+            .saturating_add(3)
+            .saturating_add(lane.saturating_mul(2)),
         "",
     )?;
     html.between(
         "H",
-        left(to.column).saturating_sub(9).saturating_sub(3 * lane),
+        left(to.column)
+            .saturating_sub(9)
+            .saturating_sub(lane.saturating_mul(3)),
         "",
     )?;
     html.between(
         "V",
-        top(to.row).saturating_add(7).saturating_add(4 * lane),
+        top(to.row)
+            .saturating_add(7)
+            .saturating_add(lane.saturating_mul(4)),
         "",
     )?;
     html.between("H", left(to.column).saturating_sub(1), "")

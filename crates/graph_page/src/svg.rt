@@ -1,6 +1,7 @@
 // The picture: heads for executions and threads, and under them the steps with the lines between them.
 ghost use Rattle.graph_page.specs.Markup.{Grows};
 
+use crate::layout::Cell;
 use crate::lines::{BOX_HEIGHT, BOX_WIDTH, height, left, top, width, write_line};
 use crate::markup::Markup;
 use crate::view::View;
@@ -225,19 +226,32 @@ fn write_node(
     let (Some(kept), Some(cell)) = (record_at(view.records, place), view.layout.cell(place)) else {
         return Ok(());
     };
-    html.between("<svg id=\"s", cell.row, "\" class=\"step ")?;
-    html.tags(kind_class(&kept.fact))?;
-    html.tags(view.look_class(place))?;
-    html.between("\" x=\"", left(cell.column), "\"")?;
-    html.between(" y=\"", top(cell.row), "\"")?;
-    html.between(" width=\"", BOX_WIDTH, "\"")?;
-    html.between(" height=\"", BOX_HEIGHT, "\" tabindex=\"0\"><title>")?;
+    begin_node(html, view, place, &kept.fact, cell)?;
     write_step(html, alloc, &kept.fact, " ")?;
     html.tags(
         "</title><rect x=\"1\" y=\"1\" width=\"182\" height=\"34\" rx=\"4\"/><text x=\"8\" y=\"15\">",
     )?;
     write_step(html, alloc, &kept.fact, "</text><text x=\"8\" y=\"29\">")?;
     html.tags("</text></svg>\n")
+}
+
+/// The tag of a box: its number, its classes, and where it stands.
+fn begin_node(
+    html: &mut Markup,
+    view: &View<'_>,
+    place: usize,
+    fact: &Fact,
+    cell: Cell,
+) -> Result<(), AllocError>
+    ensures { Grows result html.old html.new }
+{
+    html.between("<svg id=\"s", cell.row, "\" class=\"step ")?;
+    html.tags(kind_class(fact))?;
+    html.tags(view.look_class(place))?;
+    html.between("\" x=\"", left(cell.column), "\"")?;
+    html.between(" y=\"", top(cell.row), "\"")?;
+    html.between(" width=\"", BOX_WIDTH, "\"")?;
+    html.between(" height=\"", BOX_HEIGHT, "\" tabindex=\"0\"><title>")
 }
 
 /// The name of a step and its kind, with tags between them.

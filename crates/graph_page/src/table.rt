@@ -7,6 +7,7 @@ use crate::markup::Markup;
 use crate::svg::{write_kind, write_reason};
 use crate::view::View;
 use graph_text::books::StepRecord;
+use graph_text::books::turns::Frame;
 use graph_text::record_at;
 use std::alloc::{AllocError, Global};
 use step_graph::Edge;
@@ -74,17 +75,27 @@ fn write_changes(
 ) -> Result<(), AllocError>
     ensures { Grows result html.old html.new }
 {
-    let before = frame_before(kept);
+    write_frames(html, alloc, frame_before(kept), after.frame)?;
+    html.tags("</td><td>")?;
+    write_item(html, alloc, &kept.fact, after.item_before)?;
+    html.tags("</td><td>")?;
+    write_item(html, alloc, &kept.fact, after.item)
+}
+
+fn write_frames(
+    html: &mut Markup,
+    alloc: Global,
+    before: Option<&Frame>,
+    after: Option<&Frame>,
+) -> Result<(), AllocError>
+    ensures { Grows result html.old html.new }
+{
     html.tags("</td><td>")?;
     write_state(html, alloc, before)?;
     html.tags("</td><td>")?;
     write_frame(html, alloc, before, "not there")?;
     html.tags("</td><td>")?;
-    write_frame(html, alloc, after.frame, "closed with a branch above")?;
-    html.tags("</td><td>")?;
-    write_item(html, alloc, &kept.fact, after.item_before)?;
-    html.tags("</td><td>")?;
-    write_item(html, alloc, &kept.fact, after.item)
+    write_frame(html, alloc, after, "closed with a branch above")
 }
 
 /// The dependences of the step at a place, each with its reason.
