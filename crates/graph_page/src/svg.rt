@@ -9,7 +9,7 @@ use graph_text::books::{Fact, Kind};
 use graph_text::{Page, kind_word, reason_word, record_at};
 use item_store::AccessMode;
 use std::alloc::{AllocError, Global};
-use step_graph::Edge;
+use step_graph::{Edge, Reason};
 use step_names::ThreadName;
 
 /// How high the heads are.
@@ -182,15 +182,27 @@ fn write_edge(
     else {
         return Ok(());
     };
-    html.tags("<g class=\"edge ")?;
-    html.tags(reason_word(edge.reason))?;
-    html.between("\" data-from=\"", from.row, "\"")?;
-    html.between(" data-to=\"", to.row, "\"><title>")?;
+    begin_edge(html, from, to, edge.reason)?;
     write_reason(html, alloc, view, edge)?;
+    write_paths(html, from, to, edge.reason)
+}
+
+fn begin_edge(html: &mut Markup, from: Cell, to: Cell, reason: Reason) -> Result<(), AllocError>
+    ensures { Grows result html.old html.new }
+{
+    html.tags("<g class=\"edge ")?;
+    html.tags(reason_word(reason))?;
+    html.between("\" data-from=\"", from.row, "\"")?;
+    html.between(" data-to=\"", to.row, "\"><title>")
+}
+
+fn write_paths(html: &mut Markup, from: Cell, to: Cell, reason: Reason) -> Result<(), AllocError>
+    ensures { Grows result html.old html.new }
+{
     html.tags("</title><path class=\"hit\" d=\"")?;
-    write_line(html, from, to, edge.reason)?;
+    write_line(html, from, to, reason)?;
     html.tags("\"/><path class=\"line\" d=\"")?;
-    write_line(html, from, to, edge.reason)?;
+    write_line(html, from, to, reason)?;
     html.tags("\"/></g>\n")
 }
 

@@ -3,6 +3,7 @@ ghost use Rattle.graph_page.specs.Markup.{Grows};
 
 use crate::after::{After, frame_before};
 use crate::detail::{write_frame, write_item, write_state};
+use crate::layout::Cell;
 use crate::markup::Markup;
 use crate::svg::{write_kind, write_reason};
 use crate::view::View;
@@ -11,6 +12,7 @@ use graph_text::books::turns::Frame;
 use graph_text::record_at;
 use std::alloc::{AllocError, Global};
 use step_graph::Edge;
+use step_names::StepName;
 
 const HEAD: &str =
     "<section id=\"table\">\n<h2>Steps</h2>\n<table>\n<thead><tr><th>Step</th><th>Kind</th><th>State</th><th>Thread before</th><th>Thread after</th><th>Item before</th><th>Item after</th><th>Hangs on</th></tr></thead>\n<tbody>\n";
@@ -54,16 +56,29 @@ fn write_row(
     ) else {
         return Ok(());
     };
+    begin_row(html, alloc, view, place, &kept.fact.name, cell)?;
+    write_kind(html, alloc, &kept.fact)?;
+    write_changes(html, alloc, kept, after)?;
+    write_befores(html, alloc, view, place)?;
+    html.tags("</td></tr>\n")
+}
+
+/// The beginning of a row, up to its second cell.
+fn begin_row(
+    html: &mut Markup,
+    alloc: Global,
+    view: &View<'_>,
+    place: usize,
+    name: &StepName,
+    cell: Cell,
+) -> Result<(), AllocError>
+    ensures { Grows result html.old html.new }
+{
     html.between("<tr id=\"t", cell.row, "\" class=\"row")?;
     html.tags(view.look_class(place))?;
     html.between("\"><th><a href=\"#s", cell.row, "\">")?;
-    html.step(alloc, &kept.fact.name)?;
-    html.tags("</a></th><td>")?;
-    write_kind(html, alloc, &kept.fact)?;
-    write_changes(html, alloc, kept, after)?;
-    html.tags("</td><td>")?;
-    write_befores(html, alloc, view, place)?;
-    html.tags("</td></tr>\n")
+    html.step(alloc, name)?;
+    html.tags("</a></th><td>")
 }
 
 /// The cells of what stood before and after a step.
@@ -98,7 +113,7 @@ fn write_frames(
     write_frame(html, alloc, after, "closed with a branch above")
 }
 
-/// The dependences of the step at a place, each with its reason.
+/// The cell of the dependences of the step at a place, each with its reason.
 fn write_befores(
     html: &mut Markup,
     alloc: Global,
@@ -108,9 +123,9 @@ fn write_befores(
     ensures { Grows result html.old html.new }
 {
     let Some(edges) = view.layout.befores.get(&place) else {
-        return Ok(());
+        return html.tags("</td><td>");
     };
-    html.tags("<ul>")?;
+    html.tags("</td><td><ul>")?;
     write_reasons(html, alloc, view, edges.as_slice())?;
     html.tags("</ul>")
 }

@@ -55,13 +55,25 @@ fn write_whole(
 ) -> Result<(), AllocError>
     ensures { Grows result html.old html.new }
 {
-    write_head(html)?;
-    write_title(html, alloc, view, from)?;
-    html.tags(SEARCH)?;
+    write_top(html, alloc, view, from)?;
     write_picture(html, alloc, view)?;
     html.tags(DETAIL)?;
     write_table(html, alloc, view)?;
     write_script(html)
+}
+
+/// What stands above the picture, and how it looks.
+fn write_top(
+    html: &mut Markup,
+    alloc: Global,
+    view: &View<'_>,
+    from: Option<usize>,
+) -> Result<(), AllocError>
+    ensures { Grows result html.old html.new }
+{
+    write_head(html)?;
+    write_title(html, alloc, view, from)?;
+    html.tags(SEARCH)
 }
 
 fn write_head(html: &mut Markup) -> Result<(), AllocError>
