@@ -241,6 +241,14 @@ fn lower(blocks: &mut Vec<Block>, from: usize)
     requires { (k : ℕ) (b : Held) → from ≤ k → slice_get blocks.old.items k ≡ Some b → 1 ≤ b.start }
     ensures { blocks.new.items ≡ lowered from blocks.old.items }
 {
+    lower_each(blocks.as_mut_slice(), from);
+}
+
+/// The same of a slice, whose length isn't read again for each.
+fn lower_each(blocks: &mut [Block], from: usize)
+    requires { (k : ℕ) (b : Held) → from ≤ k → slice_get blocks.old k ≡ Some b → 1 ≤ b.start }
+    ensures { blocks.new ≡ lowered from blocks.old }
+{
     let mut at = from;
     while at < blocks.len() {
         blocks[at].start -= 1;

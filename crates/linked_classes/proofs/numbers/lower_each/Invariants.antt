@@ -2,13 +2,13 @@ use Rattle.std.proofs.Common.{◌≡◌, ◌≤◌, ◌-◌, ℕ, Some, length}
 use Rattle.std.specs.Prelude.{slice_get}
 use Rattle.linked_classes.specs.Numbers.{lowered}
 use Rattle.linked_classes.specs.declared.numbers.Block.{Block}
-use Rattle.linked_classes.proofs.numbers.lower.Given as goal
+use Rattle.linked_classes.proofs.numbers.lower_each.Given as goal
 
 abbrev pub invariant-loop-at : goal.invariant-loop-at
 invariant-loop-at l = record {
-  same : lowered l.at l.blocks.items ≡ lowered l.fn.from l.fn.blocks.items;
-  ones : (k : ℕ) (b : Block) → l.at ≤ k → slice_get l.blocks.items k ≡ Some b → 1 ≤ b.start;
+  same : lowered l.at l.blocks ≡ lowered l.fn.from l.fn.blocks;
+  ones : (k : ℕ) (b : Block) → l.at ≤ k → slice_get l.blocks k ≡ Some b → 1 ≤ b.start;
 }
 
 abbrev pub decreases-loop-at : goal.decreases-loop-at
-decreases-loop-at l = length l.blocks.items - l.at
+decreases-loop-at l = length l.blocks - l.at
