@@ -13,17 +13,17 @@ use Rattle.saved_steps.specs.declared.fact.Access.{Access}
 use Rattle.saved_steps.specs.declared.fact.Fact.{Fact}
 
 unfoldable pub exec_bucket : List ℕ → ℕ
-exec_bucket exec = folding.finish (fold folding.write folding.initial (fed.str exec)) % 65521
+exec_bucket exec = folding.finish (fold folding.write folding.initial (fed.str exec)) % 16381
 
 unfoldable pub thread_bucket : Thread → ℕ
-thread_bucket t = folding.finish (fold folding.write (fold folding.write folding.initial (fed.str t.exec)) (fed.slice (λ b. fed.u32 b.0 ++ fed.u32 b.1) t.path)) % 65521
+thread_bucket t = folding.finish (fold folding.write (fold folding.write folding.initial (fed.str t.exec)) (fed.slice (λ b. fed.u32 b.0 ++ fed.u32 b.1) t.path)) % 16381
 
 unfoldable pub name_bucket : StepName → ℕ
 name_bucket name =
-    folding.finish (fold folding.write (fold folding.write (fold folding.write folding.initial (fed.str name.thread.exec)) (fed.slice (λ b. fed.u32 b.0 ++ fed.u32 b.1) name.thread.path)) (fed.u32 name.no)) % 65521
+    folding.finish (fold folding.write (fold folding.write (fold folding.write folding.initial (fed.str name.thread.exec)) (fed.slice (λ b. fed.u32 b.0 ++ fed.u32 b.1) name.thread.path)) (fed.u32 name.no)) % 16381
 
 unfoldable pub key_bucket : Key → ℕ
-key_bucket key = folding.finish (fold folding.write folding.initial (key_input key)) % 65521
+key_bucket key = folding.finish (fold folding.write folding.initial (key_input key)) % 16381
 
 -- ---- of a step
 

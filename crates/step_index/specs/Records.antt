@@ -28,7 +28,7 @@ pub record AreCounted (rs : List StepRecord) (execs keys : Places) : Type 0 wher
 
 -- there is room for one more place, and there is each class
 abbrev pub is_open : Places → Bool
-is_open p = p.has_room && nat_le 65521 p.width
+is_open p = p.has_room && nat_le 16381 p.width
 
 abbrev pub all_open : Places → Places → Places → Places → Places → Places → Bool
 all_open a b c d e f = is_open a && (is_open b && (is_open c && (is_open d && (is_open e && is_open f))))

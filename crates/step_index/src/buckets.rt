@@ -11,13 +11,13 @@ use std::hash::{FoldHasher, Hash, Hasher};
 use step_names::{StepName, ThreadName};
 
 /// How many classes there are: a prime number.
-pub(crate) const BUCKETS: u32 = 65_521;
+pub(crate) const BUCKETS: u32 = 16_381;
 
 /// The class of a step's name.
 #[tactic(auto, unfolding(crate::specs::Buckets::name_bucket))]
 pub(crate) fn name_bucket(name: &StepName) -> u32
     ensures bucket { result ≡ name_bucket name.now }
-    ensures below { result < 65521 }
+    ensures below { result < 16381 }
 {
     let mut hasher = FoldHasher::default();
     name.thread.exec().hash(&mut hasher);
@@ -30,7 +30,7 @@ pub(crate) fn name_bucket(name: &StepName) -> u32
 #[tactic(auto, unfolding(crate::specs::Buckets::thread_bucket))]
 pub(crate) fn thread_bucket(thread: &ThreadName) -> u32
     ensures bucket { result ≡ thread_bucket thread.now }
-    ensures below { result < 65521 }
+    ensures below { result < 16381 }
 {
     let mut hasher = FoldHasher::default();
     thread.exec().hash(&mut hasher);
@@ -43,7 +43,7 @@ pub(crate) fn thread_bucket(thread: &ThreadName) -> u32
 pub(crate) fn bucket_above(thread: &ThreadName, depth: usize) -> u32
     requires { depth ≤ length thread.now.path }
     ensures bucket { result ≡ thread_bucket (above thread.now depth) }
-    ensures below { result < 65521 }
+    ensures below { result < 16381 }
 {
     let mut hasher = FoldHasher::default();
     thread.exec().hash(&mut hasher);
@@ -54,7 +54,7 @@ pub(crate) fn bucket_above(thread: &ThreadName, depth: usize) -> u32
 /// The class of the thread where a step is at home.
 pub(crate) fn home_bucket(fact: &Fact) -> u32
     ensures bucket { Some result ≡ by_home fact.now }
-    ensures below { result < 65521 }
+    ensures below { result < 16381 }
 {
     match fact.kind {
         Kind::Start => bucket_above(&fact.name.thread, 0),
@@ -66,7 +66,7 @@ pub(crate) fn home_bucket(fact: &Fact) -> u32
 #[tactic(auto, unfolding(crate::specs::Buckets::exec_bucket))]
 pub(crate) fn exec_bucket(exec: &str) -> u32
     ensures bucket { result ≡ exec_bucket exec.now }
-    ensures below { result < 65521 }
+    ensures below { result < 16381 }
 {
     let mut hasher = FoldHasher::default();
     exec.hash(&mut hasher);
@@ -76,7 +76,7 @@ pub(crate) fn exec_bucket(exec: &str) -> u32
 /// The class of the execution of a step that closes a fork, or that waited for branches under a bound.
 pub(crate) fn gate_bucket(fact: &Fact) -> Option<u32>
     ensures bucket { result ≡ by_gate fact.now }
-    ensures below { IfSome result (λ b. b < 65521) }
+    ensures below { IfSome result (λ b. b < 16381) }
 {
     if !is_gate(fact) {
         return None;
@@ -97,7 +97,7 @@ pub(crate) fn is_gate(fact: &Fact) -> bool
 /// The class of the key that a step touched.
 pub(crate) fn access_bucket(fact: &Fact) -> Option<u32>
     ensures bucket { result ≡ by_key fact.now }
-    ensures below { IfSome result (λ b. b < 65521) }
+    ensures below { IfSome result (λ b. b < 16381) }
 {
     match &fact.access {
         Some(access) => Some(key_bucket(&access.key)),
@@ -108,7 +108,7 @@ pub(crate) fn access_bucket(fact: &Fact) -> Option<u32>
 /// The class of the key that a step wrote.
 pub(crate) fn write_bucket(fact: &Fact) -> Option<u32>
     ensures bucket { result ≡ by_write fact.now }
-    ensures below { IfSome result (λ b. b < 65521) }
+    ensures below { IfSome result (λ b. b < 16381) }
 {
     let Some(access) = &fact.access else {
         return None;
@@ -123,7 +123,7 @@ pub(crate) fn write_bucket(fact: &Fact) -> Option<u32>
 #[tactic(auto, unfolding(crate::specs::Buckets::key_bucket))]
 pub(crate) fn key_bucket(key: &Key) -> u32
     ensures bucket { result ≡ key_bucket key.now }
-    ensures below { result < 65521 }
+    ensures below { result < 16381 }
 {
     let mut hasher = FoldHasher::default();
     key.hash(&mut hasher);
@@ -131,8 +131,8 @@ pub(crate) fn key_bucket(key: &Key) -> u32
 }
 
 fn bucket_of(hasher: &FoldHasher) -> u32
-    ensures bucket { result ≡ finish hasher.now % 65521 }
-    ensures below { result < 65521 }
+    ensures bucket { result ≡ finish hasher.now % 16381 }
+    ensures below { result < 16381 }
 {
     (hasher.finish() % BUCKETS as u64) as u32
 }

@@ -29,7 +29,7 @@ const LEFT: u32 = 0;
 /// beside the records and goes with them, a place for each. Contracts see which places are left, and the classes of the steps there.
 ///
 /// The steps that are left are in classes: of their threads, their executions, the keys that they touched and those that they
-/// wrote, each by its hash. A place costs 40 bytes, one that is left 70 to 120 more, one that is gone 40, and all together 4,200,000 once.
+/// wrote, each by its hash. A place costs 40 bytes, one that is left 70 to 120 more, one that is gone 40, and all together 1,050,000 once.
 #[derive(Drop)]
 pub struct HeldSteps {
     left: ClassedPlaces,
@@ -52,7 +52,7 @@ impl Model for HeldSteps {
       execs = a.execs.classes;
       keys = a.keys.classes;
       writes = a.writes.classes;
-      has_room = is_open_for 1 a.left && (is_open_for 65521 a.threads && (is_open_for 65521 a.execs && (is_open_for 65521 a.keys && is_open_for 65521 a.writes)));
+      has_room = is_open_for 1 a.left && (is_open_for 16381 a.threads && (is_open_for 16381 a.execs && (is_open_for 16381 a.keys && is_open_for 16381 a.writes)));
     } };
 
     ghost invariant = { λ a. AreAlongside a.left.classes a.threads.classes a.execs.classes a.keys.classes a.writes.classes (map is_mark a.left.classes) a.count };

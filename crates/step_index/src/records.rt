@@ -29,7 +29,7 @@ use step_names::StepName;
 ///
 /// The steps are in classes: of their names, their threads, their executions and the keys that they touched, each by its hash.
 /// Those that close a fork or waited for branches are in one of their own as well, by their execution, and those that wrote by
-/// their key. A record costs 150 to 250 bytes for these, one that is gone 56, and all together 6,300,000 once.
+/// their key. A record costs 150 to 250 bytes for these, one that is gone 56, and all together 1,600,000 once.
 #[derive(Drop)]
 pub struct StepRecords {
     records: NumberedVec<StepRecord>,
