@@ -23,7 +23,7 @@ step rt check
 step rt test
 cd "$top"
 [ ! -d "$folder/must-fail" ] || step rt must-fail "$crate"
-[ "${2:-}" != --planted ] || [ ! -d "$folder/planted" ] || step sh tools/planted.sh "$crate"
+[ "${2:-}" != --planted ] || [ ! -d "$folder/planted" ] || step python3 tools/planted.py "$crate"
 step sh tools/docs.sh --names
 if [ -x "$program" ]; then
     echo "check: rows over the program as it was built last"
