@@ -29,7 +29,7 @@ PARTS = {
     "lines and replies": ["operator_line", "command_lines", "reply_lines", "rollback_run", "rollback_program", "memchr", "clap"],
     "journal of the book": ["book_journal", "journaled_book"],
     "book and log": ["rollback_book", "book_log", "settled_names", "book_rounds", "shared_book", "step_workers"],
-    "steps and what depends on them": ["step_history", "step_index", "linked_classes", "depends", "saved_steps", "branch_tree", "trace_theory"],
+    "steps and what depends on them": ["step_history", "step_index", "step_marks", "linked_classes", "depends", "saved_steps", "branch_tree", "trace_theory"],
     "states": ["asl_fields", "asl_errors", "asl_choice", "asl_states", "asl_tree", "asl_machine", "asl_processing", "asl_frames", "asl_results",
                "asl_forward"],
     "values, names, items": ["json_tree", "ref_paths", "attr_values", "item_store", "step_names", "json", "indexmap", "itoa"],

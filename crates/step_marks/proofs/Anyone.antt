@@ -70,3 +70,17 @@ or_deep false b c = refl
 -- what is told of some, and of one more
 pub or_more : {A : Type 0} (p : A → Bool) (xs : List A) (x : A) (a o n : Bool) → n ≡ (o || p x) → o ≡ (a || list_any p xs) → n ≡ (a || list_any p (xs ++ x ∷ []))
 or_more p xs x a o n e is = e ∙ ap (λ b. b || p x) is ∙ or_deep a (list_any p xs) (p x) ∙ ap (λ b. a || b) (sym (any_more p xs x))
+
+again_first : (a l b : Bool) → a ≡ b → ((a || l) || b) ≡ (a || l)
+again_first true l b e = refl
+again_first false l true e = absurd (let k : false ≡ true = e in cc)
+again_first false l false e = or_false l
+
+-- one more adds nothing where each of those of which one is there tells what it does
+pub any_again : {A : Type 0} (q p : A → Bool) (b : Bool) (xs : List A) → list_any q xs ≡ true → ((x : A) → q x ≡ true → p x ≡ b) → (list_any p xs || b) ≡ list_any p xs
+any_again q p b [] h same = absurd (let k : false ≡ true = h in cc)
+any_again q p b (x ∷ xs) h same = by (q x) refl (λ k. any_again q p b xs k same)
+  where
+    by : (c : Bool) → q x ≡ c → (list_any q xs ≡ true → (list_any p xs || b) ≡ list_any p xs) → ((p x || list_any p xs) || b) ≡ (p x || list_any p xs)
+    by true e rest = again_first (p x) (list_any p xs) b (same x e)
+    by false e rest = or_deep (p x) (list_any p xs) b ∙ ap (λ c. p x || c) (rest (sym (ap (λ c. c || list_any q xs) e) ∙ h))

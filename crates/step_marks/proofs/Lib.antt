@@ -5,3 +5,4 @@ pub mod Awaiting
 pub mod Kept
 pub mod Sought
 pub mod Hashed
+pub mod Again

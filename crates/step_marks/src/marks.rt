@@ -5,7 +5,7 @@ ghost use Rattle.std.specs.List.{list_any};
 ghost use Rattle.depends.specs.Dependence.{awaits, begins, conflicts, depends_directly};
 ghost use Rattle.saved_steps.specs.Steps.{closes, makes};
 ghost use Rattle.saved_steps.specs.declared.fact.Fact.{Fact as Step};
-ghost use Rattle.step_marks.specs.Kinds.{is_of};
+ghost use Rattle.step_marks.specs.Kinds.{AreThreads, AreUnder, is_of};
 ghost use Rattle.step_marks.specs.Marks.{AreMarksOf};
 
 use crate::above::forks_above;
@@ -45,15 +45,14 @@ impl Marks {
     }
 
     /// Adds the marks of a step. Takes memory for its name, for that of each fork above it and for its key, where these have no mark
-    /// yet. Takes a look-up by hash for the name and the key, and for each fork time in the logarithm of their number. After an error
-    /// the marks are of no use any more.
+    /// yet. Takes a look-up by hash for the name and the key, and at the first step of a thread, for each fork above it, time in the
+    /// logarithm of their number. After an error the marks are of no use any more.
     pub fn add(&mut self, fact: &Fact) -> Result<(), AllocError>
         ensures { OnOk result ((facts : List Step) → AreMarksOf facts self.old → AreMarksOf (facts ++ fact.now ∷ []) self.new) }
     {
-        self.threads.add(fact)?;
+        add_thread(self.alloc, &mut self.threads, &mut self.under, fact)?;
         self.starts.add(fact)?;
         self.forks.add(fact)?;
-        self.under.add(self.alloc, fact)?;
         self.keys.add(fact)
     }
 
@@ -98,4 +97,21 @@ impl Marks {
         }
         Ok(self.under.has_awaited(later, above.as_slice()))
     }
+}
+
+/// Adds the marks of a step's thread and of the forks above it. A thread that has its mark has left them all before.
+fn add_thread(
+    alloc: Global,
+    threads: &mut ThreadMarks,
+    under: &mut UnderMarks,
+    fact: &Fact,
+) -> Result<(), AllocError>
+    ensures { OnOk result ((facts : List Step) → AreThreads facts threads.old → AreUnder facts under.old
+        → AreThreads (facts ++ fact.now ∷ []) threads.new × AreUnder (facts ++ fact.now ∷ []) under.new) }
+{
+    if threads.has(&fact.name.thread) {
+        return Ok(());
+    }
+    threads.add(fact)?;
+    under.add(alloc, fact)
 }
