@@ -227,13 +227,13 @@ joined_without s (x ∷ xs) h (suc k) i j b c is e w items =
 
 -- ---- whole lists of blocks
 
-pub own_block : (bs : List Block) (end : ℕ) → AreBlocks bs end → (at n : ℕ) → slice_get (joined bs) at ≡ Some n → (b : Block) × (slice_get bs (n / 1024) ≡ Some b) × ((i : ℕ) × (slice_get b.numbers.items i ≡ Some n))
+pub own_block : (bs : List Block) (end : ℕ) → AreBlocks bs end → (at n : ℕ) → slice_get (joined bs) at ≡ Some n → (b : Block) × (slice_get bs (n / 512) ≡ Some b) × ((i : ℕ) × (slice_get b.numbers.items i ≡ Some n))
 own_block bs end h at n is =
     let r = holder 0 bs h.starts at n is in
     let o = (h.blocks r.number r.block r.is).own r.inner n r.here in
     let low = o.0 in
     let high = o.1 in
-    let e : r.number ≡ n / 1024 = omega (arith, low, high) in
+    let e : r.number ≡ n / 512 = omega (arith, low, high) in
     (r.block, ap (slice_get bs) (sym e) ∙ r.is, (r.inner, r.here))
 
 pub below_end : (bs : List Block) (end : ℕ) → AreBlocks bs end → (at n : ℕ) → slice_get (joined bs) at ≡ Some n → n < end
@@ -242,7 +242,7 @@ below_end bs end h at n is =
     let o = (h.blocks r.number r.block r.is).own r.inner n r.here in
     o.2
 
-few_joined : (bs : List Block) → ((k : ℕ) (b : Block) → slice_get bs k ≡ Some b → length b.numbers.items ≤ 1024) → length (joined bs) ≤ 1024 * length bs
+few_joined : (bs : List Block) → ((k : ℕ) (b : Block) → slice_get bs k ≡ Some b → length b.numbers.items ≤ 512) → length (joined bs) ≤ 512 * length bs
 few_joined [] few = omega arith
 few_joined (x ∷ xs) few =
     let l = length-append x.numbers.items (joined xs) in
@@ -283,7 +283,7 @@ only_one zero m n is = same_Some n m is
 only_one (suc i) m n is = absurd (none_there i m is)
 
 module _ (bs : List Block) (end : ℕ) (h : AreBlocks bs end) (small : end < 4294967295) where
-  more_own : (k : ℕ) (b c : Block) → slice_get bs k ≡ Some b → suc k ≡ length bs → end < 1024 * length bs → c.start ≡ b.start → c.numbers.items ≡ b.numbers.items ++ end ∷ [] → vec_capacity c.numbers ≡ vec_capacity b.numbers → IsOwn (end + 1) k c
+  more_own : (k : ℕ) (b c : Block) → slice_get bs k ≡ Some b → suc k ≡ length bs → end < 512 * length bs → c.start ≡ b.start → c.numbers.items ≡ b.numbers.items ++ end ∷ [] → vec_capacity c.numbers ≡ vec_capacity b.numbers → IsOwn (end + 1) k c
   more_own k b c is last room start items capacity =
       let old = h.blocks k b is in
       let needed = h.needed in
@@ -308,7 +308,7 @@ module _ (bs : List Block) (end : ℕ) (h : AreBlocks bs end) (small : end < 429
         roomy = omega (arith, capacity, q);
       }
 
-  pub more_blocks : (k : ℕ) (b c : Block) → slice_get bs k ≡ Some b → suc k ≡ length bs → end < 1024 * length bs → c.start ≡ b.start → c.numbers.items ≡ b.numbers.items ++ end ∷ [] → vec_capacity c.numbers ≡ vec_capacity b.numbers → AreBlocks (slice_set bs k c) (end + 1)
+  pub more_blocks : (k : ℕ) (b c : Block) → slice_get bs k ≡ Some b → suc k ≡ length bs → end < 512 * length bs → c.start ≡ b.start → c.numbers.items ≡ b.numbers.items ++ end ∷ [] → vec_capacity c.numbers ≡ vec_capacity b.numbers → AreBlocks (slice_set bs k c) (end + 1)
   more_blocks k b c is last room start items capacity =
       let within = slice_get_within bs k b is in
       let needed = h.needed in
@@ -325,7 +325,7 @@ module _ (bs : List Block) (end : ℕ) (h : AreBlocks bs end) (small : end < 429
         small = omega (arith, small);
       }
 
-  pub new_block : (c : Block) → end ≡ 1024 * length bs → c.start ≡ length (joined bs) → c.numbers.items ≡ end ∷ [] → 1024 ≤ vec_capacity c.numbers → AreBlocks (bs ++ c ∷ []) (end + 1)
+  pub new_block : (c : Block) → end ≡ 512 * length bs → c.start ≡ length (joined bs) → c.numbers.items ≡ end ∷ [] → 512 ≤ vec_capacity c.numbers → AreBlocks (bs ++ c ∷ []) (end + 1)
   new_block c full start items capacity =
       let long = length-append bs (c ∷ []) in
       let one = ap length items in

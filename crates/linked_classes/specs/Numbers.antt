@@ -20,25 +20,25 @@ abbrev pub AreStarts : ℕ → List Block → Type 0
 AreStarts s [] = Unit {0}
 AreStarts s (b ∷ bs) = (b.start ≡ s) × AreStarts (s + length b.numbers.items) bs
 
--- the block at a place holds numbers of the thousand that is its own, and has room for all of these
+-- the block at a place holds numbers of the 512 that are its own, and has room for all of these
 pub record IsOwn (end k : ℕ) (b : Block) : Type 0 where
-  pub own : (i n : ℕ) → slice_get b.numbers.items i ≡ Some n → (1024 * k ≤ n) × (n < 1024 * k + 1024) × (n < end)
-  pub few : length b.numbers.items ≤ 1024
-  pub reached : 1024 * k + length b.numbers.items ≤ end
-  pub low : b.start ≤ 1024 * k
-  pub roomy : 1024 ≤ vec_capacity b.numbers
+  pub own : (i n : ℕ) → slice_get b.numbers.items i ≡ Some n → (512 * k ≤ n) × (n < 512 * k + 512) × (n < end)
+  pub few : length b.numbers.items ≤ 512
+  pub reached : 512 * k + length b.numbers.items ≤ end
+  pub low : b.start ≤ 512 * k
+  pub roomy : 512 ≤ vec_capacity b.numbers
 
 pub record AreBlocks (bs : List Block) (end : ℕ) : Type 0 where
   pub starts : AreStarts 0 bs
   pub blocks : (k : ℕ) (b : Block) → slice_get bs k ≡ Some b → IsOwn end k b
   pub rising : IsRising (joined bs)
-  pub covered : end ≤ 1024 * length bs
-  pub needed : 1024 * length bs < end + 1024
+  pub covered : end ≤ 512 * length bs
+  pub needed : 512 * length bs < end + 512
   pub small : end ≤ 4294967295
 
 -- so many blocks, with the next number, have room for it: in the last, or in a fresh one
 abbrev pub has_room : ℕ → ℕ → ℕ → ℕ → Bool
-has_room count capacity fresh end = nat_lt end 4294967295 && (nat_lt end (1024 * count) || (nat_lt count capacity && nat_le 1024 fresh))
+has_room count capacity fresh end = nat_lt end 4294967295 && (nat_lt end (512 * count) || (nat_lt count capacity && nat_le 512 fresh))
 
 -- the blocks from one on start one place earlier
 abbrev pub lowered : ℕ → List Block → List Block

@@ -9,13 +9,13 @@ use std::marker::Model;
 use std::mem;
 
 /// How many numbers are a block's own.
-const BLOCK: usize = 1024;
+const BLOCK: usize = 512;
 
 /// Numbers that rise, each one more than the last that came, at places from 0 on: they come at the end and go anywhere. A number
-/// is found by its place in time logarithmic in their count, and its place by the number in ten steps. One that came costs four
-/// bytes, whether it is still there or not, and each thousand of them 40 more.
+/// is found by its place in time logarithmic in their count, and its place by the number in nine steps. One that came costs four
+/// bytes, whether it is still there or not, and each 512 of them 40 more.
 ///
-/// They lie in blocks, each of the numbers of a thousand of its own, of which some may be gone.
+/// They lie in blocks, each of 512 numbers that are its own, of which some may be gone.
 #[derive(Debug, Drop)]
 pub struct RisingNumbers {
     blocks: Vec<Block>,
@@ -94,7 +94,7 @@ impl RisingNumbers {
         block.numbers[at - block.start]
     }
 
-    /// The place of a number, in ten steps.
+    /// The place of a number, in nine steps.
     pub fn place(&self, number: u32) -> usize
         requires { (i : ℕ) × (slice_get self.now.items i ≡ Some number) }
         ensures { slice_get self.now.items result ≡ Some number }
@@ -139,7 +139,7 @@ impl RisingNumbers {
     }
 
     /// Takes the number at a place out: those behind it come one forward. Takes no memory, a copy of four bytes for each number
-    /// behind it in its thousand, and a step for each thousand behind it.
+    /// behind it among its 512, and a step for each 512 behind it.
     pub fn remove(&mut self, at: usize) -> u32
         requires { at < length self.old.items }
         ensures number { slice_get self.old.items at ≡ Some result }
@@ -201,7 +201,7 @@ fn place_of(numbers: &[u32], number: u32) -> usize
 /// Puts the next number into the last block, whose own it is.
 fn put_last(blocks: &mut Vec<Block>, number: u32)
     requires blocks { AreBlocks blocks.old.items number }
-    requires room { number < 1024 * length blocks.old.items }
+    requires room { number < 512 * length blocks.old.items }
     requires small { number < 4294967295 }
     ensures blocks { AreBlocks blocks.new.items (number + 1) }
     ensures joined { joined blocks.new.items ≡ joined blocks.old.items ++ number ∷ [] }
@@ -213,9 +213,9 @@ fn put_last(blocks: &mut Vec<Block>, number: u32)
 /// Puts the next number into a block that is new, whose own it is.
 fn open_block(blocks: &mut Vec<Block>, fresh: Vec<u32>, number: u32)
     requires blocks { AreBlocks blocks.old.items number }
-    requires none { number ≡ 1024 * length blocks.old.items }
+    requires none { number ≡ 512 * length blocks.old.items }
     requires room { length blocks.old.items < vec_capacity blocks.old }
-    requires fresh { (fresh.items ≡ []) × (1024 ≤ vec_capacity fresh) }
+    requires fresh { (fresh.items ≡ []) × (512 ≤ vec_capacity fresh) }
     requires small { number < 4294967295 }
     ensures blocks { AreBlocks blocks.new.items (number + 1) }
     ensures joined { joined blocks.new.items ≡ joined blocks.old.items ++ number ∷ [] }

@@ -12,7 +12,7 @@ index-block-requires c =
     let bs = c.self.inside.blocks.items in
     let there : (i : ℕ) × (slice_get (joined bs) i ≡ Some c.args.number) = rw (← c.self.view_is) at c.requires in
     let own = own_block bs c.self.inside.end c.self.invariant.0 there.0 c.args.number there.1 in
-    let l = slice_get_within bs (c.args.number / 1024) own.0 own.1 in
+    let l = slice_get_within bs (c.args.number / 512) own.0 own.1 in
     let ok = c.self.inside.blocks.ok.0 in
     omega (arith, l, ok)
 
@@ -23,8 +23,8 @@ place_of-requires-clause-rising c =
     let h = c.self.invariant.0 in
     let there : (i : ℕ) × (slice_get (joined bs) i ≡ Some c.args.number) = rw (← c.self.view_is) at c.requires in
     let own = own_block bs c.self.inside.end h there.0 c.args.number there.1 in
-    let is = slice_get_read bs (length bs) (c.args.number / 1024) b refl (slice_get_within bs (c.args.number / 1024) own.0 own.1) c.index-block.ensures in
-    subst IsRising (sym c.as_slice.ensures.value) (rising_in bs h.starts (c.args.number / 1024) b is h.rising)
+    let is = slice_get_read bs (length bs) (c.args.number / 512) b refl (slice_get_within bs (c.args.number / 512) own.0 own.1) c.index-block.ensures in
+    subst IsRising (sym c.as_slice.ensures.value) (rising_in bs h.starts (c.args.number / 512) b is h.rising)
 
 pub place_of-requires-clause-there : goal.place_of-requires-clause-there
 place_of-requires-clause-there c =
@@ -33,7 +33,7 @@ place_of-requires-clause-there c =
     let h = c.self.invariant.0 in
     let there : (i : ℕ) × (slice_get (joined bs) i ≡ Some c.args.number) = rw (← c.self.view_is) at c.requires in
     let own = own_block bs c.self.inside.end h there.0 c.args.number there.1 in
-    let is = slice_get_read bs (length bs) (c.args.number / 1024) b refl (slice_get_within bs (c.args.number / 1024) own.0 own.1) c.index-block.ensures in
+    let is = slice_get_read bs (length bs) (c.args.number / 512) b refl (slice_get_within bs (c.args.number / 512) own.0 own.1) c.index-block.ensures in
     let same = same_Some own.0 b (sym own.1 ∙ is) in
     (own.2.0, ap (λ l. slice_get l own.2.0) (c.as_slice.ensures.value ∙ ap (λ (d : Block). d.numbers.items) (sym same)) ∙ own.2.1)
 
@@ -44,8 +44,8 @@ overflow_add-result c =
     let h = c.self.invariant.0 in
     let there : (i : ℕ) × (slice_get (joined bs) i ≡ Some c.args.number) = rw (← c.self.view_is) at c.requires in
     let own = own_block bs c.self.inside.end h there.0 c.args.number there.1 in
-    let is = slice_get_read bs (length bs) (c.args.number / 1024) b refl (slice_get_within bs (c.args.number / 1024) own.0 own.1) c.index-block.ensures in
-    let o = h.blocks (c.args.number / 1024) b is in
+    let is = slice_get_read bs (length bs) (c.args.number / 512) b refl (slice_get_within bs (c.args.number / 512) own.0 own.1) c.index-block.ensures in
+    let o = h.blocks (c.args.number / 512) b is in
     let few = o.few in
     let low = o.low in
     let reached = o.reached in
@@ -60,6 +60,6 @@ returns c =
     let h = c.self.invariant.0 in
     let there : (i : ℕ) × (slice_get (joined bs) i ≡ Some c.args.number) = rw (← c.self.view_is) at c.requires in
     let own = own_block bs c.self.inside.end h there.0 c.args.number there.1 in
-    let is = slice_get_read bs (length bs) (c.args.number / 1024) b refl (slice_get_within bs (c.args.number / 1024) own.0 own.1) c.index-block.ensures in
+    let is = slice_get_read bs (length bs) (c.args.number / 512) b refl (slice_get_within bs (c.args.number / 512) own.0 own.1) c.index-block.ensures in
     let at = subst (λ l. slice_get l c.place_of.result ≡ Some c.args.number) c.as_slice.ensures.value c.place_of.ensures in
-    rw (← c.self.view_is) (number_in bs h.starts (c.args.number / 1024) b is c.place_of.result (slice_get_within b.numbers.items c.place_of.result c.args.number at) ∙ at)
+    rw (← c.self.view_is) (number_in bs h.starts (c.args.number / 512) b is c.place_of.result (slice_get_within b.numbers.items c.place_of.result c.args.number at) ∙ at)
