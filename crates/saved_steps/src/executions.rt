@@ -12,7 +12,7 @@ ghost use Rattle.step_names.specs.Thread.{Thread};
 ghost use Rattle.saved_steps.specs.First.{IsFirstReady, NoneFreeBefore};
 ghost use Rattle.saved_steps.specs.Places.{tree_in, rows_at, frames_in, paths_of, put_at, with_thread};
 
-use crate::first::{first_among, go_on};
+use crate::first::{first_among, go_on, wake};
 use crate::places;
 use crate::places::{Places, Trees};
 use crate::quiet::Quiet;
@@ -81,7 +81,8 @@ impl Executions {
         requires { get_by_text self.old.trees exec.now ≡ Some None }
         ensures { (e : List ℕ) → tree_in self.new.trees e ≡ (if bytes_eq exec.now e then Some tree else tree_in self.old.trees e) }
     {
-        self.quiet.wake(exec);
+        wake(&self.places.trees, &mut self.quiet, exec);
+        self.quiet.stays = false;
         places::put_tree(&mut self.places.trees, exec, tree);
     }
 
@@ -89,7 +90,8 @@ impl Executions {
     pub(crate) fn remove_tree(&mut self, exec: &str)
         ensures { (e : List ℕ) → tree_in self.new.trees e ≡ (if bytes_eq exec.now e then None else tree_in self.old.trees e) }
     {
-        self.quiet.wake(exec);
+        wake(&self.places.trees, &mut self.quiet, exec);
+        self.quiet.stays = false;
         places::remove_tree(&mut self.places.trees, exec);
     }
 
@@ -100,7 +102,7 @@ impl Executions {
         ensures was { frames_in self.old.trees thread.now ≡ Some result }
         ensures frames { (t : Thread) → frames_in self.new.trees t ≡ with_thread (frames_in self.old.trees) thread.now frame t }
     {
-        self.quiet.wake(thread.exec());
+        wake(&self.places.trees, &mut self.quiet, thread.exec());
         places::replace(&mut self.places.trees, thread, frame)
     }
 
@@ -112,7 +114,7 @@ impl Executions {
         ensures frames { (t : Thread) → frames_in self.new.trees t ≡ put_at (frames_in self.old.trees) thread.now (node_at frame kids.items) t }
         ensures tree { IsTree (paths_of (frames_in self.old.trees) thread.now.exec) }
     {
-        self.quiet.wake(thread.exec());
+        wake(&self.places.trees, &mut self.quiet, thread.exec());
         places::give(&mut self.places.trees, thread, frame, kids)
     }
 
@@ -125,7 +127,7 @@ impl Executions {
         ensures frames { (t : Thread) → frames_in self.new.trees t ≡ put_at (frames_in self.old.trees) thread.now (alone frame) t }
         ensures tree { IsTree (paths_of (frames_in self.old.trees) thread.now.exec) }
     {
-        self.quiet.wake(thread.exec());
+        wake(&self.places.trees, &mut self.quiet, thread.exec());
         places::take(&mut self.places.trees, thread, frame)
     }
 

@@ -1,13 +1,14 @@
 // The first thread that has a move.
-ghost use Rattle.std.specs.Prelude.{◌≡◌, ◌⊎◌, [], Bool, true, None, Some, IfOk, IfSome, MatchOption};
+ghost use Rattle.std.specs.Prelude.{◌≡◌, ◌⊎◌, ℕ, List, [], Bool, true, false, None, Some, IfOk, IfSome, MatchOption};
 ghost use Rattle.std.specs.Bool.{OnTrue};
 ghost use Rattle.std.specs.BTreeSet.{contains};
+ghost use Rattle.std.specs.Str.{bytes_eq};
 ghost use Rattle.std.specs.String.{string_bytes};
 ghost use Rattle.branch_tree.specs.First.{IsFirst};
 ghost use Rattle.branch_tree.specs.Tree.{frame_at};
 ghost use Rattle.step_names.specs.Order.{thread_cmp};
 ghost use Rattle.step_names.specs.Thread.{Thread, execution};
-ghost use Rattle.saved_steps.specs.First.{AreQuiet, IsFirstReady, NoneFreeBefore};
+ghost use Rattle.saved_steps.specs.First.{AreQuiet, IsFirstReady, IsGoneBy, NoneFreeBefore};
 ghost use Rattle.saved_steps.specs.Held.{rows_at, frames_in};
 
 use crate::places::Trees;
@@ -187,11 +188,14 @@ fn raise(trees: &Trees, quiet: &mut Quiet)
     }
 }
 
-/// Goes by what has ended, the one that was awake too.
+/// Goes by what has ended, the one that was awake too. Looks at nothing where the name can't have to go on.
 pub(crate) fn go_on(trees: &Trees, quiet: &mut Quiet)
     requires { AreQuiet trees.now (string_bytes quiet.old.name) (string_bytes quiet.old.awake) }
     ensures { AreQuiet trees.now (string_bytes quiet.new.name) (string_bytes quiet.new.awake) }
 {
+    if quiet.stays {
+        return;
+    }
     if !quiet.make_room() {
         return;
     }
@@ -199,4 +203,30 @@ pub(crate) fn go_on(trees: &Trees, quiet: &mut Quiet)
         quiet.awake.clear();
     }
     raise(trees, quiet);
+    quiet.stays = true;
+}
+
+/// Lets the execution that is awake sleep where another is to wake, if it has no thread with a move any more. So the name stays where
+/// executions are undone and go on one after another.
+fn let_sleep(trees: &Trees, quiet: &mut Quiet, exec: &str)
+    requires { AreQuiet trees.now (string_bytes quiet.old.name) (string_bytes quiet.old.awake) }
+    ensures { AreQuiet trees.now (string_bytes quiet.new.name) (string_bytes quiet.new.awake) }
+{
+    if quiet.awake.is_empty() || quiet.awake.as_str() == exec {
+        return;
+    }
+    if sleeps_again(trees, quiet) {
+        quiet.awake.clear();
+    }
+}
+
+/// Goes by an execution no more. Takes no memory: a look-up where another one is awake.
+pub(crate) fn wake(trees: &Trees, quiet: &mut Quiet, exec: &str)
+    requires { AreQuiet trees.now (string_bytes quiet.old.name) (string_bytes quiet.old.awake) }
+    ensures quiet { AreQuiet trees.now (string_bytes quiet.new.name) (string_bytes quiet.new.awake) }
+    ensures wakes { (e : List ℕ) → (bytes_eq [] e ≡ false) → IsGoneBy (string_bytes quiet.new.name) (string_bytes quiet.new.awake) e
+        → bytes_eq exec.now e ≡ false }
+{
+    let_sleep(trees, quiet, exec);
+    quiet.wake(exec);
 }

@@ -104,11 +104,11 @@ impl World {
         })
     }
 
-    /// The bound of the fork over a thread that has made no move; else 0.
+    /// The bound of the fork over a thread that has made no move; else 0, and of an execution's own thread, without a look-up.
     fn first_bound(&self, thread: &ThreadName, frame: &Frame) -> u32
         ensures { result ≡ first_bound (frames_of self.now) thread.now frame.now }
     {
-        if frame.count != 0 {
+        if frame.count != 0 || thread.is_execution() {
             return 0;
         }
         bound_over(self.executions.trees(), thread)

@@ -18,6 +18,9 @@ const LONGEST_NAME: usize = 64;
 pub(crate) struct Quiet {
     pub(crate) name: String,
     pub(crate) awake: String,
+    /// Whether what has ended was gone by, and since then neither the execution of this name changed nor one was started. It saves
+    /// looks, and no promise rests on it.
+    pub(crate) stays: bool,
 }
 
 impl Quiet {
@@ -28,6 +31,7 @@ impl Quiet {
         Quiet {
             name: String::new(alloc),
             awake: String::new(alloc),
+            stays: false,
         }
     }
 
@@ -48,7 +52,8 @@ impl Quiet {
     {
         match exec.cmp(self.name.as_str()) {
             Ordering::Less => wake_before(&mut self.name, &mut self.awake, exec),
-            _ => {}
+            Ordering::Equal => self.stays = false,
+            Ordering::Greater => {}
         }
     }
 }

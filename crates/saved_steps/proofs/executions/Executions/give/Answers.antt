@@ -6,5 +6,7 @@ use Rattle.saved_steps.proofs.executions.Executions.give.Goals as goal
 
 pub invariant_of-self : goal.invariant_of-self
 invariant_of-self c =
-    kept_quiet c.self.inside.places.trees c.give.new.trees (string_bytes c.self.inside.quiet.name) (string_bytes c.self.inside.quiet.awake) (string_bytes c.wake.new.self.name) (string_bytes c.wake.new.self.awake) c.self.invariant
-    (λ e named l. let low = c.wake.ensures e named l in (low.0, c.give.ensures.others e (subst (λ (x : List ℕ). bytes_eq x e ≡ false) c.exec.ensures.exec low.1)))
+    let name = string_bytes c.wake.new.quiet.name in
+    let awake = string_bytes c.wake.new.quiet.awake in
+    kept_quiet c.self.inside.places.trees c.give.new.trees name awake name awake c.wake.ensures.quiet
+    (λ e named l. (l, c.give.ensures.others e (subst (λ (x : List ℕ). bytes_eq x e ≡ false) c.exec.ensures.exec (c.wake.ensures.wakes e named l))))

@@ -7,5 +7,7 @@ use Rattle.saved_steps.proofs.executions.Executions.put_tree.Goals as goal
 pub invariant_of-self : goal.invariant_of-self
 invariant_of-self c =
     let was = c.self.inside.places.trees in
-    kept_quiet was c.put_tree.new.trees (string_bytes c.self.inside.quiet.name) (string_bytes c.self.inside.quiet.awake) (string_bytes c.wake.new.self.name) (string_bytes c.wake.new.self.awake) c.self.invariant
-    (λ e named l. let low = c.wake.ensures e named l in (low.0, c.put_tree.ensures e ∙ ap (λ (b : Bool). cond b (Some c.args.tree) (tree_in was e)) low.1))
+    let name = string_bytes c.wake.new.quiet.name in
+    let awake = string_bytes c.wake.new.quiet.awake in
+    kept_quiet was c.put_tree.new.trees name awake name awake c.wake.ensures.quiet
+    (λ e named l. (l, c.put_tree.ensures e ∙ ap (λ (b : Bool). cond b (Some c.args.tree) (tree_in was e)) (c.wake.ensures.wakes e named l)))
