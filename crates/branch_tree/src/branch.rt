@@ -6,7 +6,7 @@ ghost use Rattle.branch_tree.specs.FlatMap.{IsTree, is_parked, with_frame, graft
 ghost use Rattle.branch_tree.specs.Bounds.{bound_in};
 ghost use Rattle.branch_tree.specs.Leading.{IsFork};
 ghost use Rattle.branch_tree.specs.Ready.{frame_is, is_done, has_failed, is_unmoved, may_begin, progress, root_readiness};
-ghost use Rattle.branch_tree.specs.Tree.{leaf, frame_at, node_at, IsNode};
+ghost use Rattle.branch_tree.specs.Tree.{leaf, flat, frame_at, node_at, IsNode};
 
 use crate::counts::{Counts, NONE, count, counts_after, is_in_turn};
 use crate::readiness::Readiness;
@@ -76,6 +76,14 @@ impl Branch {
         ensures { frame_at self.now [] ≡ Some result.now }
     {
         &self.frame
+    }
+
+    /// The branches of the fork that it is parked over, in their order; none where it isn't parked. Takes no memory.
+    pub fn branches(&self) -> &[Branch]
+        ensures rows { IsSomeAnd (frame_at self.now []) (λ f. self.now ≡ flat f result.now) }
+        ensures node { IsSomeAnd (frame_at self.now []) (λ f. IsNode f result.now) }
+    {
+        self.kids.as_slice()
     }
 
     /// The frame, without the branches under it.
