@@ -1,5 +1,6 @@
 pub mod Taken
 pub mod Served
+pub mod Handed
 pub mod Replied
 pub mod Sessions
 pub mod Json

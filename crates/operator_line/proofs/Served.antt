@@ -1,5 +1,5 @@
 -- Serving, one part after another.
-use Rattle.std.proofs.Common.{rules, ◌≡◌, ℕ, ◌-◌, ◌≤◌, Bool, true, false, cond, List, [], ◌∷◌, ◌++◌, length, take, drop, Option, None, Some, refl, sym, ap, subst, ◌∙◌, append_assoc, append-nil, arith, length-append}
+use Rattle.std.proofs.Common.{rules, ◌≡◌, ℕ, ◌-◌, ◌≤◌, Bool, true, false, cond, List, [], ◌∷◌, ◌++◌, length, take, drop, Option, None, Some, inl, refl, sym, ap, subst, ◌∙◌, append_assoc, append-nil, arith, length-append}
 use Rattle.std.specs.Prelude.{nat_le, ◌==◌, suc, Result, Ok, Err, IfSome, IfErr, OnOk}
 use lib.Pointwise.{pointwise}
 use lib.ListN.{length-take}
@@ -9,6 +9,7 @@ use Rattle.book_log.specs.Log.{Log}
 use Rattle.operator_line.specs.Lines.{grown, kept, within_limit, without_return, ended_line, last_line}
 use Rattle.operator_line.specs.Texts.{lines_of, lines_after, has_no_feed}
 use Rattle.operator_line.specs.Answers.{AnswersLine, AnswersLines}
+use Rattle.reply_lines.specs.Replies.{memory_reply}
 use Rattle.operator_line.specs.Serving.{AnswersUntil, AnswersBefore, AnswersPart, AnswersUpTo, AnswersFailed, AnswersRead, FailsLine, fails, has_failed, WritesPart, WritesReply, ServesLine, ServesLast, ServesPiece, ServesRead, Serves}
 use Rattle.operator_line.specs.declared.serving.ServeFault.{ServeFault}
 use Rattle.operator_line.specs.declared.serving.ServeFault.TheVariants.{Read, Write, Journal, Memory}
@@ -87,6 +88,20 @@ part-whole line reply a b o n h k = record {
   appended = k;
 }
 
+-- a line that may be told that memory was refused, and is
+answers-memory : (line : Option (List ℕ)) (a b : Option Log) → (line ≡ Some [] → ⊥) → b ≡ a → AnswersLine a line memory_reply b
+answers-memory None a b some same = inl (refl, same)
+answers-memory (Some []) a b some same = absurd (some refl)
+answers-memory (Some (x ∷ xs)) a b some same = inl (refl, same)
+
+pub memory-told : (r : Result Unit ServeFault) (line : Option (List ℕ)) (a b : Option Log) (o n : Option (List ℕ)) → (line ≡ Some [] → ⊥) → b ≡ a → WritesReply r memory_reply o n → ServesLine r line a b o n
+memory-told (Ok u) line a b o n some same w = (memory_reply, answers-memory line a b some same, w)
+memory-told (Err Write) line a b o n some same w =
+    record { written = w.0; unwritten = w.1; replied = subst (λ (reply : List ℕ). AnswersLine a line reply b) w.2 (answers-memory line a b some same); appended = w.3 }
+memory-told (Err Read) line a b o n some same w = absurd w
+memory-told (Err Journal) line a b o n some same w = absurd w
+memory-told (Err Memory) line a b o n some same w = absurd w
+
 -- ---- lines
 
 kept-by : (front more : List ℕ) (fits : Bool) → nat_le (length front) 1048577 ≡ fits → grown more (cond fits (Some front) None) ≡ kept (front ++ more)
@@ -125,10 +140,10 @@ lines-more [] front rest h = ap (λ (l : List ℕ). lines_after l rest) (sym (ap
 lines-more (c ∷ bytes) front rest h = lines-step c bytes front rest (c == 10) refl h (λ f more. lines-more bytes f rest more)
 
 -- and a line feed ends it
-lines-feed : (bytes front rest : List ℕ) → has_no_feed bytes ≡ true → lines_after front (bytes ++ 10 ∷ rest) ≡ within_limit (without_return (front ++ bytes)) ∷ lines_after [] rest
+pub lines-feed : (bytes front rest : List ℕ) → has_no_feed bytes ≡ true → lines_after front (bytes ++ 10 ∷ rest) ≡ within_limit (without_return (front ++ bytes)) ∷ lines_after [] rest
 lines-feed bytes front rest h = lines-more bytes front (10 ∷ rest) h
 
-ended-is : (front bytes : List ℕ) → ended_line (grown bytes (kept front)) ≡ within_limit (without_return (front ++ bytes))
+pub ended-is : (front bytes : List ℕ) → ended_line (grown bytes (kept front)) ≡ within_limit (without_return (front ++ bytes))
 ended-is front bytes = ap ended_line (kept-grown front bytes) ∙ ended-kept (front ++ bytes)
 
 -- ---- one line
@@ -231,7 +246,7 @@ rest-kept front piece tail rest s t o n h until more =
 
 -- ---- the last line
 
-last-by : (b : ℕ) (bytes : List ℕ) (fits : Bool) → nat_le (length (b ∷ bytes)) 1048577 ≡ fits → last_line (cond fits (Some (b ∷ bytes)) None) ≡ Some (within_limit (b ∷ bytes))
+pub last-by : (b : ℕ) (bytes : List ℕ) (fits : Bool) → nat_le (length (b ∷ bytes)) 1048577 ≡ fits → last_line (cond fits (Some (b ∷ bytes)) None) ≡ Some (within_limit (b ∷ bytes))
 last-by b bytes true e = refl
 last-by b bytes false e =
     let long : nat_le (length (b ∷ bytes)) 1048576 ≡ false = grind (rules, e) in

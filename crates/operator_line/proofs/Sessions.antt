@@ -1,5 +1,5 @@
 -- Sessions with a book, and without.
-use Rattle.std.proofs.Common.{◌≡◌, ℕ, List, [], ◌∷◌, Bool, true, false, if◌then◌else◌, Option, None, Some, Ok, Err, OnOk, OnErr, inl, inr, refl, sym, ap, subst}
+use Rattle.std.proofs.Common.{◌≡◌, ℕ, List, [], ◌∷◌, Bool, true, false, if◌then◌else◌, Option, None, Some, Ok, Err, OnOk, OnErr, inl, inr, refl, sym, ap, subst, arith}
 use Rattle.std.specs.Prelude.{Result, is_some, IfOk, IfSome, IsSome}
 use Rattle.std.specs.Str.{is_utf8}
 use Rattle.std.specs.declared.alloc.AllocError.{AllocError}
@@ -8,14 +8,14 @@ use Rattle.book_log.specs.declared.entry.Entry.{Entry}
 use Rattle.command_lines.specs.Grammar.{CommandView, command_of, text_command, command_view}
 use Rattle.command_lines.specs.declared.command.Command.{Command}
 use Rattle.command_lines.specs.declared.command.Command.TheVariants.{Table, Define, Start, Step, Undo, Plan, Rollback, Settle, Hold, Drive, Work, Show, Items, History, Held}
-use Rattle.sqlite.specs.State.{State}
+use Rattle.sqlite.specs.State.{State, HasCleanDisk}
 use Rattle.journaled_book.specs.Book.{BookView}
-use Rattle.journaled_book.specs.Changes.{Appends}
+use Rattle.journaled_book.specs.Changes.{Appends, AppendsAll}
 use Rattle.journaled_book.specs.Journaled.{log_of, with_entry}
 use Rattle.reply_lines.specs.Replies.{refused}
 use Rattle.operator_line.specs.Answers.{AnswersOpen, AnswersClosed, AnswersCommand, AnswersView}
 use Rattle.operator_line.specs.Answering.{AnswersBy, AnswersTextBy, is_work}
-use Rattle.operator_line.specs.Sessions.{KeepsLine}
+use Rattle.operator_line.specs.Sessions.{KeepsLine, KeepsOne, KeepsRead, WasClean}
 use Rattle.operator_line.specs.declared.session.Answered.{Answered}
 use Rattle.operator_line.specs.declared.session.Answered.TheVariants.{Told, Lost}
 
@@ -103,7 +103,18 @@ no_round Held apart = refl
 
 -- ---- the line of a command
 
+-- a disk that is clean after lines were appended, or refused, was so before
+pub appended_clean : {T E : Type 0} → (old new : State) (more : List (List ℕ)) (r : Result T E) → AppendsAll old new more r → HasCleanDisk new → HasCleanDisk old
+appended_clean old new more r appended clean = let less = appended.survives.clean in omega (arith, less, clean)
+
 -- a command's line is appended, or the journal is as it was
 pub kept_by : {S T E : Type 0} → (shown : S → State) (line : List ℕ) (old new : S) (r : Result T E) → Appends (shown old) (shown new) line r → KeepsLine shown line old new
-kept_by shown line old new (Ok done) appended = record { lines = λ clean. inl (appended.ok clean) }
-kept_by shown line old new (Err fault) appended = record { lines = λ clean. inr (appended.err clean) }
+kept_by shown line old new (Ok done) appended = record { lines = λ clean. inl (appended.ok clean); clean = appended_clean (shown old) (shown new) (line ∷ []) (Ok done) appended }
+kept_by shown line old new (Err fault) appended = record { lines = λ clean. inr (appended.err clean); clean = appended_clean (shown old) (shown new) (line ∷ []) (Err fault) appended }
+
+-- what a line kept tells of the disk
+pub kept_clean : {S : Type 0} → (shown : S → State) (line : List ℕ) (old new : S) → KeepsLine shown line old new → WasClean shown old new
+kept_clean shown line old new kept = kept.clean
+
+pub kept_one : {S : Type 0} → (shown : S → State) (line : Option (List ℕ)) (old new : S) → KeepsRead shown line old new → WasClean shown old new → KeepsOne shown line old new
+kept_one shown line old new kept clean = record { read = kept; clean = clean }

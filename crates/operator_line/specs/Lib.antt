@@ -3,6 +3,7 @@ pub mod Texts
 pub mod Answers
 pub mod LineLaws
 pub mod Serving
+pub mod Handing
 pub mod Driving
 pub mod Sessions
 pub mod Answering

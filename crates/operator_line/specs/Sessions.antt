@@ -46,11 +46,21 @@ has_own_lines (Some (command_view.drive count)) = true
 has_own_lines (Some (command_view.work workers moves)) = true
 has_own_lines _ = false
 
+-- a disk that is clean was so before
+abbrev pub WasClean : {S : Type 0} → (S → State) → S → S → Type 0
+WasClean shown old new = HasCleanDisk (shown new) → HasCleanDisk (shown old)
+
 -- While the disk is clean, the journal's lines are those from before, or those and this line behind them.
 pub record KeepsLine {S : Type 0} (shown : S → State) (line : List ℕ) (old new : S) : Type 0 where
   pub lines : HasCleanDisk (shown new) → HasLines (shown old) (shown new) (line ∷ []) ⊎ IsSame (shown old) (shown new)
+  pub clean : WasClean shown old new
 
 -- what was read of a line that is no such command's; of one that is too long nothing is kept
 abbrev pub KeepsRead : {S : Type 0} → (S → State) → Option (List ℕ) → S → S → Type 0
 KeepsRead shown None old new = HasCleanDisk (shown new) → IsSame (shown old) (shown new)
 KeepsRead shown (Some line) old new = has_own_lines (command_of line) ≡ false → KeepsLine shown line old new
+
+-- the same of each line that is read, and the disk of one line's journal that is clean was so before it
+pub record KeepsOne {S : Type 0} (shown : S → State) (line : Option (List ℕ)) (old new : S) : Type 0 where
+  pub read : KeepsRead shown line old new
+  pub clean : WasClean shown old new

@@ -1,8 +1,9 @@
 // Steps that are taken one after another.
 ghost use Rattle.std.specs.Prelude.{◌≡◌, ◌+◌, ◌<◌, ◌^◌, [], false, IfOk, IfErr, IfSome, IsSome, string_bytes, string_len, OnOk, OnErr};
+ghost use Rattle.sqlite.specs.Held.{state};
 ghost use Rattle.operator_line.specs.Answers.{AnswersDrive};
 ghost use Rattle.operator_line.specs.Driving.{AddsThread, Grows, IsFirst, PassesBy, TakenOf, TakesOneOf, passed_in};
-ghost use Rattle.operator_line.specs.Sessions.{log_in};
+ghost use Rattle.operator_line.specs.Sessions.{WasClean, log_in};
 ghost use Rattle.reply_lines.specs.Replying.{AreLines, has_room_for_lines};
 
 use crate::open_session::refuse_change;
@@ -39,6 +40,7 @@ pub(crate) fn drive<S: Alter>(
     requires empty { string_bytes reply.old.text ≡ [] }
     ensures ok { IfSome (log_in book.old) (λ log. OnOk result (AnswersDrive log count (string_bytes reply.new.text) (log_in book.new))) }
     ensures err { OnErr result (log_in book.new ≡ log_in book.old) }
+    ensures clean { WasClean (λ held. state S.Store held) book.old.journal book.new.journal }
 {
     let mut lines = Lines::new(alloc);
     reply.reserve_lines(&lines)?;
@@ -62,6 +64,7 @@ fn take_steps<S: Alter>(
     ensures taken { TakenOf count (log_in book.old) (log_in book.new) lines.new result }
     ensures text { string_bytes reply.new.text ≡ string_bytes reply.old.text }
     ensures room { has_room_for_lines reply.new.text (string_len lines.new.text) }
+    ensures clean { WasClean (λ held. state S.Store held) book.old.journal book.new.journal }
 {
     let mut passed = BTreeSet::new(alloc);
     let mut left = count;
@@ -91,6 +94,7 @@ fn take_step<S: Alter>(
     ensures open { IsSome book.new.book }
     ensures text { string_bytes reply.new.text ≡ string_bytes reply.old.text }
     ensures room { has_room_for_lines reply.new.text (string_len lines.new.text) }
+    ensures clean { WasClean (λ held. state S.Store held) book.old.journal book.new.journal }
 {
     lines.reserve_step()?;
     reply.reserve_lines(lines)?;

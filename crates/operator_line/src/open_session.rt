@@ -5,7 +5,7 @@ ghost use Rattle.journaled_book.specs.Lines.{IsBeginLine};
 ghost use Rattle.journaled_book.specs.Making.{IsPlanned};
 ghost use Rattle.operator_line.specs.Answering.{is_work};
 ghost use Rattle.operator_line.specs.Answers.{AnswersBeginning, AnswersCommand, change_reply, left_names};
-ghost use Rattle.operator_line.specs.Sessions.{KeepsLine, has_own_lines, log_in};
+ghost use Rattle.operator_line.specs.Sessions.{KeepsLine, WasClean, has_own_lines, log_in};
 ghost use Rattle.command_lines.specs.Grammar as grammar;
 ghost use Rattle.command_lines.specs.Grammar.{command_of, command_view};
 ghost use Rattle.reply_lines.specs.Replies.{json_reply, item_fault_reply, names_reply};
@@ -59,6 +59,7 @@ impl<S: Alter> Model for OpenSession<S> {
 
 impl<S: Alter> OpenSession<S> {
     /// What a command does that isn't a round of workers, and its reply.
+    #[tactic(auto, using(crate::proofs::Sessions::kept_clean))]
     pub(crate) fn run(
         &mut self,
         command: Command<'_>,
@@ -71,6 +72,7 @@ impl<S: Alter> OpenSession<S> {
         ensures ok { OnOk result (AnswersCommand (log_in self.old) (command_view command.entry) (string_bytes reply.new.text) (log_in self.new)) }
         ensures err { OnErr result (log_in self.new ≡ log_in self.old) }
         ensures kept { has_own_lines (Some (command_view command.entry)) ≡ false → KeepsLine (λ held. state S.Store held) line.now self.old.journal self.new.journal }
+        ensures clean { WasClean (λ held. state S.Store held) self.old.journal self.new.journal }
     {
         match command {
             Command::Table {
@@ -346,6 +348,7 @@ impl<S: Alter> OpenSession<S> {
         requires { string_bytes reply.old.text ≡ [] }
         ensures ok { OnOk result (AnswersCommand (log_in self.old) (grammar.drive count) (string_bytes reply.new.text) (log_in self.new)) }
         ensures err { OnErr result (log_in self.new ≡ log_in self.old) }
+        ensures clean { WasClean (λ held. state S.Store held) self.old.journal self.new.journal }
     {
         if !self.book.is_open() {
             return reply.refuse(NO_TABLE);

@@ -1,10 +1,12 @@
 // Serving an input: line after line, its reply is written before the next is read.
-ghost use Rattle.std.specs.Prelude.{◌≡◌, ◌<◌, ◌≤◌, ℕ, List, ◌∷◌, ◌++◌, [], true, false, Some, None, Ok, Err, IfSome, IfErr, IsTrue, length, slice_index, take, MatchOption, OnOk};
+ghost use Rattle.std.specs.Prelude.{◌≡◌, ◌⊎◌, ◌<◌, ◌≤◌, ℕ, List, ◌∷◌, ◌++◌, [], true, false, Some, None, Ok, Err, IfSome, IfErr, IsTrue, length, slice_index, take, MatchOption, OnOk, OnErr};
 ghost use Rattle.std.specs.Io.KnownBytes.{Keeps};
 ghost use Rattle.operator_line.specs.Lines.{grown, ended_line, last_line, bytes_of, kept};
 ghost use Rattle.operator_line.specs.Serving.{AnswersRead, IsGone, has_failed, lost_reply, ServesLast, ServesLine, ServesPiece, ServesRead, Serves, WritesPart, WritesReply};
-ghost use Rattle.operator_line.specs.Sessions.{session_log};
-ghost use Rattle.operator_line.specs.Texts.{has_no_feed};
+ghost use Rattle.operator_line.specs.Handing.{Hands, HandsLast, HandsPiece, HandsRead};
+ghost use Rattle.operator_line.specs.Sessions.{KeepsOne, session_log};
+ghost use Rattle.operator_line.specs.Texts.{has_no_feed, lines_of};
+ghost use Rattle.sqlite.specs.Held.{state};
 
 use crate::line::{Line, LineBuffer};
 use crate::session::{Answered, Session};
@@ -75,6 +77,7 @@ pub fn serve<T: Threads + Wait + Sync, R: Read, W: Write, S: Alter>(
     ensures whole { IfSome (R.remaining reader.old) (λ _. OnOk result (R.remaining reader.new ≡ Some [])) }
     ensures failed { session.old.is_failed ≡ false → session.new.is_failed ≡ has_failed result }
     ensures gone { session.old.is_failed ≡ true → IsGone result session.old session.new (R.remaining reader.old) (R.remaining reader.new) (W.contents writer.old) (W.contents writer.new) }
+    ensures handed { IfSome (R.remaining reader.old) (λ input. Hands (KeepsOne (λ held. state S.Store held)) result (lines_of input) session.old.journal session.new.journal) }
 {
     if session.is_failed() {
         return Err(ServeFault::Journal);
@@ -97,6 +100,7 @@ fn serve_all<T: Threads + Wait + Sync, R: Read, W: Write, S: Alter>(
         AnswersRead input (R.remaining reader.new) (session_log session.old) (session_log session.new) (W.contents writer.old) (W.contents writer.new)) }
     ensures whole { IfSome (R.remaining reader.old) (λ _. OnOk result (R.remaining reader.new ≡ Some [])) }
     ensures failed { session.new.is_failed ≡ has_failed result }
+    ensures handed { IfSome (R.remaining reader.old) (λ input. Hands (KeepsOne (λ held. state S.Store held)) result (lines_of input) session.old.journal session.new.journal) }
 {
     let Ok(mut piece) = vec![in alloc; 0u8; PIECE] else {
         return Err(ServeFault::Memory);
@@ -127,6 +131,8 @@ fn serve_read<T: Threads + Wait + Sync, R: Read, W: Write, S: Alter>(
     ensures failed { session.new.is_failed ≡ has_failed result }
     ensures read { (front : List ℕ) (text : List ℕ) → buffers.old.line ≡ kept front → R.remaining reader.old ≡ Some text
         → ServesRead result front text (R.remaining reader.new) buffers.new.line (session_log session.old) (session_log session.new) (W.contents writer.old) (W.contents writer.new) }
+    ensures handed { (front : List ℕ) (text : List ℕ) → buffers.old.line ≡ kept front → R.remaining reader.old ≡ Some text
+        → HandsRead (KeepsOne (λ held. state S.Store held)) result front text (R.remaining reader.new) buffers.new.line session.old.journal session.new.journal }
 {
     match reader.read(piece) {
         Ok(0) => Ok(false),
@@ -157,6 +163,7 @@ fn serve_piece<T: Threads + Wait + Sync, W: Write, S: Alter>(
     ensures failed { session.new.is_failed ≡ has_failed result }
     ensures piece { (front : List ℕ) → buffers.old.line ≡ kept front
         → ServesPiece result front piece.now buffers.new.line (session_log session.old) (session_log session.new) (W.contents writer.old) (W.contents writer.new) }
+    ensures handed { (front : List ℕ) → buffers.old.line ≡ kept front → HandsPiece (KeepsOne (λ held. state S.Store held)) result front piece.now buffers.new.line session.old.journal session.new.journal }
 {
     let mut rest = piece;
     let mut has_line = false;
@@ -206,6 +213,8 @@ fn serve_line<T: Threads + Wait + Sync, W: Write, S: Alter>(
     ensures failed { session.new.is_failed ≡ has_failed result }
     ensures answers { ServesLine result (ended_line (grown front.now buffers.old.line)) (session_log session.old) (session_log session.new) (W.contents writer.old) (W.contents writer.new) }
     ensures begun { OnOk result (buffers.new.line ≡ Some []) }
+    ensures handed { OnOk result (KeepsOne (λ held. state S.Store held) (ended_line (grown front.now buffers.old.line)) session.old.journal session.new.journal) }
+    ensures perhaps { OnErr result ((session.new.journal ≡ session.old.journal) ⊎ KeepsOne (λ held. state S.Store held) (ended_line (grown front.now buffers.old.line)) session.old.journal session.new.journal) }
 {
     add(&mut buffers.line, front)?;
     write_answer(
@@ -230,6 +239,7 @@ fn serve_last<T: Threads + Wait + Sync, W: Write, S: Alter>(
     requires here { session.old.is_failed ≡ false }
     ensures failed { session.new.is_failed ≡ has_failed result }
     ensures last { ServesLast result (last_line buffers.old.line) (session_log session.old) (session_log session.new) (W.contents writer.old) (W.contents writer.new) }
+    ensures handed { HandsLast (KeepsOne (λ held. state S.Store held)) (last_line buffers.old.line) session.old.journal session.new.journal }
 {
     let Some(last) = buffers.line.last() else {
         return Ok(());
@@ -249,7 +259,7 @@ fn add(line: &mut LineBuffer, bytes: &[u8]) -> Result<(), ServeFault>
 }
 
 /// Answers a line, and writes its reply.
-#[tactic(auto, using(crate::proofs::Served::write_keeps))]
+#[tactic(auto, using(crate::proofs::Served::write_keeps, crate::proofs::Sessions::kept_one))]
 fn write_answer<T: Threads + Wait + Sync, W: Write, S: Alter>(
     rt: &T,
     line: Line<'_>,
@@ -261,6 +271,7 @@ fn write_answer<T: Threads + Wait + Sync, W: Write, S: Alter>(
     ensures failed { session.new.is_failed ≡ has_failed result }
     ensures answers { ServesLine result (bytes_of line.entry) (session_log session.old) (session_log session.new) (W.contents writer.old) (W.contents writer.new) }
     ensures no_memory { result ≡ Err ServeFault.Memory → ⊥ }
+    ensures handed { KeepsOne (λ held. state S.Store held) (bytes_of line.entry) session.old.journal session.new.journal }
 {
     match session.answer(rt, line, reply) {
         Ok(Answered::Told) => write_all(writer, reply.as_bytes()),

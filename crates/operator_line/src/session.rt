@@ -8,7 +8,7 @@ ghost use Rattle.journaled_book.specs.Changes.{IsRead};
 ghost use Rattle.journaled_book.specs.Journaled.{IsJournalOf};
 ghost use Rattle.journaled_book.specs.Opening.{OpensTo, RefusesOpen};
 ghost use Rattle.operator_line.specs.Answering.{AnswersBy, AnswersTextBy, WorksBy, is_gone, is_lost, is_work};
-ghost use Rattle.operator_line.specs.Sessions.{KeepsLine, KeepsRead, has_own_lines, session_log, sitting_of};
+ghost use Rattle.operator_line.specs.Sessions.{KeepsLine, KeepsRead, WasClean, has_own_lines, session_log, sitting_of};
 ghost use Rattle.command_lines.specs.Grammar as grammar;
 ghost use Rattle.command_lines.specs.Grammar.{command_of, command_view};
 ghost use Rattle.operator_line.specs.Lines.{bytes_of};
@@ -145,6 +145,7 @@ impl<S: Alter> Session<S> {
         ensures kept { KeepsRead (λ held. state S.Store held) (bytes_of line.entry) self.old.journal self.new.journal }
         ensures empty { bytes_of line.entry ≡ Some [] → OnErr result ⊥ }
         ensures failed { self.new.is_failed ≡ is_lost result }
+        ensures clean { WasClean (λ held. state S.Store held) self.old.journal self.new.journal }
     {
         reply.clear();
         match line {
@@ -166,6 +167,7 @@ impl<S: Alter> Session<S> {
         ensures err { OnErr result (session_log self.new ≡ session_log self.old) }
         ensures kept { has_own_lines (command_of line.now) ≡ false → KeepsLine (λ held. state S.Store held) line.now self.old.journal self.new.journal }
         ensures failed { self.new.is_failed ≡ is_lost result }
+        ensures clean { WasClean (λ held. state S.Store held) self.old.journal self.new.journal }
     {
         match str::from_utf8(line) {
             Ok(text) => self.answer_text(rt, text, reply),
@@ -186,6 +188,7 @@ impl<S: Alter> Session<S> {
         ensures err { OnErr result (session_log self.new ≡ session_log self.old) }
         ensures kept { has_own_lines (command_of line.now) ≡ false → KeepsLine (λ held. state S.Store held) line.now self.old.journal self.new.journal }
         ensures failed { self.new.is_failed ≡ is_lost result }
+        ensures clean { WasClean (λ held. state S.Store held) self.old.journal self.new.journal }
     {
         match Command::read(self.alloc, line.as_bytes()) {
             Ok(Command::Work { workers, moves }) => self.work(rt, workers, moves, reply),
@@ -209,6 +212,7 @@ impl<S: Alter> Session<S> {
         ensures err { OnErr result (session_log self.new ≡ session_log self.old) }
         ensures kept { has_own_lines (Some (command_view command.entry)) ≡ false → KeepsLine (λ held. state S.Store held) line.now self.old.journal self.new.journal }
         ensures failed { self.new.is_failed ≡ is_lost result }
+        ensures clean { WasClean (λ held. state S.Store held) self.old.journal self.new.journal }
     {
         let Hand::Open(open) = &mut self.hand else {
             unreachable!()
@@ -229,6 +233,7 @@ impl<S: Alter> Session<S> {
         ensures ok { IfOk result (λ answered. AnswersTextBy answered (session_log self.old) (Some (grammar.work workers moves)) (string_bytes reply.new.text) (session_log self.new)) }
         ensures err { OnErr result (session_log self.new ≡ session_log self.old) }
         ensures failed { self.new.is_failed ≡ is_lost result }
+        ensures clean { WasClean (λ held. state S.Store held) self.old.journal self.new.journal }
     {
         let worked = replace_with(
             &mut self.hand,
@@ -238,6 +243,7 @@ impl<S: Alter> Session<S> {
                 requires few { (1 ≤ workers) × (workers ≤ 8) }
                 ensures worked { WorksBy result.1 (session_log (sitting_of hand)) workers moves (session_log (sitting_of result.0)) }
                 ensures failed { (sitting_of result.0).is_failed ≡ is_gone result.1 }
+                ensures clean { WasClean (λ held. state S.Store held) (sitting_of hand).journal (sitting_of result.0).journal }
             { work_on(rt, hand, workers, moves) },
         );
         match worked {

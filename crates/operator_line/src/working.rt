@@ -1,15 +1,16 @@
 // A round of workers on a session's book.
 ghost use Rattle.std.specs.Prelude.{◌≡◌, ◌+◌, ◌<◌, ◌≤◌, ◌^◌, ◌++◌, ◌∷◌, [], List, ℕ, Some, false, length, map, string_bytes, IfOk, IfErr, OnOk};
 ghost use Rattle.step_names.specs.Written.{step_text};
+ghost use Rattle.sqlite.specs.Held.{state};
 ghost use Rattle.book_journal.specs.Entries.{texts};
 ghost use Rattle.book_log.specs.declared.entry.Entry.{Entry as LogEntry};
 ghost use Rattle.book_rounds.specs.Rounds.{AreSteps};
 ghost use Rattle.step_workers.specs.Work.{IsStep};
-ghost use Rattle.journaled_book.specs.Journaled.{GoesOnBy, log_of};
+ghost use Rattle.journaled_book.specs.Journaled.{GoesOnBy, journal_of, log_of};
 ghost use Rattle.journaled_book.specs.Lines.{AreEntryLines};
 ghost use Rattle.operator_line.specs.Answering.{GoesOnFrom, IsToldOr, Settles, Stays, TellsNone, WorksBy, is_gone, since, stepped_names};
 ghost use Rattle.operator_line.specs.Answers.{HasNoRoom};
-ghost use Rattle.operator_line.specs.Sessions.{session_log, sitting_of};
+ghost use Rattle.operator_line.specs.Sessions.{WasClean, session_log, sitting_of};
 ghost use Rattle.reply_lines.specs.Replies.{names_reply, no_table, refused};
 ghost use Rattle.reply_lines.specs.Replying.{AreLines};
 
@@ -50,6 +51,7 @@ pub(crate) fn work_on<S: Alter, R: Threads + Wait + Sync>(
     requires few { (1 ≤ workers) × (workers ≤ 8) }
     ensures worked { WorksBy result.1 (session_log (sitting_of hand)) workers moves (session_log (sitting_of result.0)) }
     ensures failed { (sitting_of result.0).is_failed ≡ is_gone result.1 }
+    ensures clean { WasClean (λ held. state S.Store held) (sitting_of hand).journal (sitting_of result.0).journal }
 {
     let Hand::Open(open) = hand else {
         unreachable!()
@@ -99,6 +101,7 @@ fn open_again<S: Alter>(alloc: Global, away: AwayBook<S>, book: Book) -> Hand<S>
     requires { log_of away.book ≡ Some book.log }
     ensures same { session_log (sitting_of result) ≡ log_of away.book }
     ensures here { (sitting_of result).is_failed ≡ false }
+    ensures journal { (sitting_of result).journal ≡ away.journal }
 {
     Hand::Open(OpenSession {
         alloc,
@@ -149,6 +152,7 @@ fn settle<S: Alter>(alloc: Global, away: AwayBook<S>, book: Book, begun: usize) 
     requires few { length (since begun book.log) < 2 ^ 32 }
     ensures settled { Settles result.1 begun (log_of away.book) book.log (session_log (sitting_of result.0)) }
     ensures failed { (sitting_of result.0).is_failed ≡ is_gone result.1 }
+    ensures clean { WasClean (λ held. state S.Store held) away.journal (sitting_of result.0).journal }
 {
     let Ok((reply, lines)) = tell(alloc, &book.entries().1[begun..]) else {
         drop(book);
@@ -161,6 +165,7 @@ fn settle<S: Alter>(alloc: Global, away: AwayBook<S>, book: Book, begun: usize) 
 }
 
 /// Appends the lines of a book that went on by what they say.
+#[tactic(auto, using(crate::proofs::Sessions::appended_clean))]
 fn append<S: Alter>(
     alloc: Global,
     away: AwayBook<S>,
@@ -170,6 +175,7 @@ fn append<S: Alter>(
     requires { GoesOnBy (map string_bytes lines.now) (log_of away.book) book.log }
     ensures ok { IfOk result (λ back. back.book ≡ Some book) }
     ensures err { IfErr result (λ left. left.book ≡ away.book) }
+    ensures clean { WasClean (λ held. state S.Store held) away.journal (journal_of result) }
 {
     match texts_of(alloc, lines) {
         Ok(texts) => away.append(book, texts.as_slice()),

@@ -10,7 +10,8 @@ use Rattle.journaled_book.specs.Journaled.{with_entry}
 use Rattle.operator_line.specs.Answers.{IsLeastEnabled}
 use Rattle.operator_line.specs.Driving.{IsFirst, KeepsLines, passed_in}
 use Rattle.operator_line.proofs.Replied.{in_log}
-use Rattle.operator_line.proofs.Sessions.{some_entered, some_kept}
+use Rattle.sqlite.specs.Held.{state}
+use Rattle.operator_line.proofs.Sessions.{appended_clean, some_entered, some_kept}
 use Rattle.operator_line.proofs.Taken.{refused_turn}
 use Rattle.operator_line.proofs.driving.take_step.Goals as goal
 
@@ -57,3 +58,10 @@ returns-clause-step g c =
 
 pub returns-clause-open : goal.returns-clause-open
 returns-clause-open g c = some_entered c.args.book.now.book c.step.new.self.book (Stepped c.in-Ok.moved.name c.in-Ok.moved.kind) c.requires.open c.in-Ok.ensures.ok
+
+-- the disk, by what the step's line says of it
+pub returns-in-Err-clause-clean : goal.returns-in-Err-clause-clean
+returns-in-Err-clause-clean g c = appended_clean (state g.S.Store c.args.book.now.journal) (state g.S.Store c.step.new.self.journal) _ c.step.result c.step.ensures.journal
+
+pub returns-clause-clean : goal.returns-clause-clean
+returns-clause-clean g c = appended_clean (state g.S.Store c.args.book.now.journal) (state g.S.Store c.step.new.self.journal) _ c.step.result c.step.ensures.journal

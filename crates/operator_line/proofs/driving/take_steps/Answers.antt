@@ -22,6 +22,7 @@ loop-left-init g c = (
   c.requires.open,
   refl,
   c.requires.room,
+  λ clean. clean,
 )
 
 pub loop-left-preserved-in-Ok-Taken : goal.loop-left-preserved-in-Ok-Taken
@@ -33,6 +34,7 @@ loop-left-preserved-in-Ok-Taken g c = (
   c.in-Ok-Taken.ensures.open,
   c.in-Ok-Taken.ensures.text ∙ c.loop-left.invariant.2,
   c.in-Ok-Taken.ensures.room,
+  λ clean. c.loop-left.invariant.4 (c.in-Ok-Taken.ensures.clean clean),
 )
 
 pub loop-left-preserved : goal.loop-left-preserved
@@ -44,6 +46,7 @@ loop-left-preserved g c = (
   c.in-Ok-PassedBy.ensures.open,
   c.in-Ok-PassedBy.ensures.text ∙ c.loop-left.invariant.2,
   c.in-Ok-PassedBy.ensures.room,
+  λ clean. c.loop-left.invariant.4 (c.in-Ok-PassedBy.ensures.clean clean),
 )
 
 pub returns-in-Ok-NoMove-clause-taken : goal.returns-in-Ok-NoMove-clause-taken
@@ -65,3 +68,12 @@ returns-clause-taken g c =
     λ before held.
     let it = c.loop-left.invariant.0 before held in
     (it.0, it.1, all_taken c.args.count c.loop-left.left before it.0 c.loop-left.passed c.loop-left.lines (omega (arith, c.loop-left-test.false)) it.2)
+
+pub returns-in-Ok-NoMove-clause-clean : goal.returns-in-Ok-NoMove-clause-clean
+returns-in-Ok-NoMove-clause-clean g c clean = c.loop-left.invariant.4 (c.in-Ok-NoMove.ensures.clean clean)
+
+pub returns-in-Err-clause-clean : goal.returns-in-Err-clause-clean
+returns-in-Err-clause-clean g c clean = c.loop-left.invariant.4 (c.in-Err.ensures.clean clean)
+
+pub returns-clause-clean : goal.returns-clause-clean
+returns-clause-clean g c = c.loop-left.invariant.4

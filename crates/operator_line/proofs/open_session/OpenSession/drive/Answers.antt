@@ -16,3 +16,6 @@ returns-clause-ok g c =
     let after = log_in c.drive.new.book in
     rw (← c.self.view_is) (answers_open book (grammar.drive c.args.count) c.drive.result text after opened
     (λ b is. subst (λ (o : Option BookView). IfSome (log_of o) (λ log. OnOk c.drive.result (AnswersDrive log c.args.count text after))) is c.drive.ensures.ok))
+
+pub returns-clause-clean : goal.returns-clause-clean
+returns-clause-clean g c = rw (← c.self.view_is) c.drive.ensures.clean
