@@ -1,11 +1,13 @@
 // Running in a mode, over any streams and any store.
-ghost use Rattle.std.specs.Prelude.{◌≡◌, true, false, Err, is_some, option_map, IfOk, IfErr};
+ghost use Rattle.std.specs.Prelude.{◌≡◌, true, false, Err, is_some, option_map, IfOk, IfErr, IfSome};
 ghost use Rattle.sqlite.specs.Held.{state};
 ghost use Rattle.sqlite.specs.State.{HasCleanDisk};
 ghost use Rattle.book_journal.specs.Faults.{fault_of};
 ghost use Rattle.book_journal.specs.Kept.{IsOpened};
+ghost use Rattle.operator_line.specs.Handing.{Hands};
 ghost use Rattle.operator_line.specs.Serving.{WritesReply};
-ghost use Rattle.operator_line.specs.Sessions.{session_log};
+ghost use Rattle.operator_line.specs.Sessions.{KeepsOne, session_log};
+ghost use Rattle.operator_line.specs.Texts.{lines_of};
 ghost use Rattle.rollback_run.specs.Faults.{of_journal};
 ghost use Rattle.rollback_run.specs.Status.{GivesNone, Gives, HasOutcome, IsChecked, IsDone, IsPrinted, IsRefusal, IsRun, IsServed, IsStatus, Opens, OpensNone, Refuses, after_closing, is_check, is_left, sizes_of, sizes_text};
 
@@ -180,6 +182,8 @@ pub fn run_session<T: Threads + Wait + Sync, S: Alter, R: Read, W: Write>(
     ensures check { is_check mode.now ≡ true → session.new ≡ session.old }
     ensures failed { session.old.is_failed ≡ true → (result ≡ Err ExitCause.Store) × (session.new ≡ session.old)
         × (R.remaining reader.new ≡ R.remaining reader.old) × (W.contents writer.new ≡ W.contents writer.old) }
+    ensures handed { is_check mode.now ≡ false → IfSome (R.remaining reader.old) (λ input.
+        Hands (KeepsOne (λ held. state S.Store held)) result (lines_of input) session.old.journal session.new.journal) }
 {
     if session.is_failed() {
         return Err(ExitCause::Store);
@@ -198,7 +202,8 @@ fn serve_book<T: Threads + Wait + Sync, S: Alter, R: Read, W: Write>(
     writer: &mut W,
 ) -> Result<(), ExitCause>
     requires here { session.old.is_failed ≡ false }
-    ensures { IsServed result (session_log session.old) (session_log session.new) (R.remaining reader.old) (W.contents writer.old) (W.contents writer.new) }
+    ensures served { IsServed result (session_log session.old) (session_log session.new) (R.remaining reader.old) (W.contents writer.old) (W.contents writer.new) }
+    ensures handed { IfSome (R.remaining reader.old) (λ input. Hands (KeepsOne (λ held. state S.Store held)) result (lines_of input) session.old.journal session.new.journal) }
 {
     match serve(rt, alloc, reader, writer, session) {
         Ok(()) => Ok(()),
