@@ -154,6 +154,7 @@ def check_changes(page, threads, items):
         thread = name.rpartition("#")[0]
         ensure(before == frames.get(thread, before), f"{name} begins otherwise than the step before it ended: {before}")
         ensure((before == "not there") == (kind == "start"), f"before {name}: {before}")
+        ensure(after != "not there", f"after {name}: {after}")
         ensure(state == ("" if kind == "start" else json.loads(before.split(" ")[1])), f"the state of {name}: {state}")
         frames[thread] = after
         if kind.startswith("call"):

@@ -490,9 +490,8 @@ def check_plan(reference, text, at):
     return lines[len(plan) + 1 :]
 
 
-def check_ready(copy, lines, name, taken):
-    """The threads that are told to be ready again are those whose frames are other ones after the rollback, and ready. Left out are those
-    deeper than the branches of an undone join or terminate that lose no step: their frames are kept where --plan doesn't look."""
+def check_ready(copy, lines, name):
+    """The threads that are told to be ready again are those whose frames are other ones after the rollback, and ready."""
     before = copy.threads()
     ensure(copy.ask(f"rollback {name}")[0].startswith("ok "), "a rollback is refused")
     after = copy.threads()
@@ -500,7 +499,6 @@ def check_ready(copy, lines, name, taken):
         f"{thread} {told}"
         for thread, told in after.items()
         if told.startswith("ready") and before.get(thread) != told
-        if thread in taken or "/" not in thread or thread.rpartition("/")[0] in before
     }
     found = set(lines)
     ensure(wanted <= found, f"not told to be ready: {wanted - found}")
@@ -611,7 +609,7 @@ def check_plans(program, graph, journal, kept, reference, chance, drawn):
         copied = kept + ".copy"
         shutil.copy(kept, copied)
         drawn.session = Session(str(program), ["--journal", copied])
-        check_ready(drawn, left, name, {reference.steps[place].thread for place in reference.plan(at)})
+        check_ready(drawn, left, name)
         drawn.close()
 
 

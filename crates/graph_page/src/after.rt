@@ -6,10 +6,10 @@ use graph_text::{Picture, record_at};
 use item_store::AccessMode;
 use std::alloc::{AllocError, Global};
 use std::collections::BTreeMap;
-use step_graph::branch_of;
-use step_names::{StepName, ThreadName};
+use step_graph::closed_threads;
+use step_names::ThreadName;
 
-/// What stood after a step, and of a call the item before it too. A frame that a terminate took away with a branch above it isn't had.
+/// What stood after a step, and of a call the item before it too.
 #[derive(Clone, Copy)]
 pub(crate) struct After<'a> {
     pub(crate) frame: Option<&'a Frame>,
@@ -175,29 +175,13 @@ impl<'a> Standing<'a> {
         Some(frame)
     }
 
-    /// The branches that a join or a terminate took away stand before it as they did then.
+    /// The threads that a join or a terminate took away stand before it as they did then.
     fn give_branches(&mut self, alloc: Global, kept: &'a StepRecord) -> Result<(), AllocError> {
-        let Saved::Closed { kids, .. } = &kept.saved else {
-            return Ok(());
-        };
-        let mut index: u32 = 0;
-        for kid in kids {
-            if let Some(branch) = closed_branch(alloc, &kept.fact.name, index)? {
-                let _ = self.frame_back(&branch, Some(kid.frame()));
-            }
-            index = index.saturating_add(1);
+        for (branch, frame) in closed_threads(alloc, kept)? {
+            let _ = self.frame_back(&branch, Some(frame));
         }
         Ok(())
     }
-}
-
-/// The name of a branch that a join or a terminate took away.
-fn closed_branch(
-    alloc: Global,
-    name: &StepName,
-    index: u32,
-) -> Result<Option<ThreadName>, AllocError> {
-    branch_of(alloc, &name.thread, name.no.saturating_sub(1), index)
 }
 
 /// The frame that a step's thread had before it; none before a start.

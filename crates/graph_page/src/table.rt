@@ -110,7 +110,7 @@ fn write_frames(
     html.tags("</td><td>")?;
     write_frame(html, alloc, before, "not there")?;
     html.tags("</td><td>")?;
-    write_frame(html, alloc, after, "closed with a branch above")
+    write_frame(html, alloc, after, "not there")
 }
 
 /// The cell of the dependences of the step at a place, each with its reason.

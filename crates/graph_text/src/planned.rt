@@ -7,7 +7,7 @@ use rollback_book::turns::{Frame, Phase};
 use rollback_book::{Fact, Saved, StepRecord, StepRecords};
 use std::alloc::{AllocError, Global};
 use std::collections::BTreeMap;
-use step_graph::{Edge, branch_of, thread_above};
+use step_graph::{Edge, closed_threads, thread_above};
 use step_names::ThreadName;
 
 /// The threads that a rollback gives back or takes away, with the frames that they have then.
@@ -152,29 +152,10 @@ fn give_back<'a>(
         }
         Saved::Closed { frame, .. } => {
             frames.insert(thread, Some(frame))?;
-            give_branches(alloc, frames, kept)?;
+            for (branch, frame) in closed_threads(alloc, kept)? {
+                frames.insert(branch, Some(frame))?;
+            }
         }
-    }
-    Ok(())
-}
-
-/// Puts down the branches that the undoing of a join or a terminate gives back.
-fn give_branches<'a>(
-    alloc: Global,
-    frames: &mut Frames<'a>,
-    kept: &'a StepRecord,
-) -> Result<(), AllocError> {
-    let Saved::Closed { kids, .. } = &kept.saved else {
-        return Ok(());
-    };
-    let name = &kept.fact.name;
-    let fork = name.no.saturating_sub(1);
-    let mut index: u32 = 0;
-    for kid in kids {
-        if let Some(branch) = branch_of(alloc, &name.thread, fork, index)? {
-            frames.insert(branch, Some(kid.frame()))?;
-        }
-        index = index.saturating_add(1);
     }
     Ok(())
 }
