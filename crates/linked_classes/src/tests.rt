@@ -176,7 +176,9 @@ fn links_follow_a_scan(rt: HostRuntime) -> Result<(), AllocError> {
 const VALUES: u32 = 2500;
 
 /// Places from which values go: the last, the first, one in the middle again and again, those about the ends of a block.
-const GONE: &[usize] = &[2499, 0, 1023, 1023, 1022, 2046, 0, 2000, 511, 511, 510, 1, 1700];
+const GONE: &[usize] = &[
+    2499, 0, 1023, 1023, 1022, 2046, 0, 2000, 511, 511, 510, 1, 1700,
+];
 
 /// Whether each value stands where it does in a list.
 fn stand_alike(listed: &NumberedVec<u32>, values: &[u32]) -> bool {
