@@ -18,8 +18,8 @@ const LONGEST_NAME: usize = 64;
 pub(crate) struct Quiet {
     pub(crate) name: String,
     pub(crate) awake: String,
-    /// Whether what has ended was gone by, and since then neither the execution of this name changed nor one was started. It saves
-    /// looks, and no promise rests on it.
+    /// Whether what has ended was gone by, and since then neither the execution of this name changed nor one was started or taken
+    /// back. It saves looks, and no promise rests on it.
     pub(crate) stays: bool,
 }
 
