@@ -1,0 +1,18 @@
+#!/bin/sh
+# Tells which crates' files aren't laid out as `rt fmt` lays them out, without which the gate refuses a crate. It changes nothing.
+#
+#     sh tools/layout.sh
+set -eu
+top=$(cd "$(dirname "$0")/.." && pwd)
+room=$(mktemp -d)
+trap 'rm -rf "$room"' EXIT
+(cd "$top" && tar cf - --exclude=out HANDLES crates.txt crates) | tar xf - -C "$room"
+git -C "$room" init -q
+found=0
+for folder in "$room"/crates/*/; do
+    # (rt tells of edits too)
+    said=$(cd "$folder" && rt fmt 2>&1 </dev/null | grep -v '^rt: note:' || true)
+    [ -z "$said" ] || { echo "layout: $(basename "$folder"): $said"; found=1; }
+done
+[ "$found" = 0 ] && echo "layout: all crates are laid out"
+exit "$found"
