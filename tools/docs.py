@@ -36,9 +36,10 @@ SHORT = (
     "docs/GUARANTEES.md",
     "docs/INTERNALS.md",
     "docs/REFERENCE.md",
+    "docs/TUTORIALS.md",
     "docs/USER_GUIDE.md",
 )
-SESSIONS = ("README.md", "docs/USER_GUIDE.md")
+SESSIONS = ("README.md", "docs/TUTORIALS.md", "docs/USER_GUIDE.md")
 LISTS = ("items", "history", "plan", "rollback", "drive", "work", "held")
 FILE = re.compile(r"(?<![\w/.-])(?:\.\./)*((?:docs|crates|rows|tools|examples)/[\w./*-]+|[A-Z_]+\.md|[a-z_-]+\.txt)")
 SPAN = re.compile(r"`([^`]+)`")

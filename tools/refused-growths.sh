@@ -56,7 +56,7 @@ book_tests plans::histories_by_hand
 shared_tests passes::calls_of_two_passes
 shared_tests turns::stale_turns
 shared_tests workers::rounds_want_memory
-journal_tests damaged::a_refused_growth_hands_the_journal_back
+session_tests journals::a_refused_growth_hands_the_journal_back
 TESTS
     echo "$good passed, $bad failed"
 }

@@ -57,9 +57,9 @@ class Wrong(Exception):
 
 
 class Served:
-    """The running program, with the request of this number refused; 0 refuses none."""
+    """The running program, with the request of this number refused; 0 refuses none. Further settings are a library's own."""
 
-    def __init__(self, program, words, library, number):
+    def __init__(self, program, words, library, number, **settings):
         self.answered = False
         self.process = subprocess.Popen(
             [program, *words],
@@ -67,7 +67,7 @@ class Served:
             stdout=subprocess.PIPE,
             stderr=subprocess.PIPE,
             pass_fds=(COUNT,),
-            env=dict(os.environ, LD_PRELOAD=library, REFUSE=str(number)),
+            env=dict(os.environ, LD_PRELOAD=library, REFUSE=str(number), **settings),
         )
         self.clock = threading.Timer(SECONDS, self.process.kill)
         self.clock.start()
@@ -317,7 +317,7 @@ def spaced(count, most):
 
 
 def compiled(room, source):
-    library = os.path.join(room, "refusing.so")
+    library = os.path.join(room, source.removesuffix(".c") + ".so")
     subprocess.run([os.environ.get("CC", "cc"), "-O2", "-shared", "-fPIC", "-o", library, rows.TOP / "tools" / source], check=True)
     return library
 

@@ -5,9 +5,9 @@
 
 Without files all of rows/*.txt are run. Each session is served in memory, as one input; and on a journal's file, where the
 program ends and is started again on the same file after each line, or at 60 places where a session has more lines: the replies
-have to be the same. Each run has to end with status 0 and nothing on standard error, but where a row says otherwise. Three short
-sessions are also served as input that is cut after each byte, that comes byte by byte and that fails after each byte, and to an
-output that fails after each byte. With --cuts each session of one run is cut so, after each byte, or after N evenly spaced ones of
+have to be the same. Each run has to end with status 0 and nothing on standard error, but where a row says otherwise. A `--check`
+that ends with status 3 leaves the file as it was. Three short sessions are also served as input that is cut after each byte, that
+comes byte by byte and that fails after each byte, and to an output that fails after each byte. With --cuts each session of one run is cut so, after each byte, or after N evenly spaced ones of
 a longer input; that takes minutes. Each failure is told; the last line is `N passed, M failed`, of sessions. The status is 1
 where one failed or none was run. rows/README.md says how rows are written.
 """
@@ -352,7 +352,7 @@ def run_part(program, folder, run):
             limit = no_room
         else:
             words.append(word)
-    data = b"".join(command.input() for command in run.commands)
+    data, before = b"".join(command.input() for command in run.commands), bytes_in(folder)
     given = dict({"stdout": subprocess.PIPE, "stderr": subprocess.PIPE}, **streams)
     if "stdin" not in given:
         given["input"] = data
@@ -369,7 +369,15 @@ def run_part(program, folder, run):
         told += differences(run.commands, found.stdout, way)
     else:
         told += compared(run, found.stdout)
+    if run.status == 3 and "--check" in run.words and bytes_in(folder) != before:
+        told.append(f"{run.place()}: a check that is refused has changed the file")
     return told + ended(run.place(), way, found, run.status, b"" if "stderr" in streams else run.errors)
+
+
+def bytes_in(folder):
+    """The bytes of a session's file, if there is one."""
+    journal = pathlib.Path(folder, "FILE")
+    return journal.read_bytes() if journal.is_file() else None
 
 
 def no_room():

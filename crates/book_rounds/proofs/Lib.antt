@@ -1,4 +1,5 @@
 pub mod Logs
 pub mod Receipts
 pub mod Seatings
+pub mod Sending
 pub mod Sums

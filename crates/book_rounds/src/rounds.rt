@@ -29,7 +29,7 @@ pub struct Round {
 pub enum RoundFault {
     /// Memory for the round was refused before any step. The log is as it was.
     NotBegun(Book),
-    /// The book couldn't be taken out again, for want of memory. It is gone.
+    /// The book couldn't be taken out again, out of memory. It is gone.
     Lost,
 }
 
@@ -40,7 +40,7 @@ pub enum RoundFault {
 ///
 /// # Errors
 ///
-/// `NotBegun` and `Lost`, both for want of memory alone.
+/// `NotBegun` and `Lost`, both if it is out of memory. No contract says that `Lost` comes for nothing else.
 pub fn run_round<R: Threads + Wait + Sync>(
     rt: &R,
     alloc: Global,

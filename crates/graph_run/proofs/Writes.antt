@@ -2,9 +2,9 @@
 use Rattle.std.proofs.Common.{◌≡◌, sym, subst, ℕ, List, [], append-nil, IfErr, Option, Result, Ok, Err}
 use Rattle.std.specs.Io.KnownBytes.{Appends, Keeps}
 use Rattle.std.proofs.KnownBytes.{Appends-kept}
-use Rattle.operator_line.specs.declared.serving.ServeFault.{ServeFault}
-use Rattle.operator_line.specs.declared.serving.ServeFault.TheVariants.{Write}
-use Rattle.operator_line.specs.Serving.{WritesReply}
+use Rattle.rollback_run.specs.ServeFault.{ServeFault}
+use Rattle.rollback_run.specs.ServeFault.TheVariants.{Write}
+use Rattle.rollback_run.specs.Serving.{WritesReply}
 
 -- a text that was written is flushed, or the flush is refused
 pub flushed : (text : List ℕ) (result : Result Unit ServeFault) (old between new : Option (List ℕ)) → Appends old between text → Keeps between new → IfErr result (λ e. e ≡ Write)

@@ -6,9 +6,9 @@ use Rattle.sqlite.specs.State.{State, HasCleanDisk}
 use Rattle.sqlite.specs.declared.error.Error.{Error}
 use Rattle.book_journal.specs.Faults.{fault_of}
 use Rattle.book_journal.specs.Kept.{lines_in, IsOpened}
-use Rattle.operator_line.specs.Log.{Log}
-use Rattle.operator_line.specs.Opening.{OpensTo, RefusesOpen}
-use Rattle.operator_line.specs.OpenFault.{OpenFault}
+use Rattle.rollback_run.specs.Log.{Log}
+use Rattle.rollback_run.specs.Opening.{OpensTo, RefusesOpen}
+use Rattle.rollback_run.specs.OpenFault.{OpenFault}
 use Rattle.journaled_book.specs.Changes.{IsRead}
 use Rattle.graph_page.specs.Answer.{Answer}
 use Rattle.graph_page.specs.Writing.{text_on}

@@ -2,7 +2,7 @@
 ghost use Rattle.std.specs.Prelude.{◌≡◌, IfOk, IfErr};
 ghost use Rattle.sqlite.specs.Held.{state};
 ghost use Rattle.journaled_book.specs.Journaled.{log_of};
-ghost use Rattle.operator_line.specs.Serving.{WritesReply};
+ghost use Rattle.rollback_run.specs.Serving.{WritesReply};
 ghost use Rattle.rollback_run.specs.Faults.{of_journal, of_open};
 ghost use Rattle.graph_run.specs.Answering.{Answers, Gives, GivesNone, HasOutcome, IsAnswered, IsRefusal, IsWritten, Opens, OpensNone};
 ghost use Rattle.graph_run.specs.Status.{IsTold, status_of};
@@ -12,7 +12,7 @@ use book_journal::{Journal, JournalFault};
 use graph_page::texts::Answer;
 use graph_page::{Question, ask};
 use journaled_book::{JournaledBook, OpenFault};
-use operator_line::{ServeFault, flush, write_all};
+use rollback_run::lines::{ServeFault, flush, write_all};
 use rollback_run::{ExitCause, ModeRefusal, USAGE, finish};
 use sqlite::{Alter, Connection, Error};
 use std::alloc::{AllocError, Global};

@@ -29,7 +29,8 @@ use Rattle.book_log.specs.declared.refusal.Refusal.{Refusal}
 use Rattle.book_log.specs.declared.refusal.Refusal.TheVariants.{NoMachine, MachineTaken, BadMachine, ExecTaken, NoThread, NotReady, NoStep, HasDependents, Stale, Full, Memory, Settled, Held}
 use Rattle.command_lines.specs.Grammar as command_view
 use Rattle.command_lines.specs.Grammar.{CommandView, command_of}
-use Rattle.rollback_book.specs.Making.{Answers, OrMemory}
+use Rattle.rollback_book.specs.Making.{Answers}
+use Rattle.rollback_book.specs.Planned.{OrMemory}
 use Rattle.rollback_book.specs.declared.making.Change.{Change}
 use Rattle.rollback_book.specs.declared.making.Change.TheVariants as change
 use Rattle.rollback_book.specs.declared.making.Made.{Made}

@@ -20,9 +20,10 @@ use Rattle.book_journal.specs.Faults.{fault_of}
 use Rattle.book_journal.specs.Kept.{lines_in, IsAtRest, IsSame, LeavesAllOrNone, MayAdd}
 use Rattle.book_journal.specs.declared.fault.JournalFault.{JournalFault}
 use Rattle.rollback_book.specs.Book.{BookView}
-use Rattle.rollback_book.specs.Making.{CanEnter, IsPlanned, OrMemory}
+use Rattle.rollback_book.specs.Making.{CanEnter}
+use Rattle.rollback_book.specs.Planned.{IsPlanned, OrMemory}
 use Rattle.rollback_book.specs.declared.making.Made.{Made}
-use Rattle.rollback_book.specs.declared.room.PlanRoom.{PlanRoom}
+use Rattle.rollback_book.specs.PlanRoom.{PlanRoom}
 use Rattle.journaled_book.specs.declared.fault.BeginRefusal.{BeginRefusal}
 use Rattle.journaled_book.specs.declared.fault.BeginRefusal.TheVariants as begin_refusal
 use Rattle.journaled_book.specs.declared.fault.EntryFault.{EntryFault}

@@ -4,7 +4,8 @@ ghost use Rattle.sqlite.specs.Held.{state};
 ghost use Rattle.book_log.specs.Beginning.{table_of};
 ghost use Rattle.book_log.specs.Log.{appended};
 ghost use Rattle.book_journal.specs.Kept.{IsAtRest};
-ghost use Rattle.rollback_book.specs.Making.{CanEnter, WasPlanned};
+ghost use Rattle.rollback_book.specs.Making.{CanEnter};
+ghost use Rattle.rollback_book.specs.Planned.{WasPlanned};
 ghost use Rattle.journaled_book.specs.Changes.{AnswersRollback, AnswersUndo, Appends, IsStoreFault, RefusesBegin};
 ghost use Rattle.journaled_book.specs.Journaled.{log_of};
 

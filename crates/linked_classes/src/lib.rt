@@ -7,8 +7,6 @@ mod member;
 mod numbers;
 mod places;
 mod sparse;
-#[cfg(test)]
-mod tests;
 
 pub use classes::LinkedClasses;
 pub use listed::NumberedVec;

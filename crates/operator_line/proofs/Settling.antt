@@ -11,7 +11,7 @@ use Rattle.book_log.specs.declared.entry.Entry.{Entry}
 use Rattle.book_log.specs.declared.entry.Entry.TheVariants.{Define, Start, Step as Stepped, Undo, Rollback, Settle, Hold}
 use Rattle.book_rounds.specs.Rounds.{AreSteps, IsRound, with_entries}
 use Rattle.book_rounds.proofs.Logs.{with_more, with_none}
-use Rattle.step_workers.specs.Work.{IsStep}
+use Rattle.book_rounds.specs.Work.{IsStep}
 use Rattle.journaled_book.specs.Journaled.{GoesOnBy}
 use Rattle.journaled_book.specs.Lines.{AreEntryLines, IsLineOf}
 use Rattle.journaled_book.proofs.Given.{both_entry_lines}

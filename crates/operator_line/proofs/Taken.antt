@@ -14,8 +14,8 @@ use Rattle.book_log.specs.declared.moved.Moved.{Moved}
 use Rattle.book_log.specs.declared.refusal.Refusal.{Refusal}
 use Rattle.book_log.specs.declared.refusal.Refusal.TheVariants.{NoMachine, MachineTaken, BadMachine, ExecTaken, NoThread, NotReady, NoStep, HasDependents, Stale, Full, Memory, Settled, Held}
 use Rattle.journaled_book.specs.Changes.{RefusesChangeOr}
-use Rattle.journaled_book.specs.Making.{OrMemory}
-use Rattle.journaled_book.specs.Ready.{IsFirstToMove, moves_freely}
+use Rattle.journaled_book.specs.Planned.{OrMemory}
+use Rattle.journaled_book.specs.FirstMove.{IsFirstToMove, moves_freely}
 use Rattle.journaled_book.specs.declared.fault.EntryFault.{EntryFault}
 use Rattle.journaled_book.specs.declared.fault.EntryFault.TheVariants as by
 use Rattle.reply_lines.specs.Replies.{names_reply}

@@ -20,7 +20,7 @@ use Rattle.item_store.specs.Table.{Table}
 use Rattle.journaled_book.specs.Definition.{Definition}
 use Rattle.book_log.specs.Profile.{Defines as DefinesMachine}
 use Rattle.journaled_book.specs.Frame.{Frame}
-use Rattle.journaled_book.specs.Ready.{moves_freely}
+use Rattle.journaled_book.specs.FirstMove.{moves_freely}
 use Rattle.step_names.specs.Order.{thread_cmp}
 use Rattle.step_names.specs.Thread.{Thread, IsThread}
 use Rattle.step_names.specs.Written.{step_text}

@@ -2,7 +2,7 @@
 ghost use Rattle.std.specs.Prelude.{◌≡◌, [], Some, None, false, string_bytes, IfSome, IsSome, OnOk, OnErr};
 ghost use Rattle.sqlite.specs.Held.{state};
 ghost use Rattle.journaled_book.specs.Lines.{IsBeginLine};
-ghost use Rattle.journaled_book.specs.Making.{IsPlanned};
+ghost use Rattle.journaled_book.specs.Planned.{IsPlanned};
 ghost use Rattle.operator_line.specs.Answering.{is_work};
 ghost use Rattle.operator_line.specs.Answers.{AnswersBeginning, AnswersCommand, change_reply, left_names};
 ghost use Rattle.operator_line.specs.Sessions.{KeepsLine, WasClean, has_own_lines, log_in};

@@ -5,7 +5,7 @@ ghost use Rattle.sqlite.specs.Held.{state};
 ghost use Rattle.book_journal.specs.Entries.{texts};
 ghost use Rattle.book_log.specs.declared.entry.Entry.{Entry as LogEntry};
 ghost use Rattle.book_rounds.specs.Rounds.{AreSteps};
-ghost use Rattle.step_workers.specs.Work.{IsStep};
+ghost use Rattle.book_rounds.specs.Work.{IsStep};
 ghost use Rattle.journaled_book.specs.Journaled.{GoesOnBy, journal_of, log_of};
 ghost use Rattle.journaled_book.specs.Lines.{AreEntryLines};
 ghost use Rattle.operator_line.specs.Answering.{GoesOnFrom, IsToldOr, Settles, Stays, TellsNone, WorksBy, is_gone, since, stepped_names};

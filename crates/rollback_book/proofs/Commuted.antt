@@ -20,7 +20,8 @@ use Rattle.book_log.proofs.LegalRuns.{legal_stands, plan_said}
 use Rattle.book_log.proofs.Orders.{accepted_orders_are_closed, allowed_is_taken, order_settles, order_split, orders_agree_all}
 use Rattle.book_log.proofs.Reruns.{linearizations_agree_all, reruns_are_exact, reruns_are_legal}
 use Rattle.book_log.proofs.Standing.{StandsAt, after_same, base_same, consequences_there, from_start, is_run, names_there, settled_next, past_there, stands_rolled, world_there}
-use Rattle.rollback_book.specs.Commuting.{CannotRun, HasConsequences, IsBackwardOrderOf, IsOnlyResult, IsRerunOf, IsRest, UndoesBackward}
+use Rattle.rollback_book.specs.Commuting.{CannotRun, HasConsequences, IsOnlyResult, IsRerunOf, UndoesBackward}
+use Rattle.book_events.specs.Rest.{IsBackwardOrderOf, IsRest}
 use Rattle.rollback_book.proofs.Rerun.{tried, tried_stands}
 
 -- ---- undoing

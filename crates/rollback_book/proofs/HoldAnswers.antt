@@ -15,7 +15,8 @@ use Rattle.book_log.specs.declared.refusal.Refusal.{Refusal}
 use Rattle.book_log.specs.declared.refusal.Refusal.TheVariants.{Full, Held, Memory}
 use Rattle.rollback_book.specs.Book.{BookView, BookInvariant, IsAt}
 use Rattle.rollback_book.specs.Holding.{IsHoldFor, IsHoldRefusal}
-use Rattle.rollback_book.specs.Making.{AnswersHold, CanEnter, HasLogRoom, IsMadeHold, MakesHold, OrMemory}
+use Rattle.rollback_book.specs.Making.{AnswersHold, CanEnter, HasLogRoom, IsMadeHold, MakesHold}
+use Rattle.book_events.specs.Planned.{OrMemory}
 use Rattle.rollback_book.specs.declared.making.Made.{Made}
 use Rattle.rollback_book.specs.declared.making.Entered.TheVariants as told
 use Rattle.rollback_book.specs.declared.making.MadeChange.TheVariants as made

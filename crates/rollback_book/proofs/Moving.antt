@@ -40,8 +40,10 @@ use Rattle.book_log.specs.declared.refusal.Refusal.TheVariants as refusal
 use Rattle.book_log.specs.declared.refusal.Refusal.TheVariants.{NoThread, NotReady, Full}
 use Rattle.book_log.proofs.HoldSaid.{needs_none}
 use Rattle.rollback_book.specs.Book.{BookView, BookInvariant, place_in, placed}
-use Rattle.rollback_book.specs.Making.{CanEnter, HasLogRoom, IsMoveRefusal, OrMemory}
-use Rattle.rollback_book.specs.Ready.{HasRoomUnlessHeld, IsFirstToMove, IsHeldBack, IsMadeIn, IsNextOf, IsReadyTo, MayEnter, moves_freely}
+use Rattle.rollback_book.specs.Making.{CanEnter, HasLogRoom}
+use Rattle.book_events.specs.Planned.{IsMoveRefusal, OrMemory}
+use Rattle.rollback_book.specs.Ready.{HasRoomUnlessHeld, IsHeldBack, IsMadeIn, IsNextOf, IsReadyTo, MayEnter}
+use Rattle.book_events.specs.FirstMove.{IsFirstToMove, moves_freely}
 use Rattle.rollback_book.specs.declared.making.Made.{Made}
 use Rattle.rollback_book.specs.declared.making.MadeChange.{MadeChange}
 use Rattle.rollback_book.specs.declared.making.MadeChange.TheVariants as made

@@ -17,8 +17,8 @@ use Rattle.book_log.specs.Answers.{plan_answer, names_of_facts}
 use Rattle.book_log.specs.Log.{Log, past_of, setting_of}
 use Rattle.book_log.specs.declared.entry.Entry.{Entry}
 use Rattle.rollback_book.specs.Book.{BookView, BookInvariant, IsAt}
-use Rattle.rollback_book.specs.Making.{IsPlanned, WasPlanned}
-use Rattle.rollback_book.specs.declared.room.PlanRoom.{PlanRoom}
+use Rattle.book_events.specs.Planned.{IsPlanned, WasPlanned}
+use Rattle.book_events.specs.declared.room.PlanRoom.{PlanRoom}
 use Rattle.rollback_book.proofs.Commuted.{plan_allowed}
 use Rattle.rollback_book.proofs.Tied.{facts_are, as_many_records}
 use Rattle.rollback_book.proofs.Free.{Stood, stood, stood_by, plan_is, places_are}

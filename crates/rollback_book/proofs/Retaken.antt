@@ -33,6 +33,7 @@ use Rattle.book_log.specs.declared.refusal.Refusal.TheVariants.{NoMachine, ExecT
 use Rattle.book_log.proofs.Counts.{legal_counts}
 use Rattle.book_log.proofs.Standing.{fact_named, names_there}
 use Rattle.book_log.proofs.Reruns.{named_is}
+use Rattle.book_events.proofs.Answered.{step_is_next}
 use Rattle.rollback_book.specs.Book.{BookView, BookInvariant}
 use Rattle.rollback_book.specs.Rerunning.{CanRetake, is_numbered, last_start}
 use Rattle.rollback_book.proofs.Searching.{no_step, step_at}
@@ -121,52 +122,13 @@ move_there log name least h =
 
 -- ---- what commands answer
 
--- an answer is given as it is
-pub given_ok : {T : Type 0} (answer : Result T Refusal) (x : T) → Gives (Ok x) answer → answer ≡ Ok x
-given_ok (Ok y) x (inl e) = sym e
-given_ok (Ok y) x (inr e) = cc
-given_ok (Err e) x h = cc
-
 -- ---- starts
 
 -- an execution's own thread
 pub own_thread : (t : Thread) → t.path ≡ [] → t ≡ execution t.exec
 own_thread t root = ap (λ (p : List (ℕ × ℕ)). let u : Thread = record { exec = t.exec; path = p } in u) root
 
-start_cases : (known there full : Bool) (n m : StepName) → cond known (cond there (Err ExecTaken) (cond full (Err Full) (Ok n))) (Err NoMachine) ≡ Ok m → n ≡ m
-start_cases true true full n m h = cc
-start_cases true false true n m h = cc
-start_cases true false false n m h = cc
-start_cases false there full n m h = cc
-
-pub start_named : (log : Log) (exec : Thread) (machine : List ℕ) (name : StepName) → start_answer log exec machine ≡ Ok name → start_answer log exec machine ≡ Ok (start_name exec.exec)
-unfolding start_answer
-start_named log exec machine name h =
-    h ∙ ap Ok (sym (start_cases (is_some (machine_of log machine)) (is_some ((world_of log).frames exec)) (is_full_for_step log) (start_name exec.exec) name h))
-
 -- ---- moves
-
-moved_told : (log : Log) (r : Readiness) (o : Option Effect) (x : Moved) → moved_answer log r o ≡ Ok x → (d : Effect) × (o ≡ Some d) × (d.fact.name ≡ x.name)
-moved_told log r None x h = cc
-moved_told log r (Some d) x h = by_room (is_full_for_step log) (needed_left log d.fact) h
-  where
-    by_room : (full : Bool) (o : Option Fact) → unless_needed o (cond full (Err Full) (Ok (record { name = d.fact.name; kind = d.fact.kind }))) ≡ Ok x → (e : Effect) × (Some d ≡ Some e) × (e.fact.name ≡ x.name)
-    by_room full (Some y) k = cc
-    by_room true None k = cc
-    by_room false None k = let f : record { name = d.fact.name; kind = d.fact.kind } ≡ x = cc in (d, refl, ap (λ (y : Moved). y.name) f)
-
-thread_told : (log : Log) (t : Thread) (o : Option Frame) (x : Moved) → (world_of log).frames t ≡ o → thread_answer log t o ≡ Ok x → (f : Frame) × ((world_of log).frames t ≡ Some f) × (x.name ≡ next_step t f)
-thread_told log t None x e h = cc
-thread_told log t (Some f) x e h =
-    let d = moved_told log (readiness_at (paths_of (world_of log).frames t.exec) t.path) (move_effect (setting_of log) (world_of log) t) x h in
-    let g = and_then_some (frame_effect (setting_of log) (world_of log) t) ((world_of log).frames t) d.0 d.1 in
-    let same : f ≡ g.0 = same_Some f g.0 (sym e ∙ g.1) in
-    (f, e, sym d.2 ∙ (frame_move (setting_of log) (world_of log) t g.0 d.0 g.2).named ∙ ap (next_step t) (sym same))
-
--- a thread's step is the next after its frame
-pub step_is_next : (log : Log) (t : Thread) (x : Moved) → step_answer log t ≡ Ok x → (f : Frame) × ((world_of log).frames t ≡ Some f) × (x.name ≡ next_step t f)
-unfolding step_answer
-step_is_next log t x h = thread_told log t ((world_of log).frames t) x refl h
 
 module _ (b : BookView) (name : StepName) where
   -- a move that can be taken has the next number

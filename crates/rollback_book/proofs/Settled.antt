@@ -28,7 +28,8 @@ use Rattle.book_log.proofs.HoldSaid.{held_next}
 use Rattle.book_log.proofs.Settling.{room_settles, settle_free, settle_room}
 use Rattle.book_log.proofs.Standing.{base_settled, settled_next, stands_settled, step_same, step_itself}
 use Rattle.rollback_book.specs.Book.{BookView, BookInvariant}
-use Rattle.rollback_book.specs.Making.{CanEnter, CanEnterChange, HasLogRoom, OrMemory}
+use Rattle.rollback_book.specs.Making.{CanEnter, CanEnterChange, HasLogRoom}
+use Rattle.book_events.specs.Planned.{OrMemory}
 use Rattle.rollback_book.specs.declared.making.Entered.TheVariants as told
 use Rattle.rollback_book.specs.declared.making.MadeChange.TheVariants as made
 use Rattle.rollback_book.specs.Settling.{absent_in}
@@ -157,7 +158,3 @@ accepted_given (Err f) x y h k = cc
 pub accepted_lacks : {T : Type 0} (lacks : Type 0) (answer : Result T Refusal) (x : T) (e : Refusal) → answer ≡ Ok x → GivesOr lacks (Err e) answer → e ≡ Memory
 accepted_lacks lacks answer x e h (inl k) = accepted_memory answer x e h k
 accepted_lacks lacks answer x e h (inr k) = cc
-
-pub ok_gives : {T : Type 0} (lacks : Type 0) (answer : Result T Refusal) (y : T) → GivesOr lacks (Ok y) answer → Gives (Ok y) answer
-ok_gives lacks answer y (inl k) = k
-ok_gives lacks answer y (inr k) = cc

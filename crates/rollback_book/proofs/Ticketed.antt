@@ -25,9 +25,9 @@ use Rattle.book_log.specs.Log.{Log, base_of, held, machine_of, past_of, setting_
 use Rattle.book_log.specs.declared.refusal.Refusal.{Refusal}
 use Rattle.book_log.specs.declared.refusal.Refusal.TheVariants.{NoMachine, MachineTaken, BadMachine, ExecTaken, NoThread, NotReady, NoStep, HasDependents, Stale, Full, Memory, Settled, Held}
 use Rattle.rollback_book.specs.Book.{BookView, BookInvariant, place_in, placed}
-use Rattle.rollback_book.specs.Commits.{IsFresh, IsSource}
+use Rattle.book_events.specs.Commits.{IsFresh, IsSource}
 use Rattle.rollback_book.specs.Ready.{HasRoomUnlessHeld, IsNextOf}
-use Rattle.rollback_book.specs.Tickets.{IsTicketed, IsTicketRefusal, readiness_in}
+use Rattle.book_events.specs.Tickets.{IsTicketed, IsTicketRefusal, readiness_in}
 use Rattle.rollback_book.proofs.Moving.{few_steps, moves_where, next_is, ready_to, step_full, told_there}
 use Rattle.rollback_book.proofs.Tied.{world_is}
 use Rattle.rollback_book.proofs.Whole.{legal_whole}
@@ -106,26 +106,3 @@ module _ (b : BookView) (tied : BookInvariant b) (p : Prepared) (f : Frame) (mac
       cc
 
 -- ---- who has a move
-
-no_frame : (log : Log) (t : Thread) → (world_of log).frames t ≡ None → is_enabled log t ≡ false
-no_frame log t h = ap (λ (o : Option Frame). is_some (option_and_then (frame_effect (setting_of log) (world_of log) t) o)) h
-
--- such a thread is refused a ticket for memory alone
-pub memory_alone : (log : Log) (t : Thread) (e : Refusal) → is_enabled log t ≡ true → IsTicketRefusal log t e → e ≡ Memory
-memory_alone log t Memory moves h = refl
-memory_alone log t NoThread moves h =
-    let clash : true ≡ false = sym moves ∙ no_frame log t h in
-    cc
-memory_alone log t (NotReady readiness) moves h =
-    let clash : true ≡ false = sym moves ∙ h.1 in
-    cc
-memory_alone log t NoMachine moves h = absurd h
-memory_alone log t MachineTaken moves h = absurd h
-memory_alone log t (BadMachine fault) moves h = absurd h
-memory_alone log t ExecTaken moves h = absurd h
-memory_alone log t NoStep moves h = absurd h
-memory_alone log t (HasDependents step) moves h = absurd h
-memory_alone log t (Stale entries) moves h = absurd h
-memory_alone log t Full moves h = absurd h
-memory_alone log t Settled moves h = absurd h
-memory_alone log t (Held step) moves h = absurd h

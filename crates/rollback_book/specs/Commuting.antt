@@ -13,18 +13,9 @@ use Rattle.book_log.specs.Legal.{IsLegal}
 use Rattle.book_log.specs.Log.{Log, base_of, settled, consequences_of, machine_of, past_of, remaining, setting_of, world_of}
 use Rattle.book_log.specs.declared.refusal.Refusal.{Refusal}
 use Rattle.book_log.specs.declared.refusal.Refusal.TheVariants.{Memory}
+use Rattle.book_events.specs.Rest.{IsBackwardOrderOf, IsRest}
 
 -- ---- undoing
-
--- The steps but these remain, in their order, with their facts and what they kept; and the world is that of their run from their base.
-pub record IsRest (before : Log) (xs : List TakenStep) (after : Log) : Type 0 where
-  pub past : past_of after ≡ without (steps (setting_of before)) xs (past_of before)
-  pub run : IsRun (steps (setting_of before)) (base_of before) (without (steps (setting_of before)) xs (past_of before)) (world_of after)
-
--- the names are those of steps that may be undone in this order, each free at its turn
-pub record IsBackwardOrderOf (log : Log) (names : List StepName) (xs : List TakenStep) : Type 0 where
-  pub named : names_of_facts xs ≡ names
-  pub allowed : IsBackwardOrder (steps (setting_of log)) (past_of log) xs
 
 -- such an order is undone to its end, which leaves the rest, unless memory is refused
 abbrev pub UndoesBackward : {T : Type 0} → Log → List StepName → Result T Refusal → Log → Type 0

@@ -23,8 +23,9 @@ use Rattle.book_log.specs.declared.entry.Entry.TheVariants.{Define, Start, Step 
 use Rattle.book_log.specs.declared.moved.Moved.{Moved}
 use Rattle.book_log.specs.declared.refusal.Refusal.{Refusal}
 use Rattle.book_log.specs.declared.refusal.Refusal.TheVariants.{Memory}
+use Rattle.book_events.specs.Planned.{IsMoveRefusal, OrMemory}
 use Rattle.rollback_book.specs.Book.{BookView, place_in}
-use Rattle.rollback_book.specs.Commuting.{IsBackwardOrderOf}
+use Rattle.book_events.specs.Rest.{IsBackwardOrderOf}
 use Rattle.std.specs.List.{list_any}
 use Rattle.step_index.specs.Held.{AreLeft}
 use Rattle.rollback_book.specs.Holding.{HasHeldRoom, IsHoldFor}
@@ -36,18 +37,13 @@ use Rattle.rollback_book.specs.declared.making.Entered.TheVariants as entered
 use Rattle.rollback_book.specs.declared.making.Made.{Made}
 use Rattle.rollback_book.specs.declared.making.MadeChange.{MadeChange}
 use Rattle.rollback_book.specs.declared.making.MadeChange.TheVariants as made
-use Rattle.rollback_book.specs.declared.room.PlanRoom.{PlanRoom}
+use Rattle.book_events.specs.declared.room.PlanRoom.{PlanRoom}
 
 -- ---- what is answered
 
 -- what is entered for a command, and what its caller is told
 abbrev pub EntersWith : Made → Entry → Entered → Type 0
 EntersWith m entry told = (m.entry ≡ entry) × (m.answer ≡ told)
-
--- where it isn't refused, want of memory may be told
-abbrev pub OrMemory : {T : Type 0} → Result T Refusal → Refusal → Type 0
-OrMemory (Ok x) e = e ≡ Memory
-OrMemory (Err f) e = e ≡ f
 
 abbrev pub AnswersStart : Result StepName Refusal → Entry → Result Made Refusal → Type 0
 AnswersStart answer entry (Ok m) = (name : StepName) × (answer ≡ Ok name) × EntersWith m entry (entered.Started name)
@@ -56,10 +52,6 @@ AnswersStart answer entry (Err e) = OrMemory answer e
 abbrev pub AnswersStep : Result Moved Refusal → Result Made Refusal → Type 0
 AnswersStep answer (Ok m) = (moved : Moved) × (answer ≡ Ok moved) × EntersWith m (Stepped moved.name moved.kind) (entered.Stepped moved)
 AnswersStep answer (Err e) = OrMemory answer e
-
--- a move is refused as it is answered, or memory is wanting where something is held
-abbrev pub IsMoveRefusal : Log → Thread → Refusal → Type 0
-IsMoveRefusal log t e = OrMemory (step_answer log t) e ⊎ ((e ≡ Memory) × StepLacks log t)
 
 abbrev pub AnswersMove : Log → Thread → Result Made Refusal → Type 0
 AnswersMove log t (Ok m) = AnswersStep (step_answer log t) (Ok m)
@@ -132,24 +124,3 @@ IsMadeHold name rs places m =
 abbrev pub MakesHold : Log → List StepRecord → StepName → Made → Type 0
 MakesHold log rs name m =
     (h : holds.Hold) × (m ≡ record { entry = Hold name (length (consequences_of log name)); answer = entered.Held (length (consequences_of log name)); change = made.Hold h }) × IsHoldFor log rs name h
-
--- ---- rollback
-
--- The names are the step and its consequences after so many entries, the latest first, and the places are theirs.
-pub record IsPlanned (log : Log) (r : PlanRoom) : Type 0 where
-  pub names : plan_answer log r.step ≡ Ok r.names
-  pub kept : r.undone ≡ r.names
-  pub entries : length log.entries ≡ r.entries
-  -- the step stands at this place
-  pub at : ℕ
-  pub there : option_map (λ f. f.name) (slice_get (facts_of log) at) ≡ Some r.step
-  pub places : r.places ≡ plan (facts_of log) at
-  -- the steps of these names may be undone one by one in this order
-  pub order : (xs : List TakenStep) × IsBackwardOrderOf log r.names xs
-
--- The room was planned when the book had its first entries, as many as the room counts.
-pub record WasPlanned (log : Log) (r : PlanRoom) : Type 0 where
-  pub front : List Entry
-  pub later : List Entry
-  pub parts : log.entries ≡ front ++ later
-  pub planned : IsPlanned (record { begin = log.begin; entries = front }) r

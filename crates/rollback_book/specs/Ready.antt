@@ -79,13 +79,3 @@ pub record IsReadyTo (b : BookView) (t : Thread) (machine : Definition) (f : Fra
   pub begins : f.phase ≡ Ready → effects.waits (frames_of (history_world b.history)) t f ≡ false
   pub answer : step_answer b.log t ≡ effect_answer b.log effect
   pub room : HasRoomUnlessHeld b.log
-
--- the thread has a move and is not passed by
-abbrev pub moves_freely : Log → (Thread → Bool) → Thread → Bool
-moves_freely log passed t = is_enabled log t && not (passed t)
-
--- Nothing, where each thread that has a move is passed by; or the name of one that isn't, with none before it.
-abbrev pub IsFirstToMove : Log → (Thread → Bool) → Option Thread → Type 0
-IsFirstToMove log passed None = (t : Thread) → IsThread t → moves_freely log passed t ≡ false
-IsFirstToMove log passed (Some t) =
-    IsThread t × (moves_freely log passed t ≡ true) × ((u : Thread) → IsThread u → thread_cmp u t ≡ Less → moves_freely log passed u ≡ false)

@@ -8,14 +8,15 @@ ghost use Rattle.book_log.specs.Beginning.{table_of};
 ghost use Rattle.book_log.specs.Legal.{IsLegal};
 ghost use Rattle.book_log.specs.Log.{appended, past_of, remaining, world_of};
 ghost use Rattle.rollback_book.specs.Book.{IsAt, IsMaximalPlace};
-ghost use Rattle.rollback_book.specs.Calls.{IsLogOf, MakesRoom, MakesUndoRoom, PlansRollback, RollsBack, Shows, Undoes};
-ghost use Rattle.rollback_book.specs.Making.{IsPlanned, WasPlanned};
+ghost use Rattle.book_events.specs.Calls.{IsLogOf, MakesRoom, MakesUndoRoom, PlansRollback, RollsBack, Shows, Undoes};
+ghost use Rattle.book_events.specs.Planned.{IsPlanned, WasPlanned};
 
 use crate::hold::{Hold, take_out};
 use crate::lists::{absent_in, names_at, push_with_room};
 use crate::machines::Machines;
-use crate::room::{FreeRoom, PlanRoom, Room};
+use crate::room::FreeRoom;
 use attr_values::ItemFault;
+use book_events::{PlanRoom, Room};
 use book_log::{Begin, Entry, Refusal, StepNames, first_store};
 use item_store::Items;
 use settled_names::SettledNames;

@@ -1,6 +1,6 @@
 // Turns that were prepared apart from the book, and are taken where they are still their threads'.
 ghost use Rattle.std.specs.Prelude.{◌≡◌, true, false, IfOk, MatchResult};
-ghost use Rattle.rollback_book.specs.Commits.{AnswersCommit, Commits, IsFresh, IsSource, IsStaleness, is_ready};
+ghost use Rattle.book_events.specs.Commits.{AnswersCommit, Commits, IsFresh, IsSource, IsStaleness, is_ready};
 ghost use Rattle.rollback_book.specs.Making.{AnswersMove, CanEnter};
 
 use crate::book::Book;
@@ -8,35 +8,13 @@ use crate::hold::is_full_unheld;
 use crate::machines::machine_in;
 use crate::making::{Entered, Made};
 use crate::stepping::{is_enabled, next_name};
+use book_events::{CommitRefusal, Staleness};
 use book_log::{Moved, Refusal};
 use branch_tree::Readiness;
 use saved_steps::Next;
 use std::alloc::Global;
 use step_history::turns::{Frame, Phase, Prepared};
 use step_names::ThreadName;
-
-/// Why a turn that was prepared is no longer its thread's.
-#[derive(Debug, Drop)]
-pub enum Staleness {
-    /// There is no such thread.
-    Gone,
-    /// The thread isn't ready: it is parked, done or failed; or it is a branch that may not begin now. This is what it can do
-    /// next.
-    NotReady(Readiness),
-    /// The thread is ready after another number of moves: this one.
-    Moved(u32),
-    /// It is ready after as many moves, and its frame, or the book's machine of that name, is another.
-    Other,
-}
-
-/// Why a turn isn't taken. Each refusal leaves the book as it was.
-#[derive(Debug, Drop)]
-pub enum CommitRefusal {
-    /// 9: the turn is no longer its thread's, and comes back.
-    Stale(Staleness, Prepared),
-    /// 13, 10 and 11: `Held`, `Full` or `Memory`; the turn is dropped.
-    Refused(Refusal),
-}
 
 /// Whether a thread stands before its state.
 fn is_ready(phase: &Phase) -> bool

@@ -13,8 +13,9 @@ ghost use Rattle.book_log.specs.Answers.{IsDefineRefusal, is_full_for_define, st
 ghost use Rattle.book_log.specs.Legal.{IsAccepted};
 ghost use Rattle.book_log.specs.Log.{appended, machine_of, world_of};
 ghost use Rattle.rollback_book.specs.Book.{place_in};
-ghost use Rattle.rollback_book.specs.Calls.{Starts};
-ghost use Rattle.rollback_book.specs.Making.{Answers, AnswersStart, CanEnter, CanEnterChange, HasLogRoom, IsProper, OrMemory, EntersWith};
+ghost use Rattle.book_events.specs.Calls.{Starts};
+ghost use Rattle.rollback_book.specs.Making.{Answers, AnswersStart, CanEnter, CanEnterChange, HasLogRoom, IsProper, EntersWith};
+ghost use Rattle.book_events.specs.Planned.{OrMemory};
 ghost use Rattle.rollback_book.specs.Ready.{IsMadeIn, IsStartOf};
 ghost use Rattle.step_history.specs.History.{history_world};
 

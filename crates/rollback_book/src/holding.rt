@@ -5,7 +5,7 @@ ghost use Rattle.book_log.specs.Answers.{is_full_for_step};
 ghost use Rattle.book_log.specs.Legal.{IsAccepted};
 ghost use Rattle.book_log.specs.Log.{appended, held, left_of};
 ghost use Rattle.rollback_book.specs.Book.{IsAt};
-ghost use Rattle.rollback_book.specs.Calls.{Holds, IsLatestLeft};
+ghost use Rattle.book_events.specs.Calls.{Holds, IsLatestLeft};
 ghost use Rattle.rollback_book.specs.Holding.{IsHoldRefusal};
 ghost use Rattle.rollback_book.specs.Making.{AnswersHold, CanEnter, CanEnterChange, HasLogRoom, IsMadeHold, MakesHold};
 ghost use Rattle.rollback_book.specs.declared.making.MadeChange.TheVariants as made;

@@ -5,7 +5,7 @@ ghost use Rattle.saved_steps.specs.declared.fact.Kind.{Kind};
 ghost use Rattle.step_names.specs.declared.step.StepName.{StepName};
 ghost use Rattle.book_log.specs.Legal.{IsAccepted};
 ghost use Rattle.book_log.specs.Log.{appended};
-ghost use Rattle.rollback_book.specs.Calls.{Settles};
+ghost use Rattle.book_events.specs.Calls.{Settles};
 ghost use Rattle.rollback_book.specs.Making.{AnswersSettle, CanEnter, CanEnterChange, HasLogRoom};
 ghost use Rattle.step_history.specs.History.{history_records};
 

@@ -9,8 +9,9 @@ ghost use Rattle.saved_steps.specs.First.{NoneFreeBefore};
 ghost use Rattle.saved_steps.specs.Made.{fact_made};
 ghost use Rattle.book_log.specs.Answers.{step_answer};
 ghost use Rattle.book_log.specs.Log.{world_of};
-ghost use Rattle.rollback_book.specs.Calls.{FindsFirst, Steps};
-ghost use Rattle.rollback_book.specs.Making.{AnswersMove, CanEnter, IsMoveRefusal};
+ghost use Rattle.book_events.specs.Calls.{FindsFirst, Steps};
+ghost use Rattle.rollback_book.specs.Making.{AnswersMove, CanEnter};
+ghost use Rattle.book_events.specs.Planned.{IsMoveRefusal};
 ghost use Rattle.rollback_book.specs.Ready.{HasRoomUnlessHeld, IsHeldBack, IsNextOf, IsReadyTo, MayEnter};
 
 use crate::book::Book;

@@ -1,12 +1,12 @@
 // Tickets of threads that have a move.
 ghost use Rattle.std.specs.Prelude.{MatchResult};
-ghost use Rattle.rollback_book.specs.Tickets.{AnswersTicket, IsTicketRefusal, IsTicketed};
+ghost use Rattle.book_events.specs.Tickets.{AnswersTicket, IsTicketRefusal, IsTicketed};
 
 use crate::book::Book;
 use crate::machines::machine_in;
 use crate::stepping::is_enabled;
-use crate::ticket::Ticket;
 use asl_machine::SharedMachine;
+use book_events::Ticket;
 use book_log::Refusal;
 use std::alloc::AllocError;
 use step_history::turns::Frame;

@@ -8,4 +8,5 @@ mod writing;
 
 pub use fault::{ENDED, ExitCause, FAILED, REFUSED, USAGE};
 pub use mode::{Mode, ModeRefusal, mode_of, unread_words};
+pub use operator_line as lines;
 pub use running::{finish, refuse, run, run_session};

@@ -6,7 +6,7 @@ use Rattle.json_tree.specs.View.{data_of}
 use Rattle.json_tree.specs.declared.tree.Json.{Json}
 use Rattle.step_names.specs.Thread.{Thread}
 use Rattle.step_names.specs.declared.step.StepName.{StepName}
-use Rattle.rollback_book.specs.Fact.{Fact}
+use Rattle.book_events.specs.Fact.{Fact}
 use Rattle.book_log.specs.Answers.{Gives, GivesOr, HoldLacks, StepLacks, absent, found_answer, free_answer, from_step, is_enabled, hold_answer, start_answer, step_answer, undo_answer}
 use Rattle.book_log.specs.Legal.{IsAccepted, IsLegal}
 use Rattle.book_log.specs.Log.{Log, appended, facts_of}
@@ -16,16 +16,14 @@ use Rattle.book_log.specs.declared.moved.Moved.{Moved}
 use Rattle.book_log.specs.declared.refusal.Refusal.{Refusal}
 use Rattle.book_log.specs.declared.refusal.Refusal.TheVariants.{Memory}
 use Rattle.book_log.proofs.LegalRuns.{accepted_is_legal}
-use Rattle.rollback_book.specs.Commits.{IsFresh}
-use Rattle.rollback_book.specs.Making.{IsPlanned, WasPlanned}
-use Rattle.rollback_book.specs.Prepared.{Prepared}
-use Rattle.rollback_book.specs.Ready.{IsFirstToMove}
-use Rattle.rollback_book.specs.Tickets.{AnswersTicket, IsMoving}
-use Rattle.rollback_book.specs.declared.room.PlanRoom.{PlanRoom}
-use Rattle.rollback_book.specs.declared.ticket.Ticket.{Ticket}
-use Rattle.rollback_book.proofs.Retaken.{given_ok, start_named, step_is_next}
-use Rattle.rollback_book.proofs.Settled.{ok_gives}
-use Rattle.rollback_book.proofs.Ticketed.{memory_alone}
+use Rattle.book_events.specs.Commits.{IsFresh}
+use Rattle.book_events.specs.Planned.{IsPlanned, WasPlanned}
+use Rattle.book_events.specs.Prepared.{Prepared}
+use Rattle.book_events.specs.FirstMove.{IsFirstToMove}
+use Rattle.book_events.specs.Tickets.{AnswersTicket, IsMoving}
+use Rattle.book_events.specs.declared.room.PlanRoom.{PlanRoom}
+use Rattle.book_events.specs.declared.ticket.Ticket.{Ticket}
+use Rattle.book_events.proofs.Answered.{given_ok, memory_alone, ok_gives, start_named, step_is_next}
 use Rattle.shared_book.specs.Numbers.{IsForeign, IsKnown, last_of}
 use Rattle.shared_book.specs.Away.{Away, is_among}
 use Rattle.shared_book.specs.Views.{PassView, Extends, IsCounted}

@@ -10,11 +10,11 @@ use Rattle.book_log.specs.declared.entry.Entry.{Entry}
 use Rattle.book_log.specs.declared.moved.Moved.{Moved}
 use Rattle.book_log.specs.declared.refusal.Refusal.{Refusal}
 use Rattle.book_log.specs.declared.refusal.Refusal.TheVariants.{NoMachine, MachineTaken, BadMachine, ExecTaken, NoThread, NotReady, NoStep, HasDependents, Stale as StalePlan, Full, Memory, Settled, Held}
-use Rattle.rollback_book.specs.Commits.{AnswersCommit}
-use Rattle.rollback_book.specs.Making.{OrMemory}
-use Rattle.rollback_book.specs.Prepared.{Prepared}
-use Rattle.rollback_book.specs.declared.commits.CommitRefusal.{CommitRefusal}
-use Rattle.rollback_book.specs.declared.commits.CommitRefusal.TheVariants.{Stale, Refused}
+use Rattle.book_events.specs.Commits.{AnswersCommit}
+use Rattle.book_events.specs.Planned.{OrMemory}
+use Rattle.book_events.specs.Prepared.{Prepared}
+use Rattle.book_events.specs.declared.commits.CommitRefusal.{CommitRefusal}
+use Rattle.book_events.specs.declared.commits.CommitRefusal.TheVariants.{Stale, Refused}
 use Rattle.shared_book.specs.Away.{AreMoves, Away, IsMove, PassesNoOther, WasRefused, WereRefused, is_passed}
 use Rattle.shared_book.specs.Calls.{IsNotAdmitted, is_held, tells_hold}
 use Rattle.shared_book.specs.Commits.{is_turn_held, shared_refusal}

@@ -2,7 +2,7 @@
 use Rattle.std.proofs.Common.{◌≡◌, List, [], ◌∷◌, ◌++◌, Option, Some, None, Result, Ok, Err, refl, sym, subst, ◌∙◌, inl, inr}
 use Rattle.std.specs.Prelude.{IfOk, IfErr}
 use Rattle.step_names.specs.declared.step.StepName.{StepName}
-use Rattle.rollback_book.specs.Calls.{IsLatestLeft}
+use Rattle.book_events.specs.Calls.{IsLatestLeft}
 use Rattle.book_log.specs.Answers.{undo_answer}
 use Rattle.book_log.specs.Legal.{IsLegal}
 use Rattle.book_log.specs.Log.{Log, held}

@@ -12,7 +12,7 @@ use Rattle.std.proofs.lemmas.Slice.Eq.{bytes_eq-Decides}
 use Rattle.book_log.specs.Frame.{Frame}
 use Rattle.book_log.specs.Laws.{LeavesOthers}
 use Rattle.book_log.specs.Log.{Log, world_of}
-use Rattle.rollback_book.specs.First.{IsFirstReady, NoneFreeBefore, free}
+use Rattle.book_events.specs.First.{IsFirstReady, NoneFreeBefore, free}
 use Rattle.step_names.specs.Order.{thread_cmp}
 use Rattle.step_names.specs.Thread.{Thread, IsThread}
 use Rattle.step_names.proofs.OrderLaws.{thread_same}

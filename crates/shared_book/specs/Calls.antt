@@ -3,9 +3,9 @@
 use Rattle.std.specs.Prelude.{◌≡◌, ℕ, ◌+◌, ◌⊎◌, Bool, true, false, if◌then◌else◌, List, [], ◌∷◌, ◌++◌, length, Option, None, Some, Result, Ok, Err}
 use Rattle.step_names.specs.Thread.{Thread}
 use Rattle.step_names.specs.declared.step.StepName.{StepName}
-use Rattle.rollback_book.specs.Frame.{Frame}
+use Rattle.book_events.specs.Frame.{Frame}
 use Rattle.book_log.specs.Legal.{IsLegal}
-use Rattle.rollback_book.specs.Calls.{IsLatestLeft}
+use Rattle.book_events.specs.Calls.{IsLatestLeft}
 use Rattle.book_log.specs.Answers.{undo_answer}
 use Rattle.book_log.specs.Log.{Log, appended, left_of, world_of}
 use Rattle.book_log.specs.declared.entry.Entry.{Entry}

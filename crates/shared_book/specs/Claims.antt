@@ -2,9 +2,9 @@
 use Rattle.std.specs.Prelude.{◌≡◌, ◌<◌, false, length, Option, None, Some}
 use Rattle.step_names.specs.Thread.{Thread}
 use Rattle.book_log.specs.Log.{Log}
-use Rattle.rollback_book.specs.Ready.{IsFirstToMove}
-use Rattle.rollback_book.specs.Tickets.{IsMoving}
-use Rattle.rollback_book.specs.declared.ticket.Ticket.{Ticket}
+use Rattle.book_events.specs.FirstMove.{IsFirstToMove}
+use Rattle.book_events.specs.Tickets.{IsMoving}
+use Rattle.book_events.specs.declared.ticket.Ticket.{Ticket}
 use Rattle.shared_book.specs.Away.{Away, is_among}
 use Rattle.shared_book.specs.declared.claiming.Offer.{Offer}
 use Rattle.shared_book.specs.declared.claiming.Offer.TheVariants as offer

@@ -4,10 +4,10 @@ use Rattle.step_names.specs.Thread.{Thread}
 use Rattle.book_log.specs.Log.{Log}
 use Rattle.book_log.specs.declared.refusal.Refusal.{Refusal}
 use Rattle.book_log.specs.declared.refusal.Refusal.TheVariants.{Memory}
-use Rattle.rollback_book.specs.Prepared.{Prepared}
-use Rattle.rollback_book.specs.Commits.{AnswersCommit, IsFresh}
-use Rattle.rollback_book.specs.declared.commits.CommitRefusal.{CommitRefusal}
-use Rattle.rollback_book.specs.declared.commits.CommitRefusal.TheVariants as book
+use Rattle.book_events.specs.Prepared.{Prepared}
+use Rattle.book_events.specs.Commits.{AnswersCommit, IsFresh}
+use Rattle.book_events.specs.declared.commits.CommitRefusal.{CommitRefusal}
+use Rattle.book_events.specs.declared.commits.CommitRefusal.TheVariants as book
 use Rattle.shared_book.specs.Away.{claim_ended, passed_by}
 use Rattle.shared_book.specs.Calls.{GivesReceipt, IsRefusedFor, MaySee, is_held}
 use Rattle.shared_book.specs.Views.{DeskView, PassView, with_claims}

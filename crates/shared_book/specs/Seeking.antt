@@ -6,7 +6,7 @@ use Rattle.std.specs.Str.{bytes_eq}
 use Rattle.std.specs.declared.cmp.Ordering.TheVariants.{Less}
 use Rattle.step_names.specs.Thread.{Thread}
 use Rattle.book_log.specs.Log.{Log, world_of}
-use Rattle.rollback_book.specs.First.{NoneFreeBefore}
+use Rattle.book_events.specs.First.{NoneFreeBefore}
 use Rattle.shared_book.specs.Away.{Away, is_among}
 
 -- no thread of an execution before this name can be claimed

@@ -2,7 +2,7 @@
 ghost use Rattle.std.specs.Prelude.{◌≡◌, length, IfOk, IfErr, MatchResult, OnErr, OnOk, true};
 ghost use Rattle.book_log.specs.declared.refusal.Refusal.TheVariants.{Memory};
 ghost use Rattle.book_log.specs.Log.{world_of};
-ghost use Rattle.rollback_book.specs.First.{IsFirstReady};
+ghost use Rattle.book_events.specs.First.{IsFirstReady};
 ghost use Rattle.shared_book.specs.Away.{AreAway, AreOutside, LeavesOutMore, PassesNoOther, WasRefused, claim_ended, claimed_with, is_among, passed_by};
 ghost use Rattle.shared_book.specs.Calls.{IsRefusedFor, Sees, after_refusal, is_held};
 ghost use Rattle.shared_book.specs.Claims.{IsClaim, IsClaimable, IsOffer, thread_of, thread_offered};
@@ -15,8 +15,8 @@ use crate::desk::Desk;
 use crate::pass::Pass;
 use crate::refusal::{SharedCommitRefusal, SharedRefusal};
 use crate::sharing::Sharing;
+use book_events::{Events, Ticket};
 use book_log::Refusal;
-use rollback_book::{Events, Ticket};
 use std::alloc::{AllocError, Global};
 use step_names::ThreadName;
 

@@ -12,9 +12,9 @@ use crate::pass::Pass;
 use crate::receipt::Receipt;
 use crate::refusal::{SharedCommitRefusal, SharedRefusal};
 use crate::sharing::Sharing;
+use book_events::turns::Prepared;
+use book_events::{CommitRefusal, Events, Ticket};
 use book_log::{Entry, Moved, Refusal};
-use rollback_book::turns::Prepared;
-use rollback_book::{CommitRefusal, Events, Ticket};
 use std::alloc::Global;
 use step_names::{NameRoom, ThreadName};
 

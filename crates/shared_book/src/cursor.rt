@@ -4,7 +4,7 @@ ghost use Rattle.std.specs.String.{string_bytes};
 ghost use Rattle.shared_book.specs.Claims.{thread_of};
 ghost use Rattle.shared_book.specs.Seeking.{GoesBack, IsSought};
 
-use rollback_book::Ticket;
+use book_events::Ticket;
 use std::alloc::Global;
 use std::cmp::Ordering;
 

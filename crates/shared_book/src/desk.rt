@@ -5,7 +5,7 @@ ghost use Rattle.shared_book.specs.Views.{Extends};
 use crate::claims::Claims;
 use crate::cursor::Cursor;
 use crate::sharing::Sharing;
-use rollback_book::Events;
+use book_events::Events;
 use std::marker::Model;
 use std::sync::ledger::{Book, Share};
 

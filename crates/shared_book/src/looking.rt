@@ -9,9 +9,9 @@ use crate::desk::Desk;
 use crate::pass::Pass;
 use crate::refusal::SharedRefusal;
 use crate::sharing::Sharing;
+use book_events::Events;
 use book_log::Refusal;
 use book_log::turns::Frame;
-use rollback_book::Events;
 use step_names::ThreadName;
 
 /// A thread's frame, and how many entries the log had then.

@@ -3,9 +3,9 @@ ghost use Rattle.std.specs.Prelude.{◌≡◌};
 ghost use Rattle.shared_book.specs.Calls.{is_held};
 ghost use Rattle.shared_book.specs.Commits.{is_turn_held};
 
+use book_events::Staleness;
+use book_events::turns::Prepared;
 use book_log::{Entry, Refusal};
-use rollback_book::Staleness;
-use rollback_book::turns::Prepared;
 
 /// Why a call of a shared book is refused. Each refusal leaves the book and the pass as they were, and
 /// but for `commit` and a step that is held back the claims.

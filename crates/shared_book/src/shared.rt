@@ -21,10 +21,10 @@ use crate::pass::Pass;
 use crate::receipt::Receipt;
 use crate::refusal::{SharedCommitRefusal, SharedRefusal};
 use crate::sharing::Sharing;
+use book_events::turns::Prepared;
+use book_events::{Events, Ticket};
 use book_log::Entry;
 use json_tree::{Json, Text};
-use rollback_book::turns::Prepared;
-use rollback_book::{Events, Ticket};
 use std::alloc::Global;
 use std::sync::ledger::Blank;
 use std::sync::{Mutex, Wait};
@@ -33,9 +33,10 @@ use step_names::{StepName, ThreadName};
 /// Into how many parts the right to call is cut: each pass has at least one.
 pub const PARTS: u64 = 65_536;
 
-/// A book that callers share. Each call holds the lock once, and may wait for it; a refused call changes nothing. A contract speaks of
-/// some legal log that goes on from the book's when it was shared and that the pass can have seen, since others may have called
-/// meanwhile. Under the lock nothing takes longer with the number of executions than the book's own call.
+/// A book that callers share. Each call holds the lock once, and may wait for it. A refused call leaves the log as it was; it may change
+/// which threads are claimed or passed by. A contract speaks of some legal log that goes on from the book's when it was shared and that
+/// the pass can have seen, since others may have called meanwhile. Under the lock nothing takes longer with the number of executions
+/// than the book's own call.
 #[derive(Drop)]
 pub struct Shared<B: Events, L: Sharing> {
     pub(crate) desk: Mutex<Desk<B, L>>,

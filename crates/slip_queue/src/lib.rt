@@ -9,6 +9,3 @@ mod taker;
 pub use giver::Giver;
 pub use slips::{PARTS, Slip, Slips};
 pub use taker::Taker;
-
-#[cfg(test)]
-mod tests;

@@ -9,8 +9,6 @@ mod looks;
 mod plans;
 mod records;
 mod seen;
-#[cfg(test)]
-mod tests;
 mod walks;
 
 pub use held::HeldSteps;

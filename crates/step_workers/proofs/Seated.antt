@@ -1,7 +1,7 @@
 -- Seats, one by one.
 use Rattle.std.proofs.Common.{◌≡◌, ℕ, ◌+◌, ◌-◌, List, [], ◌∷◌, ◌++◌, length, map, refl, ap, sym, ◌∙◌, subst, arith}
 use Rattle.std.specs.Prelude.{slice_index_or, slice_set}
-use Rattle.rollback_book.specs.declared.ticket.Ticket.{Ticket}
+use Rattle.book_events.specs.declared.ticket.Ticket.{Ticket}
 use Rattle.shared_book.specs.Views.{PassView}
 use Rattle.slip_queue.specs.declared.slips.Slips.{Slips}
 use Rattle.step_workers.specs.Seats.{AllSeated, AllServed, AllWell, HasServed, IsSeated, IsWell, pass_of, pass_served, shares}

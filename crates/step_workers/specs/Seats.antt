@@ -1,6 +1,6 @@
 -- The seats of a round before it, and what each gives.
 use Rattle.std.specs.Prelude.{◌≡◌, ℕ, ◌+◌, ◌≤◌, List, [], ◌∷◌, length, vec_capacity}
-use Rattle.rollback_book.specs.declared.ticket.Ticket.{Ticket}
+use Rattle.book_events.specs.declared.ticket.Ticket.{Ticket}
 use Rattle.shared_book.specs.Views.{PassView}
 use Rattle.slip_queue.specs.Slips.{IsTaker, taken_by}
 use Rattle.slip_queue.specs.declared.slips.Slips.{Slips}

@@ -3,7 +3,7 @@ use Rattle.std.specs.Prelude.{◌≡◌, ℕ, ◌-◌, ◌≤◌, List, [], ◌�
 use Rattle.std.specs.declared.vec.Vec.{Vec}
 use Rattle.book_log.specs.declared.entry.Entry.{Entry}
 use Rattle.book_log.specs.declared.entry.Entry.TheVariants.{Step as Stepped}
-use Rattle.rollback_book.specs.declared.ticket.Ticket.{Ticket}
+use Rattle.book_events.specs.declared.ticket.Ticket.{Ticket}
 use Rattle.shared_book.specs.Views.{PassView}
 use Rattle.shared_book.specs.declared.receipt.Receipt.{Receipt}
 use Rattle.slip_queue.specs.Slips.{IsGiver, parts_of, taken_of, times}

@@ -1,5 +1,5 @@
 // What the workers of a round share beside the book.
-use rollback_book::Ticket;
+use book_events::Ticket;
 use slip_queue::Slips;
 use std::sync::atomic::AtomicU64;
 

@@ -5,7 +5,7 @@ ghost use Rattle.step_workers.specs.Work.{KeepsGiver};
 
 use crate::board::Board;
 use crate::seat::Served;
-use rollback_book::{Events, Ticket};
+use book_events::{Events, Ticket};
 use shared_book::{Offer, Pass, Shared, SharedRefusal, Sharing};
 use slip_queue::Giver;
 use std::alloc::Global;

@@ -9,7 +9,7 @@ use crate::board::Board;
 use crate::dispatching::Dispatcher;
 use crate::outcome::{Outcome, Stopped};
 use crate::seat::Served;
-use rollback_book::Ticket;
+use book_events::Ticket;
 use shared_book::Pass;
 use slip_queue::Giver;
 use std::alloc::{AllocError, Global};

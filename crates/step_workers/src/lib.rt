@@ -21,6 +21,3 @@ pub use gate::{Gate, OpenGate};
 pub use outcome::{Outcome, Stopped};
 pub use taking_back::take_back;
 pub use working::{MOST_WORKERS, work};
-
-#[cfg(test)]
-mod tests;

@@ -3,9 +3,9 @@ ghost use Rattle.std.specs.Prelude.{◌≡◌};
 ghost use Rattle.step_workers.specs.Work.{GoesOn};
 
 use crate::gate::Gate;
+use book_events::turns::{Phase, Prepared, prepare};
+use book_events::{Events, Ticket};
 use book_log::Refusal;
-use rollback_book::turns::{Phase, Prepared, prepare};
-use rollback_book::{Events, Ticket};
 use shared_book::{Pass, Receipt, Shared, SharedCommitRefusal, SharedRefusal, Sharing};
 use std::alloc::Global;
 use std::sync::Wait;

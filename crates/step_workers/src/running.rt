@@ -10,7 +10,7 @@ use crate::dispatching::{Dispatcher, dispatch};
 use crate::gate::Gate;
 use crate::seat::{Seat, Served};
 use crate::serving::serve;
-use rollback_book::{Events, Ticket};
+use book_events::{Events, Ticket};
 use shared_book::{Shared, Sharing};
 use slip_queue::Slips;
 use std::alloc::Global;

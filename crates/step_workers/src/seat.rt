@@ -1,6 +1,6 @@
 // A worker's place, before it begins and when it has ended.
 use crate::outcome::Stopped;
-use rollback_book::Ticket;
+use book_events::Ticket;
 use shared_book::Pass;
 use slip_queue::Taker;
 use std::sync::ledger::Ledger;

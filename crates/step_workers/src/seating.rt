@@ -6,7 +6,7 @@ ghost use Rattle.step_workers.specs.Seats.{AllRoomy, AllSeated, allowed, pass_of
 use crate::allowance::Allowance;
 use crate::board::Board;
 use crate::seat::Seat;
-use rollback_book::Ticket;
+use book_events::Ticket;
 use shared_book::Pass;
 use slip_queue::Giver;
 use std::sync::ledger::Ledger;

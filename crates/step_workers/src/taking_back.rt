@@ -8,7 +8,7 @@ use crate::gate::Gate;
 use crate::gathering::Tray;
 use crate::outcome::Outcome;
 use crate::undoing::{Undoer, Undone, undo};
-use rollback_book::Events;
+use book_events::Events;
 use shared_book::{Pass, Shared, Sharing};
 use std::alloc::Global;
 use std::snapshot::Snapshot;

@@ -4,8 +4,8 @@ ghost use Rattle.step_workers.specs.Undoings.{HasUndone, IsStopped, TakesBack, s
 
 use crate::gate::Gate;
 use crate::outcome::Stopped;
+use book_events::Events;
 use book_log::Refusal;
-use rollback_book::Events;
 use shared_book::{Pass, Shared, SharedRefusal, Sharing};
 use std::alloc::Global;
 use std::sync::Wait;

@@ -13,7 +13,7 @@ use crate::outcome::Outcome;
 use crate::running::run_all;
 use crate::seat::{Seat, Served};
 use crate::seating::seat_all;
-use rollback_book::{Events, Ticket};
+use book_events::{Events, Ticket};
 use shared_book::{Pass, Shared, Sharing};
 use slip_queue::{Giver, Slips};
 use std::alloc::{AllocError, Global};

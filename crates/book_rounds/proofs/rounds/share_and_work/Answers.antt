@@ -1,5 +1,5 @@
 use denote.Param.Send.{sendable}
-use Rattle.step_workers.proofs.Sending.{book_send}
+use Rattle.book_rounds.proofs.Sending.{book_send}
 use Rattle.book_rounds.proofs.rounds.share_and_work.Goals as goal
 
 pub work-requires-send-B : goal.work-requires-send-B

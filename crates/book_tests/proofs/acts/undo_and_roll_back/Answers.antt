@@ -4,8 +4,8 @@ use Rattle.std.proofs.lemmas.List.{append-nil}
 use Rattle.step_names.specs.declared.step.StepName.{StepName}
 use Rattle.book_log.specs.Log.{Log, appended}
 use Rattle.book_log.specs.declared.entry.Entry.TheVariants.{Undo}
-use Rattle.rollback_book.specs.Making.{IsPlanned, WasPlanned}
-use Rattle.rollback_book.specs.declared.room.PlanRoom.{PlanRoom}
+use Rattle.rollback_book.specs.Planned.{IsPlanned, WasPlanned}
+use Rattle.rollback_book.specs.PlanRoom.{PlanRoom}
 use Rattle.book_tests.proofs.acts.undo_and_roll_back.Goals as goal
 
 -- what was planned before an undoing, whether it was refused or not

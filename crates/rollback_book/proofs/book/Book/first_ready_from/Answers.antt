@@ -5,7 +5,7 @@ use Rattle.saved_steps.specs.First.{IsFirstReady, NoneFreeBefore}
 use Rattle.step_names.specs.Order.{thread_cmp}
 use Rattle.book_log.specs.Log.{world_of}
 use Rattle.rollback_book.specs.Book.{BookView}
-use Rattle.rollback_book.specs.Ready.{IsFirstToMove}
+use Rattle.book_events.specs.FirstMove.{IsFirstToMove}
 use Rattle.rollback_book.proofs.Moving.{first_to_move, none_there_before, ready_there}
 use Rattle.rollback_book.proofs.book.Book.first_ready_from.Goals as goal
 

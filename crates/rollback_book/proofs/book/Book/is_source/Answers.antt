@@ -1,6 +1,6 @@
 use Rattle.std.proofs.Common.{◌∙◌, sym, subst}
 use Rattle.rollback_book.specs.Book.{BookView, book_view}
-use Rattle.rollback_book.specs.Commits.{IsSource}
+use Rattle.book_events.specs.Commits.{IsSource}
 use Rattle.rollback_book.proofs.Ticketed.{alike, no_source, source_by, unlike}
 use Rattle.rollback_book.proofs.book.Book.is_source.Goals as goal
 

@@ -1,7 +1,7 @@
 use Rattle.std.proofs.Common.{arith, length, ap, subst, None, Some}
 use Rattle.book_log.proofs.HoldSaid.{nothing_left}
 use Rattle.rollback_book.specs.Book.{BookView, book_view}
-use Rattle.rollback_book.specs.Calls.{IsLatestLeft}
+use Rattle.book_events.specs.Calls.{IsLatestLeft}
 use Rattle.rollback_book.specs.Holding.{IsHoldOf}
 use Rattle.rollback_book.proofs.Needed.{no_last, last_is, last_within}
 use Rattle.rollback_book.proofs.book.Book.last_left.Goals as goal

@@ -2,7 +2,7 @@ use Rattle.std.proofs.Common.{◌≡◌, ◌∙◌, sym, subst, None}
 use Rattle.book_log.specs.Log.{world_of}
 use Rattle.book_log.specs.declared.refusal.Refusal.TheVariants.{NotReady}
 use Rattle.rollback_book.specs.Book.{BookView, book_view}
-use Rattle.rollback_book.specs.Tickets.{IsTicketed, IsTicketRefusal}
+use Rattle.book_events.specs.Tickets.{IsTicketed, IsTicketRefusal}
 use Rattle.rollback_book.proofs.Moving.{machine_known}
 use Rattle.rollback_book.proofs.Ticketed.{frame_there, no_ticket, ticketed}
 use Rattle.rollback_book.proofs.book.Book.moving.Goals as goal

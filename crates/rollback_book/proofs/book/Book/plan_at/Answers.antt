@@ -1,7 +1,7 @@
 use Rattle.std.proofs.Common.{◌∙◌, Some, ap, map, sym, subst}
 use Rattle.rollback_book.specs.Book.{BookView, IsAt, book_view}
-use Rattle.rollback_book.specs.Making.{IsPlanned}
-use Rattle.rollback_book.specs.declared.room.PlanRoom.{PlanRoom}
+use Rattle.book_events.specs.Planned.{IsPlanned}
+use Rattle.book_events.specs.declared.room.PlanRoom.{PlanRoom}
 use Rattle.rollback_book.proofs.Planning.{places_within, planned}
 use Rattle.rollback_book.proofs.book.Book.plan_at.Goals as goal
 

@@ -8,8 +8,8 @@ use Rattle.book_log.specs.declared.moved.Moved.{Moved}
 use Rattle.book_log.specs.declared.refusal.Refusal.{Refusal}
 use Rattle.book_log.specs.declared.refusal.Refusal.TheVariants.{Full, Memory}
 use Rattle.rollback_book.specs.Book.{BookView, book_view}
-use Rattle.rollback_book.specs.Commits.{IsFresh}
-use Rattle.rollback_book.specs.Making.{IsMoveRefusal, OrMemory}
+use Rattle.book_events.specs.Commits.{IsFresh}
+use Rattle.book_events.specs.Planned.{IsMoveRefusal, OrMemory}
 use Rattle.rollback_book.specs.Ready.{HasRoomUnlessHeld, IsNextOf}
 use Rattle.std.specs.Prelude.{◌||◌, nat_le, nat_lt}
 use Rattle.rollback_book.proofs.Kept.{full_said, room_said}

@@ -6,7 +6,7 @@ use Rattle.book_log.specs.declared.refusal.Refusal.{Refusal}
 use Rattle.book_log.specs.declared.refusal.Refusal.TheVariants.{Full, Memory}
 use Rattle.rollback_book.specs.Book.{BookView, book_view}
 use Rattle.rollback_book.specs.Holding.{IsHoldRefusal}
-use Rattle.rollback_book.specs.Making.{OrMemory}
+use Rattle.book_events.specs.Planned.{OrMemory}
 use Rattle.rollback_book.proofs.Added.{on_ok}
 use Rattle.rollback_book.proofs.HoldAnswers.{hold_absent, hold_free, hold_full, hold_ready, hold_refusal, hold_told, free_answer}
 use Rattle.rollback_book.proofs.Tied.{define_full_by}

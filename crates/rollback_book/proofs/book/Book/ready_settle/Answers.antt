@@ -4,7 +4,7 @@ use Rattle.book_log.specs.declared.refusal.Refusal.{Refusal}
 use Rattle.book_log.specs.declared.refusal.Refusal.TheVariants.{Full, Memory}
 use Rattle.book_log.proofs.Settling.{room_settles}
 use Rattle.rollback_book.specs.Book.{BookView, book_view}
-use Rattle.rollback_book.specs.Making.{OrMemory}
+use Rattle.book_events.specs.Planned.{OrMemory}
 use Rattle.rollback_book.proofs.Added.{on_ok}
 use Rattle.rollback_book.proofs.HoldAnswers.{settle_refusal}
 use Rattle.rollback_book.proofs.Settled.{settle_full, settle_ready}

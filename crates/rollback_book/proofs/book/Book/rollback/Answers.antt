@@ -8,10 +8,10 @@ use Rattle.book_log.specs.declared.entry.Entry.TheVariants.{Rollback}
 use Rattle.book_log.proofs.LegalRuns.{of_log}
 use Rattle.book_log.proofs.Orders.{rollback_is_exact}
 use Rattle.rollback_book.specs.Book.{BookView, book_view}
-use Rattle.rollback_book.specs.Calls.{RollsBack}
-use Rattle.rollback_book.specs.Commuting.{IsRest}
+use Rattle.book_events.specs.Calls.{RollsBack}
+use Rattle.book_events.specs.Rest.{IsRest}
 use Rattle.rollback_book.specs.Holding.{CanTakeOut, TakesOut}
-use Rattle.rollback_book.specs.Making.{WasPlanned}
+use Rattle.book_events.specs.Planned.{WasPlanned}
 use Rattle.rollback_book.proofs.Commuted.{rolled_rest}
 use Rattle.rollback_book.proofs.Planning.{still_planned, planned_step, plan_of}
 use Rattle.rollback_book.proofs.TakenBack.{planned_takes, tied_rolled}

@@ -3,7 +3,7 @@ use Rattle.branch_tree.specs.First as first
 use Rattle.step_history.specs.Frame.{Frame}
 use Rattle.book_log.specs.Log.{world_of}
 use Rattle.rollback_book.specs.Book.{BookView}
-use Rattle.rollback_book.specs.Tickets.{readiness_in}
+use Rattle.book_events.specs.Tickets.{readiness_in}
 use Rattle.rollback_book.proofs.Ticketed.{frame_there, fresh_by, readiness_told}
 use Rattle.rollback_book.proofs.book.Book.staleness.Goals as goal
 

@@ -3,7 +3,8 @@ use Rattle.step_names.specs.Thread.{Thread}
 use Rattle.book_log.specs.Answers.{start_answer}
 use Rattle.book_log.specs.Log.{appended}
 use Rattle.book_log.specs.declared.entry.Entry.TheVariants.{Start}
-use Rattle.rollback_book.proofs.Retaken.{given_ok, own_thread, start_named}
+use Rattle.book_events.proofs.Answered.{given_ok, start_named}
+use Rattle.rollback_book.proofs.Retaken.{own_thread}
 use Rattle.rollback_book.proofs.book.Book.start_with.Goals as goal
 
 pub returns-in-Ok : goal.returns-in-Ok

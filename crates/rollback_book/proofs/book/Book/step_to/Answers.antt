@@ -3,8 +3,8 @@ use Rattle.book_log.specs.Answers.{StepLacks, step_answer}
 use Rattle.book_log.specs.Log.{appended}
 use Rattle.book_log.specs.declared.entry.Entry.TheVariants.{Step as Stepped}
 use Rattle.book_log.specs.declared.moved.Moved.{Moved}
-use Rattle.rollback_book.proofs.Retaken.{given_ok, next_is, no_retake}
-use Rattle.rollback_book.proofs.Settled.{ok_gives}
+use Rattle.book_events.proofs.Answered.{given_ok, ok_gives}
+use Rattle.rollback_book.proofs.Retaken.{next_is, no_retake}
 use Rattle.rollback_book.proofs.book.Book.step_to.Goals as goal
 
 pub returns-then-not-is_next : goal.returns-then-not-is_next

@@ -1,7 +1,7 @@
 use Rattle.std.proofs.Common.{subst, sym}
 use Rattle.std.specs.String.{string_bytes}
 use Rattle.book_log.specs.Log.{world_of}
-use Rattle.rollback_book.specs.First.{IsFirstReady}
+use Rattle.book_events.specs.First.{IsFirstReady}
 use Rattle.shared_book.specs.Away.{LeavesOutMore, PassesNoOther, WereRefused, is_among}
 use Rattle.shared_book.specs.Claims.{thread_of}
 use Rattle.shared_book.specs.Views.{DeskView}

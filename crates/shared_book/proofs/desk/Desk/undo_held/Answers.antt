@@ -1,6 +1,6 @@
 use Rattle.std.proofs.Common.{◌≡◌, Some, sym, subst}
 use Rattle.step_names.specs.declared.step.StepName.{StepName}
-use Rattle.rollback_book.specs.Calls.{IsLatestLeft}
+use Rattle.book_events.specs.Calls.{IsLatestLeft}
 use Rattle.book_log.specs.Answers.{undo_answer}
 use Rattle.book_log.specs.Legal.{IsLegal}
 use Rattle.shared_book.specs.Calls.{IsRefused}
