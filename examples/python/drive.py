@@ -9,7 +9,7 @@ import argparse
 import itertools
 import time
 
-from rollback_client import BadLine, Book, ConnectionLost, Full
+from rollback_client import BadLine, Book, Full, RollbackError
 
 STEPS_OF_A_ROUND = 1000
 
@@ -47,5 +47,5 @@ if __name__ == "__main__":
         main()
     except KeyboardInterrupt:
         pass
-    except ConnectionLost as fault:
+    except RollbackError as fault:
         raise SystemExit(f"drive: {fault}")

@@ -8,7 +8,7 @@ operator sees which other executions are touched before anything is. Without a f
 """
 import argparse
 
-from rollback_client import Book, Failed, NoStep, Step
+from rollback_client import Book, Failed, NoStep, RollbackError, Step
 
 
 def failed_executions(book, error):
@@ -17,7 +17,11 @@ def failed_executions(book, error):
     for step in book.history():
         if "/" not in step.thread:
             last[step.thread] = step
-    return [(execution, step) for execution, step in last.items() if isinstance(frame := book.show(execution), Failed) and frame.error == error]
+    return [
+        (execution, step)
+        for execution, step in last.items()
+        if isinstance(frame := book.show(execution), Failed) and frame.error == error
+    ]
 
 
 def plan_of(book, step, back):
@@ -50,4 +54,9 @@ def main():
 
 
 if __name__ == "__main__":
-    main()
+    try:
+        main()
+    except RollbackError as fault:
+        raise SystemExit(f"repair: {fault}")
+    except (KeyboardInterrupt, BrokenPipeError):
+        raise SystemExit(1)

@@ -7,38 +7,54 @@
         book.drive(10)
         book.rollback(start)
 """
+from .async_book import AsyncBook
+from .attributes import attribute, plain
 from .book import Book
 from .faults import (
     BadBeginning,
     BadJson,
     BadLine,
+    BeginningFaultKind,
+    BookClosed,
+    Busy,
     ConnectionLost,
     ExecutionTaken,
     Full,
     HasDependents,
     Held,
     JournalRefused,
+    JsonFaultKind,
     MachineFault,
+    MachineFaultKind,
     MachineTaken,
     NoMachine,
     NoMove,
+    NoServer,
     NoStep,
     NoTable,
     NoThread,
+    OtherProcess,
     OutOfMemory,
     ProgramEnded,
     Refusal,
     RollbackError,
     Settled,
+    StreamBroken,
     TableTaken,
 )
 from .values import Done, Failed, Frame, Parked, Ready, Step, Taken
 
+__version__ = "0.1.0"
+
 __all__ = [
+    "AsyncBook",
     "BadBeginning",
     "BadJson",
     "BadLine",
+    "BeginningFaultKind",
     "Book",
+    "BookClosed",
+    "Busy",
     "ConnectionLost",
     "Done",
     "ExecutionTaken",
@@ -48,13 +64,17 @@ __all__ = [
     "HasDependents",
     "Held",
     "JournalRefused",
+    "JsonFaultKind",
     "MachineFault",
+    "MachineFaultKind",
     "MachineTaken",
     "NoMachine",
     "NoMove",
+    "NoServer",
     "NoStep",
     "NoTable",
     "NoThread",
+    "OtherProcess",
     "OutOfMemory",
     "Parked",
     "ProgramEnded",
@@ -63,6 +83,9 @@ __all__ = [
     "RollbackError",
     "Settled",
     "Step",
+    "StreamBroken",
     "TableTaken",
     "Taken",
+    "attribute",
+    "plain",
 ]

@@ -1,123 +1,253 @@
 """A book: one method for each command, in Python's own values."""
 from __future__ import annotations
 
-import json
+import os
+import time
 from types import TracebackType
-from typing import Any, Mapping, Optional, Protocol, Sequence, Union
+from typing import TYPE_CHECKING, Any, Mapping, Optional, Sequence, Type, TypeVar
 
-from .faults import refusal_of
-from .streams import Child, Remote
-from .values import Frame, Step, Taken, frame_of, line_text
+from . import commands, finishing, streams
+from .commands import StepName
+from .faults import Refusal
+from .json_text import Definition
+from .links import Address, open_child
+from .values import Frame, Step, Taken
 
-StepName = Union[Step, str]
+if TYPE_CHECKING:
+    from .lint import Finding, Table
 
-
-class _Stream(Protocol):
-    def ask(self, line: str) -> list[str]: ...
-
-    def close(self) -> None: ...
+T = TypeVar("T")
 
 
 class Book:
-    """A session. Each method gives one line and waits for its reply, so calls of one book come one after another.
+    """A session. Each method gives one line and waits for its reply. Threads may share a book: their calls come one after another.
 
-    A refusal is raised as an exception of its own name, and has changed nothing. Where the program or the server is gone,
-    `ProgramEnded` or `ConnectionLost` says that the command at hand may stand or not.
+    A refusal is raised as an exception of its own name, and has changed nothing; each method names those of its command, and any of
+    them may also raise `OutOfMemory`. Any method raises
+
+    - `ProgramEnded` or `ConnectionLost` if the program or the server is gone. Whether the command at hand is done isn't known;
+    - `StreamBroken` if an earlier call was interrupted before its reply was whole, or a reply has another form. A book whose call is
+      interrupted, also by Ctrl-C or an alarm, is closed at once: no later call gets a part of that reply;
+    - `BookClosed` after `close`, and `OtherProcess` in a process that was forked from the one that opened the book;
+    - `ValueError` or `TypeError` for a name, a step, a number or a value that no line has. Nothing is sent then.
     """
 
-    def __init__(self, stream: _Stream):
+    def __init__(self, stream: streams.Stream):
         self._stream = stream
 
     @classmethod
-    def open(cls, journal: Optional[str] = None, program: str = "rollback") -> Book:
-        """Starts the program as a child, on a journal's file, or in memory."""
-        return cls(Child([program, *(("--journal", journal) if journal is not None else ())]))
+    def open(cls, journal: Optional[Address] = None, program: Address = "rollback") -> Book:
+        """Starts the program as a child, on a journal's file, or in memory.
+
+        The child is in a session of its own, so Ctrl-C at a terminal doesn't reach it. A `RollbackError` says that it can't be
+        started. A journal that can't be opened is a `ProgramEnded` of the first call.
+        """
+        return cls(streams.Stream(open_child(journal, program)))
 
     @classmethod
-    def connect(cls, address: str, timeout: Optional[float] = None) -> Book:
-        """Speaks to a server of lines: a path of a Unix socket, or `host:port`."""
-        return cls(Remote(address, timeout))
+    def connect(cls, address: Address, timeout: Optional[float] = None, retry: Optional[float] = None) -> Book:
+        """Speaks to a server of lines: a path of a Unix socket, or `host:port`.
+
+        `timeout` is how many seconds it waits for a place in the server's queue, and in each call for the next byte: a call of which
+        none comes is a `ConnectionLost`. `retry` is for how many seconds it waits for a server that isn't there yet, or is busy.
+        Raises `NoServer`, `Busy` if all places are taken, `ConnectionLost`, or `StreamBroken` if it is no server of lines. After
+        `ConnectionLost` no call is sent again by itself.
+        """
+        return cls(streams.connect(os.fspath(address), timeout, retry))
 
     def close(self) -> None:
+        """Ends the session, after a call of another thread that is under way. Closed twice is as once.
+
+        Raises `ProgramEnded` if the child ends with another status than 0.
+        """
         self._stream.close()
 
     def __enter__(self) -> Book:
         return self
 
-    def __exit__(self, kind: Optional[type[BaseException]], fault: Optional[BaseException], trace: Optional[TracebackType]) -> None:
+    def __exit__(
+        self, kind: Optional[Type[BaseException]], fault: Optional[BaseException], trace: Optional[TracebackType]
+    ) -> None:
         try:
             self.close()
         except Exception:
             if fault is None:
                 raise
 
-    def ask(self, line: str) -> list[str]:
-        """Gives a line as it is. The reply's lines come back, or its refusal is raised."""
-        reply = self._stream.ask(line)
-        if reply[0].startswith("no "):
-            raise refusal_of(reply[0])
-        return reply
+    def __repr__(self) -> str:
+        return f"<{type(self).__name__} {self._stream.link.name}, {self._stream.link.state}>"
 
-    def _steps(self, line: str) -> list[Step]:
-        return [Step.read(name) for name in self.ask(line)[1:]]
+    def _talk(self, talk: finishing.Talk) -> Frame:
+        """Gives one command after another, as what came of the last one asks for."""
+        try:
+            asked = next(talk)
+            while True:
+                if not isinstance(asked, commands.Command):
+                    time.sleep(asked)
+                    asked = next(talk)
+                    continue
+                try:
+                    value = self._stream.call(asked)
+                except Refusal as refusal:
+                    asked = talk.throw(refusal)
+                else:
+                    asked = talk.send(value)
+        except StopIteration as end:
+            return end.value  # type: ignore[no-any-return]
+
+    def ask(self, line: str) -> list[str]:
+        """Gives a line as it is, and hands back the lines of its reply.
+
+        Raises the refusal of the reply; `BadLine`, without sending it, for a line that is too long; `ValueError` for a text that is
+        no line: an empty one, or with a line feed, a carriage return at its end, a lone surrogate, or a `!` at its beginning.
+        """
+        return self._stream.call(commands.ask(line))
 
     # ---- commands
 
     def table(self, name: str, key: Mapping[str, str], items: Sequence[Mapping[str, Any]] = ()) -> None:
-        """Begins the book. `key` has one or two attributes with their types, `S` or `N`, the partition key first."""
-        self.ask(f"table {name} {' '.join(f'{attribute}:{kind}' for attribute, kind in key.items())} {line_text(list(items))}")
+        """Begins the book. `key` has one or two attributes with their types, `S` or `N`, the partition key first.
 
-    def define(self, name: str, definition: Mapping[str, Any]) -> None:
-        self.ask(f"define {name} {line_text(definition)}")
+        Raises `TableTaken`, `BadJson`, `BadBeginning`, `JournalRefused`.
+        """
+        self._stream.call(commands.table(name, key, items))
 
-    def start(self, execution: str, machine: str, value: Any) -> Step:
-        return Step.read(self.ask(f"start {execution} {machine} {line_text(value)}")[0][3:])
+    def define(self, name: str, definition: Definition, lint: bool = False) -> None:
+        """Defines a machine, by a dict, a JSON text, or the path of a file. A text that begins with `{` after blanks is JSON.
+
+        With `lint` the linter looks first: its errors are raised together as one `MachineFault`, before anything is sent.
+
+        Raises `NoTable`, `BadJson`, `MachineTaken`, `MachineFault`, `Full`, `JournalRefused`; `OSError` if the file can't be read.
+        """
+        if lint:
+            from .lint import raise_errors
+
+            raise_errors(name, definition)
+        self._stream.call(commands.define(name, definition))
+
+    def lint(self, definition: Definition, table: Optional[Table] = None) -> list[Finding]:
+        """All that the linter finds in a definition, errors and warnings. Nothing is sent.
+
+        Raises `OSError` if the file can't be read.
+        """
+        from .lint import lint_definition
+
+        return lint_definition(definition, table)
+
+    def start(self, execution: str, machine: str, input: Any) -> Step:
+        """Starts an execution of a machine, with its input, and gives the step of the start.
+
+        Raises `NoTable`, `BadJson`, `NoMachine`, `ExecutionTaken`, `Full`, `JournalRefused`. A number in the input that isn't whole
+        is a `ValueError` that names its place.
+        """
+        return self._stream.call(commands.start(execution, machine, input))
 
     def step(self, thread: str) -> Taken:
-        _, name, kind = self.ask(f"step {thread}")[0].split(" ")
-        return Taken(Step.read(name), kind)
+        """Takes the next step of a thread.
+
+        Raises `NoTable`, `NoThread`, `NoMove`, `Held`, `Full`, `JournalRefused`.
+        """
+        return self._stream.call(commands.step(thread))
 
     def drive(self, most: int) -> list[Step]:
-        """Takes at most so many steps, each of the least thread that has a move then."""
-        return self._steps(f"drive {most}")
+        """Takes at most so many steps, 1 to 65,536, each of the least thread that has a move then.
+
+        Raises `NoTable`, and `Full` or `JournalRefused` if no step was taken.
+        """
+        return self._stream.call(commands.drive(most))
 
     def work(self, workers: int, most: int) -> list[Step]:
-        """Has workers take at most so many steps in all, at once and in an order that isn't told before.
+        """Has 1 to 8 workers take at most so many steps in all, at the same time and in an order that isn't known before.
 
-        A program without this line answers `BadLine`.
+        Raises `NoTable`, `Full` if no step was taken, `JournalRefused`; `BadLine` from a program without this line.
         """
-        return self._steps(f"work {workers} {most}")
+        return self._stream.call(commands.work(workers, most))
 
     def undo(self, step: StepName) -> None:
-        self.ask(f"undo {step}")
+        """Takes back a step on which no other depends.
+
+        Raises `NoTable`, `NoStep`, `Settled`, `HasDependents`, `JournalRefused`.
+        """
+        self._stream.call(commands.undo(step))
 
     def rollback(self, step: StepName) -> list[Step]:
-        """Takes back a step and all its consequences, and tells them, the latest first."""
-        return self._steps(f"rollback {step}")
+        """Takes back a step and all its consequences, and gives them, the latest first.
+
+        Raises `NoTable`, `NoStep`, `Settled`, `JournalRefused`.
+        """
+        return self._stream.call(commands.rollback(step))
 
     def settle(self) -> None:
-        """Settles all remaining steps: they can't be taken back any more. A program without this line answers `BadLine`."""
-        self.ask("settle")
+        """Settles all remaining steps: they can't be taken back any more.
+
+        Raises `NoTable`, `Held`, `Full`, `JournalRefused`; `BadLine` from a program without this line.
+        """
+        self._stream.call(commands.settle())
 
     def hold(self, step: StepName) -> int:
-        """Holds a step with its consequences, and tells how many they are. A program without this line answers `BadLine`."""
-        return int(self.ask(f"hold {step}")[0][3:])
+        """Holds a step with its consequences, and gives their number.
+
+        Raises `NoTable`, `NoStep`, `Settled`, `Held`, `Full`, `JournalRefused`; `BadLine` from a program without this line.
+        """
+        return self._stream.call(commands.hold(step))
 
     # ---- questions
 
     def plan(self, step: StepName) -> list[Step]:
-        """What a rollback would take, the latest first."""
-        return self._steps(f"plan {step}")
+        """What a rollback would take, the latest first.
+
+        Raises `NoTable`, `NoStep`, `Settled`.
+        """
+        return self._stream.call(commands.plan(step))
 
     def show(self, thread: str) -> Frame:
-        return frame_of(self.ask(f"show {thread}")[0])
+        """The frame of a thread: `Ready`, `Parked`, `Done` or `Failed`.
+
+        Raises `NoTable`, `NoThread`.
+        """
+        return self._stream.call(commands.show(thread))
 
     def items(self) -> list[dict[str, Any]]:
-        return [json.loads(line) for line in self.ask("items")[1:]]
+        """All items, in the order of their keys, each an object of attribute values (see `plain`).
+
+        Raises `NoTable`.
+        """
+        return self._stream.call(commands.items())
 
     def history(self) -> list[Step]:
-        return self._steps("history")
+        """The remaining steps, in the order in which they were taken.
+
+        Raises `NoTable`.
+        """
+        return self._stream.call(commands.history())
 
     def held(self) -> list[Step]:
-        """What is left of a hold, the latest first. A program without this line answers `BadLine`."""
-        return self._steps("held")
+        """What is left of a hold, the latest first.
+
+        Raises `NoTable`; `BadLine` from a program without this line.
+        """
+        return self._stream.call(commands.held())
+
+    # ---- one execution
+
+    def finish(self, execution: str, most: int = 65_536) -> Frame:
+        """Steps one execution and its branches to its end, or until it waits for nothing that this can move, and gives its frame.
+
+        No other execution is moved. `most` counts its steps, and is no error when it is reached; under a hold the frame is the one
+        at which it is held up. Another caller's rollback may move the execution back, at any time and also after this has answered:
+        look at the frame, and call this again if it isn't at its end.
+
+        Raises `NoTable`, `NoThread`, `Full`, `JournalRefused`.
+        """
+        return self._talk(finishing.finish(execution, most))
+
+    def wait(self, execution: str, timeout: Optional[float] = None) -> Frame:
+        """Looks at an execution until others have brought it to its end, and gives its frame, `Done` or `Failed`.
+
+        It looks after 10 milliseconds at first, and once a second later. Another caller's rollback may move the execution back after
+        this has answered: before something outside of the book is made of a frame, `settle` it, or be ready to put it right.
+
+        Raises `TimeoutError` after so many seconds, `NoTable`, and `NoThread` if there is no such execution, or its start was taken
+        back.
+        """
+        return self._talk(finishing.wait(execution, timeout))

@@ -1,130 +1,141 @@
-"""Two ways to the program: as a child process, and through a server of lines. Both give a line and hand back its reply."""
+"""A stream of lines that threads may share: one call at a time holds it, from the first byte written to the last byte read."""
 from __future__ import annotations
 
+import select
 import socket
-import subprocess
-import tempfile
-from typing import IO, Optional, Sequence
+import threading
+import time
+from typing import Optional, TypeVar, Union
 
-from .faults import BadLine, ConnectionLost, ProgramEnded, RollbackError
+from .commands import Command, greeting
+from .faults import Refusal, RollbackError, StreamBroken
+from .lines import Replies
+from .links import CHUNK, Link, Retry, StreamEnded, host_and_port, unix_socket
 
-LISTS = ("items", "history", "plan", "rollback", "drive", "work", "held")
-MOST_BYTES = 1_048_576
-
-
-def lines_after(word: str, first: str) -> int:
-    """How many lines follow the first line of the reply to a command of this word."""
-    if word in LISTS and first.startswith("ok "):
-        return int(first[3:])
-    return 0
+T = TypeVar("T")
 
 
-def read_reply(stream: IO[bytes], word: str) -> Optional[list[str]]:
-    """The lines of a reply, or nothing where the stream ends before it is whole."""
-    lines = [stream.readline()]
-    if not lines[0].endswith(b"\n"):
-        return None
-    for _ in range(lines_after(word, lines[0].decode().rstrip("\n"))):
-        lines.append(stream.readline())
-        if not lines[-1].endswith(b"\n"):
-            return None
-    return [line[:-1].decode() for line in lines]
+class Stream:
+    """Gives lines, and hands back what their replies say."""
 
+    def __init__(self, link: Link, timeout: Optional[float] = None):
+        self.link, self._timeout = link, timeout
+        self._lock = threading.Lock()
+        self._holder: Optional[int] = None  # the thread whose call is under way
 
-def bytes_of(line: str) -> bytes:
-    if "\n" in line or not line:
-        raise ValueError("a command is one line, and not empty")
-    data = line.encode()
-    if len(data) > MOST_BYTES:
-        raise BadLine(20, "")
-    return data + b"\n"
-
-
-class Child:
-    """The program as a child, which ends with this object."""
-
-    def __init__(self, words: Sequence[str]):
-        self._said = tempfile.TemporaryFile()
-        try:
-            self._process = subprocess.Popen(words, stdin=subprocess.PIPE, stdout=subprocess.PIPE, stderr=self._said)
-        except OSError as fault:
-            self._said.close()
-            raise RollbackError(f"the program can't be started: {fault}") from fault
-
-    def ask(self, line: str) -> list[str]:
-        data = bytes_of(line)
-        try:
-            self._process.stdin.write(data)
-            self._process.stdin.flush()
-            reply = read_reply(self._process.stdout, line.split(" ", 1)[0])
-        except (OSError, ValueError) as fault:
-            raise self._ended() from fault
-        if reply is None:
-            raise self._ended()
-        return reply
-
-    def _ended(self) -> ProgramEnded:
-        status = self._end()
-        if self._said.closed:
-            return ProgramEnded(status, "")
-        with self._said:
-            self._said.seek(0)
-            return ProgramEnded(status, self._said.read().decode(errors="replace"))
-
-    def _end(self) -> int:
-        for stream in (self._process.stdin, self._process.stdout):
+    def call(self, command: Command[T]) -> T:
+        """Gives a command's line. A refusal is raised; whatever else keeps its reply from being read breaks the stream."""
+        data = command.encoded()
+        self._look()
+        with self._lock:
             try:
-                stream.close()
-            except OSError:
-                pass
-        return self._process.wait()
+                self._holder = threading.get_ident()
+                outcome = self._exchange(command, data)
+            finally:
+                self._holder = None
+        if isinstance(outcome, Refusal):
+            raise outcome
+        return outcome
 
     def close(self) -> None:
-        """Ends the input, and waits. Another status than 0 is told."""
-        if self._said.closed:
-            return
-        ended = self._ended()
-        if ended.status != 0:
-            raise ended
+        """Ends the stream, after the call under way. A program that ends with another status than 0 is an error."""
+        self._look()
+        with self._lock:
+            fault = self.link.finish() if self.link.mark_closed() else None
+        if fault is not None:
+            raise fault
 
+    def _look(self) -> None:
+        # A lock that another thread held at a fork is never free in the forked process, so the process is looked at first.
+        self.link.look_at_process()
+        if self._holder == threading.get_ident():
+            raise RollbackError(
+                "a call of this book is under way in this thread: what interrupts it can't make another"
+            )
 
-class Remote:
-    """A connection to a server of lines: a path of a Unix socket, or `host:port`."""
-
-    def __init__(self, address: str, timeout: Optional[float] = None):
+    def _exchange(self, command: Command[T], data: bytes) -> Union[T, Refusal]:
+        self.link.begin(command.line)
         try:
-            self._socket = connected(address, timeout)
+            outcome = self._reply(command, data)
+            self.link.end()
+            return outcome
+        except BaseException as fault:
+            error = self.link.failed(fault, command.line)
+            if error is fault:
+                raise
+            raise error from fault
+
+    def _reply(self, command: Command[T], data: bytes) -> Union[T, Refusal]:
+        unsent: Optional[OSError] = None
+        try:
+            self._send(data)
+        except (BrokenPipeError, ConnectionResetError) as fault:
+            unsent = fault  # what the server said before it closed is read first
+        replies = Replies()
+        reply = None
+        while reply is None:
+            chunk = self._receive()
+            if not chunk:
+                raise unsent or StreamEnded("the connection has ended")
+            replies.feed(chunk)
+            reply = replies.next(command.is_list)
+        outcome = command.outcome(reply)
+        if unsent:
+            raise unsent
+        if replies.rest():
+            raise StreamBroken("more bytes came than those of the reply")
+        return outcome
+
+    def _send(self, data: bytes) -> None:
+        left = memoryview(data)
+        while left:
+            try:
+                left = left[self.link.socket.send(left, socket.MSG_DONTWAIT) :]
+            except BlockingIOError:
+                self._wait_for(select.POLLOUT)
+
+    def _receive(self) -> bytes:
+        self._wait_for(select.POLLIN)
+        return self.link.socket.recv(CHUNK)
+
+    def _wait_for(self, event: int) -> None:
+        waiting = select.poll()
+        waiting.register(self.link.socket, event)
+        if not waiting.poll(None if self._timeout is None else self._timeout * 1000):
+            raise StreamEnded(f"no byte came or went for {self._timeout} seconds")
+
+
+def connect(address: str, timeout: Optional[float], retry: Optional[float]) -> Stream:
+    """A stream to a server of lines that has a place for this caller."""
+    attempts = Retry(address, timeout, retry)
+    while True:
+        try:
+            stream = Stream(Link(f"at {address}", _opened(address, timeout)), timeout)
+            try:
+                stream.call(greeting())
+            except Refusal:
+                pass  # that the word is no command says that there is a place
+            return stream
+        except (OSError, RollbackError) as fault:
+            pause = attempts.pause_after(fault)
+        time.sleep(pause)
+
+
+def connected_socket(address: str, timeout: Optional[float]) -> socket.socket:
+    """A plain connection to a server of lines, or `NoServer` or `Busy`."""
+    attempts = Retry(address, timeout, None)
+    while True:
+        try:
+            found = _opened(address, timeout)
+            found.settimeout(timeout)
+            return found
         except OSError as fault:
-            raise RollbackError(f"no server at {address}: {fault}") from fault
-        self._lines = self._socket.makefile("rb")
-
-    def ask(self, line: str) -> list[str]:
-        data = bytes_of(line)
-        try:
-            self._socket.sendall(data)
-            reply = read_reply(self._lines, line.split(" ", 1)[0])
-        except (OSError, ValueError) as fault:
-            self.close()
-            raise ConnectionLost(str(fault)) from fault
-        if reply is None:
-            self.close()
-            raise ConnectionLost()
-        return reply
-
-    def close(self) -> None:
-        self._lines.close()
-        self._socket.close()
+            pause = attempts.pause_after(fault)
+        time.sleep(pause)
 
 
-def connected(address: str, timeout: Optional[float]) -> socket.socket:
-    host, colon, port = address.rpartition(":")
-    if colon and port.isdigit() and "/" not in address:
-        return socket.create_connection((host.strip("[]"), int(port)), timeout)
-    found = socket.socket(socket.AF_UNIX, socket.SOCK_STREAM)
-    try:
-        found.settimeout(timeout)
-        found.connect(address)
-    except OSError:
-        found.close()
-        raise
+def _opened(address: str, timeout: Optional[float]) -> socket.socket:
+    place = host_and_port(address)
+    found = unix_socket(address) if place is None else socket.create_connection(place, timeout)
+    found.setblocking(True)
     return found

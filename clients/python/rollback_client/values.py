@@ -1,23 +1,29 @@
-"""What the program's replies tell, as Python's values."""
+"""What the program's replies say, as Python's values."""
 from __future__ import annotations
 
+import functools
 import json
 import re
 from dataclasses import dataclass
-from typing import Any, Union
+from typing import Any, Dict, Tuple, Union
 
 _STEP = re.compile(r"([A-Za-z0-9_-]{1,64}(?:/[1-9][0-9]*\.[0-9]+)*)#([0-9]+)")
 
 
+@functools.total_ordering
 @dataclass(frozen=True)
 class Step:
-    """The step of a number of a thread. `str` gives its name, as `order-1/2.0#3`."""
+    """The step of a number of a thread. `str` gives its name, as `order-1/2.0#3`.
+
+    Steps are ordered as `drive` orders threads, and then by their numbers: `a/2.0#1` comes before `a/10.0#1`.
+    """
 
     thread: str
     number: int
 
     @classmethod
     def read(cls, name: str) -> Step:
+        """The step of this name. Another text is a `ValueError`."""
         found = _STEP.fullmatch(name)
         if not found:
             raise ValueError(f"no step: {name!r}")
@@ -25,7 +31,17 @@ class Step:
 
     @property
     def execution(self) -> str:
+        """The execution that the step's thread belongs to."""
         return self.thread.split("/", 1)[0]
+
+    def _place(self) -> Tuple[str, Tuple[Tuple[int, ...], ...], int]:
+        execution, *branches = self.thread.split("/")
+        return execution, tuple(tuple(map(int, branch.split("."))) for branch in branches), self.number
+
+    def __lt__(self, other: object) -> bool:
+        if not isinstance(other, Step):
+            return NotImplemented
+        return self._place() < other._place()
 
     def __str__(self) -> str:
         return f"{self.thread}#{self.number}"
@@ -41,7 +57,7 @@ class Taken:
 
 @dataclass(frozen=True)
 class Ready:
-    """The thread stands before a state, after so many moves."""
+    """The thread is before a state, after so many moves."""
 
     state: str
     moves: int
@@ -83,26 +99,28 @@ def texts_of(line: str) -> list[Any]:
     reader, at, found = json.JSONDecoder(), 0, []
     while at < len(line):
         value, at = reader.raw_decode(line, at)
+        if at < len(line) and line[at] != " ":
+            raise ValueError(f"no space behind a JSON text: {line[at:at + 20]!r}")
         found.append(value)
         at += 1
     return found
 
 
+_FRAMES: Dict[str, Tuple[Any, Tuple[type, ...]]] = {
+    "ready": (Ready, (str, int)),
+    "parked": (Parked, (str, int, int)),
+    "done": (Done, (object,)),
+    "failed": (Failed, (str, str)),
+}
+
+
 def frame_of(first: str) -> Frame:
-    """The frame that a reply to `show` tells."""
-    _, word, rest = first.split(" ", 2)
+    """The frame that a reply to `show` says. Another text is a `ValueError`."""
+    word, _, rest = first[3:].partition(" ")
     values = texts_of(rest)
-    if word == "ready":
-        return Ready(*values)
-    if word == "parked":
-        return Parked(*values)
-    if word == "done":
-        return Done(*values)
-    if word == "failed":
-        return Failed(*values)
-    raise ValueError(f"no frame: {first!r}")
-
-
-def line_text(value: Any) -> str:
-    """A value as the JSON text of a line. Numbers that aren't whole are refused by the program."""
-    return json.dumps(value, separators=(",", ":"), ensure_ascii=False, allow_nan=False)
+    if not first.startswith("ok ") or word not in _FRAMES:
+        raise ValueError(f"no frame: {first!r}")
+    frame, kinds = _FRAMES[word]
+    if len(values) != len(kinds) or not all(map(isinstance, values, kinds)):
+        raise ValueError(f"no frame: {first!r}")
+    return frame(*values)  # type: ignore[no-any-return]

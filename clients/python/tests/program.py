@@ -1,11 +1,16 @@
 """Where the tests find the program, and what they say to it."""
 import os
 import pathlib
+import shutil
+import signal
+import socket
 import subprocess
 import sys
 import tempfile
 import time
 import unittest
+
+from rollback_client import BadLine, Book
 
 TOP = pathlib.Path(__file__).resolve().parents[3]
 PROGRAM = os.environ.get("ROLLBACK_PROGRAM", str(TOP / "crates/rollback_program/out/rollback_program"))
@@ -16,18 +21,26 @@ FORK = {"StartAt": "S", "States": {"S": {"Type": "Parallel", "End": True, "Branc
 
 def call(name, **parameters):
     """A machine of one call of the table."""
-    task = {"Type": "Task", "Resource": f"arn:aws:states:::dynamodb:{name}", "Parameters": {"TableName": "items", **parameters}, "End": True}
+    task = {
+        "Type": "Task",
+        "Resource": f"arn:aws:states:::dynamodb:{name}",
+        "Parameters": {"TableName": "items", **parameters},
+        "End": True,
+    }
     return {"StartAt": "C", "States": {"C": task}}
 
 
 PUT = call("putItem", Item={"id": {"S": "k"}, "v": {"S.$": "$.v"}})
+ECHO = {"StartAt": "P", "States": {"P": {"Type": "Pass", "End": True}}}
+LOOP = {"StartAt": "A", "States": {"A": {"Type": "Pass", "Next": "A"}}}
+# Files are made in memory, if there is room: each line of a journal waits for its disk, and a busy one takes minutes for all tests.
+FOLDER = "/dev/shm" if os.access("/dev/shm", os.W_OK) and shutil.disk_usage("/dev/shm").free > 1 << 28 else None
+LISTS = ("items", "history", "plan", "rollback", "drive", "work", "held")
 GET = call("getItem", Key={"id": {"S": "k"}})
 
 
 def takes_work(book):
     """Whether the program has the line `work`."""
-    from rollback_client import BadLine
-
     try:
         book.work(1, 1)
     except BadLine:
@@ -35,11 +48,30 @@ def takes_work(book):
     return True
 
 
+def connected(address, timeout=60):
+    """A plain connection to a server of lines."""
+    if ":" in address and "/" not in address:
+        host, _, port = address.rpartition(":")
+        return socket.create_connection((host, int(port)), timeout)
+    found = socket.socket(socket.AF_UNIX, socket.SOCK_STREAM)
+    found.settimeout(timeout)
+    found.connect(address)
+    return found
+
+
+def read_reply(stream, word):
+    """The lines of a reply to a command of this word, by the rule of docs/REFERENCE.md; nothing if the stream ends before."""
+    said = [stream.readline().decode()]
+    if word in LISTS and said[0].startswith("ok "):
+        said += [stream.readline().decode() for _ in range(int(said[0][3:]))]
+    return [line[:-1] for line in said] if all(line.endswith("\n") for line in said) else None
+
+
 class InFolder(unittest.TestCase):
     """A test with a folder of its own."""
 
     def setUp(self):
-        held = tempfile.TemporaryDirectory()
+        held = tempfile.TemporaryDirectory(dir=FOLDER)
         self.addCleanup(held.cleanup)
         self.room = held.name
 
@@ -50,13 +82,19 @@ class InFolder(unittest.TestCase):
 class Server:
     """A server of lines over a Unix socket, with its process."""
 
-    def __init__(self, room, *words, journal="orders.db", program=PROGRAM):
-        self.journal, self.address = os.path.join(room, journal), os.path.join(room, "socket")
-        command = [sys.executable, "-m", "rollback_client.serve", "--program", program, "--journal", self.journal, "--socket", self.address, *words]
-        self.process = subprocess.Popen(command, stdout=subprocess.PIPE, stderr=subprocess.PIPE, text=True, cwd=TOP / "clients/python")
-        said = self.process.stdout.readline()
-        if not said.startswith("serving on "):
+    def __init__(self, room, *words, journal="orders.db", program=PROGRAM, address=None, **more):
+        self.journal = journal and os.path.join(room, journal)
+        self.address = address or os.path.join(room, "socket")
+        of_journal = ("--journal", self.journal) if journal else ()
+        command = [sys.executable, "-m", "rollback_client.serve", "--program", program, *of_journal, *words]
+        command += ("--socket", self.address) if "--listen" not in words else ()
+        more = {"stdout": subprocess.PIPE, "stderr": subprocess.PIPE, **more}
+        self.process = subprocess.Popen(command, text=True, cwd=TOP / "clients/python", **more)
+        self.said = self.process.stdout.readline()
+        if not self.said.startswith("serving on "):
             raise AssertionError(self.process.communicate()[1])
+        if "--listen" in words:
+            self.address = self.said.split()[-1]
 
     def child(self):
         """The number of the program's process."""
@@ -68,9 +106,62 @@ class Server:
             time.sleep(0.01)
         raise AssertionError("the server has no child")
 
-    def end(self, seconds=30):
+    def end(self, seconds=120, number=signal.SIGTERM):
         """Ends the server, and gives its status and what it said on standard error."""
         if self.process.poll() is None:
-            self.process.terminate()
+            self.process.send_signal(number)
         _, errors = self.process.communicate(timeout=seconds)
         return self.process.returncode, errors
+
+
+class Served(InFolder):
+    """A test with servers, which end with it."""
+
+    def serve(self, *words, **more):
+        server = Server(self.room, *words, **more)
+
+        def end():
+            if server.process.poll() is None:
+                server.process.kill()
+            server.process.communicate()
+
+        self.addCleanup(end)
+        return server
+
+    def begun(self, *words, machine=PASS, **more):
+        """A server whose book has a table and the machine `p`."""
+        server = self.serve(*words, **more)
+        with Book.connect(server.address, timeout=60) as book:
+            book.table("items", {"id": "S"})
+            book.define("p", machine)
+        return server
+
+    def refused(self, *words, program=PROGRAM, seconds=60):
+        """The status of a server that doesn't serve, and what it says on standard error."""
+        command = [sys.executable, "-m", "rollback_client.serve", "--program", program, *words]
+        done = subprocess.run(
+            command,
+            stdout=subprocess.PIPE,
+            stderr=subprocess.PIPE,
+            cwd=TOP / "clients/python",
+            timeout=seconds,
+            check=False,
+        )
+        self.assertEqual(done.stdout, b"")
+        self.assertNotIn(b"Traceback", done.stderr)
+        return done.returncode, done.stderr.decode()
+
+    def plain(self, server, timeout=60):
+        """A plain connection, with its lines."""
+        stream = connected(server.address, timeout)
+        self.addCleanup(stream.close)
+        lines = stream.makefile("rb")
+        self.addCleanup(lines.close)
+        return stream, lines
+
+    def until(self, is_so, seconds=60):
+        """Waits until something is so."""
+        ends = time.monotonic() + seconds
+        while not is_so():
+            self.assertLess(time.monotonic(), ends)
+            time.sleep(0.01)

@@ -4,8 +4,30 @@ import signal
 import unittest
 
 from rollback_client import (
-    BadBeginning, BadJson, BadLine, Book, Done, ExecutionTaken, Failed, HasDependents, Held, MachineFault, MachineTaken, NoMachine, NoMove, NoStep,
-    NoTable, NoThread, Parked, ProgramEnded, Ready, RollbackError, Settled, Step, TableTaken, Taken,
+    BadBeginning,
+    BadJson,
+    BadLine,
+    Book,
+    Done,
+    ExecutionTaken,
+    Failed,
+    HasDependents,
+    Held,
+    MachineFault,
+    MachineTaken,
+    NoMachine,
+    NoMove,
+    NoStep,
+    NoTable,
+    NoThread,
+    Parked,
+    ProgramEnded,
+    Ready,
+    RollbackError,
+    Settled,
+    Step,
+    TableTaken,
+    Taken,
 )
 from tests.program import FORK, GET, PASS, PROGRAM, PUT, InFolder, takes_work
 
@@ -136,7 +158,7 @@ class Refusals(InFolder):
         self.refused(NoMove, book.step, "a", why="done")
         self.refused(NoStep, book.undo, "a#7")
         self.refused(HasDependents, book.undo, "a#0", step=Step("a", 1))
-        self.refused(BadJson, book.start, "b", "p", 1.5, fault=2)
+        self.refused(BadJson, book.ask, "start b p 1.5", fault=2)
 
     def test_of_a_settled_book(self):
         book = self.book
@@ -190,7 +212,7 @@ class Ends(InFolder):
     def test_a_program_that_was_killed_is_told(self):
         book = Book.open(program=PROGRAM)
         book.table("items", {"id": "S"})
-        os.kill(book._stream._process.pid, signal.SIGKILL)
+        os.kill(book._stream.link._child.pid, signal.SIGKILL)
         with self.assertRaises(ProgramEnded) as found:
             book.items()
         self.assertEqual(found.exception.status, -signal.SIGKILL)

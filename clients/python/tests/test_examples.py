@@ -5,33 +5,38 @@ import sys
 import unittest
 
 from rollback_client import Book, Failed, Ready
-from tests.program import PASS, PROGRAM, TOP, InFolder, Server
+from tests.program import PASS, PROGRAM, TOP, Served
 
 GET_OR_FAIL = {
     "StartAt": "Check",
     "States": {
-        "Check": {"Type": "Choice", "Choices": [{"Variable": "$.paid", "BooleanEquals": False, "Next": "Stop"}], "Default": "End"},
+        "Check": {
+            "Type": "Choice",
+            "Choices": [{"Variable": "$.paid", "BooleanEquals": False, "Next": "Stop"}],
+            "Default": "End",
+        },
         "Stop": {"Type": "Fail", "Error": "Unpaid"},
         "End": {"Type": "Succeed"},
     },
 }
 
 
-class Examples(InFolder):
+class Examples(Served):
     def setUp(self):
         super().setUp()
-        self.server = Server(self.room)
-
-        def end():
-            if self.server.process.poll() is None:
-                self.server.process.kill()
-            self.server.process.communicate()
-
-        self.addCleanup(end)
+        self.server = self.serve()
 
     def example(self, name, *words, text=""):
         command = [sys.executable, str(TOP / "examples/python" / name), self.server.address, *words]
-        done = subprocess.run(command, input=text, stdout=subprocess.PIPE, text=True, timeout=60, check=True, env={**os.environ, "PYTHONPATH": str(TOP / "clients/python")})
+        done = subprocess.run(
+            command,
+            input=text,
+            stdout=subprocess.PIPE,
+            text=True,
+            timeout=60,
+            check=True,
+            env={**os.environ, "PYTHONPATH": str(TOP / "clients/python")},
+        )
         return done.stdout.splitlines()
 
     def test_drive_and_repair(self):
@@ -47,8 +52,14 @@ class Examples(InFolder):
             self.assertTrue(told[0].startswith("5 steps"))
             self.assertEqual(book.show("bad"), Failed("Unpaid", ""))
             self.assertEqual(self.example("repair.py", "Nothing"), ["no execution has failed with Nothing"])
-            self.assertEqual(self.example("repair.py", "Unpaid", "--back", "1", text="n\n"), ["bad: bad#2, bad#1", "take back? [y/N] "])
-            self.assertEqual(self.example("repair.py", "Unpaid", "--back", "1", text="y\n"), ["bad: bad#2, bad#1", "take back? [y/N] bad: 2 steps taken back"])
+            self.assertEqual(
+                self.example("repair.py", "Unpaid", "--back", "1", text="n\n"),
+                ["bad: bad#2, bad#1", "take back? [y/N] "],
+            )
+            self.assertEqual(
+                self.example("repair.py", "Unpaid", "--back", "1", text="y\n"),
+                ["bad: bad#2, bad#1", "take back? [y/N] bad: 2 steps taken back"],
+            )
             self.assertEqual(book.show("bad"), Ready("Check", 0))
 
 

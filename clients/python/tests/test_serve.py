@@ -9,11 +9,10 @@ import threading
 import unittest
 
 from rollback_client import Book, ConnectionLost, Done, RollbackError, Step
-from rollback_client.streams import connected, read_reply
-from tests.program import PASS, PROGRAM, PUT, TOP, InFolder, Server
+from tests.program import PASS, PROGRAM, PUT, TOP, Served, connected, read_reply
 
 CALLERS = 16
-COMMANDS = int(os.environ.get("ROLLBACK_COMMANDS", "1000"))
+COMMANDS = int(os.environ.get("ROLLBACK_COMMANDS", "400"))
 
 
 def session_of(name, count):
@@ -35,42 +34,13 @@ def session_of(name, count):
     return pairs[:count]
 
 
-class Served(InFolder):
-    def serve(self, *words, **more):
-        server = Server(self.room, *words, **more)
-
-        def end():
-            if server.process.poll() is None:
-                server.process.kill()
-            server.process.communicate()
-
-        self.addCleanup(end)
-        return server
-
-    def begun(self, *words):
-        server = self.serve(*words)
-        with Book.connect(server.address) as book:
-            book.table("items", {"id": "S"})
-            book.define("p", PASS)
-        return server
-
-    def opened(self, server):
-        book = Book.open(server.journal, PROGRAM)
-        self.addCleanup(book.close)
-        return book
-
-
 class Callers(Served):
-    def test_each_gets_its_own_replies_in_order(self):
-        server = self.begun()
-        wrong = []
-
-        def call(name):
-            pairs = session_of(name, COMMANDS)
-            stream = connected(server.address, 120)
-            lines = stream.makefile("rb")
-            # Half of the callers give all lines at once, half one after another.
-            given = threading.Thread(target=stream.sendall, args=("".join(line + "\n" for line, _ in pairs).encode(),)) if name[-1] in "02468" else None
+    def call(self, server, name, wrong):
+        """One caller. Half of them give all lines at once, half one after another."""
+        pairs = session_of(name, COMMANDS)
+        with connected(server.address, 120) as stream, stream.makefile("rb") as lines:
+            data = "".join(f"{line}\n" for line, _ in pairs).encode()
+            given = threading.Thread(target=stream.sendall, args=(data,)) if name[-1] in "02468" else None
             if given:
                 given.start()
             for line, wanted in pairs:
@@ -82,17 +52,24 @@ class Callers(Served):
                     break
             if given:
                 given.join()
-            lines.close()
-            stream.close()
 
-        callers = [threading.Thread(target=call, args=(f"c{number}",)) for number in range(CALLERS)]
+    def test_each_gets_its_own_replies_in_order(self):
+        server, wrong = self.begun(), []
+        names = [f"c{number}" for number in range(CALLERS)]
+        callers = [threading.Thread(target=self.call, args=(server, name, wrong)) for name in names]
         for caller in callers:
             caller.start()
         for caller in callers:
             caller.join()
         self.assertEqual(wrong, [])
         self.assertEqual(server.end(), (0, ""))
-        accepted = [line for number in range(CALLERS) for line, reply in session_of(f"c{number}", COMMANDS) if line.split(" ")[0] in ("start", "step", "rollback") and reply[0] != "no 20"]
+        words = ("start", "step", "rollback")
+        accepted = [
+            line
+            for name in names
+            for line, reply in session_of(name, COMMANDS)
+            if line.split(" ")[0] in words and reply[0] != "no 20"
+        ]
         done = subprocess.run([PROGRAM, "--check", server.journal], stdout=subprocess.PIPE, text=True, check=True)
         self.assertEqual(done.stdout.split(" ")[1], str(2 + len(accepted)))
 
@@ -105,7 +82,7 @@ class Callers(Served):
                 stream = connected(server.address, 10)
                 if number % 2:
                     # It goes in the middle of a line, which is dropped.
-                    stream.sendall(b"start half p {}\nstart other w {\"v\":")
+                    stream.sendall(b'start half p {}\nstart other w {"v":')
                     self.assertEqual(stream.recv(100)[:2], b"ok" if number == 1 else b"no")
                 else:
                     # It goes in the middle of its replies.
@@ -124,12 +101,14 @@ class Callers(Served):
         lines = stream.makefile("rb")
         self.addCleanup(lines.close)
         stream.sendall(b"\n\r\nshow \xff\nstart a p {}\r\nshow " + b"a" * (1 << 20) + b"\nshow a\nhistory\n")
-        self.assertEqual([read_reply(lines, word) for word in ("show", "start", "show", "show", "history")],
-                         [["no 20"], ["ok a#0"], ["no 20"], ['ok ready "P" 0'], ["ok 1", "a#0"]])
+        self.assertEqual(
+            [read_reply(lines, word) for word in ("show", "start", "show", "show", "history")],
+            [["no 20"], ["ok a#0"], ["no 20"], ['ok ready "P" 0'], ["ok 1", "a#0"]],
+        )
 
     def test_one_too_many_is_told(self):
         server = self.begun("--callers", "2")
-        with Book.connect(server.address) as first, Book.connect(server.address) as second:
+        with Book.connect(server.address, retry=60) as first, Book.connect(server.address, retry=60) as second:
             self.assertEqual(first.items(), second.items())
             third = connected(server.address, 10)
             self.addCleanup(third.close)
@@ -151,7 +130,8 @@ class Ends(Served):
         server.process.wait(30)
         status, _ = server.end()
         self.assertEqual(status, 128 + signal.SIGKILL)
-        self.assertEqual(sorted(map(str, self.opened(server).history())), [f"e{number}#0" for number in range(4)])
+        with Book.open(server.journal, PROGRAM) as book:
+            self.assertEqual(sorted(map(str, book.history())), [f"e{number}#0" for number in range(4)])
 
     def test_the_end_is_after_the_lines_at_hand(self):
         server = self.begun()
@@ -169,7 +149,9 @@ class Ends(Served):
     def test_another_server_on_the_same_place(self):
         server = self.begun()
         command = [sys.executable, "-m", "rollback_client.serve", "--program", PROGRAM, "--socket", server.address]
-        done = subprocess.run(command, stdout=subprocess.PIPE, stderr=subprocess.PIPE, cwd=TOP / "clients/python", check=False)
+        done = subprocess.run(
+            command, stdout=subprocess.PIPE, stderr=subprocess.PIPE, cwd=TOP / "clients/python", check=False
+        )
         self.assertEqual(done.returncode, 2)
         with Book.connect(server.address) as book:
             self.assertEqual(book.history(), [])
@@ -183,7 +165,9 @@ class Ends(Served):
     def test_a_port(self):
         for address in ("0.0.0.0:1", "10.0.0.1:70", "127.0.0.1"):
             command = [sys.executable, "-m", "rollback_client.serve", "--program", PROGRAM, "--listen", address]
-            done = subprocess.run(command, stdout=subprocess.PIPE, stderr=subprocess.PIPE, cwd=TOP / "clients/python", check=False)
+            done = subprocess.run(
+                command, stdout=subprocess.PIPE, stderr=subprocess.PIPE, cwd=TOP / "clients/python", check=False
+            )
             self.assertEqual(done.returncode, 2)
         with socket.socket() as free:
             free.bind(("127.0.0.1", 0))

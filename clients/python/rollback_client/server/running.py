@@ -1,0 +1,245 @@
+"""The server's beginning, its callers, and its end."""
+from __future__ import annotations
+
+import asyncio
+import logging
+import os
+import signal
+import time
+from typing import Any, Callable, Dict, Optional, Set
+
+from ..commands import GREETING
+from .callers import Asked, Caller
+from .places import UnixPlace, loopback
+from .program import Program, is_in_use, meaning
+from .speaking import say, say_bytes
+from .turns import Turns
+from .unread import Unread
+from .words import Words
+
+BACKLOG = 512  # callers that wait to be taken
+ENDING = (signal.SIGTERM, signal.SIGINT, signal.SIGQUIT)
+
+
+class Server:
+    """One program, and the callers whose lines it is given."""
+
+    def __init__(self, words: Words):
+        self.words = words
+        self.turns = Turns(self._write, self._copy)
+        self.unread = Unread(words.unread << 20)
+        self.callers: Set[Caller] = set()
+        self.is_ending = False
+        self._program: Program
+        self._place = UnixPlace(words.socket, words.mode, words.group) if words.socket else None
+        self._asked_to_end = asyncio.Event()
+        self._is_hurried = False
+        self._copies: Set[asyncio.Task[None]] = set()
+
+    # ---- callers
+
+    def time(self) -> float:
+        """Seconds of a clock that only goes on."""
+        return time.monotonic()
+
+    def takes(self, caller: Caller) -> bool:
+        """Gives a caller a place, if there is one, or one that idles makes room."""
+        if self.is_ending or len(self.callers) >= self.words.callers and not self._make_room():
+            return False
+        self.callers.add(caller)
+        return True
+
+    def leaves(self, caller: Caller) -> None:
+        """Forgets a caller that is gone."""
+        self.callers.discard(caller)
+        self.unread.forget(caller)
+        self.turns.end_pieces(caller)
+
+    def _make_room(self) -> bool:
+        if self.words.idle is None:
+            return False
+        longest = self.time() - self.words.idle
+        idle = [caller for caller in self.callers if caller.is_idle and caller.last <= longest]
+        if not idle:
+            return False
+        caller = min(idle, key=lambda caller: caller.last)
+        self.callers.discard(caller)
+        caller.leave()
+        return True
+
+    def _write(self, data: bytes) -> None:
+        self._program.write(data)
+
+    def _copy(self, caller: Caller, asked: Asked) -> None:
+        from .copy import send_copy  # who never asks for a copy doesn't need it
+
+        task = asyncio.ensure_future(send_copy(self.turns, self.words.journal, caller, asked))
+        self._copies.add(task)
+        task.add_done_callback(self._copies.discard)
+
+    # ---- the beginning
+
+    async def run(self) -> int:
+        """Serves until a signal, or the program's end. The program's status comes back."""
+        self._take_signals()
+        if self._place:
+            self._place.clear()
+        if self.words.log is not None:
+            from .log import Log
+
+            self.turns.log = Log(self.words.log)
+        if not await self._open_program():
+            return await self._status()
+        try:
+            listening = await self._listen()
+        except OSError:
+            if self._place:
+                self._place.remove()
+            self._program.end_input()
+            await self._program.status()
+            raise
+        await self._first_of(self._asked_to_end, self._program.ended)
+        await self._end(listening)
+        return await self._status()
+
+    def _take_signals(self) -> None:
+        loop = asyncio.get_running_loop()
+        for number in ENDING:
+            loop.add_signal_handler(number, self._ask_to_end)
+        loop.add_signal_handler(signal.SIGHUP, self._hang_up)
+
+    def _ask_to_end(self) -> None:
+        # A second signal is impatient: nobody is waited for any more.
+        self._is_hurried = self._asked_to_end.is_set()
+        self._asked_to_end.set()
+
+    def _hang_up(self) -> None:
+        if self.turns.log is not None:
+            self.turns.log.reopen()
+        else:
+            self._ask_to_end()
+
+    async def _open_program(self) -> bool:
+        """Starts the program, and waits until it answers, and so has opened its journal."""
+        journal = ("--journal", self.words.journal) if self.words.journal is not None else ()
+        ends = self.time() + self.words.wait
+        while True:
+            self._program = Program([self.words.program, *journal])
+            await self._program.start()
+            self._program.write(f"{GREETING}\n".encode())
+            await self._first_of(self._asked_to_end, self._program.ended, self._program.answered)
+            if self._program.answered.is_set():
+                self._program.take_by(self.turns.feed)
+                return True
+            self._program.end_input()
+            await self._program.status()
+            if (
+                self._asked_to_end.is_set()
+                or self.time() >= ends
+                or not is_in_use(self._program.said(), self.words.journal)
+            ):
+                return False
+            await asyncio.sleep(min(0.1, max(0.0, ends - self.time())))
+
+    async def _listen(self) -> asyncio.AbstractServer:
+        loop = asyncio.get_running_loop()
+        if self._place:
+            made = self._place.bind()
+            listening = await loop.create_unix_server(lambda: Caller(self), sock=made, backlog=BACKLOG)
+            name = os.fsencode(self._place.path)
+            if self._place.others_reach_it():
+                does = "lets them in" if self._place.mode & 0o006 else "alone keeps them out"
+                say(
+                    f"others can reach the folder of {self._place.path}: the socket's mode {self._place.mode:04o} {does}"
+                )
+        else:
+            host, port = loopback(self.words.listen or "")
+            listening = await loop.create_server(lambda: Caller(self), host, port, backlog=BACKLOG)
+            port = listening.sockets[0].getsockname()[1]
+            name = f"{(self.words.listen or '').rpartition(':')[0]}:{port}".encode()
+        try:
+            os.write(1, b"serving on %s\n" % name)
+        except OSError:
+            pass  # nobody hears it
+        return listening
+
+    async def _first_of(self, *events: asyncio.Event) -> None:
+        tasks = [asyncio.ensure_future(event.wait()) for event in events]
+        await asyncio.wait(tasks, return_when=asyncio.FIRST_COMPLETED)
+        for task in tasks:
+            task.cancel()
+
+    # ---- the end
+
+    async def _end(self, listening: asyncio.AbstractServer) -> None:
+        """Answers what is at hand, ends the program, and waits until callers have read their replies."""
+        ends = self.time() + self.words.grace
+        self.is_ending = self.turns.is_ending = True
+        listening.close()
+        if self._place:
+            self._place.remove()
+        for caller in list(self.callers):
+            caller.stop()
+            self.turns.end_pieces(caller)
+        await self._until(self._is_answered, ends)
+        for caller in self.callers:
+            caller.drop_lines()
+        await self._until(lambda: not self.turns.given, None)
+        self._program.end_input()
+        await self._program.status()
+        await self._until(self._have_read, None if self._is_hurried else ends)
+        cut = sum(1 for caller in self.callers if not caller.transport.is_closing())
+        if cut:
+            say(f"{cut} {'caller was' if cut == 1 else 'callers were'} cut, with replies that weren't read")
+        for caller in list(self.callers):
+            caller.leave()
+        for task in list(self._copies):
+            task.cancel()
+
+    def _is_answered(self) -> bool:
+        return self._program.ended.is_set() or not any(caller.owed for caller in self.callers) and not self.turns.given
+
+    def _have_read(self) -> bool:
+        for caller in list(self.callers):
+            caller.close_if_read()
+        return not self.callers
+
+    async def _until(self, is_so: Callable[[], bool], ends: Optional[float]) -> None:
+        """Looks again and again until something is so, or its time is over, or somebody is impatient."""
+        pause = 0.001
+        while not is_so() and not (ends is None and self._program.ended.is_set()):
+            if self._is_hurried or ends is not None and self.time() >= ends:
+                return
+            await asyncio.sleep(pause)
+            pause = min(2 * pause, 0.05)
+
+    async def _status(self) -> int:
+        """The program's status as the server's, with its words. It is never 0 if nobody asked for the end."""
+        status = await self._program.status()
+        said = self._program.said()
+        if said:
+            say_bytes(f"{said}\n".encode())
+            why = meaning(said, self.words.journal)
+            if why:
+                say(why)
+        if not self._asked_to_end.is_set() and status == 0:
+            say("the program ended by itself")
+            return 1
+        return status if status >= 0 else 128 - status
+
+
+def _say_fault(loop: asyncio.AbstractEventLoop, context: Dict[str, Any]) -> None:
+    say(f"{context.get('message')}: {context.get('exception')!r}")
+
+
+async def serve(words: Words) -> int:
+    """Serves, in the main thread."""
+    # Of a caller that is gone asyncio would write a line for each reply.
+    logging.getLogger("asyncio").addHandler(logging.NullHandler())
+    logging.getLogger("asyncio").propagate = False
+    asyncio.get_running_loop().set_exception_handler(_say_fault)
+    try:
+        return await Server(words).run()
+    finally:
+        # All is done: a further signal doesn't take the place of the status.
+        signal.pthread_sigmask(signal.SIG_BLOCK, (*ENDING, signal.SIGHUP))

@@ -1,0 +1,141 @@
+"""Whose line the program is given next: callers take turns, a line each, and few lines are with the program at once."""
+from __future__ import annotations
+
+import time
+from collections import deque
+from typing import TYPE_CHECKING, Callable, Deque, Dict, List, Optional, Tuple
+
+from ..lines import Replies
+from .callers import Asked, Caller, Given
+
+if TYPE_CHECKING:
+    from .log import Log
+
+MOST_GIVEN = 16
+# Replies come once the program has used up what it read. So it is given the lines in two halves: one waits for it while it is at the
+# other, and it never waits for the server.
+HALF = MOST_GIVEN // 2
+Finished = Tuple[Given, bytes]
+
+
+class Turns:
+    """Callers that wait for their turn, and what the program was given, in order.
+
+    For a copy no further line is given; once all that were given are answered, `copy` is called, and ends by `go_on_after_copy`.
+    """
+
+    def __init__(self, write: Callable[[bytes], None], copy: Callable[[Caller, Asked], None]):
+        self._write, self._copy = write, copy
+        self._waiting: Deque[Caller] = deque()
+        self._given: Deque[Given] = deque()
+        self._replies = Replies()
+        self._copy_of: Optional[Tuple[Caller, Asked]] = None
+        self.is_stopped = False  # no line is given
+        self.is_ending = False  # no further piece is given
+        self.log: Optional[Log] = None
+
+    def feed(self, data: bytes) -> None:
+        """Takes what the program answers."""
+        self._replies.feed(data)
+        self.go_on()
+
+    @property
+    def given(self) -> int:
+        """How many lines are with the program."""
+        return len(self._given)
+
+    def want(self, caller: Caller) -> None:
+        """Has a caller wait for a turn, if it has something to give."""
+        if not caller.is_queued and caller.wants_turn:
+            caller.is_queued = True
+            self._waiting.append(caller)
+
+    def go_on(self) -> None:
+        """Gives lines and hands on replies, as far as it goes. The program has its next lines before replies are handed on."""
+        while True:
+            finished = self._finished()
+            self._give()
+            self._hand_on(finished)
+            if not finished and not self._can_give() and not (self._given and self._given[0].asked.own):
+                break
+        if self._copy_of and not self._given:
+            (caller, asked), self._copy_of = self._copy_of, None
+            self._copy(caller, asked)
+
+    def end_pieces(self, caller: Caller) -> None:
+        """Answers a line in pieces that waits for its next turn by the steps that were taken."""
+        given, caller.under_way = caller.under_way, None
+        if given is not None and given.pieces is not None:
+            caller.is_held = False
+            self._hand_on([(given, given.pieces.reply())])
+
+    def go_on_after_copy(self) -> None:
+        """Gives lines again."""
+        self.is_stopped = False
+        self.go_on()
+
+    def log_own(self, caller: Caller, asked: Asked, reply: bytes) -> None:
+        """Logs a line that the server answers itself."""
+        if self.log is not None:
+            self.log.write([(caller.peer, asked, reply, time.monotonic())])
+
+    def answered(self, caller: Caller) -> None:
+        """Goes on with a caller whose line the server has answered itself."""
+        caller.tell(b"", 1)
+        self.want(caller)
+        self.go_on()
+
+    def _can_give(self) -> bool:
+        return bool(self._waiting) and len(self._given) < MOST_GIVEN and not self.is_stopped
+
+    def _give(self) -> None:
+        lines: List[bytes] = []
+        while self._can_give() and len(lines) < HALF:
+            caller = self._waiting.popleft()
+            caller.is_queued = False
+            if not caller.wants_turn:
+                continue
+            turn = caller.next_turn()
+            if isinstance(turn, Asked):
+                caller.is_held = self.is_stopped = True
+                self._copy_of = caller, turn
+                break
+            self._given.append(turn)
+            if turn.pieces is not None:
+                turn.since = time.monotonic()
+            if turn.asked.own is None:
+                lines.append(turn.line)
+            self.want(caller)
+        if lines:
+            self._write(b"".join(lines))
+
+    def _finished(self) -> List[Finished]:
+        """What is answered whole. A line in pieces waits for its next turn until the last one is answered."""
+        found: List[Finished] = []
+        while self._given:
+            given = self._given[0]
+            reply = given.asked.own or self._replies.next(given.is_list)
+            if reply is None:
+                break
+            self._given.popleft()
+            if given.pieces is not None:
+                given.pieces.take(reply, time.monotonic() - given.since)
+                if not (given.pieces.is_over or self.is_ending or given.caller.has_gone()):
+                    given.caller.under_way = given
+                    self.want(given.caller)
+                    continue
+                given.caller.is_held = False
+                reply = given.pieces.reply()
+            found.append((given, reply))
+        return found
+
+    def _hand_on(self, finished: List[Finished]) -> None:
+        if finished and self.log is not None:
+            now = time.monotonic()
+            self.log.write([(given.caller.peer, given.asked, reply, now) for given, reply in finished])
+        replies: Dict[Caller, List[bytes]] = {}
+        for given, reply in finished:
+            replies.setdefault(given.caller, []).append(reply)
+        for caller, of_caller in replies.items():
+            caller.tell(b"".join(of_caller), len(of_caller))
+            self.want(caller)

@@ -1,0 +1,90 @@
+"""The words of the server's command line."""
+from __future__ import annotations
+
+import argparse
+from typing import Any, Callable, Optional, Sequence, TypeVar
+
+from .places import group_of, loopback, mode_of
+from .speaking import NAME
+
+T = TypeVar("T")
+
+
+class Words(argparse.Namespace):
+    """What the command line says."""
+
+    journal: Optional[str]
+    program: str
+    callers: int
+    socket: Optional[str]
+    listen: Optional[str]
+    mode: int
+    group: Optional[int]
+    log: Optional[str]
+    grace: float
+    idle: Optional[float]
+    unread: int
+    wait: float
+
+
+def _typed(read: Callable[[str], T], name: str) -> Callable[[str], T]:
+    """A reading of a word whose `ValueError` argparse shows with its own sentence."""
+
+    def typed(text: str) -> T:
+        try:
+            return read(text)
+        except ValueError as fault:
+            raise argparse.ArgumentTypeError(str(fault)) from None
+
+    typed.__name__ = name
+    return typed
+
+
+def _seconds(text: str) -> float:
+    found = float(text)
+    if not 0 <= found < 1e9:
+        raise ValueError(f"no number of seconds: {text}")
+    return found
+
+
+def _positive(text: str) -> int:
+    found = int(text)
+    if found < 1:
+        raise ValueError(f"a number from 1 on, and not {text}")
+    return found
+
+
+def _address(text: str) -> str:
+    loopback(text)
+    return text
+
+
+def read_words(given: Optional[Sequence[str]] = None) -> Words:
+    """Reads the command line. Wrong words end the process with status 2 and a sentence."""
+    parser = argparse.ArgumentParser(
+        prog=f"python3 -m {NAME}", description="Serves the lines of several callers by one program."
+    )
+    add: Callable[..., Any] = parser.add_argument
+    add("--journal", metavar="FILE", help="the journal's file; in memory if it is left out")
+    add("--program", default="rollback", help="the program, rollback on the path if it is left out")
+    add("--callers", type=_typed(_positive, "number"), default=64, metavar="N", help="at most so many at a time (64)")
+    places = parser.add_mutually_exclusive_group(required=True)
+    places.add_argument("--socket", metavar="PATH", help="a Unix socket, which is made")
+    places.add_argument(
+        "--listen", type=_typed(_address, "address"), metavar="HOST:PORT", help="a port of the loopback"
+    )
+    add("--mode", type=_typed(mode_of, "mode"), help="the socket's mode in octal (0600)")
+    add("--group", type=_typed(group_of, "group"), help="the socket's group")
+    add("--log", metavar="FILE", help="a line of JSON for each line answered is appended to it")
+    seconds = _typed(_seconds, "seconds")
+    add("--grace", type=seconds, default=30.0, metavar="SECONDS", help="at its end, for replies to be read (30)")
+    add("--idle", type=seconds, metavar="SECONDS", help="a caller that idles so long makes room for another (never)")
+    add("--unread", type=_typed(_positive, "number"), default=512, metavar="MB", help="of replies of all callers (512)")
+    add("--wait", type=seconds, default=0.0, metavar="SECONDS", help="tries again while the journal is in use (0)")
+    words = parser.parse_args(given, Words())
+    if words.socket is None and (words.mode is not None or words.group is not None):
+        parser.error("--mode and --group are those of a --socket")
+    if words.socket == "":
+        parser.error("--socket is a path, and not empty")
+    words.mode = 0o600 if words.mode is None else words.mode
+    return words

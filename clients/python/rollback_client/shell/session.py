@@ -1,0 +1,129 @@
+"""The book that a shell speaks to: opened when it is needed, and opened anew after its program or server has gone."""
+from __future__ import annotations
+
+from dataclasses import dataclass
+from typing import Optional
+
+from ..book import Book
+from ..faults import BookClosed, Busy, ConnectionLost, NoServer, ProgramEnded, Refusal, RollbackError, StreamBroken
+from .interrupts import Interrupts
+
+# what a question may be given twice, and what changes the book if it is done
+QUESTIONS = ("plan", "show", "items", "history", "held")
+
+
+class Gone(Exception):
+    """The program or the server is gone, or can't be had. The text says also what is known of the line."""
+
+    def __init__(self, why: str, doubt: str = ""):
+        super().__init__(why + doubt)
+        self.why = why
+
+
+@dataclass(frozen=True)
+class Place:
+    """Where the book is: at a server's address, in a journal's file, or, if there is neither, in memory."""
+
+    program: str = "rollback"
+    address: Optional[str] = None
+    journal: Optional[str] = None
+
+    def open(self) -> Book:
+        """Opens the book. That a journal can't be opened is known at the first call."""
+        return Book.connect(self.address) if self.address is not None else Book.open(self.journal, self.program)
+
+    def __str__(self) -> str:
+        if self.address is not None:
+            return f"the server at {self.address}"
+        return f"the journal {self.journal}" if self.journal is not None else "a book in memory"
+
+
+class Session:
+    """Gives lines to the book, and remembers which machines were defined by it."""
+
+    def __init__(self, place: Place):
+        self.place = place
+        self.interrupts = Interrupts()
+        self.machines: set[str] = set()
+        self._book: Optional[Book] = None
+
+    # ---- what the server has beside the lines
+
+    def answers_questions(self) -> bool:
+        """Whether the server answers questions, as causes and items with their writers. None does yet.
+
+        All commands of the shell that would ask one look here, and nowhere else.
+        """
+        return False
+
+    def has_runner(self) -> bool:
+        """Whether a runner that keeps time takes steps of this book. There is none yet."""
+        return False
+
+    # ---- lines
+
+    def begin(self) -> None:
+        """Opens the book, and asks it something, so that one that can't be opened is known at once."""
+        try:
+            self.ask("history")
+        except Refusal:
+            pass
+        except Gone as fault:
+            raise Gone(fault.why) from fault
+
+    def ask(self, line: str) -> list[str]:
+        """Gives a line. A refusal is raised as it is; `Gone` says what is known if no whole reply came."""
+        with self.interrupts:
+            if self._book is None:
+                self._book = self._opened()
+            try:
+                return self._book.ask(line)
+            except Refusal:
+                raise
+            except (ConnectionLost, ProgramEnded, StreamBroken, BookClosed) as fault:
+                self._book = None
+                raise Gone(self._why(fault), self._doubt(line)) from fault
+            except KeyboardInterrupt:
+                self._book = None
+                raise Gone("the line was broken off", self._doubt(line)) from None
+
+    def close(self) -> None:
+        """Ends the session."""
+        if self._book is not None:
+            book, self._book = self._book, None
+            try:
+                book.close()
+            except ProgramEnded as fault:
+                raise Gone(self._why(fault)) from fault
+
+    def _opened(self) -> Book:
+        try:
+            return self.place.open()
+        except (NoServer, Busy) as fault:
+            raise Gone(str(fault)) from fault
+        except RollbackError as fault:
+            raise Gone(str(fault)) from fault
+
+    def _why(self, fault: Exception) -> str:
+        if isinstance(fault, ProgramEnded):
+            return why_ended(fault, self.place.journal)
+        return f"{self.place} is gone: {fault.why if isinstance(fault, ConnectionLost) else fault}"
+
+    def _doubt(self, line: str) -> str:
+        again = "the next line connects anew"
+        if self.place.address is None:
+            again = "the next line opens it again"
+        if self.place.address is None and self.place.journal is None:
+            return ", and the book in memory with it: the next line begins a new one"
+        if line.split(" ", 1)[0] in QUESTIONS:
+            return f"; {again}"
+        shown = line if len(line) <= 60 else line[:58] + ".."
+        return f"; whether this command is done isn't known, so look at history: {shown}; {again}"
+
+
+def why_ended(fault: ProgramEnded, journal: Optional[str]) -> str:
+    """Why the program has ended, in the words that the server has for it."""
+    from ..server.program import meaning
+
+    said = fault.said.strip()
+    return f"the program has ended with status {fault.status}: {meaning(said, journal) or said or 'it said nothing'}"
