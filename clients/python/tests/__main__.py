@@ -9,6 +9,7 @@ What a machine lacks is said, and counted as skipped. The last line is `N passed
 """
 import os
 import pathlib
+import signal
 import sys
 import unittest
 
@@ -19,6 +20,8 @@ sys.path.insert(0, str(FOLDER.parent))
 def main() -> int:
     from tests.program import PROGRAM
 
+    # A shell that runs this behind `&` lets it ignore Ctrl-C, and so would every process that the tests begin.
+    signal.signal(signal.SIGINT, signal.default_int_handler)
     if not os.access(PROGRAM, os.X_OK):
         print(f"no program {os.path.relpath(PROGRAM)}: run rt run in crates/rollback_program first", file=sys.stderr)
         print("0 passed, 0 failed")
