@@ -8,3 +8,4 @@ pub mod Following
 pub mod Left
 pub mod Needed
 pub mod Finding
+pub mod Collecting

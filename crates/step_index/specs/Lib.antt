@@ -3,3 +3,4 @@ pub mod Walks
 pub mod Records
 pub mod Held
 pub mod Finding
+pub mod Gathered

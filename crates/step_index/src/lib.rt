@@ -4,6 +4,7 @@
 //! which the steps are: not by a look at each of them.
 mod buckets;
 mod found;
+mod gathered;
 mod held;
 mod looks;
 mod plans;

@@ -7,15 +7,18 @@ ghost use Rattle.depends.specs.Dependence.{is_start};
 ghost use Rattle.saved_steps.specs.Steps.{is_fork};
 ghost use Rattle.saved_steps.specs.World.{is_same_step};
 ghost use Rattle.saved_steps.specs.declared.record.StepRecord.{StepRecord as Kept};
+ghost use Rattle.step_index.specs.Gathered.{accesses, is_of, places_where};
 ghost use Rattle.step_index.specs.Walks.{ConflictsAt, IsFirstFrom, NeedsByName, needs};
 
 use crate::buckets::{
     BUCKETS, access_bucket, exec_bucket, gate_bucket, key_bucket, name_bucket, thread_bucket,
     write_bucket,
 };
+use crate::gathered::{gathered_accesses, gathered_of};
 use crate::looks::{CountedRecords, Looks};
 use crate::plans::{plan_of, plan_with_looks};
 use crate::walks::{earlier, first_named, first_needing, first_needing_in};
+use attr_values::Key;
 use depends::Plan;
 use item_store::AccessMode;
 use linked_classes::{ClassedPlaces, NumberedVec};
@@ -171,6 +174,22 @@ impl StepRecords {
         ensures { result ≡ position (λ r. is_same_step r.fact.name name.now) self.now.items }
     {
         first_named(&self.records, &self.names, name_bucket(name), name)
+    }
+
+    /// The places of an execution's steps, in ascending order. Takes memory for these; looks at the steps whose executions have its
+    /// hash.
+    pub fn of_execution(&self, alloc: Global, exec: &str) -> Result<Vec<usize>, AllocError>
+        ensures { IfOk result (λ places. places.items ≡ places_where (is_of exec.now) self.now.items) }
+    {
+        gathered_of(alloc, &self.records, &self.execs, exec_bucket(exec), exec)
+    }
+
+    /// The places of the steps that accessed a key, in ascending order. Takes memory for these; looks at the accesses of the keys
+    /// that have its hash.
+    pub fn accesses(&self, alloc: Global, key: &Key) -> Result<Vec<usize>, AllocError>
+        ensures { IfOk result (λ places. places.items ≡ places_where (accesses key.now) self.now.items) }
+    {
+        gathered_accesses(alloc, &self.records, &self.keys, key_bucket(key), key)
     }
 
     /// The place of the earliest step that depends directly on the one at a place. Takes no memory. Looks, behind it, at the

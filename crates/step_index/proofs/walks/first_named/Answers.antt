@@ -1,6 +1,5 @@
-use Rattle.std.proofs.Common.{◌<◌, length, refl, sym, subst, ◌∙◌}
+use Rattle.std.proofs.Common.{◌<◌, length, sym, subst, ◌∙◌}
 use Rattle.std.specs.Prelude.{IfSome}
-use Rattle.std.proofs.lemmas.Option.{slice_get_read}
 use Rattle.linked_classes.specs.Places.{place_class}
 use Rattle.saved_steps.specs.World.{is_same_step}
 use Rattle.saved_steps.specs.declared.record.StepRecord.{StepRecord}

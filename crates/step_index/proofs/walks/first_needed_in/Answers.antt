@@ -1,6 +1,5 @@
-use Rattle.std.proofs.Common.{◌<◌, get_or, length, sym, subst, ◌∙◌}
+use Rattle.std.proofs.Common.{◌<◌, length, sym, subst, ◌∙◌}
 use Rattle.std.specs.Prelude.{IfSome}
-use Rattle.std.proofs.lemmas.Option.{slice_get-get_or}
 use Rattle.linked_classes.specs.Places.{place_class}
 use Rattle.step_index.specs.Walks.{needed_by}
 use Rattle.step_index.proofs.Passed.{IsPassed, ended, stopped, went_on}

@@ -1,7 +1,4 @@
-use Rattle.std.proofs.Common.{subst}
-use Rattle.saved_steps.specs.World.{is_same_step}
-use Rattle.step_index.specs.Walks.{IsFirstFrom}
-use Rattle.step_index.proofs.Dependents.{InClass, found_by_name}
+use Rattle.step_index.proofs.Dependents.{found_by_name}
 use Rattle.step_index.proofs.records.StepRecords.find.Goals as goal
 
 pub returns : goal.returns

@@ -1,10 +1,9 @@
-use Rattle.std.proofs.Common.{◌≡◌, ◌<◌, ◌+◌, get_or, length, Some, ap, sym, subst, ◌∙◌}
+use Rattle.std.proofs.Common.{◌≡◌, Some, ap, sym, ◌∙◌}
 use Rattle.std.specs.Prelude.{slice_get}
-use Rattle.std.proofs.lemmas.Option.{same_Some, slice_get-get_or}
+use Rattle.std.proofs.lemmas.Option.{same_Some}
 use Rattle.saved_steps.specs.Steps.{is_write}
 use Rattle.saved_steps.specs.declared.record.StepRecord.{StepRecord}
-use Rattle.step_index.specs.Walks.{IsFirstFrom, needs}
-use Rattle.step_index.proofs.Dependents.{InClass, first_conflict, first_write}
+use Rattle.step_index.proofs.Dependents.{first_conflict, first_write}
 use Rattle.step_index.proofs.records.StepRecords.first_conflict.Goals as goal
 
 pub returns-in-Write : goal.returns-in-Write

@@ -1,12 +1,12 @@
-use Rattle.std.proofs.Common.{◌≡◌, ◌<◌, ◌+◌, get_or, length, Some, ap, sym, subst, ◌∙◌}
+use Rattle.std.proofs.Common.{◌≡◌, ◌+◌, Some, ap, sym, subst, ◌∙◌}
 use Rattle.std.specs.Prelude.{slice_get, ◌||◌}
-use Rattle.std.proofs.lemmas.Option.{same_Some, slice_get-get_or}
+use Rattle.std.proofs.lemmas.Option.{same_Some}
 use Rattle.depends.specs.Dependence.{is_start}
 use Rattle.saved_steps.specs.Steps.{is_fork}
 use Rattle.saved_steps.specs.declared.record.StepRecord.{StepRecord}
 use Rattle.step_index.specs.Buckets.{exec_bucket, thread_bucket}
 use Rattle.step_index.specs.Walks.{IsFirstFrom, NeedsByName, needs}
-use Rattle.step_index.proofs.Dependents.{InClass, own_exec, own_thread, first_of_exec, first_of_thread_or_gate}
+use Rattle.step_index.proofs.Dependents.{own_exec, own_thread, first_of_exec, first_of_thread_or_gate}
 use Rattle.step_index.proofs.records.StepRecords.first_in_execution.Goals as goal
 
 pub returns-then-makes_threads : goal.returns-then-makes_threads

@@ -1,5 +1,4 @@
-use Rattle.std.proofs.Common.{◌<◌, length, refl, ◌∙◌}
-use Rattle.std.proofs.lemmas.Option.{slice_get_read}
+use Rattle.std.proofs.Common.{◌∙◌}
 use Rattle.step_index.specs.Buckets.{by_name, by_thread, by_exec, by_gate, by_key, by_write}
 use Rattle.step_index.proofs.Listed.{one_less}
 use Rattle.step_index.proofs.records.StepRecords.remove.Goals as goal

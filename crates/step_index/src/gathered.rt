@@ -1,0 +1,74 @@
+//! The steps of an execution, and those that accessed a key, gathered from their classes.
+
+ghost use Rattle.std.specs.Prelude.{◌≡◌, ℕ, true, Some, IfOk, length, slice_get};
+ghost use Rattle.linked_classes.specs.Places.{place_class};
+ghost use Rattle.saved_steps.specs.declared.record.StepRecord.{StepRecord as Kept};
+ghost use Rattle.step_index.specs.Gathered.{accesses, is_of, places_where};
+
+use attr_values::Key;
+use linked_classes::{ClassedPlaces, NumberedVec};
+use saved_steps::StepRecord;
+use std::alloc::{AllocError, Global};
+
+/// The places of an execution's steps, if all of them are in this class: a look at each step there.
+pub(crate) fn gathered_of(
+    alloc: Global,
+    records: &NumberedVec<StepRecord>,
+    steps: &ClassedPlaces,
+    class: u32,
+    exec: &str,
+) -> Result<Vec<usize>, AllocError>
+    requires { length steps.now.classes ≡ length records.now.items }
+    ensures { ((k : ℕ) (r : Kept) → slice_get records.now.items k ≡ Some r → is_of exec.now r ≡ true → place_class steps.now k ≡ Some class)
+        → IfOk result (λ found. found.items ≡ places_where (is_of exec.now) records.now.items) }
+{
+    let mut found = Vec::new(alloc);
+    let mut next = steps.first(class);
+    while let Some(place) = next {
+        if is_of(records.get(place), exec) {
+            found.push(place)?;
+        }
+        next = steps.next(place);
+    }
+    Ok(found)
+}
+
+/// The places of the steps that accessed a key, if all of them are in this class: a look at each step there.
+pub(crate) fn gathered_accesses(
+    alloc: Global,
+    records: &NumberedVec<StepRecord>,
+    steps: &ClassedPlaces,
+    class: u32,
+    key: &Key,
+) -> Result<Vec<usize>, AllocError>
+    requires { length steps.now.classes ≡ length records.now.items }
+    ensures { ((k : ℕ) (r : Kept) → slice_get records.now.items k ≡ Some r → accesses key.now r ≡ true → place_class steps.now k ≡ Some class)
+        → IfOk result (λ found. found.items ≡ places_where (accesses key.now) records.now.items) }
+{
+    let mut found = Vec::new(alloc);
+    let mut next = steps.first(class);
+    while let Some(place) = next {
+        if accesses(records.get(place), key) {
+            found.push(place)?;
+        }
+        next = steps.next(place);
+    }
+    Ok(found)
+}
+
+/// Whether a record is that of a step of this execution.
+fn is_of(taken: &StepRecord, exec: &str) -> bool
+    ensures { result ≡ is_of exec.now taken.now }
+{
+    taken.fact.name.thread.exec() == exec
+}
+
+/// Whether a record is that of a step that accessed this key.
+fn accesses(taken: &StepRecord, key: &Key) -> bool
+    ensures { result ≡ accesses key.now taken.now }
+{
+    match &taken.fact.access {
+        Some(access) => access.key == *key,
+        None => false,
+    }
+}
