@@ -1,6 +1,8 @@
 // The book: the history of its remaining steps, and the log of what was accepted.
-ghost use Rattle.std.specs.Prelude.{◌≡◌, ◌^◌, ◌<◌, ◌⊎◌, [], map, length, true, IfOk, IfErr, IsOk, OnOk, MatchResult, Some, None, Ok, Err};
+ghost use Rattle.std.specs.Prelude.{◌≡◌, ◌^◌, ◌<◌, ◌⊎◌, [], map, length, option_copied, true, IfOk, IfErr, IsOk, OnOk, MatchResult, Some, None, Ok, Err};
+ghost use Rattle.attr_values.specs.declared.key.Key.{Key};
 ghost use Rattle.item_store.specs.Listing.{IsListing, items_left};
+ghost use Rattle.item_store.specs.Store.{slot_key};
 ghost use Rattle.saved_steps.specs.Steps.{name_of};
 ghost use Rattle.step_history.specs.History.{AreRecordsOf, history_items};
 ghost use Rattle.book_log.specs.Answers.{absent, remains, undo_answer};
@@ -15,10 +17,10 @@ use crate::hold::{Hold, take_out};
 use crate::lists::{absent_in, names_at, push_with_room};
 use crate::machines::Machines;
 use crate::room::FreeRoom;
-use attr_values::ItemFault;
+use attr_values::{Item, ItemFault};
 use book_events::{PlanRoom, Room};
 use book_log::{Begin, Entry, Refusal, StepNames, first_store};
-use item_store::Items;
+use item_store::{Items, SlotNo};
 use settled_names::SettledNames;
 use std::alloc::{AllocError, Global};
 use std::collections::BTreeMap;
@@ -207,6 +209,18 @@ impl Book {
         ensures fits { length (items_left result) < 2 ^ 63 }
     {
         self.history.items().items()
+    }
+
+    /// The item that stands in a slot of the table, if any: the slot of a key as the record of a call has it. Takes no memory.
+    pub fn item_in(&self, slot: SlotNo) -> Option<&Item>
+        ensures { (key : Key) → slot_key (history_items self.now.history) slot ≡ Some key → option_copied result ≡ (world_of self.now.log).items key }
+    {
+        let items = self.history.items();
+        if items.has_slot(slot) {
+            items.look(slot)
+        } else {
+            None
+        }
     }
 
     /// The remaining steps in the order in which they were taken, each with what its undoing gives back. Takes no memory.

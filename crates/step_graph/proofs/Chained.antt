@@ -1,5 +1,5 @@
 -- Chains grow at their beginning.
-use Rattle.std.proofs.Common.{◌≡◌, ℕ, List, [], ◌∷◌, IsTrue, refl, ap}
+use Rattle.std.proofs.Common.{ℕ, List, [], ◌∷◌, IsTrue, refl, ap}
 use Rattle.saved_steps.specs.declared.record.StepRecord.{StepRecord}
 use Rattle.step_graph.specs.Chains.{IsChain, is_link}
 

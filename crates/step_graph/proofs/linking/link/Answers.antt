@@ -1,4 +1,4 @@
-use Rattle.std.proofs.Common.{◌∙◌, sym, arith}
+use Rattle.std.proofs.Common.{◌∙◌, sym}
 use Rattle.step_graph.specs.Edges.{IsEdge}
 use Rattle.step_graph.specs.declared.linking.Edge.{Edge}
 use Rattle.step_graph.proofs.Linked.{one_more}
