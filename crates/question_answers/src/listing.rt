@@ -1,0 +1,249 @@
+// Executions: how each stands, and how many of each machine are done, failed or open.
+use crate::asked::{Asked, Page};
+use crate::threads::frame_of;
+use crate::values::{Object, step_value, text_value, thread_value};
+use json_tree::{Json, JsonList, Text};
+use rollback_book::Entry;
+use rollback_book::turns::Phase;
+use std::alloc::{AllocError, Global};
+use std::collections::BTreeMap;
+use step_names::ThreadName;
+
+/// How an execution stands, by its own thread.
+#[derive(Clone, Copy, Debug, PartialEq, Eq)]
+pub enum Status {
+    Done,
+    Failed,
+    Open,
+}
+
+impl Status {
+    pub(crate) fn word(self) -> &'static str {
+        match self {
+            Status::Done => "done",
+            Status::Failed => "failed",
+            Status::Open => "open",
+        }
+    }
+}
+
+/// Of which executions a list is.
+#[derive(Debug, Drop)]
+pub struct Filter {
+    pub status: Option<Status>,
+    pub machine: Option<Text>,
+    pub since: Option<usize>,
+}
+
+#[derive(Clone, Copy)]
+struct Count {
+    done: usize,
+    failed: usize,
+    open: usize,
+}
+
+impl Count {
+    fn none() -> Count {
+        Count {
+            done: 0,
+            failed: 0,
+            open: 0,
+        }
+    }
+
+    fn with(self, status: Status) -> Count {
+        let mut count = self;
+        match status {
+            Status::Done => count.done = count.done.saturating_add(1),
+            Status::Failed => count.failed = count.failed.saturating_add(1),
+            Status::Open => count.open = count.open.saturating_add(1),
+        }
+        count
+    }
+
+    fn value(self, alloc: Global) -> Result<Json, AllocError> {
+        let mut fields = Object::new(alloc);
+        fields.put_number("done", self.done)?;
+        fields.put_number("failed", self.failed)?;
+        fields.put_number("open", self.open)?;
+        Ok(fields.done())
+    }
+}
+
+/// The executions, and how many there are. Takes time in the number of executions and in the steps of those that are listed.
+pub(crate) fn executions(
+    asked: &Asked<'_>,
+    filter: &Filter,
+    page: &Page,
+) -> Result<Json, AllocError> {
+    let (all, machines) = counts(asked)?;
+    let mut rows = Vec::new(asked.alloc);
+    let mut more = false;
+    for (exec, start) in asked.index.executions().iter() {
+        if page.skips(exec) || !is_listed(asked, filter, exec, *start) {
+            continue;
+        }
+        if page.is_full(rows.len()) {
+            more = true;
+            break;
+        }
+        rows.push(row_of(asked, exec, *start)?)?;
+    }
+    let mut answer = asked.answer()?;
+    answer.put("counts", all.value(asked.alloc)?)?;
+    answer.put("machines", machines)?;
+    answer.put("held", hold_of(asked)?)?;
+    answer.put("more", Json::Bool(more))?;
+    if let Some(since) = filter.since {
+        answer.put("gone", gone_since(asked, since)?)?;
+    }
+    answer.put_list("executions", rows)?;
+    Ok(answer.done())
+}
+
+/// How many executions are done, failed and open: of all, and of each machine.
+fn counts(asked: &Asked<'_>) -> Result<(Count, Json), AllocError> {
+    let mut by_machine: BTreeMap<Text, Count> = BTreeMap::new(asked.alloc);
+    for (name, _) in asked.index.definitions().iter() {
+        by_machine.insert(name.copy()?, Count::none())?;
+    }
+    let mut all = Count::none();
+    for (exec, start) in asked.index.executions().iter() {
+        let status = status_of(asked, exec);
+        all = all.with(status);
+        if let Some(machine) = machine_of(asked, *start) {
+            if let Some(count) = by_machine.get_mut(machine) {
+                *count = count.with(status);
+            }
+        }
+    }
+    let mut machines = Object::new(asked.alloc);
+    for (name, count) in by_machine.iter() {
+        machines.put(name.as_str(), count.value(asked.alloc)?)?;
+    }
+    Ok((all, machines.done()))
+}
+
+/// What is held, and what is left of it, the latest first.
+fn hold_of(asked: &Asked<'_>) -> Result<Json, AllocError> {
+    let Some(step) = asked.book.held() else {
+        return Ok(Json::Null);
+    };
+    let mut held = Object::new(asked.alloc);
+    held.put_step("step", step)?;
+    held.put_number("left", asked.book.held_left())?;
+    Ok(held.done())
+}
+
+/// The executions that are gone, and went by a line after one.
+fn gone_since(asked: &Asked<'_>, since: usize) -> Result<Json, AllocError> {
+    let mut gone = BTreeMap::new(asked.alloc);
+    for (line, threads) in asked.index.changes().range(since.saturating_add(1)..) {
+        for thread in threads {
+            if thread.is_execution() && asked.index.gone_by(thread).is_some() {
+                gone.insert(thread.copy()?, *line)?;
+            }
+        }
+    }
+    let mut names = Vec::new(asked.alloc);
+    for (exec, _) in gone.iter() {
+        names.push(thread_value(asked.alloc, exec)?)?;
+    }
+    Ok(Json::List(JsonList::from_vec(names)?))
+}
+
+fn is_listed(asked: &Asked<'_>, filter: &Filter, exec: &ThreadName, start: usize) -> bool {
+    if let Some(status) = filter.status {
+        if status_of(asked, exec) != status {
+            return false;
+        }
+    }
+    if let Some(since) = filter.since {
+        if last_line(asked, exec, start) <= since {
+            return false;
+        }
+    }
+    match (&filter.machine, machine_of(asked, start)) {
+        (Some(wanted), Some(machine)) => wanted.as_str() == machine.as_str(),
+        (Some(_), None) => false,
+        (None, _) => true,
+    }
+}
+
+// ---- of one execution
+
+/// How an execution stands.
+pub(crate) fn status_of(asked: &Asked<'_>, exec: &ThreadName) -> Status {
+    match frame_of(asked.book, exec) {
+        Some(frame) => match &frame.phase {
+            Phase::Done(_) => Status::Done,
+            Phase::Failed(_) => Status::Failed,
+            _ => Status::Open,
+        },
+        None => Status::Open,
+    }
+}
+
+/// The machine of an execution that was started by a line.
+pub(crate) fn machine_of<'a>(asked: &Asked<'a>, start: usize) -> Option<&'a Text> {
+    let (_, entries) = asked.book.entries();
+    // (the table's line is no entry)
+    match entries.get(start.checked_sub(1)?) {
+        Some(Entry::Start { machine, .. }) => Some(machine),
+        _ => None,
+    }
+}
+
+/// The last line that changed an execution's threads.
+pub(crate) fn last_line(asked: &Asked<'_>, exec: &ThreadName, start: usize) -> usize {
+    let mut last = start;
+    for (thread, presence) in asked.index.threads().range(exec..) {
+        if thread.exec() != exec.exec() {
+            break;
+        }
+        if presence.changed > last {
+            last = presence.changed;
+        }
+    }
+    last
+}
+
+fn row_of(asked: &Asked<'_>, exec: &ThreadName, start: usize) -> Result<Json, AllocError> {
+    let alloc = asked.alloc;
+    let mut row = Object::new(alloc);
+    row.put_thread("execution", exec)?;
+    let machine = match machine_of(asked, start) {
+        Some(machine) => text_value(alloc, machine.as_str())?,
+        None => Json::Null,
+    };
+    row.put("machine", machine)?;
+    row.put_text("status", status_of(asked, exec).word())?;
+    put_end(asked, &mut row, exec)?;
+    let steps = asked.book.history().of_execution(alloc, exec.exec())?;
+    row.put_number("steps", steps.len())?;
+    row.put_number("entry", last_line(asked, exec, start))?;
+    Ok(row.done())
+}
+
+/// The state in which an execution is or failed, and its error.
+pub(crate) fn put_end(
+    asked: &Asked<'_>,
+    row: &mut Object,
+    exec: &ThreadName,
+) -> Result<(), AllocError> {
+    let alloc = asked.alloc;
+    let Some(frame) = frame_of(asked.book, exec) else {
+        row.put("state", Json::Null)?;
+        return row.put("error", Json::Null);
+    };
+    let error = match &frame.phase {
+        Phase::Failed(fault) => text_value(alloc, fault.error.as_str())?,
+        _ => Json::Null,
+    };
+    let state = match &frame.phase {
+        Phase::Done(_) => Json::Null,
+        _ => text_value(alloc, frame.state.as_str())?,
+    };
+    row.put("state", state)?;
+    row.put("error", error)
+}

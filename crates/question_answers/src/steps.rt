@@ -1,0 +1,387 @@
+// Steps: what each was, what it was given and what it handed on.
+use crate::asked::Asked;
+use crate::near::near_of;
+use crate::threads::{frame_of, machine_of, type_of, used_between};
+use crate::values::{Object, or_null, text_value};
+use asl_states::{Resource, Transition};
+use asl_tree::State;
+use attr_values::{Item, Key, KeyPart, write_item};
+use item_store::AccessMode;
+use json_tree::{Json, JsonFields, JsonList, Text};
+use rollback_book::turns::{Frame, Phase, located};
+use rollback_book::{Access, Kind, Saved, StepRecord, StepRecords};
+use std::alloc::{AllocError, Global};
+use step_graph::{Reason, closed_threads, thread_above};
+use step_names::{StepName, ThreadName};
+
+/// The record at a place, if there is one.
+pub(crate) fn record_at(records: &StepRecords, place: usize) -> Option<&StepRecord> {
+    if place < records.len() {
+        Some(records.get(place))
+    } else {
+        None
+    }
+}
+
+/// The record of a step that remains.
+pub(crate) fn record_of<'a>(asked: &Asked<'a>, step: &StepName) -> Option<&'a StepRecord> {
+    let records = asked.book.history();
+    record_at(records, records.find(step)?)
+}
+
+pub(crate) fn kind_word(kind: Kind) -> &'static str {
+    match kind {
+        Kind::Start => "start",
+        Kind::Plain => "plain",
+        Kind::Call => "call",
+        Kind::Fork => "fork",
+        Kind::Join => "join",
+        Kind::Terminate => "terminate",
+    }
+}
+
+pub(crate) fn reason_word(reason: Reason) -> &'static str {
+    match reason {
+        Reason::Thread => "thread",
+        Reason::Start => "start",
+        Reason::Fork => "fork",
+        Reason::Join => "join",
+        Reason::Item => "item",
+        Reason::Bound => "bound",
+    }
+}
+
+// ---- frames
+
+/// The frame that a step's thread had before it; none before a start.
+pub(crate) fn frame_before(kept: &StepRecord) -> Option<&Frame> {
+    match &kept.saved {
+        Saved::Started => None,
+        Saved::Framed(frame)
+        | Saved::Forked(frame)
+        | Saved::Called { frame, .. }
+        | Saved::Closed { frame, .. } => Some(frame),
+    }
+}
+
+/// The frame that a step's thread had after it: what its next step began with, or what it has now, or had when its branch went.
+pub(crate) fn frame_after<'a>(
+    asked: &Asked<'a>,
+    step: &StepName,
+) -> Result<Option<&'a Frame>, AllocError> {
+    let next = StepName {
+        thread: step.thread.copy()?,
+        no: step.no.saturating_add(1),
+    };
+    if let Some(kept) = record_of(asked, &next) {
+        return Ok(frame_before(kept));
+    }
+    if let Some(frame) = frame_of(asked.book, &step.thread) {
+        return Ok(Some(frame));
+    }
+    closed_frame(asked, &step.thread)
+}
+
+/// The frame that a branch had when a join or a terminate took it away.
+pub(crate) fn closed_frame<'a>(
+    asked: &Asked<'a>,
+    thread: &ThreadName,
+) -> Result<Option<&'a Frame>, AllocError> {
+    for depth in 0..thread.path().len() {
+        let over = thread_above(asked.alloc, thread, depth)?;
+        let Some((fork, _)) = thread.path().get(depth) else {
+            return Ok(None);
+        };
+        let closing = StepName {
+            thread: over,
+            no: fork.saturating_add(1),
+        };
+        let Some(kept) = record_of(asked, &closing) else {
+            continue;
+        };
+        for (name, frame) in closed_threads(asked.alloc, kept)? {
+            if name == *thread {
+                return Ok(Some(frame));
+            }
+        }
+    }
+    Ok(None)
+}
+
+/// A frame: its state, what it was given, and how it ended.
+pub(crate) fn frame_value(alloc: Global, frame: Option<&Frame>) -> Result<Json, AllocError> {
+    let Some(frame) = frame else {
+        return Ok(Json::Null);
+    };
+    let mut value = Object::new(alloc);
+    value.put_number("moves", frame.count as usize)?;
+    value.put_text("state", frame.state.as_str())?;
+    value.put("input", frame.raw.copy()?)?;
+    match &frame.phase {
+        Phase::Ready => value.put_text("phase", "ready")?,
+        Phase::Parked(branches, _) => {
+            value.put_text("phase", "parked")?;
+            value.put_number("branches", *branches as usize)?;
+        }
+        Phase::Done(output) => {
+            value.put_text("phase", "done")?;
+            value.put("output", output.copy()?)?;
+        }
+        Phase::Failed(fault) => {
+            value.put_text("phase", "failed")?;
+            value.put_text("error", fault.error.as_str())?;
+            value.put_text("cause", fault.cause.as_str())?;
+        }
+    }
+    Ok(value.done())
+}
+
+// ---- keys and items
+
+/// A key: an object of its attributes.
+pub(crate) fn key_value(asked: &Asked<'_>, key: &Key) -> Result<Json, AllocError> {
+    let (begin, _) = asked.book.entries();
+    let mut fields = JsonFields::new(asked.alloc);
+    put_part(
+        asked.alloc,
+        &mut fields,
+        &begin.schema.partition.name,
+        &key.partition,
+    )?;
+    if let (Some(attribute), Some(part)) = (&begin.schema.sort, &key.sort) {
+        put_part(asked.alloc, &mut fields, &attribute.name, part)?;
+    }
+    Ok(Json::Fields(fields))
+}
+
+fn put_part(
+    alloc: Global,
+    fields: &mut JsonFields,
+    name: &Text,
+    part: &KeyPart,
+) -> Result<(), AllocError> {
+    let mut value = JsonFields::new(alloc);
+    match part {
+        KeyPart::S(text) => {
+            drop(value.insert(Text::new(alloc, "S")?, text_value(alloc, text.as_str())?)?);
+        }
+        KeyPart::N(number) => {
+            let digits = number.write_text(alloc)?;
+            drop(value.insert(Text::new(alloc, "N")?, text_value(alloc, digits.as_str())?)?);
+        }
+    }
+    drop(fields.insert(name.copy()?, Json::Fields(value))?);
+    Ok(())
+}
+
+/// An item, or `null`.
+pub(crate) fn item_value(alloc: Global, item: Option<&Item>) -> Result<Json, AllocError> {
+    match item {
+        Some(item) => write_item(alloc, item),
+        None => Ok(Json::Null),
+    }
+}
+
+/// The item of a key before and after a step that accessed it, as its accesses say.
+#[derive(Drop)]
+pub(crate) struct Around<'a> {
+    pub(crate) before: Option<&'a Item>,
+    pub(crate) after: Option<&'a Item>,
+}
+
+/// The item before and after the access at a place. Takes time in the number of the key's accesses.
+pub(crate) fn items_at<'a>(
+    asked: &Asked<'a>,
+    place: usize,
+    accesses: &[usize],
+) -> Option<Around<'a>> {
+    let kept = record_at(asked.book.history(), place)?;
+    let after = replaced_next(asked, place, accesses);
+    let before = match (&kept.fact.access, &kept.saved) {
+        (Some(access), Saved::Called { old, .. }) => match access.mode {
+            AccessMode::Write => old.as_ref(),
+            AccessMode::Read => after,
+        },
+        _ => after,
+    };
+    Some(Around { before, after })
+}
+
+/// What the next write of the key replaced; if there is none, the item now.
+fn replaced_next<'a>(asked: &Asked<'a>, place: usize, accesses: &[usize]) -> Option<&'a Item> {
+    let records = asked.book.history();
+    for later in accesses {
+        if *later <= place {
+            continue;
+        }
+        let Some(kept) = record_at(records, *later) else {
+            continue;
+        };
+        if let (Some(access), Saved::Called { old, .. }) = (&kept.fact.access, &kept.saved) {
+            if matches!(access.mode, AccessMode::Write) {
+                return old.as_ref();
+            }
+        }
+    }
+    match record_at(records, place) {
+        Some(kept) => item_now(asked, kept),
+        None => None,
+    }
+}
+
+/// The item now of the key that a step accessed.
+pub(crate) fn item_now<'a>(asked: &Asked<'a>, kept: &StepRecord) -> Option<&'a Item> {
+    match &kept.saved {
+        Saved::Called { slot, .. } => asked.book.item_in(*slot),
+        _ => None,
+    }
+}
+
+/// How a step accessed a key: it read it, wrote it, or found that its condition doesn't hold.
+pub(crate) fn access_word(asked: &Asked<'_>, kept: &StepRecord, access: &Access) -> &'static str {
+    match access.mode {
+        AccessMode::Write => "write",
+        AccessMode::Read => if is_get(asked, kept) {
+            "read"
+        } else {
+            "refused"
+        },
+    }
+}
+
+/// Whether a step's state reads an item.
+fn is_get(asked: &Asked<'_>, kept: &StepRecord) -> bool {
+    let Some(frame) = frame_before(kept) else {
+        return false;
+    };
+    let Some(machine) = machine_of(asked.book, asked, &frame.level) else {
+        return true;
+    };
+    match located(machine, frame) {
+        Some((_, State::Task(task))) => { matches!(task.resource, Resource::GetItem) }
+        _ => true,
+    }
+}
+
+// ---- a step's row
+
+/// A step's name, thread, kind, state with its type, and key with the kind of its access.
+pub(crate) fn put_step_row(
+    asked: &Asked<'_>,
+    row: &mut Object,
+    kept: &StepRecord,
+) -> Result<(), AllocError> {
+    let alloc = asked.alloc;
+    row.put_step("step", &kept.fact.name)?;
+    row.put_thread("thread", &kept.fact.name.thread)?;
+    row.put_text("kind", kind_word(kept.fact.kind))?;
+    match frame_before(kept) {
+        Some(frame) => {
+            row.put_text("state", frame.state.as_str())?;
+            let kind = match type_of(asked.book, asked, frame) {
+                Some(word) => Some(text_value(alloc, word)?),
+                None => None,
+            };
+            row.put("type", or_null(kind))?;
+        }
+        None => {
+            row.put("state", Json::Null)?;
+            row.put("type", Json::Null)?;
+        }
+    }
+    match &kept.fact.access {
+        Some(access) => {
+            row.put_text("access", access_word(asked, kept, access))?;
+            row.put("key", key_value(asked, &access.key)?)
+        }
+        None => {
+            row.put("access", Json::Null)?;
+            row.put("key", Json::Null)
+        }
+    }
+}
+
+/// The steps on which the one at a place depends in a picture, each with its reason.
+pub(crate) fn put_on(asked: &Asked<'_>, row: &mut Object, place: usize) -> Result<(), AllocError> {
+    let records = asked.book.history();
+    let mut on = Vec::new(asked.alloc);
+    for (earlier, reason) in near_of(asked, place)? {
+        if let Some(kept) = record_at(records, earlier) {
+            let mut one = Object::new(asked.alloc);
+            one.put_step("step", &kept.fact.name)?;
+            one.put_text("reason", reason_word(reason))?;
+            on.push(one.done())?;
+        }
+    }
+    row.put_list("on", on)
+}
+
+/// What a step went on to: a state, the same one again, the end, or branches.
+pub(crate) fn outcome_of(
+    asked: &Asked<'_>,
+    before: Option<&Frame>,
+    after: Option<&Frame>,
+) -> Result<Json, AllocError> {
+    let alloc = asked.alloc;
+    let Some(after) = after else {
+        return Ok(Json::Null);
+    };
+    let mut outcome = Object::new(alloc);
+    match &after.phase {
+        Phase::Done(_) => outcome.put_text("to", "done")?,
+        Phase::Failed(fault) => {
+            outcome.put_text("to", "failed")?;
+            outcome.put_text("error", fault.error.as_str())?;
+        }
+        Phase::Parked(branches, _) => {
+            outcome.put_text("to", "forked")?;
+            outcome.put_number("branches", *branches as usize)?;
+        }
+        Phase::Ready => match before {
+            Some(before) if used_between(before, after).is_some() => {
+                outcome.put_text("to", "retry")?;
+            }
+            Some(before) if is_caught(asked, before, after) => {
+                outcome.put_text("to", "caught")?;
+                outcome.put_text("state", after.state.as_str())?;
+            }
+            _ => {
+                outcome.put_text("to", "next")?;
+                outcome.put_text("state", after.state.as_str())?;
+            }
+        },
+    }
+    Ok(outcome.done())
+}
+
+/// Whether a catcher led from one state to another: the first one's own transition leads elsewhere.
+fn is_caught(asked: &Asked<'_>, before: &Frame, after: &Frame) -> bool {
+    let Some(machine) = machine_of(asked.book, asked, &before.level) else {
+        return false;
+    };
+    let Some((_, state)) = located(machine, before) else {
+        return false;
+    };
+    let transition = match state {
+        State::Task(task) => &task.transition,
+        State::Parallel(parallel) => &parallel.transition,
+        State::Map(map) => &map.transition,
+        _ => return false,
+    };
+    match transition {
+        Transition::Next(name) => name.as_str() != after.state.as_str(),
+        Transition::End => true,
+    }
+}
+
+/// The names of some steps.
+pub(crate) fn step_names(asked: &Asked<'_>, places: &[usize]) -> Result<Json, AllocError> {
+    let records = asked.book.history();
+    let mut names = Vec::new(asked.alloc);
+    for place in places {
+        if let Some(kept) = record_at(records, *place) {
+            names.push(crate::values::step_value(asked.alloc, &kept.fact.name)?)?;
+        }
+    }
+    Ok(Json::List(JsonList::from_vec(names)?))
+}

@@ -1,0 +1,234 @@
+// Which accepted line brought what about.
+use crate::definitions::{Definition, Definitions, keep};
+use crate::touched::{Touched, frame_of, of_entry};
+use command_lines::{Command, CommandFault};
+use json_tree::Text;
+use rollback_book::{Book, Entry};
+use std::alloc::{AllocError, Global};
+use std::collections::BTreeMap;
+use step_names::{StepName, ThreadName};
+
+/// Since which accepted lines a thread is as it is.
+#[derive(Clone, Copy, Debug, PartialEq, Eq)]
+pub struct Presence {
+    /// The line that brought it to where it is: its start, its step, the fork of its branch, or what put it back.
+    pub brought: usize,
+    /// The last line that changed this or its next move.
+    pub changed: usize,
+}
+
+/// Which accepted line brought what about. The lines have numbers in their order; that of the table is 0. Each line costs time and
+/// memory in the number of threads that it touches, logarithms aside.
+#[derive(Drop)]
+pub struct Index {
+    lines: usize,
+    definitions: Definitions,
+    /// The line of each execution's start.
+    executions: BTreeMap<ThreadName, usize>,
+    /// The line of each step that remains.
+    steps: BTreeMap<StepName, usize>,
+    threads: BTreeMap<ThreadName, Presence>,
+    /// The line by which a thread went that isn't there.
+    gone: BTreeMap<ThreadName, usize>,
+    /// The threads that each line touched.
+    changes: BTreeMap<usize, Vec<ThreadName>>,
+    /// The branches that went with the join or the terminate of a line.
+    closed: BTreeMap<usize, Vec<ThreadName>>,
+}
+
+impl Index {
+    /// No lines. Takes no memory.
+    pub fn new(alloc: Global) -> Index {
+        Index {
+            lines: 0,
+            definitions: BTreeMap::new(alloc),
+            executions: BTreeMap::new(alloc),
+            steps: BTreeMap::new(alloc),
+            threads: BTreeMap::new(alloc),
+            gone: BTreeMap::new(alloc),
+            changes: BTreeMap::new(alloc),
+            closed: BTreeMap::new(alloc),
+        }
+    }
+
+    /// How many lines were accepted, the table's too.
+    pub fn lines(&self) -> usize {
+        self.lines
+    }
+
+    /// The definitions of the machines, by their names.
+    pub fn definitions(&self) -> &BTreeMap<Text, Definition> {
+        &self.definitions
+    }
+
+    /// The executions that are there, each with the line of its start.
+    pub fn executions(&self) -> &BTreeMap<ThreadName, usize> {
+        &self.executions
+    }
+
+    /// The threads that are there.
+    pub fn threads(&self) -> &BTreeMap<ThreadName, Presence> {
+        &self.threads
+    }
+
+    /// The line of a step that remains.
+    pub fn line_of(&self, step: &StepName) -> Option<usize> {
+        self.steps.get(step).copied()
+    }
+
+    /// The line by which a thread went that isn't there.
+    pub fn gone_by(&self, thread: &ThreadName) -> Option<usize> {
+        self.gone.get(thread).copied()
+    }
+
+    /// The threads that lines touched, by these lines.
+    pub fn changes(&self) -> &BTreeMap<usize, Vec<ThreadName>> {
+        &self.changes
+    }
+
+    /// The branches that went with the join or the terminate of a line.
+    pub fn closed_by(&self, line: usize) -> &[ThreadName] {
+        match self.closed.get(&line) {
+            Some(threads) => threads.as_slice(),
+            None => &[],
+        }
+    }
+
+    // ---- lines
+
+    /// Enters the line that was accepted last. `touched` is what `Touched::before` found before it was.
+    pub fn enter(
+        &mut self,
+        alloc: Global,
+        book: &Book,
+        line: &str,
+        touched: Touched,
+    ) -> Result<(), AllocError> {
+        let number = self.lines;
+        self.lines = number.saturating_add(1);
+        let (_, entries) = book.entries();
+        let Some(entry) = entries.last() else {
+            drop(touched);
+            return Ok(());
+        };
+        self.enter_name(alloc, line, entry, number)?;
+        let mut touched = of_entry(alloc, book, entry, touched)?;
+        self.close(number, &mut touched)?;
+        self.place(book, number, touched)
+    }
+
+    /// What a line says of machines, executions and steps.
+    fn enter_name(
+        &mut self,
+        alloc: Global,
+        line: &str,
+        entry: &Entry,
+        number: usize,
+    ) -> Result<(), AllocError> {
+        match entry {
+            Entry::Define { .. } => self.define(alloc, line, number),
+            Entry::Start { exec, .. } => {
+                self.executions.insert(exec.copy()?, number)?;
+                let step = StepName {
+                    thread: exec.copy()?,
+                    no: 0,
+                };
+                self.steps.insert(step, number)?;
+                Ok(())
+            }
+            Entry::Step { name, .. } => {
+                self.steps.insert(name.copy()?, number)?;
+                Ok(())
+            }
+            Entry::Undo { step } => {
+                self.take_back(step);
+                Ok(())
+            }
+            Entry::Rollback { undone, .. } => {
+                for step in undone.names() {
+                    self.take_back(step);
+                }
+                Ok(())
+            }
+            Entry::Settle => {
+                self.steps = BTreeMap::new(alloc);
+                Ok(())
+            }
+            Entry::Hold { .. } => Ok(()),
+        }
+    }
+
+    fn define(&mut self, alloc: Global, line: &str, number: usize) -> Result<(), AllocError> {
+        match Command::read(alloc, line.as_bytes()) {
+            Ok(Command::Define { name, definition }) => {
+                keep(alloc, &mut self.definitions, &name, definition, number)
+            }
+            Ok(_) | Err(CommandFault::BadLine) => Ok(()),
+            Err(CommandFault::Memory) => Err(AllocError),
+        }
+    }
+
+    fn take_back(&mut self, step: &StepName) {
+        self.steps.remove(step);
+        if step.no == 0 {
+            self.executions.remove(&step.thread);
+        }
+    }
+
+    /// Keeps the branches that went.
+    fn close(&mut self, number: usize, touched: &mut Touched) -> Result<(), AllocError> {
+        let mut closed = Vec::new(*touched.closed.allocator());
+        for thread in &touched.closed {
+            closed.push(thread.copy()?)?;
+        }
+        if !closed.is_empty() {
+            self.closed.insert(number, closed)?;
+        }
+        Ok(())
+    }
+
+    /// Notes where the threads are that a line touched.
+    fn place(&mut self, book: &Book, number: usize, touched: Touched) -> Result<(), AllocError> {
+        let mut changed = Vec::new(*touched.closed.allocator());
+        for thread in &touched.moved {
+            self.note(book, number, thread, true)?;
+            changed.push(thread.copy()?)?;
+        }
+        for thread in &touched.closed {
+            self.note(book, number, thread, true)?;
+            changed.push(thread.copy()?)?;
+        }
+        for thread in &touched.beside {
+            self.note(book, number, thread, false)?;
+            changed.push(thread.copy()?)?;
+        }
+        self.changes.insert(number, changed)?;
+        Ok(())
+    }
+
+    /// Notes where a thread is.
+    fn note(
+        &mut self,
+        book: &Book,
+        number: usize,
+        thread: &ThreadName,
+        is_moved: bool,
+    ) -> Result<(), AllocError> {
+        if frame_of(book, thread).is_none() {
+            self.threads.remove(thread);
+            self.gone.insert(thread.copy()?, number)?;
+            return Ok(());
+        }
+        let brought = match self.threads.get(thread) {
+            Some(before) if !is_moved || before.changed == number => before.brought,
+            _ => number,
+        };
+        let presence = Presence {
+            brought: if is_moved { number } else { brought },
+            changed: number,
+        };
+        self.gone.remove(thread);
+        self.threads.insert(thread.copy()?, presence)?;
+        Ok(())
+    }
+}
