@@ -1,0 +1,170 @@
+// What is wrong with the rules of a Choice.
+ghost use Rattle.std.specs.Prelude.{◌≡◌, IfOk, IfSome, None, Err, codes};
+ghost use Rattle.json_tree.specs.View.{data_of};
+ghost use Rattle.asl_forward.specs.Choosing.{chosen};
+
+use crate::details::{Case, NoRule};
+use crate::templates::in_path;
+use crate::why::{Detail, field, found_in};
+use asl_results::frame_turns::state_parts::Choice;
+use asl_results::frame_turns::state_parts::choices::{
+    Comparison, InnerTest, Relation, Rules, Test, Tests,
+};
+use json_tree::Json;
+use std::alloc::{AllocError, Global};
+use std::cmp::Ordering;
+
+/// What a test comes to.
+#[derive(Drop)]
+enum Asked {
+    Holds(bool),
+    /// It comes upon a variable that is absent.
+    Absent(Option<Detail>),
+}
+
+/// What is wrong with the rules of a Choice that has failed with this input.
+pub(crate) fn in_rules(
+    alloc: Global,
+    fields: &Json,
+    choice: &Choice,
+    input: &Json,
+) -> Result<Option<Detail>, AllocError> {
+    if let Some(none) = no_rule(&choice.rules, input)? {
+        let found = Detail::whole(alloc, Case::NoRuleHolds(none));
+        return found_in(alloc, "Choices", Some(found));
+    }
+    let Some(Json::List(rules)) = field(fields, "Choices") else {
+        return Ok(None);
+    };
+    let found = in_each_rule(alloc, rules.as_slice(), &choice.rules, input)?;
+    found_in(alloc, "Choices", found)
+}
+
+/// The input, if no rule holds with it, and none comes upon an absent variable.
+fn no_rule(rules: &Rules, input: &Json) -> Result<Option<NoRule>, AllocError>
+    ensures { IfOk result (λ o. IfSome o (λ none. chosen rules.now None (data_of none.of) ≡ Err (codes "States.NoChoiceMatched"))) }
+{
+    match rules.first_rule(input) {
+        Some(None) => Ok(Some(NoRule { of: input.copy()? })),
+        _ => Ok(None),
+    }
+}
+
+/// The first absent variable that the rules come upon.
+fn in_each_rule(
+    alloc: Global,
+    texts: &[Json],
+    rules: &Rules,
+    input: &Json,
+) -> Result<Option<Detail>, AllocError> {
+    for (index, (rule, text)) in rules.as_slice().iter().zip(texts).enumerate() {
+        match asks(alloc, &rule.test, text, input)? {
+            Asked::Holds(true) => return Ok(None),
+            Asked::Holds(false) => {}
+            Asked::Absent(found) => return found_at(index, found),
+        }
+    }
+    Ok(None)
+}
+
+fn found_at(index: usize, found: Option<Detail>) -> Result<Option<Detail>, AllocError> {
+    match found {
+        Some(detail) => Ok(Some(detail.within_item(index)?)),
+        None => Ok(None),
+    }
+}
+
+/// What a test comes to whose JSON is this. Calls itself once for each level of tests.
+#[cycle(asks)]
+fn asks(alloc: Global, test: &Test, text: &Json, input: &Json) -> Result<Asked, AllocError> {
+    match test {
+        Test::And(tests) => asks_each(alloc, tests, text, "And", input, false),
+        Test::Or(tests) => asks_each(alloc, tests, text, "Or", input, true),
+        Test::Not(inner) => asks_inner(alloc, inner, text, input),
+        Test::Compare(path, comparison) => match (path.pick(input), comparison) {
+            (Some(value), _) => Ok(Asked::Holds(says(comparison, value))),
+            (None, Comparison::IsPresent(present)) => Ok(Asked::Holds(!*present)),
+            (None, _) => Ok(Asked::Absent(in_path(alloc, text, "Variable", input)?)),
+        },
+    }
+}
+
+/// The same of a `Not`.
+#[cycle(asks)]
+fn asks_inner(
+    alloc: Global,
+    inner: &InnerTest,
+    text: &Json,
+    input: &Json,
+) -> Result<Asked, AllocError> {
+    let Some(text) = field(text, "Not") else {
+        return Ok(Asked::Absent(None));
+    };
+    match asks(alloc, inner.test(), text, input)? {
+        Asked::Holds(held) => Ok(Asked::Holds(!held)),
+        Asked::Absent(found) => Ok(Asked::Absent(found_in(alloc, "Not", found)?)),
+    }
+}
+
+/// The same of an `And` or an `Or`, which ends at the first test that comes to `last`.
+#[cycle(asks)]
+fn asks_each(
+    alloc: Global,
+    tests: &Tests,
+    text: &Json,
+    name: &str,
+    input: &Json,
+    last: bool,
+) -> Result<Asked, AllocError> {
+    let Some(Json::List(texts)) = field(text, name) else {
+        return Ok(Asked::Absent(None));
+    };
+    let mut index = 0usize;
+    for test in tests.as_slice() {
+        let Some(text) = texts.get(index) else {
+            return Ok(Asked::Absent(None));
+        };
+        match asks(alloc, test, text, input)? {
+            Asked::Holds(held) => {
+                if held == last {
+                    return Ok(Asked::Holds(last));
+                }
+            }
+            Asked::Absent(found) => {
+                let found = found_at(index, found)?;
+                return Ok(Asked::Absent(found_in(alloc, name, found)?));
+            }
+        }
+        index = index.saturating_add(1);
+    }
+    Ok(Asked::Holds(!last))
+}
+
+fn says(comparison: &Comparison, value: &Json) -> bool {
+    match (comparison, value) {
+        (Comparison::Text(relation, other), Json::Text(text)) => {
+            stands(*relation, text.as_str().cmp(other.as_str()))
+        }
+        (Comparison::Number(relation, other), Json::Whole(number)) => {
+            stands(*relation, number.cmp(other))
+        }
+        (Comparison::Boolean(other), Json::Bool(found)) => *found == *other,
+        (Comparison::IsPresent(asked), _) => *asked,
+        (Comparison::IsNull(asked), _) => *asked == matches!(value, Json::Null),
+        (Comparison::IsNumeric(asked), _) => *asked == matches!(value, Json::Whole(_)),
+        (Comparison::IsString(asked), _) => *asked == matches!(value, Json::Text(_)),
+        (Comparison::IsBoolean(asked), _) => *asked == matches!(value, Json::Bool(_)),
+        _ => false,
+    }
+}
+
+/// Whether two values that are ordered so stand so to each other.
+fn stands(relation: Relation, order: Ordering) -> bool {
+    match relation {
+        Relation::Equals => order.is_eq(),
+        Relation::Less => order.is_lt(),
+        Relation::Greater => order.is_gt(),
+        Relation::LessOrEqual => order.is_le(),
+        Relation::GreaterOrEqual => order.is_ge(),
+    }
+}

@@ -1,0 +1,105 @@
+// The frame that a turn, a join or a terminate comes to.
+ghost use Rattle.std.specs.Prelude.{◌≡◌, ◌+◌, ◌<◌, ◌^◌, Some, IfOk, IfSome, IsSome, option_copied};
+ghost use Rattle.explain.specs.Ends.{frame_after, frame_joined, frame_terminated, after_reply, fault_in};
+ghost use Rattle.asl_forward.specs.Planned.{asks_table};
+ghost use Rattle.item_store.specs.Deciding.{reply_of};
+
+use crate::answers::answer;
+use asl_forward::{
+    Fault, Frame, Outcome, Phase, Prepared, after_branch, finish, joined, located, prepare, work_of,
+};
+use asl_results::machine_tree::SharedMachine;
+use attr_values::Item;
+use item_store::ItemStore;
+use json_tree::JsonList;
+use std::alloc::{AllocError, Global};
+
+/// The turn of a frame, if it is ready for one: if it waits for nothing, and its state is in the machine. Takes what
+/// `asl_forward::prepare` takes.
+pub fn ready_turn(
+    alloc: Global,
+    machine: &SharedMachine,
+    frame: &Frame,
+) -> Result<Option<Prepared>, AllocError>
+    ensures frame { IfOk result (λ o. IfSome o (λ p. p.frame ≡ frame.now)) }
+    ensures machine { IfOk result (λ o. IfSome o (λ p. p.machine ≡ machine.now)) }
+{
+    if located(machine.machine(), frame).is_none() || frame.count == u32::MAX {
+        return Ok(None);
+    }
+    match &frame.phase {
+        Phase::Ready => Ok(Some(prepare(alloc, machine, frame)?)),
+        _ => Ok(None),
+    }
+}
+
+/// The frame that a prepared turn comes to, if this item has the key that its call asks.
+pub(crate) fn frame_after(
+    alloc: Global,
+    prepared: &Prepared,
+    table: &ItemStore,
+    item: Option<&Item>,
+) -> Result<Frame, AllocError>
+    ensures { IfOk result (λ g. frame_after prepared.now.machine prepared.now.frame table.now (option_copied item.entry) prepared.now.outcome ≡ Some g) }
+{
+    match prepared.outcome() {
+        Outcome::Next(next) => next.copy(),
+        Outcome::Fork(parked, _) => parked.copy(),
+        Outcome::Call(call) => {
+            let answer = answer(alloc, call, table, item)?;
+            finish(alloc, prepared, answer)
+        }
+    }
+}
+
+/// The frame after a join with these outputs.
+pub(crate) fn frame_joined(
+    alloc: Global,
+    machine: &SharedMachine,
+    frame: &Frame,
+    outputs: JsonList,
+) -> Result<Option<Frame>, AllocError>
+    ensures { IfOk result (λ o. frame_joined machine.now frame.now outputs ≡ o) }
+{
+    let is_work = match located(machine.machine(), frame) {
+        Some((_level, state)) => work_of(state).is_some(),
+        None => false,
+    };
+    if !is_work {
+        drop(outputs);
+        return Ok(None);
+    }
+    if frame.count == u32::MAX {
+        drop(outputs);
+        return Err(AllocError);
+    }
+    Ok(Some(joined(alloc, machine.machine(), frame, outputs)?))
+}
+
+/// The frame after a branch has ended with this error.
+pub(crate) fn frame_terminated(
+    alloc: Global,
+    machine: &SharedMachine,
+    frame: &Frame,
+    fault: &Fault,
+) -> Result<Option<Frame>, AllocError>
+    ensures { IfOk result (λ o. frame_terminated machine.now frame.now fault.now ≡ o) }
+{
+    if located(machine.machine(), frame).is_none() {
+        return Ok(None);
+    }
+    if frame.count == u32::MAX {
+        return Err(AllocError);
+    }
+    Ok(Some(after_branch(alloc, machine.machine(), frame, fault)?))
+}
+
+/// The error with which a thread of this frame has failed.
+pub(crate) fn fault_in(phase: &Phase) -> Option<&Fault>
+    ensures { option_copied result ≡ fault_in phase.now }
+{
+    match phase {
+        Phase::Failed(fault) => Some(fault),
+        _ => None,
+    }
+}

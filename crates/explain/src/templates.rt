@@ -1,0 +1,171 @@
+// Paths of a state that pick nothing.
+ghost use Rattle.std.specs.Prelude.{◌≡◌, ◌++◌, IfOk, true, codes};
+ghost use Rattle.json_tree.specs.View.{data_of};
+ghost use Rattle.explain.specs.Details.{PathPicksNothing};
+
+use crate::details::{Absent, Case};
+use crate::why::{Detail, field, found_in, text_in};
+use json_tree::{Json, JsonFields, JsonList, Text};
+use ref_paths::{PathFault, RefPath};
+use std::alloc::{AllocError, Global};
+
+/// Whether a text is that of a path that picks nothing of a value.
+fn picks_nothing(alloc: Global, text: &str, of: &Json) -> Result<bool, AllocError>
+    ensures { IfOk result (λ b. b ≡ true → PathPicksNothing text.now (data_of of.now)) }
+{
+    match RefPath::read(alloc, text) {
+        Ok(path) => {
+            let nothing = path.pick(of).is_none();
+            drop(path);
+            Ok(nothing)
+        }
+        Err(PathFault::BadPath(_)) => Ok(false),
+        Err(PathFault::Memory) => Err(AllocError),
+    }
+}
+
+/// The text's path, if it picks nothing of the value.
+fn absent(alloc: Global, text: &Text, of: &Json) -> Result<Option<Absent>, AllocError> {
+    if !picks_nothing(alloc, text.as_str(), of)? {
+        return Ok(None);
+    }
+    let path = text.copy()?;
+    let of = of.copy()?;
+    Ok(Some(Absent { path, of }))
+}
+
+/// The same of a text that leads into a Map's element, by these steps.
+fn absent_in_item(
+    alloc: Global,
+    text: &Text,
+    steps: &str,
+    item: &Json,
+) -> Result<Option<Absent>, AllocError>
+    requires { text.now ≡ codes "$$.Map.Item.Value" ++ steps.now }
+{
+    let mut inner = String::from_str(alloc, "$")?;
+    inner.push_str(steps)?;
+    if !picks_nothing(alloc, inner.as_str(), item)? {
+        return Ok(None);
+    }
+    let path = text.copy()?;
+    let of = item.copy()?;
+    Ok(Some(Absent { path, of }))
+}
+
+/// The path of a template's marked field, if it picks nothing: of the input, or of the element.
+fn absent_source(
+    alloc: Global,
+    text: &Text,
+    input: &Json,
+    item: Option<&Json>,
+) -> Result<Option<Detail>, AllocError> {
+    let Some(item) = item else {
+        return case_of(alloc, absent(alloc, text, input)?);
+    };
+    match text.as_str().strip_prefix("$$.Map.Item.Value") {
+        Some(steps) => case_of(alloc, absent_in_item(alloc, text, steps, item)?),
+        None => case_of(alloc, absent(alloc, text, input)?),
+    }
+}
+
+fn case_of(alloc: Global, absent: Option<Absent>) -> Result<Option<Detail>, AllocError> {
+    match absent {
+        Some(absent) => Ok(Some(Detail::whole(alloc, Case::PicksNothing(absent)))),
+        None => Ok(None),
+    }
+}
+
+/// The first path of a template that picks nothing, of the input or, in an item selector, of the element. Calls itself once
+/// for each level of the template.
+#[cycle(absent_within)]
+fn absent_within(
+    alloc: Global,
+    template: &Json,
+    input: &Json,
+    item: Option<&Json>,
+) -> Result<Option<Detail>, AllocError> {
+    match template {
+        Json::List(list) => absent_in_list(alloc, list, input, item),
+        Json::Fields(fields) => absent_in_fields(alloc, fields, input, item),
+        _ => Ok(None),
+    }
+}
+
+#[cycle(absent_within)]
+fn absent_in_list(
+    alloc: Global,
+    list: &JsonList,
+    input: &Json,
+    item: Option<&Json>,
+) -> Result<Option<Detail>, AllocError> {
+    for (index, value) in list.as_slice().iter().enumerate() {
+        if let Some(found) = absent_within(alloc, value, input, item)? {
+            return Ok(Some(found.within_item(index)?));
+        }
+    }
+    Ok(None)
+}
+
+#[cycle(absent_within)]
+fn absent_in_fields(
+    alloc: Global,
+    fields: &JsonFields,
+    input: &Json,
+    item: Option<&Json>,
+) -> Result<Option<Detail>, AllocError> {
+    for field in fields.as_slice() {
+        let name = field.name.as_str();
+        let found = if name.ends_with(".$") {
+            absent_at(alloc, &field.value, input, item)?
+        } else {
+            absent_within(alloc, &field.value, input, item)?
+        };
+        if let Some(found) = found {
+            return Ok(Some(found.within(alloc, name)?));
+        }
+    }
+    Ok(None)
+}
+
+/// The same of a marked field's value.
+fn absent_at(
+    alloc: Global,
+    source: &Json,
+    input: &Json,
+    item: Option<&Json>,
+) -> Result<Option<Detail>, AllocError> {
+    match source {
+        Json::Text(text) => absent_source(alloc, text, input, item),
+        _ => Ok(None),
+    }
+}
+
+/// The path of a state's template that picks nothing, if there is one.
+pub(crate) fn in_template(
+    alloc: Global,
+    fields: &Json,
+    name: &str,
+    input: &Json,
+    item: Option<&Json>,
+) -> Result<Option<Detail>, AllocError> {
+    let Some(template) = field(fields, name) else {
+        return Ok(None);
+    };
+    let found = absent_within(alloc, template, input, item)?;
+    found_in(alloc, name, found)
+}
+
+/// A state's path, if it picks nothing.
+pub(crate) fn in_path(
+    alloc: Global,
+    fields: &Json,
+    name: &str,
+    of: &Json,
+) -> Result<Option<Detail>, AllocError> {
+    let Some(text) = text_in(fields, name) else {
+        return Ok(None);
+    };
+    let found = case_of(alloc, absent(alloc, text, of)?)?;
+    found_in(alloc, name, found)
+}
