@@ -4,7 +4,7 @@ ghost use Rattle.json_tree.specs.View.{data_of};
 ghost use Rattle.asl_forward.specs.Choosing.{chosen};
 
 use crate::details::{Case, NoRule};
-use crate::templates::in_path;
+use crate::templates::{MOST_LEVELS, in_path};
 use crate::why::{Detail, field, found_in};
 use asl_results::frame_turns::state_parts::Choice;
 use asl_results::frame_turns::state_parts::choices::{
@@ -58,7 +58,7 @@ fn in_each_rule(
     input: &Json,
 ) -> Result<Option<Detail>, AllocError> {
     for (index, (rule, text)) in rules.as_slice().iter().zip(texts).enumerate() {
-        match asks(alloc, &rule.test, text, input)? {
+        match asks(alloc, &rule.test, text, input, MOST_LEVELS)? {
             Asked::Holds(true) => return Ok(None),
             Asked::Holds(false) => {}
             Asked::Absent(found) => return found_at(index, found),
@@ -74,13 +74,22 @@ fn found_at(index: usize, found: Option<Detail>) -> Result<Option<Detail>, Alloc
     }
 }
 
-/// What a test comes to whose JSON is this. Calls itself once for each level of tests.
+/// What a test comes to whose JSON is this. Looks so many levels of tests deep, and calls itself once for each.
 #[cycle(asks)]
-fn asks(alloc: Global, test: &Test, text: &Json, input: &Json) -> Result<Asked, AllocError> {
+fn asks(
+    alloc: Global,
+    test: &Test,
+    text: &Json,
+    input: &Json,
+    levels: u8,
+) -> Result<Asked, AllocError> {
+    if levels == 0 {
+        return Ok(Asked::Absent(None));
+    }
     match test {
-        Test::And(tests) => asks_each(alloc, tests, text, "And", input, false),
-        Test::Or(tests) => asks_each(alloc, tests, text, "Or", input, true),
-        Test::Not(inner) => asks_inner(alloc, inner, text, input),
+        Test::And(tests) => asks_each(alloc, tests, text, input, false, levels - 1),
+        Test::Or(tests) => asks_each(alloc, tests, text, input, true, levels - 1),
+        Test::Not(inner) => asks_inner(alloc, inner, text, input, levels - 1),
         Test::Compare(path, comparison) => match (path.pick(input), comparison) {
             (Some(value), _) => Ok(Asked::Holds(says(comparison, value))),
             (None, Comparison::IsPresent(present)) => Ok(Asked::Holds(!*present)),
@@ -96,11 +105,12 @@ fn asks_inner(
     inner: &InnerTest,
     text: &Json,
     input: &Json,
+    levels: u8,
 ) -> Result<Asked, AllocError> {
     let Some(text) = field(text, "Not") else {
         return Ok(Asked::Absent(None));
     };
-    match asks(alloc, inner.test(), text, input)? {
+    match asks(alloc, inner.test(), text, input, levels)? {
         Asked::Holds(held) => Ok(Asked::Holds(!held)),
         Asked::Absent(found) => Ok(Asked::Absent(found_in(alloc, "Not", found)?)),
     }
@@ -112,19 +122,16 @@ fn asks_each(
     alloc: Global,
     tests: &Tests,
     text: &Json,
-    name: &str,
     input: &Json,
     last: bool,
+    levels: u8,
 ) -> Result<Asked, AllocError> {
+    let name = if last { "Or" } else { "And" };
     let Some(Json::List(texts)) = field(text, name) else {
         return Ok(Asked::Absent(None));
     };
-    let mut index = 0usize;
-    for test in tests.as_slice() {
-        let Some(text) = texts.get(index) else {
-            return Ok(Asked::Absent(None));
-        };
-        match asks(alloc, test, text, input)? {
+    for (index, (test, text)) in tests.as_slice().iter().zip(texts.as_slice()).enumerate() {
+        match asks(alloc, test, text, input, levels)? {
             Asked::Holds(held) => {
                 if held == last {
                     return Ok(Asked::Holds(last));
@@ -135,7 +142,6 @@ fn asks_each(
                 return Ok(Asked::Absent(found_in(alloc, name, found)?));
             }
         }
-        index = index.saturating_add(1);
     }
     Ok(Asked::Holds(!last))
 }

@@ -12,7 +12,7 @@ use item_store::{Action, Condition};
 use json_tree::{Json, JsonList, Text};
 
 /// A path that picks nothing of a value: one of InputPath, OutputPath, ItemsPath, a template or a Choice's `Variable`.
-#[derive(Debug, Drop)]
+#[derive(Drop)]
 pub struct Absent {
     /// The path, as it stands in the definition.
     pub path: Text,
@@ -22,7 +22,7 @@ pub struct Absent {
 }
 
 /// A path by which nothing can be placed in a value.
-#[derive(Debug, Drop)]
+#[derive(Drop)]
 pub struct NoPlace {
     /// The path, as it stands in the definition.
     pub path: Text,
@@ -32,34 +32,34 @@ pub struct NoPlace {
 }
 
 /// A value that nests deeper than a frame may hold.
-#[derive(Debug, Drop)]
+#[derive(Drop)]
 pub struct TooDeep {
     pub of: Json,
     pub ghost deep: { most_levels < nesting (data_of of) },
 }
 
 /// A value that is no list, where a Map asks for its elements.
-#[derive(Debug, Drop)]
+#[derive(Drop)]
 pub struct NoList {
     pub of: Json,
     pub ghost no_list: { ∥ is_list (data_of of) ≡ false ∥₁ },
 }
 
 /// More elements than a Map may have.
-#[derive(Debug, Drop)]
+#[derive(Drop)]
 pub struct TooMany {
     pub elements: JsonList,
     pub ghost many: { 4096 < length elements },
 }
 
 /// An input with which no rule of a Choice holds.
-#[derive(Debug, Drop)]
+#[derive(Drop)]
 pub struct NoRule {
     pub of: Json,
 }
 
 /// What is wrong with a value that is to be a call.
-#[derive(Debug, Drop)]
+#[derive(Drop)]
 pub enum Flaw {
     NoObject,
     /// The action has no field of this name.
@@ -79,7 +79,7 @@ pub enum Flaw {
 }
 
 /// A value that is no call of its action.
-#[derive(Debug, Drop)]
+#[derive(Drop)]
 pub struct Malformed {
     pub action: Action,
     /// The value that is to be the call.
@@ -90,7 +90,7 @@ pub struct Malformed {
 }
 
 /// A call's table that is not the book's.
-#[derive(Debug, Drop)]
+#[derive(Drop)]
 pub struct OtherTable {
     /// The table that the call names.
     pub named: Text,
@@ -100,7 +100,7 @@ pub struct OtherTable {
 }
 
 /// A key attribute that a call's `Key` or `Item` lacks, or has of another type or as an empty text.
-#[derive(Debug, Drop)]
+#[derive(Drop)]
 pub struct NoKey {
     pub attribute: KeyAttribute,
     /// `NoKey` where it is absent, `KeyType` and `EmptyKey`.
@@ -111,7 +111,7 @@ pub struct NoKey {
 }
 
 /// A condition that doesn't hold.
-#[derive(Debug, Drop)]
+#[derive(Drop)]
 pub struct FailedCondition {
     pub condition: Condition,
     /// The item that it met, if there is one.
@@ -120,7 +120,7 @@ pub struct FailedCondition {
 }
 
 /// What is wrong.
-#[derive(Debug, Drop)]
+#[derive(Drop)]
 pub enum Case {
     PicksNothing(Absent),
     CannotPlace(NoPlace),

@@ -9,6 +9,9 @@ use json_tree::{Json, JsonFields, JsonList, Text};
 use ref_paths::{PathFault, RefPath};
 use std::alloc::{AllocError, Global};
 
+/// How deep templates and tests are looked into: no line's JSON nests deeper.
+pub(crate) const MOST_LEVELS: u8 = 128;
+
 /// Whether a text is that of a path that picks nothing of a value.
 fn picks_nothing(alloc: Global, text: &str, of: &Json) -> Result<bool, AllocError>
     ensures { IfOk result (λ b. b ≡ true → PathPicksNothing text.now (data_of of.now)) }
@@ -76,18 +79,22 @@ fn case_of(alloc: Global, absent: Option<Absent>) -> Result<Option<Detail>, Allo
     }
 }
 
-/// The first path of a template that picks nothing, of the input or, in an item selector, of the element. Calls itself once
-/// for each level of the template.
+/// The first path of a template that picks nothing, of the input or, in an item selector, of the element. Looks so many levels
+/// deep, and calls itself once for each.
 #[cycle(absent_within)]
 fn absent_within(
     alloc: Global,
     template: &Json,
     input: &Json,
     item: Option<&Json>,
+    levels: u8,
 ) -> Result<Option<Detail>, AllocError> {
+    if levels == 0 {
+        return Ok(None);
+    }
     match template {
-        Json::List(list) => absent_in_list(alloc, list, input, item),
-        Json::Fields(fields) => absent_in_fields(alloc, fields, input, item),
+        Json::List(list) => absent_in_list(alloc, list, input, item, levels - 1),
+        Json::Fields(fields) => absent_in_fields(alloc, fields, input, item, levels - 1),
         _ => Ok(None),
     }
 }
@@ -98,9 +105,10 @@ fn absent_in_list(
     list: &JsonList,
     input: &Json,
     item: Option<&Json>,
+    levels: u8,
 ) -> Result<Option<Detail>, AllocError> {
     for (index, value) in list.as_slice().iter().enumerate() {
-        if let Some(found) = absent_within(alloc, value, input, item)? {
+        if let Some(found) = absent_within(alloc, value, input, item, levels)? {
             return Ok(Some(found.within_item(index)?));
         }
     }
@@ -113,13 +121,14 @@ fn absent_in_fields(
     fields: &JsonFields,
     input: &Json,
     item: Option<&Json>,
+    levels: u8,
 ) -> Result<Option<Detail>, AllocError> {
     for field in fields.as_slice() {
         let name = field.name.as_str();
         let found = if name.ends_with(".$") {
             absent_at(alloc, &field.value, input, item)?
         } else {
-            absent_within(alloc, &field.value, input, item)?
+            absent_within(alloc, &field.value, input, item, levels)?
         };
         if let Some(found) = found {
             return Ok(Some(found.within(alloc, name)?));
@@ -152,7 +161,7 @@ pub(crate) fn in_template(
     let Some(template) = field(fields, name) else {
         return Ok(None);
     };
-    let found = absent_within(alloc, template, input, item)?;
+    let found = absent_within(alloc, template, input, item, MOST_LEVELS)?;
     found_in(alloc, name, found)
 }
 

@@ -10,7 +10,7 @@ use ref_paths::PathStep;
 use std::alloc::{AllocError, Global};
 
 /// What is wrong, and where.
-#[derive(Debug, Drop)]
+#[derive(Drop)]
 pub struct Detail {
     /// Names and indexes within the state's JSON; none where it is of no one field.
     pub place: Vec<PathStep>,
@@ -18,7 +18,7 @@ pub struct Detail {
 }
 
 /// Why a turn fails.
-#[derive(Debug, Drop)]
+#[derive(Drop)]
 pub struct Why {
     /// The state before which the thread stands.
     pub state: Text,
