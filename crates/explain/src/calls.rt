@@ -55,10 +55,7 @@ fn copy_request(request: &Request) -> Result<Request, AllocError>
 pub(crate) fn copy_call(call: &Call) -> Result<Call, AllocError>
     ensures { IfOk result (λ c. c ≡ call.now) }
 {
+    let table = call.table.copy()?;
     let request = copy_request(&call.request)?;
-    let Ok(table) = call.table.copy() else {
-        drop(request);
-        return Err(AllocError);
-    };
     Ok(Call { table, request })
 }

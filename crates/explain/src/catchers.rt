@@ -1,9 +1,9 @@
 // What is wrong where a catcher takes an error up.
-use crate::results::{no_place, placed, too_deep};
-use crate::why::{Detail, field, found_in};
-use asl_results::frame_turns::error_handling::{Catcher, ErrorHandling, ErrorNames};
+use crate::results::no_place;
+use crate::why::{Detail, field, found_at, found_in};
+use asl_results::frame_turns::error_handling::{ErrorHandling, ErrorNames};
 use asl_results::frame_turns::{Fault, Origin};
-use json_tree::{Json, JsonFields, Text};
+use json_tree::Json;
 use std::alloc::{AllocError, Global};
 
 /// What is wrong with a state that met this error, of which this was found: the same, unless a catcher takes the error up
@@ -19,7 +19,7 @@ pub(crate) fn after_handling(
     for (index, catcher) in errors.catchers.as_slice().iter().enumerate() {
         if stand_for(&catcher.errors, fault) {
             drop(found);
-            return in_catcher(alloc, fields, index, catcher, raw, fault);
+            return in_catcher(alloc, fields, index, raw);
         }
     }
     Ok(found)
@@ -51,14 +51,12 @@ fn means(name: &str, fault: &Fault) -> bool {
     name == fault.error.as_str()
 }
 
-/// What is wrong with the place of a catcher's error.
+/// The path of a catcher by which its error can't be placed.
 fn in_catcher(
     alloc: Global,
     fields: &Json,
     index: usize,
-    catcher: &Catcher,
     raw: &Json,
-    fault: &Fault,
 ) -> Result<Option<Detail>, AllocError> {
     let Some(Json::List(catchers)) = field(fields, "Catch") else {
         return Ok(None);
@@ -66,42 +64,8 @@ fn in_catcher(
     let Some(text) = catchers.get(index) else {
         return Ok(None);
     };
-    let found = match no_place(alloc, text, raw)? {
-        Some(found) => Some(found),
-        None => deep_error(alloc, catcher, raw, fault)?,
-    };
-    let found = match found_in(alloc, "ResultPath", found)? {
-        Some(detail) => Some(detail.within_item(index)?),
-        None => None,
-    };
+    let found = no_place(alloc, text, raw)?;
+    let found = found_in(alloc, "ResultPath", found)?;
+    let found = found_at(index, found)?;
     found_in(alloc, "Catch", found)
-}
-
-/// The raw input with the error in it, if it nests too deep.
-fn deep_error(
-    alloc: Global,
-    catcher: &Catcher,
-    raw: &Json,
-    fault: &Fault,
-) -> Result<Option<Detail>, AllocError> {
-    let Some(path) = &catcher.result_path else {
-        return too_deep(alloc, raw);
-    };
-    let object = error_object(alloc, fault)?;
-    let made = placed(alloc, path, raw, &object);
-    drop(object);
-    match made? {
-        Some(made) => too_deep(alloc, &made),
-        None => Ok(None),
-    }
-}
-
-/// What a catcher places.
-fn error_object(alloc: Global, fault: &Fault) -> Result<Json, AllocError> {
-    let mut fields = JsonFields::new(alloc);
-    let error = Json::Text(fault.error.copy()?);
-    drop(fields.insert(Text::new(alloc, "Error")?, error)?);
-    let cause = Json::Text(fault.cause.copy()?);
-    drop(fields.insert(Text::new(alloc, "Cause")?, cause)?);
-    Ok(Json::Fields(fields))
 }

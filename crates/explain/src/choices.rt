@@ -5,7 +5,7 @@ ghost use Rattle.asl_forward.specs.Choosing.{chosen};
 
 use crate::details::{Case, NoRule};
 use crate::templates::{MOST_LEVELS, in_path};
-use crate::why::{Detail, field, found_in};
+use crate::why::{Detail, field, found_at, found_in};
 use asl_results::frame_turns::state_parts::Choice;
 use asl_results::frame_turns::state_parts::choices::{
     Comparison, InnerTest, Relation, Rules, Test, Tests,
@@ -65,13 +65,6 @@ fn in_each_rule(
         }
     }
     Ok(None)
-}
-
-fn found_at(index: usize, found: Option<Detail>) -> Result<Option<Detail>, AllocError> {
-    match found {
-        Some(detail) => Ok(Some(detail.within_item(index)?)),
-        None => Ok(None),
-    }
 }
 
 /// What a test comes to whose JSON is this. Looks so many levels of tests deep, and calls itself once for each.

@@ -1,13 +1,14 @@
 // What is wrong, each with what makes it true.
-ghost use Rattle.std.specs.Prelude.{◌≡◌, ◌<◌, ◌≢◌, false, length, Err, Some, None};
+ghost use Rattle.std.specs.Prelude.{◌≡◌, ◌<◌, ◌≢◌, true, false, length, Err, Some, None, is_some};
 ghost use Rattle.json_tree.specs.Data.{depth as nesting, most_levels};
 ghost use Rattle.json_tree.specs.View.{data_of};
+ghost use Rattle.attr_values.specs.Item.{get_attribute};
 ghost use Rattle.attr_values.specs.Key.{part_of};
 ghost use Rattle.item_store.specs.Calls.{call_of};
 ghost use Rattle.item_store.specs.Condition.{holds};
-ghost use Rattle.explain.specs.Details.{PicksNothing, PlacesNothing, HasFlaw, is_list};
+ghost use Rattle.explain.specs.Details.{PicksNothing, PlacesNothing, HasFlaw, is_list, is_part};
 
-use attr_values::{Item, ItemFault, KeyAttribute};
+use attr_values::{Item, ItemFault, KeyAttribute, KeySchema};
 use item_store::{Action, Condition};
 use json_tree::{Json, JsonList, Text};
 
@@ -110,6 +111,17 @@ pub struct NoKey {
     pub ghost no_part: { ∥ part_of attribute of ≡ Err fault ∥₁ },
 }
 
+/// An attribute of a call's `Key` that is none of the table's key.
+#[derive(Drop)]
+pub struct OtherAttribute {
+    pub name: Text,
+    /// The `Key`.
+    pub of: Item,
+    pub schema: KeySchema,
+    pub ghost there: { ∥ is_some (get_attribute name of) ≡ true ∥₁ },
+    pub ghost other: { ∥ is_part schema name ≡ false ∥₁ },
+}
+
 /// A condition that doesn't hold.
 #[derive(Drop)]
 pub struct FailedCondition {
@@ -131,8 +143,7 @@ pub enum Case {
     Malformed(Malformed),
     OtherTable(OtherTable),
     NoKey(NoKey),
-    /// A `Key` with an attribute of this name, which is none of the table's key.
-    OtherKeyAttribute(Text),
+    OtherAttribute(OtherAttribute),
     FailedCondition(FailedCondition),
     /// A Fail state, whose error and cause the fault has.
     Declared,

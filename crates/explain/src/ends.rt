@@ -1,8 +1,7 @@
 // The frame that a turn, a join or a terminate comes to.
 ghost use Rattle.std.specs.Prelude.{◌≡◌, ◌+◌, ◌<◌, ◌^◌, Some, IfOk, IfSome, IsSome, option_copied};
-ghost use Rattle.explain.specs.Ends.{frame_after, frame_joined, frame_terminated, after_reply, fault_in};
-ghost use Rattle.asl_forward.specs.Planned.{asks_table};
-ghost use Rattle.item_store.specs.Deciding.{reply_of};
+ghost use Rattle.explain.specs.Ends.{frame_after, frame_joined, frame_terminated, fault_in};
+ghost use Rattle.asl_results.specs.Turn.{located};
 
 use crate::answers::answer;
 use asl_forward::{
@@ -23,6 +22,7 @@ pub fn ready_turn(
 ) -> Result<Option<Prepared>, AllocError>
     ensures frame { IfOk result (λ o. IfSome o (λ p. p.frame ≡ frame.now)) }
     ensures machine { IfOk result (λ o. IfSome o (λ p. p.machine ≡ machine.now)) }
+    ensures ready { frame.now.phase ≡ Phase.Ready → IsSome (located machine.now frame.now) → frame.now.count + 1 < 2 ^ 32 → IfOk result (λ o. IsSome o) }
 {
     if located(machine.machine(), frame).is_none() || frame.count == u32::MAX {
         return Ok(None);

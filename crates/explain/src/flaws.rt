@@ -3,8 +3,8 @@ ghost use Rattle.std.specs.Prelude.{◌≡◌, IfOk, IfSome, None, Some, Err, tr
 ghost use Rattle.json_tree.specs.Data.{Data};
 ghost use Rattle.json_tree.specs.View.{data_of};
 ghost use Rattle.attr_values.specs.Reading.{read_datum};
-ghost use Rattle.item_store.specs.Calls.{call_of, item_field, may_have, returns_of, text_of};
-ghost use Rattle.explain.specs.Details.{HasFlaw, field_in};
+ghost use Rattle.item_store.specs.Calls.{call_of, condition_in, item_field, may_have, returns_of, text_of};
+ghost use Rattle.explain.specs.Details.{HasFlaw, conditioned, field_in};
 
 use crate::details::{Case, Flaw, Malformed};
 use crate::keys::in_parameters;
@@ -77,7 +77,7 @@ fn flaw_of(alloc: Global, action: Action, of: &Json) -> Result<Option<Flaw>, All
     if let Some(flaw) = item_flaw(alloc, action, of)? {
         return Ok(Some(flaw));
     }
-    Ok(term_flaw(action, of))
+    term_flaw(alloc, action, of)
 }
 
 /// The name of a field that the action hasn't.
@@ -158,17 +158,45 @@ fn attribute_fault(alloc: Global, name: &str, item: &Json) -> Result<Option<Item
     }
 }
 
-/// What is wrong with `ReturnValues`, or else with `ConditionExpression`.
-fn term_flaw(action: Action, of: &Json) -> Option<Flaw>
-    ensures { IfSome result (HasFlaw action (data_of of.now)) }
+/// What is wrong with `ReturnValues` or `ConditionExpression`.
+fn term_flaw(alloc: Global, action: Action, of: &Json) -> Result<Option<Flaw>, AllocError>
+    ensures { IfOk result (λ o. IfSome o (HasFlaw action (data_of of.now))) }
 {
     if !has_returns(field(of, "ReturnValues")) {
-        return Some(Flaw::BadReturnValues);
+        return Ok(Some(Flaw::BadReturnValues));
     }
     match field(of, "ConditionExpression") {
-        Some(_) => Some(Flaw::BadCondition),
-        None => None,
+        Some(condition) => if is_no_condition(alloc, condition)? {
+            Ok(Some(Flaw::BadCondition))
+        } else {
+            Ok(None)
+        },
+        None => Ok(None),
     }
+}
+
+/// Whether a value is no condition: whether a delete is none in which nothing else may be wrong.
+#[tactic(auto, using(crate::proofs::Conditions::no_condition))]
+fn is_no_condition(alloc: Global, json: &Json) -> Result<bool, AllocError>
+    ensures { IfOk result (λ b. b ≡ true → condition_in (Some (data_of json.now)) ≡ None) }
+{
+    let delete = conditioned(alloc, json)?;
+    let refused = is_malformed(alloc, Action::DeleteItem, &delete);
+    drop(delete);
+    refused
+}
+
+fn conditioned(alloc: Global, json: &Json) -> Result<Json, AllocError>
+    ensures { IfOk result (λ j. data_of j ≡ conditioned (data_of json.now)) }
+{
+    let mut fields = JsonFields::new(alloc);
+    let table = Json::Text(Text::new(alloc, "")?);
+    drop(fields.insert(Text::new(alloc, "TableName")?, table)?);
+    let key = Json::Fields(JsonFields::new(alloc));
+    drop(fields.insert(Text::new(alloc, "Key")?, key)?);
+    let condition = json.copy()?;
+    drop(fields.insert(Text::new(alloc, "ConditionExpression")?, condition)?);
+    Ok(Json::Fields(fields))
 }
 
 fn has_returns(json: Option<&Json>) -> bool

@@ -2,9 +2,10 @@
 ghost use Rattle.std.specs.Prelude.{◌≡◌, IfSome, Err, Some, not, option_copied};
 ghost use Rattle.attr_values.specs.Key.{part_of};
 ghost use Rattle.item_store.specs.Condition.{holds};
+ghost use Rattle.explain.specs.Details.{is_part};
 
 use crate::calls::copy_condition;
-use crate::details::{Case, FailedCondition, NoKey, OtherTable};
+use crate::details::{Case, FailedCondition, NoKey, OtherAttribute, OtherTable};
 use crate::why::{Detail, field};
 use attr_values::{Item, ItemFault, KeyAttribute, KeySchema, KeyType, Value, write_item};
 use item_store::{Call, CallFault, Condition, ConditionKind, ItemStore, Request};
@@ -225,19 +226,35 @@ fn in_others(
     schema: &KeySchema,
     item: &Item,
 ) -> Result<Option<Detail>, AllocError> {
-    if let Json::Fields(attributes) = write_item(alloc, item)? {
-        for attribute in attributes.as_slice() {
-            if !is_part(schema, &attribute.name) {
-                let inner = Some(attribute.name.copy()?);
-                let other = attribute.name.copy()?;
-                return at_attribute(alloc, fields, name, inner, Case::OtherKeyAttribute(other));
-            }
+    let Json::Fields(attributes) = write_item(alloc, item)? else {
+        return Ok(None);
+    };
+    for attribute in attributes.as_slice() {
+        if let Some(other) = other_attribute(schema, &attribute.name, item)? {
+            let inner = Some(attribute.name.copy()?);
+            return at_attribute(alloc, fields, name, inner, Case::OtherAttribute(other));
         }
     }
     Ok(None)
 }
 
-fn is_part(schema: &KeySchema, name: &Text) -> bool {
+fn other_attribute(
+    schema: &KeySchema,
+    name: &Text,
+    item: &Item,
+) -> Result<Option<OtherAttribute>, AllocError> {
+    if is_part(schema, name) || !item.contains(name.as_str()) {
+        return Ok(None);
+    }
+    let name = name.copy()?;
+    let of = item.copy()?;
+    let schema = schema.copy()?;
+    Ok(Some(OtherAttribute { name, of, schema }))
+}
+
+fn is_part(schema: &KeySchema, name: &Text) -> bool
+    ensures { result ≡ is_part schema.now name.now }
+{
     if *name == schema.partition.name {
         return true;
     }

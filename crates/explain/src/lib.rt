@@ -18,8 +18,8 @@ mod turns;
 mod why;
 
 pub use details::{
-    Absent, Case, FailedCondition, Flaw, Malformed, NoKey, NoList, NoPlace, NoRule, OtherTable,
-    TooDeep, TooMany,
+    Absent, Case, FailedCondition, Flaw, Malformed, NoKey, NoList, NoPlace, NoRule, OtherAttribute,
+    OtherTable, TooDeep, TooMany,
 };
 pub use ends::ready_turn;
 pub use turns::{explain_branch, explain_join, explain_turn};

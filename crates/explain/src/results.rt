@@ -77,7 +77,7 @@ fn in_placing(
 }
 
 /// The raw input with a value placed in it, unless that could come to be very deep.
-pub(crate) fn placed(
+fn placed(
     alloc: Global,
     path: &RefPath,
     raw: &Json,

@@ -32,13 +32,11 @@ fn why(
 ) -> Result<Why, AllocError>
     ensures { IfOk result (λ w. (w.fault ≡ fault.now) × (w.state ≡ frame.now.state)) }
 {
+    let state = frame.state.copy()?;
+    let fault = fault.copy()?;
     let detail = match found {
         Some(detail) => detail,
         None => Detail::whole(alloc, Case::Unexplained),
-    };
-    let (Ok(state), Ok(fault)) = (frame.state.copy(), fault.copy()) else {
-        drop(detail);
-        return Err(AllocError);
     };
     Ok(Why {
         state,

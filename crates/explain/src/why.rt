@@ -37,17 +37,33 @@ impl Detail {
     }
 
     /// The same inside a field of this name.
-    pub(crate) fn within(mut self, alloc: Global, name: &str) -> Result<Detail, AllocError> {
-        let name = Text::new(alloc, name)?;
-        self.place.insert(0, PathStep::Name(name))?;
-        Ok(self)
+    pub(crate) fn within(self, alloc: Global, name: &str) -> Result<Detail, AllocError> {
+        match Text::new(alloc, name) {
+            Ok(name) => self.inside(PathStep::Name(name)),
+            Err(refused) => {
+                drop(self);
+                Err(refused)
+            }
+        }
     }
 
     /// The same inside an element of this index.
-    pub(crate) fn within_item(mut self, index: usize) -> Result<Detail, AllocError> {
+    pub(crate) fn within_item(self, index: usize) -> Result<Detail, AllocError> {
         let index = u32::try_from(index).unwrap_or(u32::MAX);
-        self.place.insert(0, PathStep::Index(index))?;
-        Ok(self)
+        self.inside(PathStep::Index(index))
+    }
+
+    fn inside(self, step: PathStep) -> Result<Detail, AllocError> {
+        let Detail { mut place, case } = self;
+        match place.insert(0, step) {
+            Ok(()) => Ok(Detail { place, case }),
+            Err(refused) => {
+                drop(refused);
+                drop(place);
+                drop(case);
+                Err(AllocError)
+            }
+        }
     }
 }
 
@@ -78,6 +94,14 @@ pub(crate) fn found_in(
 ) -> Result<Option<Detail>, AllocError> {
     match found {
         Some(detail) => Ok(Some(detail.within(alloc, name)?)),
+        None => Ok(None),
+    }
+}
+
+/// What is found inside an element of this index.
+pub(crate) fn found_at(index: usize, found: Option<Detail>) -> Result<Option<Detail>, AllocError> {
+    match found {
+        Some(detail) => Ok(Some(detail.within_item(index)?)),
         None => Ok(None),
     }
 }

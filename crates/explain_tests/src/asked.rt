@@ -12,7 +12,9 @@ use std::test::Fail;
 
 /// The machine that begins with this state, which may go on to the state T.
 pub(crate) fn define(alloc: Global, state: &str) -> Result<Value, Fail> {
-    let text = format!(in alloc; "{{\"StartAt\":\"S\",\"States\":{{\"S\":{state},\"T\":{{\"Type\":\"Succeed\"}}}}}}")?;
+    let text = format!(in alloc;
+        "{{\"StartAt\":\"S\",\"States\":{{\"S\":{state},\"T\":{{\"Type\":\"Succeed\"}}}}}}"
+    )?;
     Ok(Value::from_str(alloc, text.as_str())?)
 }
 
@@ -22,11 +24,7 @@ pub(crate) fn machine_of(alloc: Global, value: &Value) -> Result<SharedMachine, 
 }
 
 /// The frame before the machine's first state.
-pub(crate) fn frame_of(
-    alloc: Global,
-    machine: &SharedMachine,
-    input: &str,
-) -> Result<Frame, Fail> {
+pub(crate) fn frame_of(alloc: Global, machine: &SharedMachine, input: &str) -> Result<Frame, Fail> {
     let name = Text::new(alloc, "m")?;
     let input = read(alloc, input.as_bytes())?;
     Ok(first_frame(alloc, &name, machine.machine(), &input)?)
@@ -55,12 +53,7 @@ fn item_of(alloc: Global, text: &str) -> Result<Option<Item>, Fail> {
 }
 
 /// Why the turn of a state fails with this input, if the item of the key is this one; an empty text is none.
-pub(crate) fn asked(
-    alloc: Global,
-    state: &str,
-    input: &str,
-    item: &str,
-) -> Result<String, Fail> {
+pub(crate) fn asked(alloc: Global, state: &str, input: &str, item: &str) -> Result<String, Fail> {
     let value = define(alloc, state)?;
     let machine = machine_of(alloc, &value)?;
     let frame = frame_of(alloc, &machine, input)?;
@@ -126,7 +119,7 @@ fn case_text(alloc: Global, case: &Case) -> Result<String, Fail> {
             let (name, fault) = (it.attribute.name.as_str(), &it.fault);
             Ok(format!(in alloc; "{name}: {fault}")?)
         }
-        Case::OtherKeyAttribute(name) => name_text(alloc, "no key's", name),
+        Case::OtherAttribute(it) => name_text(alloc, "no key's", &it.name),
         Case::FailedCondition(it) => condition_text(alloc, &it.condition.attribute, &it.item),
         Case::Declared => Ok(String::from_str(alloc, "declared")?),
         Case::Branch(number) => Ok(format!(in alloc; "branch {number}")?),

@@ -6,9 +6,11 @@ use json_tree::{JsonList, Text};
 use std::alloc::{AllocError, Global};
 use std::test::Fail;
 
-const PARALLEL: &str = r#"{"Type":"Parallel","Branches":[],"ResultSelector":{"x.$":"$[0].n"},"End":true}"#;
+const PARALLEL: &str =
+    r#"{"Type":"Parallel","Branches":[],"ResultSelector":{"x.$":"$[0].n"},"End":true}"#;
 
-const CATCHING: &str = r#"{"Type":"Parallel","Branches":[],"Catch":[{"ErrorEquals":["States.BranchFailed"],"ResultPath":"$[1]","Next":"T"}],"End":true}"#;
+const CATCHING: &str =
+    r#"{"Type":"Parallel","Branches":[],"Catch":[{"ErrorEquals":["States.BranchFailed"],"ResultPath":"$[1]","Next":"T"}],"End":true}"#;
 
 fn joined(alloc: Global, state: &str) -> Result<String, Fail> {
     let value = define(alloc, state)?;
@@ -38,10 +40,16 @@ fn terminated(alloc: Global, state: &str) -> Result<String, Fail> {
 #[test]
 fn joins_and_terminates_are_explained(rt: HostRuntime) -> Result<(), Fail> {
     let said = joined(rt.alloc(), PARALLEL)?;
-    assert_eq!(rt; said.as_str(), r#"States.ParameterPathFailure ["ResultSelector","x.$"] picks nothing $[0].n []"#);
+    assert_eq!(rt;
+        said.as_str(),
+        r#"States.ParameterPathFailure ["ResultSelector","x.$"] picks nothing $[0].n []"#
+    );
     let said = terminated(rt.alloc(), PARALLEL)?;
     assert_eq!(rt; said.as_str(), "Bad [] branch 2");
     let said = terminated(rt.alloc(), CATCHING)?;
-    assert_eq!(rt; said.as_str(), r#"States.ResultPathMatchFailure ["Catch",0,"ResultPath"] can't place $[1] {}"#);
+    assert_eq!(rt;
+        said.as_str(),
+        r#"States.ResultPathMatchFailure ["Catch",0,"ResultPath"] can't place $[1] {}"#
+    );
     Ok(())
 }
