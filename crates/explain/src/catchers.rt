@@ -1,28 +1,41 @@
 // What is wrong where a catcher takes an error up.
+use crate::details::Case;
 use crate::results::no_place;
-use crate::why::{Detail, field, found_at, found_in};
+use crate::why::{Way, field};
+use asl_results::call_fault;
 use asl_results::frame_turns::error_handling::{ErrorHandling, ErrorNames};
-use asl_results::frame_turns::{Fault, Origin};
-use json_tree::Json;
+use asl_results::frame_turns::{Fault, Origin, StateError, own_fault};
+use json_tree::{Json, Text};
 use std::alloc::{AllocError, Global};
 
-/// What is wrong with a state that met this error, of which this was found: the same, unless a catcher takes the error up
-/// and can't place it.
-pub(crate) fn after_handling(
-    alloc: Global,
-    fields: &Json,
-    errors: &ErrorHandling,
-    raw: &Json,
-    fault: &Fault,
-    found: Option<Detail>,
-) -> Result<Option<Detail>, AllocError> {
+/// The place of the first catcher that stands for an error.
+pub(crate) fn caught_by(errors: &ErrorHandling, fault: &Fault) -> Option<usize> {
     for (index, catcher) in errors.catchers.as_slice().iter().enumerate() {
         if stand_for(&catcher.errors, fault) {
-            drop(found);
-            return in_catcher(alloc, fields, index, raw);
+            return Some(index);
         }
     }
-    Ok(found)
+    None
+}
+
+/// The same of an error that the state met by itself.
+pub(crate) fn caught_own(
+    alloc: Global,
+    errors: &ErrorHandling,
+    error: StateError,
+) -> Result<Option<usize>, AllocError> {
+    let fault = own_fault(alloc, error)?;
+    Ok(caught_by(errors, &fault))
+}
+
+/// The same of an error that the table answered.
+pub(crate) fn caught_call(
+    alloc: Global,
+    errors: &ErrorHandling,
+    error: Text,
+) -> Result<Option<usize>, AllocError> {
+    let fault = call_fault(alloc, error)?;
+    Ok(caught_by(errors, &fault))
 }
 
 /// Whether one of the names stands for this error.
@@ -52,20 +65,20 @@ fn means(name: &str, fault: &Fault) -> bool {
 }
 
 /// The path of a catcher by which its error can't be placed.
-fn in_catcher(
+pub(crate) fn in_catcher(
     alloc: Global,
+    way: &mut Way,
     fields: &Json,
     index: usize,
     raw: &Json,
-) -> Result<Option<Detail>, AllocError> {
+) -> Result<Option<Case>, AllocError> {
     let Some(Json::List(catchers)) = field(fields, "Catch") else {
         return Ok(None);
     };
-    let Some(text) = catchers.get(index) else {
+    let Some(catcher) = catchers.get(index) else {
         return Ok(None);
     };
-    let found = no_place(alloc, text, raw)?;
-    let found = found_in(alloc, "ResultPath", found)?;
-    let found = found_at(index, found)?;
-    found_in(alloc, "Catch", found)
+    way.enter(alloc, "Catch")?;
+    way.enter_item(index)?;
+    no_place(alloc, way, catcher, raw)
 }

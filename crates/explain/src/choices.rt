@@ -5,7 +5,7 @@ ghost use Rattle.asl_forward.specs.Choosing.{chosen};
 
 use crate::details::{Case, NoRule};
 use crate::templates::{MOST_LEVELS, in_path};
-use crate::why::{Detail, field, found_at, found_in};
+use crate::why::{Way, field};
 use asl_results::frame_turns::state_parts::Choice;
 use asl_results::frame_turns::state_parts::choices::{
     Comparison, InnerTest, Relation, Rules, Test, Tests,
@@ -19,25 +19,34 @@ use std::cmp::Ordering;
 enum Asked {
     Holds(bool),
     /// It comes upon a variable that is absent.
-    Absent(Option<Detail>),
+    Absent(Option<Case>),
 }
 
-/// What is wrong with the rules of a Choice that has failed with this input.
+/// Whether a Choice goes on with this input.
+pub(crate) fn goes_on(choice: &Choice, input: &Json) -> bool {
+    match choice.rules.first_rule(input) {
+        Some(Some(_)) => true,
+        Some(None) => choice.default.is_some(),
+        None => false,
+    }
+}
+
+/// What is wrong with the rules of a Choice that doesn't go on with this input.
 pub(crate) fn in_rules(
     alloc: Global,
+    way: &mut Way,
     fields: &Json,
-    choice: &Choice,
+    rules: &Rules,
     input: &Json,
-) -> Result<Option<Detail>, AllocError> {
-    if let Some(none) = no_rule(&choice.rules, input)? {
-        let found = Detail::whole(alloc, Case::NoRuleHolds(none));
-        return found_in(alloc, "Choices", Some(found));
+) -> Result<Option<Case>, AllocError> {
+    way.enter(alloc, "Choices")?;
+    if let Some(none) = no_rule(rules, input)? {
+        return Ok(Some(Case::NoRuleHolds(none)));
     }
-    let Some(Json::List(rules)) = field(fields, "Choices") else {
-        return Ok(None);
-    };
-    let found = in_each_rule(alloc, rules.as_slice(), &choice.rules, input)?;
-    found_in(alloc, "Choices", found)
+    match field(fields, "Choices") {
+        Some(Json::List(texts)) => in_each_rule(alloc, way, texts.as_slice(), rules, input),
+        _ => Ok(None),
+    }
 }
 
 /// The input, if no rule holds with it, and none comes upon an absent variable.
@@ -53,16 +62,17 @@ fn no_rule(rules: &Rules, input: &Json) -> Result<Option<NoRule>, AllocError>
 /// The first absent variable that the rules come upon.
 fn in_each_rule(
     alloc: Global,
+    way: &mut Way,
     texts: &[Json],
     rules: &Rules,
     input: &Json,
-) -> Result<Option<Detail>, AllocError> {
+) -> Result<Option<Case>, AllocError> {
     for (index, (rule, text)) in rules.as_slice().iter().zip(texts).enumerate() {
-        match asks(alloc, &rule.test, text, input, MOST_LEVELS)? {
-            Asked::Holds(true) => return Ok(None),
-            Asked::Holds(false) => {}
-            Asked::Absent(found) => return found_at(index, found),
+        way.enter_item(index)?;
+        if let Asked::Absent(found) = asks(alloc, way, &rule.test, text, input, MOST_LEVELS)? {
+            return Ok(found);
         }
+        way.leave();
     }
     Ok(None)
 }
@@ -71,6 +81,7 @@ fn in_each_rule(
 #[cycle(asks)]
 fn asks(
     alloc: Global,
+    way: &mut Way,
     test: &Test,
     text: &Json,
     input: &Json,
@@ -80,14 +91,28 @@ fn asks(
         return Ok(Asked::Absent(None));
     }
     match test {
-        Test::And(tests) => asks_each(alloc, tests, text, input, false, levels - 1),
-        Test::Or(tests) => asks_each(alloc, tests, text, input, true, levels - 1),
-        Test::Not(inner) => asks_inner(alloc, inner, text, input, levels - 1),
-        Test::Compare(path, comparison) => match (path.pick(input), comparison) {
-            (Some(value), _) => Ok(Asked::Holds(says(comparison, value))),
-            (None, Comparison::IsPresent(present)) => Ok(Asked::Holds(!*present)),
-            (None, _) => Ok(Asked::Absent(in_path(alloc, text, "Variable", input)?)),
-        },
+        Test::And(tests) => asks_each(alloc, way, tests, text, input, false, levels - 1),
+        Test::Or(tests) => asks_each(alloc, way, tests, text, input, true, levels - 1),
+        Test::Not(inner) => asks_inner(alloc, way, inner, text, input, levels - 1),
+        Test::Compare(path, comparison) => {
+            compares(alloc, way, comparison, path.pick(input), text, input)
+        }
+    }
+}
+
+/// The same of a comparison with a variable.
+fn compares(
+    alloc: Global,
+    way: &mut Way,
+    comparison: &Comparison,
+    variable: Option<&Json>,
+    text: &Json,
+    input: &Json,
+) -> Result<Asked, AllocError> {
+    match (variable, comparison) {
+        (Some(value), _) => Ok(Asked::Holds(says(comparison, value))),
+        (None, Comparison::IsPresent(present)) => Ok(Asked::Holds(!*present)),
+        (None, _) => Ok(Asked::Absent(in_path(alloc, way, text, "Variable", input)?)),
     }
 }
 
@@ -95,6 +120,7 @@ fn asks(
 #[cycle(asks)]
 fn asks_inner(
     alloc: Global,
+    way: &mut Way,
     inner: &InnerTest,
     text: &Json,
     input: &Json,
@@ -103,9 +129,13 @@ fn asks_inner(
     let Some(text) = field(text, "Not") else {
         return Ok(Asked::Absent(None));
     };
-    match asks(alloc, inner.test(), text, input, levels)? {
-        Asked::Holds(held) => Ok(Asked::Holds(!held)),
-        Asked::Absent(found) => Ok(Asked::Absent(found_in(alloc, "Not", found)?)),
+    way.enter(alloc, "Not")?;
+    match asks(alloc, way, inner.test(), text, input, levels)? {
+        Asked::Holds(held) => {
+            way.leave();
+            Ok(Asked::Holds(!held))
+        }
+        Asked::Absent(found) => Ok(Asked::Absent(found)),
     }
 }
 
@@ -113,6 +143,7 @@ fn asks_inner(
 #[cycle(asks)]
 fn asks_each(
     alloc: Global,
+    way: &mut Way,
     tests: &Tests,
     text: &Json,
     input: &Json,
@@ -123,19 +154,21 @@ fn asks_each(
     let Some(Json::List(texts)) = field(text, name) else {
         return Ok(Asked::Absent(None));
     };
+    way.enter(alloc, name)?;
     for (index, (test, text)) in tests.as_slice().iter().zip(texts.as_slice()).enumerate() {
-        match asks(alloc, test, text, input, levels)? {
+        way.enter_item(index)?;
+        match asks(alloc, way, test, text, input, levels)? {
             Asked::Holds(held) => {
+                way.leave();
                 if held == last {
+                    way.leave();
                     return Ok(Asked::Holds(last));
                 }
             }
-            Asked::Absent(found) => {
-                let found = found_at(index, found)?;
-                return Ok(Asked::Absent(found_in(alloc, name, found)?));
-            }
+            Asked::Absent(found) => return Ok(Asked::Absent(found)),
         }
     }
+    way.leave();
     Ok(Asked::Holds(!last))
 }
 

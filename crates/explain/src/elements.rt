@@ -1,12 +1,12 @@
 // What is wrong with the elements of a Map.
-use crate::catchers::after_handling;
+use crate::catchers::{caught_own, in_catcher};
 use crate::details::{Case, NoList, TooMany};
 use crate::results::too_deep;
 use crate::templates::{in_path, in_template};
-use crate::why::{Detail, field, found_in};
-use asl_results::frame_turns::{StateError, own_fault};
+use crate::why::{Way, field};
+use asl_results::frame_turns::{MOST_LEVELS, StateError};
 use asl_results::machine_tree::Map;
-use json_tree::{Json, JsonList};
+use json_tree::{Json, JsonList, depth};
 use ref_paths::FillFault;
 use std::alloc::{AllocError, Global};
 
@@ -16,98 +16,139 @@ const BRANCHES: usize = 4096;
 /// What is wrong with the items path of a Map, or with what the item selector makes of an element.
 pub(crate) fn in_elements(
     alloc: Global,
+    way: &mut Way,
     fields: &Json,
     map: &Map,
     raw: &Json,
     input: &Json,
-) -> Result<Option<Detail>, AllocError> {
+) -> Result<Option<Case>, AllocError> {
     match map.items_path.pick(input) {
-        None => in_path(alloc, fields, "ItemsPath", input),
-        Some(Json::List(elements)) => in_list(alloc, fields, map, raw, input, elements),
-        Some(of) => no_list(alloc, fields, of),
+        None => in_path(alloc, way, fields, "ItemsPath", input),
+        Some(Json::List(elements)) => in_list(alloc, way, fields, map, raw, input, elements),
+        Some(of) => no_list(alloc, way, fields, of),
     }
 }
 
-/// The place of what ItemsPath picks: the state, if it has none.
-fn at_items(alloc: Global, fields: &Json, case: Case) -> Result<Option<Detail>, AllocError> {
-    let found = Some(Detail::whole(alloc, case));
+/// Goes to ItemsPath, if the state has one.
+fn enter_items(alloc: Global, way: &mut Way, fields: &Json) -> Result<(), AllocError> {
     match field(fields, "ItemsPath") {
-        Some(_) => found_in(alloc, "ItemsPath", found),
-        None => Ok(found),
+        Some(_) => way.enter(alloc, "ItemsPath"),
+        None => Ok(()),
     }
 }
 
-fn no_list(alloc: Global, fields: &Json, of: &Json) -> Result<Option<Detail>, AllocError> {
+fn no_list(
+    alloc: Global,
+    way: &mut Way,
+    fields: &Json,
+    of: &Json,
+) -> Result<Option<Case>, AllocError> {
     if let Json::List(_) = of {
         return Ok(None);
     }
+    enter_items(alloc, way, fields)?;
     let of = of.copy()?;
-    at_items(alloc, fields, Case::NoList(NoList { of }))
+    Ok(Some(Case::NoList(NoList { of })))
 }
 
 fn in_list(
     alloc: Global,
+    way: &mut Way,
     fields: &Json,
     map: &Map,
     raw: &Json,
     input: &Json,
     elements: &JsonList,
-) -> Result<Option<Detail>, AllocError> {
+) -> Result<Option<Case>, AllocError> {
     if elements.len() > BRANCHES {
-        let elements = elements.copy()?;
-        return at_items(alloc, fields, Case::TooMany(TooMany { elements }));
+        enter_items(alloc, way, fields)?;
+        return too_many(elements);
     }
-    let Some(selector) = &map.item_selector else {
-        return deep_element(alloc, fields, elements);
-    };
-    for (index, element) in elements.as_slice().iter().enumerate() {
-        let index = u32::try_from(index).unwrap_or(u32::MAX);
-        match selector.fill(alloc, input, Some((index, element))) {
-            Ok(made) => {
-                if let Some(found) = too_deep(alloc, &made)? {
-                    return found_in(alloc, selector_name(fields), Some(found));
-                }
-            }
-            Err(FillFault::NoSuchNode) => {
-                return in_selector(alloc, fields, map, raw, input, element);
-            }
-            Err(FillFault::Memory) => return Err(AllocError),
-        }
+    if map.item_selector.is_none() {
+        enter_items(alloc, way, fields)?;
+        return deep_element(elements);
     }
-    Ok(None)
+    in_selector(alloc, way, fields, map, raw, input, elements)
+}
+
+fn too_many(elements: &JsonList) -> Result<Option<Case>, AllocError> {
+    if elements.len() <= BRANCHES {
+        return Ok(None);
+    }
+    let elements = elements.copy()?;
+    Ok(Some(Case::TooMany(TooMany { elements })))
 }
 
 /// The first element that nests too deep.
-fn deep_element(
-    alloc: Global,
-    fields: &Json,
-    elements: &JsonList,
-) -> Result<Option<Detail>, AllocError> {
+fn deep_element(elements: &JsonList) -> Result<Option<Case>, AllocError> {
     for element in elements.as_slice() {
-        if let Some(found) = too_deep(alloc, element)? {
-            return at_items(alloc, fields, found.case);
+        if depth(element) > MOST_LEVELS {
+            return too_deep(element);
         }
     }
     Ok(None)
 }
 
-fn selector_name(fields: &Json) -> &'static str {
-    match field(fields, "ItemSelector") {
-        Some(_) => "ItemSelector",
-        None => "Parameters",
-    }
+/// What the item selector makes of an element.
+#[derive(Drop)]
+enum Selected {
+    Made,
+    TooDeep(Option<Case>),
+    NoSuchNode,
 }
 
-/// What is wrong with the item selector at one element.
+/// What is wrong with the item selector at the first element at which it fails.
 fn in_selector(
     alloc: Global,
+    way: &mut Way,
     fields: &Json,
     map: &Map,
     raw: &Json,
     input: &Json,
+    elements: &JsonList,
+) -> Result<Option<Case>, AllocError> {
+    let name = match field(fields, "ItemSelector") {
+        Some(_) => "ItemSelector",
+        None => "Parameters",
+    };
+    way.enter(alloc, name)?;
+    for (index, element) in elements.as_slice().iter().enumerate() {
+        match select(alloc, map, input, index, element)? {
+            Selected::Made => {}
+            Selected::TooDeep(found) => return Ok(found),
+            Selected::NoSuchNode => {
+                way.leave();
+                return match caught_own(alloc, &map.errors, StateError::ParameterPathFailure)? {
+                    Some(index) => in_catcher(alloc, way, fields, index, raw),
+                    None => in_template(alloc, way, fields, name, input, Some(element)),
+                };
+            }
+        }
+    }
+    Ok(None)
+}
+
+/// What the item selector makes of this element.
+fn select(
+    alloc: Global,
+    map: &Map,
+    input: &Json,
+    index: usize,
     element: &Json,
-) -> Result<Option<Detail>, AllocError> {
-    let found = in_template(alloc, fields, selector_name(fields), input, Some(element))?;
-    let fault = own_fault(alloc, StateError::ParameterPathFailure)?;
-    after_handling(alloc, fields, &map.errors, raw, &fault, found)
+) -> Result<Selected, AllocError> {
+    let Some(selector) = &map.item_selector else {
+        return Ok(Selected::Made);
+    };
+    let index = u32::try_from(index).unwrap_or(u32::MAX);
+    match selector.fill(alloc, input, Some((index, element))) {
+        Ok(made) => {
+            if depth(&made) > MOST_LEVELS {
+                Ok(Selected::TooDeep(too_deep(&made)?))
+            } else {
+                Ok(Selected::Made)
+            }
+        }
+        Err(FillFault::NoSuchNode) => Ok(Selected::NoSuchNode),
+        Err(FillFault::Memory) => Err(AllocError),
+    }
 }

@@ -1,6 +1,6 @@
 // The frame that a turn, a join or a terminate comes to.
 ghost use Rattle.std.specs.Prelude.{◌≡◌, ◌+◌, ◌<◌, ◌^◌, Some, IfOk, IfSome, IsSome, option_copied};
-ghost use Rattle.explain.specs.Ends.{frame_after, frame_joined, frame_terminated, fault_in};
+ghost use Rattle.explain.specs.Ends.{frame_after, frame_joined, frame_terminated, failed_with, fault_in};
 ghost use Rattle.asl_results.specs.Turn.{located};
 
 use crate::answers::answer;
@@ -34,7 +34,7 @@ pub fn ready_turn(
 }
 
 /// The frame that a prepared turn comes to, if this item has the key that its call asks.
-pub(crate) fn frame_after(
+fn frame_after(
     alloc: Global,
     prepared: &Prepared,
     table: &ItemStore,
@@ -53,7 +53,7 @@ pub(crate) fn frame_after(
 }
 
 /// The frame after a join with these outputs.
-pub(crate) fn frame_joined(
+fn frame_joined(
     alloc: Global,
     machine: &SharedMachine,
     frame: &Frame,
@@ -77,7 +77,7 @@ pub(crate) fn frame_joined(
 }
 
 /// The frame after a branch has ended with this error.
-pub(crate) fn frame_terminated(
+fn frame_terminated(
     alloc: Global,
     machine: &SharedMachine,
     frame: &Frame,
@@ -95,11 +95,64 @@ pub(crate) fn frame_terminated(
 }
 
 /// The error with which a thread of this frame has failed.
-pub(crate) fn fault_in(phase: &Phase) -> Option<&Fault>
-    ensures { option_copied result ≡ fault_in phase.now }
+fn fault_in(next: &Frame) -> Result<Option<Fault>, AllocError>
+    ensures { IfOk result (λ o. o ≡ fault_in next.now.phase) }
 {
-    match phase {
-        Phase::Failed(fault) => Some(fault),
-        _ => None,
+    match &next.phase {
+        Phase::Failed(fault) => Ok(Some(fault.copy()?)),
+        _ => Ok(None),
+    }
+}
+
+/// The error with which a prepared turn fails.
+pub(crate) fn turn_fault(
+    alloc: Global,
+    prepared: &Prepared,
+    table: &ItemStore,
+    item: Option<&Item>,
+) -> Result<Option<Fault>, AllocError>
+    ensures { IfOk result (λ o. o ≡ failed_with (frame_after prepared.now.machine prepared.now.frame table.now (option_copied item.entry) prepared.now.outcome)) }
+{
+    let next = frame_after(alloc, prepared, table, item)?;
+    let fault = fault_in(&next);
+    drop(next);
+    fault
+}
+
+/// The error with which a join with these outputs fails.
+pub(crate) fn join_fault(
+    alloc: Global,
+    machine: &SharedMachine,
+    frame: &Frame,
+    outputs: JsonList,
+) -> Result<Option<Fault>, AllocError>
+    ensures { IfOk result (λ o. o ≡ failed_with (frame_joined machine.now frame.now outputs)) }
+{
+    match frame_joined(alloc, machine, frame, outputs)? {
+        Some(next) => {
+            let fault = fault_in(&next);
+            drop(next);
+            fault
+        }
+        None => Ok(None),
+    }
+}
+
+/// The error with which a terminate fails.
+pub(crate) fn branch_fault(
+    alloc: Global,
+    machine: &SharedMachine,
+    frame: &Frame,
+    fault: &Fault,
+) -> Result<Option<Fault>, AllocError>
+    ensures { IfOk result (λ o. o ≡ failed_with (frame_terminated machine.now frame.now fault.now)) }
+{
+    match frame_terminated(alloc, machine, frame, fault)? {
+        Some(next) => {
+            let failure = fault_in(&next);
+            drop(next);
+            failure
+        }
+        None => Ok(None),
     }
 }

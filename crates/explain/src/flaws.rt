@@ -7,8 +7,8 @@ ghost use Rattle.item_store.specs.Calls.{call_of, condition_in, item_field, may_
 ghost use Rattle.explain.specs.Details.{HasFlaw, conditioned, field_in};
 
 use crate::details::{Case, Flaw, Malformed};
-use crate::keys::in_parameters;
-use crate::why::{Detail, field};
+use crate::keys::enter_source;
+use crate::why::{Way, field};
 use attr_values::{ItemFault, read_value};
 use item_store::{Action, Call, CallFault};
 use json_tree::{Json, JsonFields, Text};
@@ -227,10 +227,11 @@ fn is_malformed(alloc: Global, action: Action, of: &Json) -> Result<bool, AllocE
 /// What is wrong with a value that is to be the call of an action, if it is none.
 pub(crate) fn in_call(
     alloc: Global,
+    way: &mut Way,
     fields: &Json,
     action: Action,
     of: &Json,
-) -> Result<Option<Detail>, AllocError> {
+) -> Result<Option<Case>, AllocError> {
     if !is_malformed(alloc, action, of)? {
         return Ok(None);
     }
@@ -238,21 +239,26 @@ pub(crate) fn in_call(
     let Some(flaw) = flaw_of(alloc, action, &of)? else {
         return Ok(None);
     };
-    Ok(Some(at_flaw(alloc, fields, Malformed { action, of, flaw })?))
+    enter_flaw(alloc, way, fields, action, &flaw)?;
+    Ok(Some(Case::Malformed(Malformed { action, of, flaw })))
 }
 
-/// The flaw at the field of Parameters that it is about.
-fn at_flaw(alloc: Global, fields: &Json, malformed: Malformed) -> Result<Detail, AllocError> {
-    let item = item_field(malformed.action);
-    let (outer, inner) = match &malformed.flaw {
-        Flaw::NoObject | Flaw::MissingField(_) => (None, None),
-        Flaw::UnknownField(name) => (Some(name.copy()?), None),
-        Flaw::BadTableName => (Some(Text::new(alloc, "TableName")?), None),
-        Flaw::BadItem => (Some(Text::new(alloc, item)?), None),
-        Flaw::BadAttribute(name, _) => (Some(Text::new(alloc, item)?), Some(name.copy()?)),
-        Flaw::BadCondition => (Some(Text::new(alloc, "ConditionExpression")?), None),
-        Flaw::BadReturnValues => (Some(Text::new(alloc, "ReturnValues")?), None),
-    };
-    let detail = Detail::whole(alloc, Case::Malformed(malformed));
-    in_parameters(alloc, fields, &outer, &inner, detail)
+/// Goes to the field of Parameters that a flaw is about.
+fn enter_flaw(
+    alloc: Global,
+    way: &mut Way,
+    fields: &Json,
+    action: Action,
+    flaw: &Flaw,
+) -> Result<(), AllocError> {
+    let item = item_field(action);
+    match flaw {
+        Flaw::NoObject | Flaw::MissingField(_) => enter_source(alloc, way, fields, "", ""),
+        Flaw::UnknownField(name) => enter_source(alloc, way, fields, name.as_str(), ""),
+        Flaw::BadTableName => enter_source(alloc, way, fields, "TableName", ""),
+        Flaw::BadItem => enter_source(alloc, way, fields, item, ""),
+        Flaw::BadAttribute(name, _) => enter_source(alloc, way, fields, item, name.as_str()),
+        Flaw::BadCondition => enter_source(alloc, way, fields, "ConditionExpression", ""),
+        Flaw::BadReturnValues => enter_source(alloc, way, fields, "ReturnValues", ""),
+    }
 }

@@ -6,47 +6,46 @@ ghost use Rattle.explain.specs.Details.{is_part};
 
 use crate::calls::copy_condition;
 use crate::details::{Case, FailedCondition, NoKey, OtherAttribute, OtherTable};
-use crate::why::{Detail, field};
+use crate::why::{Way, field};
 use attr_values::{Item, ItemFault, KeyAttribute, KeySchema, KeyType, Value, write_item};
 use item_store::{Call, CallFault, Condition, ConditionKind, ItemStore, Request};
 use json_tree::{Field, Json, Text};
 use std::alloc::{AllocError, Global};
 
-/// What is found in a field of Parameters, or in a field of that.
-pub(crate) fn in_parameters(
+/// Goes to the field of Parameters from which a field of a call comes, and there to the one from which a part of it comes. An
+/// empty name is no field.
+pub(crate) fn enter_source(
     alloc: Global,
+    way: &mut Way,
     fields: &Json,
-    outer: &Option<Text>,
-    inner: &Option<Text>,
-    found: Detail,
-) -> Result<Detail, AllocError> {
+    outer: &str,
+    inner: &str,
+) -> Result<(), AllocError> {
     let Some(template) = field(fields, "Parameters") else {
-        return Ok(found);
+        return Ok(());
     };
-    let found = match source_of(template, outer) {
-        Some(source) => {
-            let found = match source_of(&source.value, inner) {
-                Some(part) => found.within(alloc, part.name.as_str())?,
-                None => found,
-            };
-            found.within(alloc, source.name.as_str())?
-        }
-        None => found,
+    way.enter(alloc, "Parameters")?;
+    let Some(source) = source_of(template, outer) else {
+        return Ok(());
     };
-    found.within(alloc, "Parameters")
+    way.enter(alloc, source.name.as_str())?;
+    match source_of(&source.value, inner) {
+        Some(part) => way.enter(alloc, part.name.as_str()),
+        None => Ok(()),
+    }
 }
 
 /// The field of a template that becomes one of this name.
-fn source_of<'a>(template: &'a Json, name: &Option<Text>) -> Option<&'a Field> {
-    let Some(name) = name else {
-        return None;
-    };
+fn source_of<'a>(template: &'a Json, name: &str) -> Option<&'a Field> {
     let Json::Fields(fields) = template else {
         return None;
     };
+    if name.is_empty() {
+        return None;
+    }
     for field in fields.as_slice() {
         let marked = field.name.as_str();
-        if marked == name.as_str() || marked.strip_suffix(".$") == Some(name.as_str()) {
+        if marked == name || marked.strip_suffix(".$") == Some(name) {
             return Some(field);
         }
     }
@@ -56,60 +55,39 @@ fn source_of<'a>(template: &'a Json, name: &Option<Text>) -> Option<&'a Field> {
 /// What is wrong with a call of a table, if this item has the call's key.
 pub(crate) fn in_refusal(
     alloc: Global,
+    way: &mut Way,
     fields: &Json,
     table: &ItemStore,
     call: &Call,
     item: Option<&Item>,
-) -> Result<Option<Detail>, AllocError> {
+) -> Result<Option<Case>, AllocError> {
     match table.key(call) {
         Ok(key) => {
             drop(key);
-            in_condition(alloc, fields, call, item)
+            enter_source(alloc, way, fields, "ConditionExpression", "")?;
+            in_condition(call, item)
         }
-        Err(CallFault::WrongTable) => in_table_name(alloc, fields, call, table.table()),
-        Err(CallFault::BadKey) => in_key(alloc, fields, table.schema(), call),
+        Err(CallFault::WrongTable) => {
+            enter_source(alloc, way, fields, "TableName", "")?;
+            in_table_name(call, table.table())
+        }
+        Err(CallFault::BadKey) => in_key(alloc, way, fields, table.schema(), call),
         Err(CallFault::Memory) => Err(AllocError),
         Err(CallFault::Malformed) => Ok(None),
     }
 }
 
-fn at_field(
-    alloc: Global,
-    fields: &Json,
-    name: &str,
-    case: Case,
-) -> Result<Option<Detail>, AllocError> {
-    let found = Detail::whole(alloc, case);
-    let outer = Some(Text::new(alloc, name)?);
-    Ok(Some(in_parameters(alloc, fields, &outer, &None, found)?))
-}
-
-fn in_table_name(
-    alloc: Global,
-    fields: &Json,
-    call: &Call,
-    table: &Text,
-) -> Result<Option<Detail>, AllocError> {
+fn in_table_name(call: &Call, table: &Text) -> Result<Option<Case>, AllocError> {
     if call.table == *table {
         return Ok(None);
     }
     let named = call.table.copy()?;
     let table = table.copy()?;
-    at_field(
-        alloc,
-        fields,
-        "TableName",
-        Case::OtherTable(OtherTable { named, table }),
-    )
+    Ok(Some(Case::OtherTable(OtherTable { named, table })))
 }
 
 /// The condition of a call, if it doesn't hold of the item.
-fn in_condition(
-    alloc: Global,
-    fields: &Json,
-    call: &Call,
-    item: Option<&Item>,
-) -> Result<Option<Detail>, AllocError> {
+fn in_condition(call: &Call, item: Option<&Item>) -> Result<Option<Case>, AllocError> {
     let terms = match &call.request {
         Request::Get(_) => return Ok(None),
         Request::Put(_, terms) => terms,
@@ -126,8 +104,7 @@ fn in_condition(
         Some(item) => Some(item.copy()?),
         None => None,
     };
-    let case = Case::FailedCondition(FailedCondition { condition, item });
-    at_field(alloc, fields, "ConditionExpression", case)
+    Ok(Some(Case::FailedCondition(FailedCondition { condition, item })))
 }
 
 fn fails(condition: &Condition, item: Option<&Item>) -> bool
@@ -146,58 +123,47 @@ fn fails(condition: &Condition, item: Option<&Item>) -> bool
 /// What is wrong with the key of a call.
 fn in_key(
     alloc: Global,
+    way: &mut Way,
     fields: &Json,
     schema: &KeySchema,
     call: &Call,
-) -> Result<Option<Detail>, AllocError> {
+) -> Result<Option<Case>, AllocError> {
     let (name, item) = match &call.request {
         Request::Get(key) => ("Key", key),
         Request::Put(item, _) => ("Item", item),
         Request::Delete(key, _) => ("Key", key),
     };
-    if let Some(found) = in_part(alloc, fields, name, &schema.partition, item)? {
-        return Ok(Some(found));
+    if part_fault(&schema.partition, item).is_some() {
+        return in_part(alloc, way, fields, name, &schema.partition, item);
     }
     if let Some(sort) = &schema.sort {
-        if let Some(found) = in_part(alloc, fields, name, sort, item)? {
-            return Ok(Some(found));
+        if part_fault(sort, item).is_some() {
+            return in_part(alloc, way, fields, name, sort, item);
         }
     }
-    in_others(alloc, fields, name, schema, item)
+    in_others(alloc, way, fields, name, schema, item)
 }
 
 /// An attribute of the key that isn't as the table asks.
 fn in_part(
     alloc: Global,
+    way: &mut Way,
     fields: &Json,
     name: &str,
     attribute: &KeyAttribute,
     item: &Item,
-) -> Result<Option<Detail>, AllocError> {
+) -> Result<Option<Case>, AllocError> {
     let Some(fault) = part_fault(attribute, item) else {
         return Ok(None);
     };
-    let inner = Some(attribute.name.copy()?);
+    enter_source(alloc, way, fields, name, attribute.name.as_str())?;
     let attribute = attribute.copy()?;
     let of = item.copy()?;
-    let case = Case::NoKey(NoKey {
+    Ok(Some(Case::NoKey(NoKey {
         attribute,
         fault,
         of,
-    });
-    at_attribute(alloc, fields, name, inner, case)
-}
-
-fn at_attribute(
-    alloc: Global,
-    fields: &Json,
-    name: &str,
-    inner: Option<Text>,
-    case: Case,
-) -> Result<Option<Detail>, AllocError> {
-    let found = Detail::whole(alloc, case);
-    let outer = Some(Text::new(alloc, name)?);
-    Ok(Some(in_parameters(alloc, fields, &outer, &inner, found)?))
+    })))
 }
 
 /// Why an item has no such part of a key.
@@ -221,18 +187,19 @@ fn part_fault(attribute: &KeyAttribute, item: &Item) -> Option<ItemFault>
 /// An attribute of a `Key` that is none of the table's key.
 fn in_others(
     alloc: Global,
+    way: &mut Way,
     fields: &Json,
     name: &str,
     schema: &KeySchema,
     item: &Item,
-) -> Result<Option<Detail>, AllocError> {
+) -> Result<Option<Case>, AllocError> {
     let Json::Fields(attributes) = write_item(alloc, item)? else {
         return Ok(None);
     };
     for attribute in attributes.as_slice() {
-        if let Some(other) = other_attribute(schema, &attribute.name, item)? {
-            let inner = Some(attribute.name.copy()?);
-            return at_attribute(alloc, fields, name, inner, Case::OtherAttribute(other));
+        if !is_part(schema, &attribute.name) {
+            enter_source(alloc, way, fields, name, attribute.name.as_str())?;
+            return other_attribute(schema, &attribute.name, item);
         }
     }
     Ok(None)
@@ -242,14 +209,14 @@ fn other_attribute(
     schema: &KeySchema,
     name: &Text,
     item: &Item,
-) -> Result<Option<OtherAttribute>, AllocError> {
+) -> Result<Option<Case>, AllocError> {
     if is_part(schema, name) || !item.contains(name.as_str()) {
         return Ok(None);
     }
     let name = name.copy()?;
     let of = item.copy()?;
     let schema = schema.copy()?;
-    Ok(Some(OtherAttribute { name, of, schema }))
+    Ok(Some(Case::OtherAttribute(OtherAttribute { name, of, schema })))
 }
 
 fn is_part(schema: &KeySchema, name: &Text) -> bool

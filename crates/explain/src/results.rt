@@ -5,7 +5,7 @@ ghost use Rattle.explain.specs.Details.{PlacesNothing};
 
 use crate::details::{Case, NoPlace, TooDeep};
 use crate::templates::{in_path, in_template};
-use crate::why::{Detail, found_in, text_in};
+use crate::why::{Way, text_in};
 use asl_results::frame_turns::MOST_LEVELS;
 use asl_results::frame_turns::state_parts::Processing;
 use json_tree::{Json, JsonFields, depth};
@@ -18,60 +18,56 @@ const MOST_SHOWN: u32 = 1024;
 /// What is wrong with InputPath or Parameters.
 pub(crate) fn in_input(
     alloc: Global,
+    way: &mut Way,
     fields: &Json,
     processing: &Processing,
     raw: &Json,
-) -> Result<Option<Detail>, AllocError> {
-    if let Some(found) = in_path(alloc, fields, "InputPath", raw)? {
-        return Ok(Some(found));
-    }
-    if processing.parameters.is_none() {
-        return Ok(None);
-    }
+) -> Result<Option<Case>, AllocError> {
     let Some(path) = &processing.input_path else {
         let nothing = Json::Fields(JsonFields::new(alloc));
-        return in_template(alloc, fields, "Parameters", &nothing, None);
+        return in_template(alloc, way, fields, "Parameters", &nothing, None);
     };
     match path.pick(raw) {
-        Some(input) => in_template(alloc, fields, "Parameters", input, None),
-        None => Ok(None),
+        Some(input) => in_template(alloc, way, fields, "Parameters", input, None),
+        None => in_path(alloc, way, fields, "InputPath", raw),
     }
 }
 
 /// What is wrong with ResultSelector, ResultPath or OutputPath, or with the output.
 pub(crate) fn in_result(
     alloc: Global,
+    way: &mut Way,
     fields: &Json,
     processing: &Processing,
     raw: &Json,
     made: &Json,
-) -> Result<Option<Detail>, AllocError> {
+) -> Result<Option<Case>, AllocError> {
     let Some(selector) = &processing.result_selector else {
-        return in_placing(alloc, fields, processing, raw, made);
+        return in_placing(alloc, way, fields, processing, raw, made);
     };
     match selector.fill(alloc, made, None) {
-        Ok(selected) => in_placing(alloc, fields, processing, raw, &selected),
-        Err(FillFault::NoSuchNode) => in_template(alloc, fields, "ResultSelector", made, None),
+        Ok(selected) => in_placing(alloc, way, fields, processing, raw, &selected),
+        Err(FillFault::NoSuchNode) => in_template(alloc, way, fields, "ResultSelector", made, None),
         Err(FillFault::Memory) => Err(AllocError),
     }
 }
 
 fn in_placing(
     alloc: Global,
+    way: &mut Way,
     fields: &Json,
     processing: &Processing,
     raw: &Json,
     selected: &Json,
-) -> Result<Option<Detail>, AllocError> {
+) -> Result<Option<Case>, AllocError> {
     let Some(path) = &processing.result_path else {
-        return in_output(alloc, fields, &processing.output_path, raw);
+        return in_output(alloc, way, fields, &processing.output_path, raw);
     };
     if !path.can_place(raw) {
-        let found = no_place(alloc, fields, raw)?;
-        return found_in(alloc, "ResultPath", found);
+        return no_place(alloc, way, fields, raw);
     }
     match placed(alloc, path, raw, selected)? {
-        Some(placed) => in_output(alloc, fields, &processing.output_path, &placed),
+        Some(placed) => in_output(alloc, way, fields, &processing.output_path, &placed),
         None => Ok(None),
     }
 }
@@ -103,18 +99,20 @@ fn placed(
 /// The ResultPath of a state or of a catcher, if nothing can be placed by it.
 pub(crate) fn no_place(
     alloc: Global,
+    way: &mut Way,
     fields: &Json,
     raw: &Json,
-) -> Result<Option<Detail>, AllocError> {
+) -> Result<Option<Case>, AllocError> {
     let Some(text) = text_in(fields, "ResultPath") else {
         return Ok(None);
     };
     if !places_nothing(alloc, text.as_str(), raw)? {
         return Ok(None);
     }
+    way.enter(alloc, "ResultPath")?;
     let path = text.copy()?;
     let of = raw.copy()?;
-    Ok(Some(Detail::whole(alloc, Case::CannotPlace(NoPlace { path, of }))))
+    Ok(Some(Case::CannotPlace(NoPlace { path, of })))
 }
 
 /// Whether a text is that of a path by which nothing can be placed in a value.
@@ -135,42 +133,30 @@ fn places_nothing(alloc: Global, text: &str, of: &Json) -> Result<bool, AllocErr
 /// What is wrong with OutputPath, or with what it picks.
 fn in_output(
     alloc: Global,
+    way: &mut Way,
     fields: &Json,
     path: &Option<RefPath>,
     placed: &Json,
-) -> Result<Option<Detail>, AllocError> {
+) -> Result<Option<Case>, AllocError> {
     let Some(path) = path else {
         return Ok(None);
     };
-    match path.pick(placed) {
-        Some(output) => {
-            let found = too_deep(alloc, output)?;
-            in_last(alloc, fields, found)
-        }
-        None => in_path(alloc, fields, "OutputPath", placed),
-    }
-}
-
-/// The same at the last field of the state that makes its output.
-fn in_last(
-    alloc: Global,
-    fields: &Json,
-    found: Option<Detail>,
-) -> Result<Option<Detail>, AllocError> {
+    let Some(output) = path.pick(placed) else {
+        return in_path(alloc, way, fields, "OutputPath", placed);
+    };
     if text_in(fields, "OutputPath").is_some() {
-        return found_in(alloc, "OutputPath", found);
+        way.enter(alloc, "OutputPath")?;
+    } else if text_in(fields, "ResultPath").is_some() {
+        way.enter(alloc, "ResultPath")?;
     }
-    if text_in(fields, "ResultPath").is_some() {
-        return found_in(alloc, "ResultPath", found);
-    }
-    Ok(found)
+    too_deep(output)
 }
 
 /// The value, if it nests too deep for a frame.
-pub(crate) fn too_deep(alloc: Global, json: &Json) -> Result<Option<Detail>, AllocError> {
+pub(crate) fn too_deep(json: &Json) -> Result<Option<Case>, AllocError> {
     if depth(json) <= MOST_LEVELS {
         return Ok(None);
     }
     let of = json.copy()?;
-    Ok(Some(Detail::whole(alloc, Case::TooDeep(TooDeep { of }))))
+    Ok(Some(Case::TooDeep(TooDeep { of })))
 }

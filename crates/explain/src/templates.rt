@@ -4,8 +4,8 @@ ghost use Rattle.json_tree.specs.View.{data_of};
 ghost use Rattle.explain.specs.Details.{PathPicksNothing};
 
 use crate::details::{Absent, Case};
-use crate::why::{Detail, field, found_in, text_in};
-use json_tree::{Json, JsonFields, JsonList, Text};
+use crate::why::{Way, field, text_in};
+use json_tree::{Field, Json, JsonFields, JsonList, Text};
 use ref_paths::{PathFault, RefPath};
 use std::alloc::{AllocError, Global};
 
@@ -62,20 +62,13 @@ fn absent_source(
     text: &Text,
     input: &Json,
     item: Option<&Json>,
-) -> Result<Option<Detail>, AllocError> {
+) -> Result<Option<Absent>, AllocError> {
     let Some(item) = item else {
-        return case_of(alloc, absent(alloc, text, input)?);
+        return absent(alloc, text, input);
     };
     match text.as_str().strip_prefix("$$.Map.Item.Value") {
-        Some(steps) => case_of(alloc, absent_in_item(alloc, text, steps, item)?),
-        None => case_of(alloc, absent(alloc, text, input)?),
-    }
-}
-
-fn case_of(alloc: Global, absent: Option<Absent>) -> Result<Option<Detail>, AllocError> {
-    match absent {
-        Some(absent) => Ok(Some(Detail::whole(alloc, Case::PicksNothing(absent)))),
-        None => Ok(None),
+        Some(steps) => absent_in_item(alloc, text, steps, item),
+        None => absent(alloc, text, input),
     }
 }
 
@@ -84,17 +77,18 @@ fn case_of(alloc: Global, absent: Option<Absent>) -> Result<Option<Detail>, Allo
 #[cycle(absent_within)]
 fn absent_within(
     alloc: Global,
+    way: &mut Way,
     template: &Json,
     input: &Json,
     item: Option<&Json>,
     levels: u8,
-) -> Result<Option<Detail>, AllocError> {
+) -> Result<Option<Absent>, AllocError> {
     if levels == 0 {
         return Ok(None);
     }
     match template {
-        Json::List(list) => absent_in_list(alloc, list, input, item, levels - 1),
-        Json::Fields(fields) => absent_in_fields(alloc, fields, input, item, levels - 1),
+        Json::List(list) => absent_in_list(alloc, way, list, input, item, levels - 1),
+        Json::Fields(fields) => absent_in_fields(alloc, way, fields, input, item, levels - 1),
         _ => Ok(None),
     }
 }
@@ -102,15 +96,18 @@ fn absent_within(
 #[cycle(absent_within)]
 fn absent_in_list(
     alloc: Global,
+    way: &mut Way,
     list: &JsonList,
     input: &Json,
     item: Option<&Json>,
     levels: u8,
-) -> Result<Option<Detail>, AllocError> {
+) -> Result<Option<Absent>, AllocError> {
     for (index, value) in list.as_slice().iter().enumerate() {
-        if let Some(found) = absent_within(alloc, value, input, item, levels)? {
-            return Ok(Some(found.within_item(index)?));
+        way.enter_item(index)?;
+        if let Some(found) = absent_within(alloc, way, value, input, item, levels)? {
+            return Ok(Some(found));
         }
+        way.leave();
     }
     Ok(None)
 }
@@ -118,33 +115,35 @@ fn absent_in_list(
 #[cycle(absent_within)]
 fn absent_in_fields(
     alloc: Global,
+    way: &mut Way,
     fields: &JsonFields,
     input: &Json,
     item: Option<&Json>,
     levels: u8,
-) -> Result<Option<Detail>, AllocError> {
+) -> Result<Option<Absent>, AllocError> {
     for field in fields.as_slice() {
-        let name = field.name.as_str();
-        let found = if name.ends_with(".$") {
-            absent_at(alloc, &field.value, input, item)?
-        } else {
-            absent_within(alloc, &field.value, input, item, levels)?
-        };
-        if let Some(found) = found {
-            return Ok(Some(found.within(alloc, name)?));
+        way.enter(alloc, field.name.as_str())?;
+        if let Some(found) = absent_in_field(alloc, way, field, input, item, levels)? {
+            return Ok(Some(found));
         }
+        way.leave();
     }
     Ok(None)
 }
 
-/// The same of a marked field's value.
-fn absent_at(
+#[cycle(absent_within)]
+fn absent_in_field(
     alloc: Global,
-    source: &Json,
+    way: &mut Way,
+    field: &Field,
     input: &Json,
     item: Option<&Json>,
-) -> Result<Option<Detail>, AllocError> {
-    match source {
+    levels: u8,
+) -> Result<Option<Absent>, AllocError> {
+    if !field.name.as_str().ends_with(".$") {
+        return absent_within(alloc, way, &field.value, input, item, levels);
+    }
+    match &field.value {
         Json::Text(text) => absent_source(alloc, text, input, item),
         _ => Ok(None),
     }
@@ -153,28 +152,36 @@ fn absent_at(
 /// The path of a state's template that picks nothing, if there is one.
 pub(crate) fn in_template(
     alloc: Global,
+    way: &mut Way,
     fields: &Json,
     name: &str,
     input: &Json,
     item: Option<&Json>,
-) -> Result<Option<Detail>, AllocError> {
+) -> Result<Option<Case>, AllocError> {
     let Some(template) = field(fields, name) else {
         return Ok(None);
     };
-    let found = absent_within(alloc, template, input, item, MOST_LEVELS)?;
-    found_in(alloc, name, found)
+    way.enter(alloc, name)?;
+    match absent_within(alloc, way, template, input, item, MOST_LEVELS)? {
+        Some(absent) => Ok(Some(Case::PicksNothing(absent))),
+        None => Ok(None),
+    }
 }
 
 /// A state's path, if it picks nothing.
 pub(crate) fn in_path(
     alloc: Global,
+    way: &mut Way,
     fields: &Json,
     name: &str,
     of: &Json,
-) -> Result<Option<Detail>, AllocError> {
+) -> Result<Option<Case>, AllocError> {
     let Some(text) = text_in(fields, name) else {
         return Ok(None);
     };
-    let found = case_of(alloc, absent(alloc, text, of)?)?;
-    found_in(alloc, name, found)
+    way.enter(alloc, name)?;
+    match absent(alloc, text, of)? {
+        Some(absent) => Ok(Some(Case::PicksNothing(absent))),
+        None => Ok(None),
+    }
 }

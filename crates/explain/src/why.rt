@@ -27,43 +27,42 @@ pub struct Why {
     pub detail: Detail,
 }
 
-impl Detail {
-    /// One of the whole state.
-    pub(crate) fn whole(alloc: Global, case: Case) -> Detail {
-        Detail {
-            place: Vec::new(alloc),
-            case,
+/// The way to a place within a state's JSON, as far as a search has gone.
+#[derive(Drop)]
+pub(crate) struct Way {
+    steps: Vec<PathStep>,
+}
+
+impl Way {
+    pub(crate) fn new(alloc: Global) -> Way {
+        Way {
+            steps: Vec::new(alloc),
         }
     }
 
-    /// The same inside a field of this name.
-    pub(crate) fn within(self, alloc: Global, name: &str) -> Result<Detail, AllocError> {
-        match Text::new(alloc, name) {
-            Ok(name) => self.inside(PathStep::Name(name)),
-            Err(refused) => {
-                drop(self);
-                Err(refused)
-            }
-        }
+    /// Goes into a field of this name.
+    pub(crate) fn enter(&mut self, alloc: Global, name: &str) -> Result<(), AllocError> {
+        let name = Text::new(alloc, name)?;
+        self.steps.push(PathStep::Name(name))?;
+        Ok(())
     }
 
-    /// The same inside an element of this index.
-    pub(crate) fn within_item(self, index: usize) -> Result<Detail, AllocError> {
+    /// Goes into an element of this index.
+    pub(crate) fn enter_item(&mut self, index: usize) -> Result<(), AllocError> {
         let index = u32::try_from(index).unwrap_or(u32::MAX);
-        self.inside(PathStep::Index(index))
+        self.steps.push(PathStep::Index(index))?;
+        Ok(())
     }
 
-    fn inside(self, step: PathStep) -> Result<Detail, AllocError> {
-        let Detail { mut place, case } = self;
-        match place.insert(0, step) {
-            Ok(()) => Ok(Detail { place, case }),
-            Err(refused) => {
-                drop(refused);
-                drop(place);
-                drop(case);
-                Err(AllocError)
-            }
-        }
+    /// Goes back one step.
+    pub(crate) fn leave(&mut self) {
+        drop(self.steps.pop());
+    }
+
+    /// The names and indexes of the way.
+    pub(crate) fn into_steps(self) -> Vec<PathStep> {
+        let Way { steps } = self;
+        steps
     }
 }
 
@@ -83,25 +82,5 @@ pub(crate) fn text_in<'a>(json: &'a Json, name: &str) -> Option<&'a Text> {
     match field(json, name) {
         Some(Json::Text(text)) => Some(text),
         _ => None,
-    }
-}
-
-/// What is found inside a field of this name.
-pub(crate) fn found_in(
-    alloc: Global,
-    name: &str,
-    found: Option<Detail>,
-) -> Result<Option<Detail>, AllocError> {
-    match found {
-        Some(detail) => Ok(Some(detail.within(alloc, name)?)),
-        None => Ok(None),
-    }
-}
-
-/// What is found inside an element of this index.
-pub(crate) fn found_at(index: usize, found: Option<Detail>) -> Result<Option<Detail>, AllocError> {
-    match found {
-        Some(detail) => Ok(Some(detail.within_item(index)?)),
-        None => Ok(None),
     }
 }
