@@ -62,6 +62,15 @@ fn current<'a>(
     Ok(None)
 }
 
+/// The item of a key now.
+pub(crate) fn current_item<'a>(
+    asked: &Asked<'a>,
+    key: &Key,
+) -> Result<Option<&'a Item>, AllocError> {
+    let accesses = asked.book.history().accesses(asked.alloc, key)?;
+    current(asked, key, accesses.as_slice())
+}
+
 /// The items in the order of their keys, each with the step that wrote it last, if that remains.
 pub(crate) fn items_of(asked: &Asked<'_>, page: &Page) -> Result<Json, AllocError> {
     let (begin, _) = asked.book.entries();

@@ -11,6 +11,7 @@ mod listing;
 mod logging;
 mod near;
 mod questions;
+mod reasons;
 mod showing;
 mod steps;
 mod threads;

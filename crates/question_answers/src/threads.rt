@@ -1,7 +1,7 @@
 // Threads: where each stands, and what its next move is.
 use crate::asked::{Asked, Page};
 use crate::values::{Object, or_null, text_value, whole};
-use asl_tree::{Level, Map, State};
+use asl_tree::{Level, SharedMachine, State};
 use json_tree::{Json, JsonList};
 use question_index::Presence;
 use rollback_book::turns::{Frame, Phase, located};
@@ -265,11 +265,23 @@ pub(crate) fn machine_of<'a>(
     asked: &Asked<'_>,
     level: &Level,
 ) -> Option<&'a asl_tree::Machine> {
+    match defined_in(book, asked, level) {
+        Some(machine) => Some(machine.machine()),
+        None => None,
+    }
+}
+
+/// The same, shared.
+pub(crate) fn shared_machine_of<'a>(asked: &Asked<'a>, level: &Level) -> Option<&'a SharedMachine> {
+    defined_in(asked.book, asked, level)
+}
+
+fn defined_in<'a>(book: &'a Book, asked: &Asked<'_>, level: &Level) -> Option<&'a SharedMachine> {
     let definition = asked.index.definitions().get(&level.machine)?;
     let (_, entries) = book.entries();
     // (the table's line is no entry)
     match entries.get(definition.line.checked_sub(1)?) {
-        Some(Entry::Define { machine, .. }) => Some(machine.machine()),
+        Some(Entry::Define { machine, .. }) => Some(machine),
         _ => None,
     }
 }

@@ -1,0 +1,160 @@
+// What is wrong, as a value.
+use crate::asked::Asked;
+use crate::steps::item_value;
+use crate::values::{Object, step_value, text_value, whole};
+use attr_values::{ItemFault, KeyType, write_item};
+use explain::{Case, Detail, Flaw, Why};
+use item_store::ConditionKind;
+use json_tree::{Json, JsonList};
+use ref_paths::PathStep;
+use std::alloc::{AllocError, Global};
+use step_names::StepName;
+
+/// Why a turn fails: the state, the error and its cause, the step if it was taken, and what is wrong at which place; `null` if it doesn't.
+pub(crate) fn why_value(
+    asked: &Asked<'_>,
+    why: Option<Why>,
+    step: Option<&StepName>,
+) -> Result<Json, AllocError> {
+    let Some(why) = why else {
+        return Ok(Json::Null);
+    };
+    let alloc = asked.alloc;
+    let mut value = Object::new(alloc);
+    value.put_text("state", why.state.as_str())?;
+    value.put_text("error", why.fault.error.as_str())?;
+    value.put_text("cause", why.fault.cause.as_str())?;
+    let step = match step {
+        Some(step) => step_value(alloc, step)?,
+        None => Json::Null,
+    };
+    value.put("step", step)?;
+    put_detail(alloc, &mut value, &why.detail)?;
+    Ok(value.done())
+}
+
+fn put_detail(alloc: Global, value: &mut Object, detail: &Detail) -> Result<(), AllocError> {
+    let mut place = Vec::new(alloc);
+    for step in &detail.place {
+        place.push(match step {
+            PathStep::Name(name) => text_value(alloc, name.as_str())?,
+            PathStep::Index(index) => whole(*index as usize),
+        })?;
+    }
+    value.put("place", Json::List(JsonList::from_vec(place)?))?;
+    value.put_text("case", case_word(&detail.case))?;
+    put_case(alloc, value, &detail.case)
+}
+
+fn case_word(case: &Case) -> &'static str {
+    match case {
+        Case::PicksNothing(_) => "picks_nothing",
+        Case::CannotPlace(_) => "cannot_place",
+        Case::TooDeep(_) => "too_deep",
+        Case::NoList(_) => "no_list",
+        Case::TooMany(_) => "too_many",
+        Case::NoRuleHolds(_) => "no_rule_holds",
+        Case::Malformed(_) => "malformed",
+        Case::OtherTable(_) => "other_table",
+        Case::NoKey(_) => "no_key",
+        Case::OtherAttribute(_) => "other_attribute",
+        Case::FailedCondition(_) => "condition",
+        Case::Declared => "declared",
+        Case::Branch(_) => "branch",
+        Case::Unexplained => "unexplained",
+    }
+}
+
+/// What belongs to a case. `path` and `of` are there in each.
+fn put_case(alloc: Global, value: &mut Object, case: &Case) -> Result<(), AllocError> {
+    let mut path = Json::Null;
+    let mut of = Json::Null;
+    match case {
+        Case::PicksNothing(it) => {
+            path = text_value(alloc, it.path.as_str())?;
+            of = it.of.copy()?;
+        }
+        Case::CannotPlace(it) => {
+            path = text_value(alloc, it.path.as_str())?;
+            of = it.of.copy()?;
+        }
+        Case::TooDeep(it) => of = it.of.copy()?,
+        Case::NoList(it) => of = it.of.copy()?,
+        Case::NoRuleHolds(it) => of = it.of.copy()?,
+        Case::TooMany(it) => value.put_number("elements", it.elements.len())?,
+        Case::Malformed(it) => {
+            of = it.of.copy()?;
+            put_flaw(value, &it.flaw)?;
+        }
+        Case::OtherTable(it) => {
+            value.put_text("named", it.named.as_str())?;
+            value.put_text("table", it.table.as_str())?;
+        }
+        Case::NoKey(it) => {
+            value.put_text("attribute", it.attribute.name.as_str())?;
+            value.put_text("type", type_word(it.attribute.kind))?;
+            value.put_text("fault", fault_word(it.fault))?;
+            of = write_item(alloc, &it.of)?;
+        }
+        Case::OtherAttribute(it) => {
+            value.put_text("attribute", it.name.as_str())?;
+            of = write_item(alloc, &it.of)?;
+        }
+        Case::FailedCondition(it) => {
+            value.put_text("condition", condition_word(it.condition.kind))?;
+            value.put_text("attribute", it.condition.attribute.as_str())?;
+            value.put("item", item_value(alloc, it.item.as_ref())?)?;
+        }
+        Case::Branch(index) => value.put_number("branch", *index as usize)?,
+        Case::Declared | Case::Unexplained => {}
+    }
+    value.put("path", path)?;
+    value.put("of", of)
+}
+
+/// What is wrong with a call's text, and in which field.
+fn put_flaw(value: &mut Object, flaw: &Flaw) -> Result<(), AllocError> {
+    match flaw {
+        Flaw::NoObject => value.put_text("flaw", "no object"),
+        Flaw::UnknownField(name) => {
+            value.put_text("flaw", "unknown field")?;
+            value.put_text("field", name.as_str())
+        }
+        Flaw::MissingField(name) => {
+            value.put_text("flaw", "missing field")?;
+            value.put_text("field", name.as_str())
+        }
+        Flaw::BadTableName => value.put_text("flaw", "table name"),
+        Flaw::BadItem => value.put_text("flaw", "no attributes"),
+        Flaw::BadAttribute(name, fault) => {
+            value.put_text("flaw", "attribute value")?;
+            value.put_text("fault", fault_word(*fault))?;
+            value.put_text("field", name.as_str())
+        }
+        Flaw::BadCondition => value.put_text("flaw", "condition"),
+        Flaw::BadReturnValues => value.put_text("flaw", "return values"),
+    }
+}
+
+fn type_word(kind: KeyType) -> &'static str {
+    match kind {
+        KeyType::S => "S",
+        KeyType::N => "N",
+    }
+}
+
+fn condition_word(kind: ConditionKind) -> &'static str {
+    match kind {
+        ConditionKind::Exists => "attribute_exists",
+        ConditionKind::NotExists => "attribute_not_exists",
+    }
+}
+
+fn fault_word(fault: ItemFault) -> &'static str {
+    match fault {
+        ItemFault::NoKey => "absent",
+        ItemFault::KeyType => "another type",
+        ItemFault::EmptyKey => "empty",
+        _ => "no attribute value",
+    }
+}
