@@ -1,7 +1,7 @@
 // On which steps one depends, and what a rollback takes back.
 use crate::asked::Asked;
 use crate::steps::{
-    frame_before, item_value, key_value, kind_word, put_on, put_step_row, reason_word, record_at,
+    frame_before, item_value, key_value, kind_word, put_step_row, reason_word, record_at,
 };
 use crate::values::{Object, thread_value};
 use attr_values::{Item, Key};
@@ -50,8 +50,7 @@ fn is_source(records: &StepRecords, place: usize) -> bool {
 fn cause_row(asked: &Asked<'_>, records: &StepRecords, cause: Cause) -> Result<Json, AllocError> {
     let mut row = Object::new(asked.alloc);
     if let Some(kept) = record_at(records, cause.place) {
-        put_step_row(asked, &mut row, kept)?;
-        put_on(asked, &mut row, cause.place)?;
+        put_step_row(asked, &mut row, kept, cause.place)?;
     }
     if let Some(kept) = record_at(records, cause.needed_for) {
         row.put_step("needed_for", &kept.fact.name)?;
@@ -95,8 +94,7 @@ fn planned_row(
     let Some(kept) = record_at(records, place) else {
         return Ok(row.done());
     };
-    put_step_row(asked, &mut row, kept)?;
-    put_on(asked, &mut row, place)?;
+    put_step_row(asked, &mut row, kept, place)?;
     let mut found = None;
     // (the plan has the latest first)
     for earlier in plan {
@@ -153,7 +151,7 @@ fn names_in(asked: &Asked<'_>, executions: &BTreeMap<ThreadName, ()>) -> Result<
     Ok(Json::List(JsonList::from_vec(names)?))
 }
 
-/// The items that a plan's writes give back: each as it is now, and as it is then.
+/// The items that a plan's writes change: each as it is now, and as it is then.
 fn changes_in(asked: &Asked<'_>, items: &Changed<'_>) -> Result<Json, AllocError> {
     let records = asked.book.history();
     let mut changes = Vec::new(asked.alloc);
@@ -162,10 +160,15 @@ fn changes_in(asked: &Asked<'_>, items: &Changed<'_>) -> Result<Json, AllocError
             Some(kept) => crate::steps::item_now(asked, kept),
             None => None,
         };
+        let now = item_value(asked.alloc, now)?;
+        let then = item_value(asked.alloc, *old)?;
+        if now == then {
+            continue;
+        }
         let mut change = Object::new(asked.alloc);
         change.put("key", key_value(asked, key)?)?;
-        change.put("now", item_value(asked.alloc, now)?)?;
-        change.put("then", item_value(asked.alloc, *old)?)?;
+        change.put("now", now)?;
+        change.put("then", then)?;
         changes.push(change.done())?;
     }
     Ok(Json::List(JsonList::from_vec(changes)?))
@@ -186,7 +189,7 @@ pub(crate) fn chain_of(
     for place in chain.iter() {
         let mut row = Object::new(asked.alloc);
         if let Some(kept) = record_at(records, *place) {
-            put_step_row(asked, &mut row, kept)?;
+            put_step_row(asked, &mut row, kept, *place)?;
         }
         let reason = match before {
             Some(earlier) => reason_at(records, earlier, *place),

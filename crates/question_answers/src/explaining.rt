@@ -34,7 +34,6 @@ pub(crate) fn explained(
         Phase::Parked(branches, _) => of_next_closing(asked, thread, frame, *branches)?,
     };
     let mut answer = asked.answer()?;
-    answer.put_thread("thread", thread)?;
     answer.put("why", why)?;
     Ok(Some(answer.done()))
 }

@@ -26,7 +26,7 @@ pub(crate) fn found_steps(asked: &Asked<'_>, text: &str, most: usize) -> Result<
             break;
         }
         let mut row = Object::new(asked.alloc);
-        put_step_row(asked, &mut row, kept)?;
+        put_step_row(asked, &mut row, kept, place)?;
         row.put_number("place", place)?;
         rows.push(row.done())?;
     }

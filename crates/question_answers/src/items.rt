@@ -35,6 +35,7 @@ pub(crate) fn item_of(asked: &Asked<'_>, key: &Key) -> Result<Option<Json>, Allo
     let mut answer = asked.answer()?;
     answer.put("key", key_value(asked, key)?)?;
     answer.put_list("accesses", rows)?;
+    answer.put("more", Json::Bool(false))?;
     answer.put("now", item_value(asked.alloc, now)?)?;
     Ok(Some(answer.done()))
 }

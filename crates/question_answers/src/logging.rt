@@ -5,6 +5,7 @@ use json_tree::{Json, JsonList, Text};
 use question_index::Index;
 use rollback_book::Entry;
 use std::alloc::{AllocError, Global};
+use std::collections::BTreeMap;
 use step_names::StepName;
 
 /// So many accepted lines from a number on.
@@ -91,8 +92,12 @@ fn put_closed(asked: &Asked<'_>, row: &mut Object, line: usize) -> Result<(), Al
     if closed.is_empty() {
         return Ok(());
     }
-    let mut names = Vec::new(asked.alloc);
+    let mut sorted = BTreeMap::new(asked.alloc);
     for thread in closed {
+        sorted.insert(thread.copy()?, ())?;
+    }
+    let mut names = Vec::new(asked.alloc);
+    for (thread, _) in sorted.iter() {
         names.push(thread_value(asked.alloc, thread)?)?;
     }
     row.put_list("closed", names)

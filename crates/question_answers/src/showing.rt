@@ -3,8 +3,8 @@ use crate::asked::Asked;
 use crate::listing::{machine_of, put_end, status_of};
 use crate::near::near_of;
 use crate::steps::{
-    Around, frame_after, frame_before, frame_value, item_value, items_at, outcome_of, put_on,
-    put_step_row, reason_word, record_at,
+    Around, frame_after, frame_before, frame_value, item_value, items_at, outcome_of, put_step_row,
+    reason_word, record_at,
 };
 use crate::threads::{frame_of, move_of};
 use crate::values::{Object, or_null, step_value, text_value};
@@ -176,7 +176,7 @@ fn told_step(asked: &Asked<'_>, place: usize, whole: bool) -> Result<Option<Json
     };
     let alloc = asked.alloc;
     let mut row = Object::new(alloc);
-    put_step_row(asked, &mut row, kept)?;
+    put_step_row(asked, &mut row, kept, place)?;
     let line = match asked.index.line_of(&kept.fact.name) {
         Some(line) => crate::values::whole(line),
         None => Json::Null,
@@ -193,7 +193,6 @@ fn told_step(asked: &Asked<'_>, place: usize, whole: bool) -> Result<Option<Json
     let output = match after {
         Some(frame) => match &frame.phase {
             Phase::Done(output) => output.copy()?,
-            Phase::Failed(_) => Json::Null,
             _ => frame.raw.copy()?,
         },
         None => Json::Null,
@@ -202,7 +201,6 @@ fn told_step(asked: &Asked<'_>, place: usize, whole: bool) -> Result<Option<Json
     if whole {
         row.put("frames", frames_of(asked, kept)?)?;
         row.put("items", items_around(asked, kept, place)?)?;
-        put_on(asked, &mut row, place)?;
     }
     Ok(Some(row.done()))
 }

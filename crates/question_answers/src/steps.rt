@@ -265,11 +265,12 @@ fn is_get(asked: &Asked<'_>, kept: &StepRecord) -> bool {
 
 // ---- a step's row
 
-/// A step's name, thread, kind, state with its type, and key with the kind of its access.
+/// A step's name, thread, kind, state with its type, key with the kind of its access, and the nearest steps on which it depends.
 pub(crate) fn put_step_row(
     asked: &Asked<'_>,
     row: &mut Object,
     kept: &StepRecord,
+    place: usize,
 ) -> Result<(), AllocError> {
     let alloc = asked.alloc;
     row.put_step("step", &kept.fact.name)?;
@@ -292,17 +293,18 @@ pub(crate) fn put_step_row(
     match &kept.fact.access {
         Some(access) => {
             row.put_text("access", access_word(asked, kept, access))?;
-            row.put("key", key_value(asked, &access.key)?)
+            row.put("key", key_value(asked, &access.key)?)?;
         }
         None => {
             row.put("access", Json::Null)?;
-            row.put("key", Json::Null)
+            row.put("key", Json::Null)?;
         }
     }
+    put_on(asked, row, place)
 }
 
 /// The steps on which the one at a place depends in a picture, each with its reason.
-pub(crate) fn put_on(asked: &Asked<'_>, row: &mut Object, place: usize) -> Result<(), AllocError> {
+fn put_on(asked: &Asked<'_>, row: &mut Object, place: usize) -> Result<(), AllocError> {
     let records = asked.book.history();
     let mut on = Vec::new(asked.alloc);
     for (earlier, reason) in near_of(asked, place)? {
