@@ -1,5 +1,5 @@
 //! A machine of one state that is asked why it fails, and the answer as a text.
-use asl_forward::{Frame, first_frame};
+use asl_forward::{Frame, Prepared, first_frame};
 use asl_machine::{Machine, ReadMachine, SharedMachine};
 use attr_values::{Item, KeyAttribute, KeySchema, KeyType, read_item, write_item};
 use explain::{Case, Flaw, Why, explain_turn, ready_turn};
@@ -68,11 +68,22 @@ fn turn_of(
     frame: &Frame,
     item: Option<&Item>,
 ) -> Result<String, Fail> {
-    let Some(prepared) = ready_turn(alloc, machine, frame)? else {
-        return Err("no turn".into());
-    };
+    match ready_turn(alloc, machine, frame) {
+        Ok(Some(prepared)) => prepared_text(alloc, &prepared, value, item),
+        Ok(None) => Err("no turn".into()),
+        Err(refused) => Err(refused.into()),
+    }
+}
+
+/// In a function of its own, which owns no turn.
+fn prepared_text(
+    alloc: Global,
+    prepared: &Prepared,
+    value: &Value,
+    item: Option<&Item>,
+) -> Result<String, Fail> {
     let table = table(alloc)?;
-    let why = explain_turn(alloc, &prepared, value, &table, item)?;
+    let why = explain_turn(alloc, prepared, value, &table, item)?;
     text_of(alloc, &why)
 }
 
