@@ -32,6 +32,7 @@ from .faults import (
     NoServer,
     NoStep,
     NoTable,
+    NotLeader,
     NoThread,
     OtherProcess,
     OutOfMemory,
@@ -41,6 +42,7 @@ from .faults import (
     Settled,
     StreamBroken,
     TableTaken,
+    Unavailable,
 )
 from .values import Done, Failed, Frame, Parked, Ready, Step, Taken
 
@@ -74,6 +76,7 @@ __all__ = [
     "NoStep",
     "NoTable",
     "NoThread",
+    "NotLeader",
     "OtherProcess",
     "OutOfMemory",
     "Parked",
@@ -86,6 +89,7 @@ __all__ = [
     "StreamBroken",
     "TableTaken",
     "Taken",
+    "Unavailable",
     "attribute",
     "plain",
 ]

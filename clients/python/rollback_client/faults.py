@@ -333,6 +333,39 @@ class BadJson(_OfNumber):
     _kinds, _what = JsonFaultKind, "JSON fault"
 
 
+class Unavailable(Refusal):
+    """The book takes no line now. `why` is `election` while no server leads, `quorum` without a majority of etcd, or `space`."""
+
+    code, means = 40, "the book takes no line now"
+    advice = "give the line again later: it has changed nothing"
+    _reasons = {
+        "election": "no server leads now",
+        "quorum": "the majority of etcd doesn't answer",
+        "space": "the quota of etcd's database is used up",
+    }
+
+    def __init__(self, code: int, detail: str, line: str = ""):
+        self.why = detail
+        super().__init__(code, detail, line)
+
+    def _in_words(self) -> str:
+        return self._reasons.get(self.why, self.why)
+
+
+class NotLeader(Refusal):
+    """Another server of the book leads. `leader` is its address. A book that was connected by `cluster:` goes there by itself."""
+
+    code, means, advice = (
+        40,
+        "another server leads",
+        "connect to that one, or by cluster:HOST:PORT,.. to whichever leads",
+    )
+
+    def __init__(self, code: int, detail: str, line: str = ""):
+        self.leader = detail.partition(" ")[2]
+        super().__init__(code, detail, line)
+
+
 REFUSALS: Tuple[Type[Refusal], ...] = (
     NoMachine,
     MachineTaken,
@@ -353,7 +386,9 @@ REFUSALS: Tuple[Type[Refusal], ...] = (
     JournalRefused,
     BadJson,
 )
-_CLASSES = {refusal.code: refusal for refusal in REFUSALS}
+# Those of a server of a cluster aren't the program's, and not in that table.
+_ALL: Tuple[Type[Refusal], ...] = (*REFUSALS, Unavailable)
+_CLASSES = {refusal.code: refusal for refusal in _ALL}
 
 
 def refusal_of(first: str, line: str = "") -> Refusal:
@@ -362,4 +397,6 @@ def refusal_of(first: str, line: str = "") -> Refusal:
     code, _, detail = rest.partition(" ")
     if word != "no" or not (code.isascii() and code.isdecimal()):
         raise ValueError(f"no refusal: {short(first)!r}")
+    if code == "40" and detail.startswith("leader "):
+        return NotLeader(int(code), detail, line)
     return _CLASSES.get(int(code), Refusal)(int(code), detail, line)
