@@ -181,8 +181,11 @@ class Caller(asyncio.Protocol):
         has_line = self.under_way is not None or bool(self.lines) and not self.is_held
         return has_line and self._readable.is_set() and not self.is_gone
 
-    def next_turn(self) -> Union[Given, Asked]:
-        """What it gives at its turn: a line, or the next piece of one. A line that is the server's own comes as it was asked."""
+    def next_turn(self) -> Union[Given, Asked, None]:
+        """What it gives at its turn: a line, or the next piece of one. A line that is the server's own comes as it was asked.
+
+        Nothing comes of a line that the server keeps, to give it later.
+        """
         if self.under_way is not None:
             given, self.under_way = self.under_way, None
             assert given.pieces is not None

@@ -58,7 +58,7 @@ class Turns:
             self._hand_on(finished)
             if not finished and not self._can_give() and not (self._given and self._given[0].asked.own):
                 break
-        if self._copy_of and not self._given:
+        if self._copy_of and self._is_quiet():
             (caller, asked), self._copy_of = self._copy_of, None
             self._copy(caller, asked)
 
@@ -85,6 +85,12 @@ class Turns:
         self.want(caller)
         self.go_on()
 
+    def _replied(self, given: Given, reply: bytes) -> None:
+        """Hears of each reply of the program, also to a piece. A server of a cluster keeps what was accepted."""
+
+    def _is_quiet(self) -> bool:
+        return not self._given
+
     def _can_give(self) -> bool:
         return bool(self._waiting) and len(self._given) < MOST_GIVEN and not self.is_stopped
 
@@ -96,6 +102,8 @@ class Turns:
             if not caller.wants_turn:
                 continue
             turn = caller.next_turn()
+            if turn is None:
+                continue
             if isinstance(turn, Asked):
                 caller.is_held = self.is_stopped = True
                 self._copy_of = caller, turn
@@ -118,6 +126,8 @@ class Turns:
             if reply is None:
                 break
             self._given.popleft()
+            if given.asked.own is None:
+                self._replied(given, reply)
             if given.pieces is not None:
                 given.pieces.take(reply, time.monotonic() - given.since)
                 if not (given.pieces.is_over or self.is_ending or given.caller.has_gone()):
