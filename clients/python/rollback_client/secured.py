@@ -24,12 +24,13 @@ def context_of(tls: Tls) -> ssl.SSLContext:
 
 
 class Passing(threading.Thread):
-    """Passes bytes until one side ends. `fault` says what TLS found wrong."""
+    """Passes bytes until one side ends. `fault` says what TLS found wrong, and `has_heard` whether anything ever came."""
 
     def __init__(self, secured: ssl.SSLSocket):
         super().__init__(name="rollback-tls", daemon=True)
         self.ours, self._theirs = socket.socketpair()
         self.fault: Optional[str] = None
+        self.has_heard = False
         self._secured = secured
         secured.setblocking(False)
         self._theirs.setblocking(False)
@@ -91,6 +92,7 @@ class Passing(threading.Thread):
             return b""
         if not found:
             raise EOFError
+        self.has_heard = True
         return found
 
 
@@ -119,9 +121,12 @@ class SecuredLink(Link):
         self._passing = passing
 
     def lost(self, why: str, line: str) -> RollbackError:
-        """That the other side refuses a certificate comes with its first bytes."""
+        """A server that refuses a certificate says so with its first bytes, or only ends the connection."""
         self._passing.join(1.0)
-        return ConnectionLost(f"{why}: {self._passing.fault}" if self._passing.fault else why, line)
+        said = self._passing.fault
+        if said is None and not self._passing.has_heard:
+            said = "nothing ever came, so the server may refuse this certificate"
+        return ConnectionLost(f"{why}: {said}" if said else why, line)
 
 
 def secured(plain: socket.socket, host: str, tls: Tls, timeout: Optional[float]) -> Passing:

@@ -4,8 +4,6 @@ import time
 from dataclasses import dataclass
 from typing import Optional
 
-from tests.cluster_machines import Connection
-
 PASS = 'define p {"StartAt":"P","States":{"P":{"Type":"Pass","Result":7,"End":true}}}'
 COUNTER = 'define counter {"StartAt":"P","States":{"P":{"Type":"Pass","Next":"P"}}}'
 SETUP = ["table items id:S []", PASS, COUNTER, "start shared counter {}"]
@@ -106,9 +104,9 @@ class Caller:
     async def connect(self):
         """Whether the next server takes a connection."""
         try:
-            self.connection = await Connection.open(self.cluster.addresses[self.at])
+            self.connection = await asyncio.wait_for(self.cluster.connect(self.at), 1)
             return True
-        except OSError:
+        except (OSError, asyncio.TimeoutError):
             self.at = (self.at + 1) % 3
             await asyncio.sleep(0.05)
             return False

@@ -15,6 +15,8 @@ import time
 import urllib.request
 
 from rollback_client.lines import lines_after
+from tests import certificates
+from tests.certificates import Authority, context_of
 from tests.program import PROGRAM, TOP
 
 LISTS = ("items", "history", "plan", "rollback", "drive", "work", "held")
@@ -40,7 +42,7 @@ def what_is_missing():
         return "no Python has aiohttp (Debian's package python3-aiohttp)"
     if shutil.which("setpriv") is None:
         return "there is no setpriv"
-    return None
+    return certificates.what_is_missing()
 
 
 def free_ports(count):
@@ -54,6 +56,12 @@ def free_ports(count):
     return ports
 
 
+def run_command(words, given=None):
+    """Runs a command of the client's folder to its end."""
+    folder = TOP / "clients/python"
+    return subprocess.run(words, input=given, capture_output=True, text=True, cwd=folder, timeout=60, check=False)
+
+
 def encoded(text):
     return base64.b64encode(text.encode()).decode()
 
@@ -61,7 +69,7 @@ def encoded(text):
 class Cluster:
     """Processes with their folder. `servers` and `members` are three of each, or nothing in the place of one that was ended."""
 
-    def __init__(self, ttl=2, nearest_only=False, quota=0, loss=0.0, log=True):
+    def __init__(self, ttl=2, nearest_only=False, quota=0, loss=0.0, tls=False):
         self.room = pathlib.Path(tempfile.mkdtemp(prefix="rollback-cluster-", dir=folder()))
         self.ttl, self.nearest_only, self.quota, self.loss = ttl, nearest_only, quota, loss
         ports = free_ports(12)
@@ -71,6 +79,17 @@ class Cluster:
         self.ways = ports[9:]  # by which servers reach etcd, if answers get lost
         self.members, self.servers = [None] * 3, [None] * 3
         self.python = python_of_servers()
+        self.tls = None  # the context of callers, and of this test's own calls
+        if tls:
+            self.secure(["127.0.0.1"])
+
+    def secure(self, addresses):
+        """Makes certificates, with which servers, callers and etcd's clients speak from now on."""
+        self.authority = Authority(self.room / "certificates")
+        self.server_files = self.authority.files("server", addresses)
+        self.caller_files = self.authority.files("caller", addresses)
+        self.tls = context_of(self.caller_files)
+        self.clients = [url.replace("http://", "https://") for url in self.clients]
 
     async def __aenter__(self):
         for number in range(3):
@@ -114,9 +133,24 @@ class Cluster:
         words += ["--listen-peer-urls", self.peers[number], "--initial-advertise-peer-urls", self.peers[number]]
         words += ["--initial-cluster", ",".join(f"m{each}={url}" for each, url in enumerate(self.peers))]
         words += ["--quota-backend-bytes", str(self.quota), "--snapshot-count", "10000"]
+        if self.tls:
+            certificate, key, authority = self.server_files
+            words += [
+                "--cert-file",
+                certificate,
+                "--key-file",
+                key,
+                "--trusted-ca-file",
+                authority,
+                "--client-cert-auth",
+            ]
         self.members[number] = subprocess.Popen(
-            [*ENDS_WITH_US, *words], stdout=subprocess.DEVNULL, stderr=subprocess.DEVNULL
+            self.placed(number, [*ENDS_WITH_US, *words]), stdout=subprocess.DEVNULL, stderr=subprocess.DEVNULL
         )
+
+    def placed(self, number, command):
+        """A command as this machine runs it."""
+        return command
 
     def server_words(self, number, program=PROGRAM):
         """The command line of a server: the same on each machine but for its own address and journal."""
@@ -125,11 +159,13 @@ class Cluster:
         words = [self.python, "-m", "rollback_client.serve", "--program", str(program), "--book", "orders"]
         words += ["--journal", str(self.journal(number)), "--listen", self.addresses[number], "--ttl", str(self.ttl)]
         words += ["--cluster", ",".join(nearest[:1] if self.nearest_only else nearest)]
+        if self.tls:
+            words += ["--tls", ",".join(self.server_files), "--etcd-tls", ",".join(self.caller_files)]
         return [*words, "--log", str(self.room / f"log{number}"), "--grace", "5"]
 
     def start_server(self, number, program=PROGRAM, words=(), **environment):
         """Starts a server."""
-        command = [*ENDS_WITH_US, *self.server_words(number, program), *words]
+        command = self.placed(number, [*ENDS_WITH_US, *self.server_words(number, program), *words])
         with open(self.room / f"errors{number}", "ab") as errors:
             self.servers[number] = subprocess.Popen(
                 command,
@@ -209,7 +245,7 @@ class Cluster:
     def post(self, url, body):
         """One call."""
         asked = urllib.request.Request(url, json.dumps(body).encode(), {"Content-Type": "application/json"})
-        with urllib.request.urlopen(asked, timeout=2) as answer:
+        with urllib.request.urlopen(asked, timeout=2, context=self.tls) as answer:
             return json.load(answer)
 
     async def has_quorum(self):
@@ -230,7 +266,7 @@ class Cluster:
         if not found:
             return None
         number = self.addresses.index(found[0])
-        connection = await Connection.open(self.addresses[number])
+        connection = await self.connect(number)
         try:
             reply = await connection.ask("connect", self.ttl)
         finally:
@@ -268,6 +304,13 @@ class Cluster:
 
     # ---- questions
 
+    async def connect(self, number):
+        """A connection to a server, as callers have one."""
+        try:
+            return await asyncio.wait_for(Connection.open(self.addresses[number], self.tls), 2)
+        except asyncio.TimeoutError:
+            raise OSError("no connection in time") from None
+
     async def until(self, holds, seconds=40):
         """Waits until a coroutine function answers something true, and gives that."""
         ends, last = time.monotonic() + seconds, None
@@ -287,7 +330,7 @@ class Cluster:
             to = int(await self.leading() or -1) if number is None else number
             if to < 0:
                 return None
-            connection = await Connection.open(self.addresses[to])
+            connection = await self.connect(to)
             try:
                 reply = await connection.ask(line, self.ttl + 10)
             finally:

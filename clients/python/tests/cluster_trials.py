@@ -12,12 +12,13 @@ import sys
 import time
 from contextlib import closing
 
-from rollback_client import AsyncBook, Book, ConnectionLost, NotLeader, Unavailable
+from rollback_client import AsyncBook, Book, ConnectionLost, NoServer, NotLeader, Unavailable
 from rollback_client.copy import copy_book
 from rollback_client.lines import MOST_BYTES
 from tests.cluster_callers import SETUP, Caller, Reader, Said
 from tests.cluster_checks import check, journals_agree, log_lines
-from tests.cluster_machines import Cluster, Connection
+from tests.certificates import Authority
+from tests.cluster_machines import PREFIX, Cluster, Connection, encoded, run_command
 from tests.program import PROGRAM
 
 
@@ -92,7 +93,7 @@ async def leader_stopped(words):
         await trial.begin()
         for _ in range(words.times):
             number = await cluster.leader()
-            asked = [await Connection.open(cluster.addresses[number]) for _ in range(2)]
+            asked = [await cluster.connect(number) for _ in range(2)]
             assert (await asked[0].ask("show shared")).startswith("ok")
             moment = time.monotonic()
             cluster.servers[number].send_signal(signal.SIGSTOP)
@@ -119,7 +120,7 @@ async def idle_leader_stopped(words):
         await trial.begin(0)
         for turn in range(2 * words.times):
             number = await cluster.leader()
-            old = await Connection.open(cluster.addresses[number])
+            old = await cluster.connect(number)
             cluster.servers[number].send_signal(signal.SIGSTOP)
             coming = asyncio.ensure_future(old.ask("step shared" if turn % 2 else "show shared"))
             while (await cluster.until(cluster.leader_key))[0] == cluster.addresses[number]:
@@ -231,7 +232,7 @@ async def long_line(trial, execution):
     """The reply of the leader to a line of the greatest length, which the check knows as that of a caller of its own."""
     begin = f'start {execution} p "'
     line = begin + "x" * (MOST_BYTES - len(begin) - 1) + '"'
-    connection = await Connection.open(trial.cluster.addresses[await trial.cluster.leader()])
+    connection = await trial.cluster.connect(await trial.cluster.leader())
     sent = time.monotonic()
     reply = await connection.ask(line)
     trial.said.append(Said("long", line, sent, reply, time.monotonic()))
@@ -316,7 +317,7 @@ async def drives(words):
 
         async def drive():
             number = await cluster.leader()
-            connection = await Connection.open(cluster.addresses[number])
+            connection = await cluster.connect(number)
             reply = await connection.ask(f"drive {most}", words.ttl + 10)
             connection.close()
             if (reply or "").startswith("ok"):
@@ -405,6 +406,194 @@ def copy_is_the_log(cluster, address):
     assert lines == steps + len(SETUP) - 1
 
 
+async def secured(words):
+    """Servers and etcd with TLS: callers with a certificate are served, others aren't, and all commands take one."""
+    async with Cluster(words.ttl, tls=True) as cluster:
+        address = "cluster:" + ",".join(cluster.addresses)
+        for line in SETUP:
+            await cluster.ask(None, line)
+        book = await asyncio.to_thread(Book.connect, address, tls=cluster.caller_files)
+        other = await AsyncBook.connect(address, tls=cluster.caller_files)
+        await asyncio.gather(asyncio.to_thread(book.step, "shared"), other.step("shared"))
+        assert len(await other.history()) == 3
+        big = await other.start("big", "p", ["x" * 1000] * 900)
+        assert str(big) == "big#0" and await asyncio.to_thread(book.show, "big") == await other.show("big")
+        number = await cluster.leader()
+        await cluster.end_server(number)
+        await asyncio.to_thread(after_a_loss, book)
+        cluster.start_server(number)
+        await cluster.ask(number, "history")
+        strangers = Authority(cluster.room / "strangers")
+        for files in (strangers.files("stranger"), (*strangers.files("guest")[:2], cluster.caller_files[2])):
+            fault = await asyncio.to_thread(connection_fault, address, files)
+            assert isinstance(fault, (ConnectionLost, NoServer, OSError)), fault
+            assert "certificate" in str(fault).lower(), fault
+        plain = await Connection.open(cluster.addresses[0])
+        assert await plain.ask("history", 5) is None, "a caller without TLS is answered"
+        files = ",".join(cluster.caller_files)
+        status = await asyncio.to_thread(run_command, cluster.server_words(0) + ["--cluster-status"])
+        assert status.returncode == 0 and "leads since" in status.stdout and " 0 behind" in status.stdout, status
+        copy = [
+            "-m",
+            "rollback_client.copy",
+            address,
+            str(cluster.room / "copy.db"),
+            "--program",
+            PROGRAM,
+            "--tls",
+            files,
+        ]
+        done = await asyncio.to_thread(run_command, [sys.executable, *copy])
+        assert done.returncode == 0 and done.stdout.startswith("ok "), done
+        shell = ["-m", "rollback_client.shell", address, "--tls", files, "-c", "show big"]
+        done = await asyncio.to_thread(run_command, [sys.executable, *shell])
+        assert done.returncode == 0 and "big" in done.stdout, done
+        entries = [line for path in cluster.room.glob("log?") for line in path.read_text(encoding="utf-8").splitlines()]
+        assert any('"name": "caller"' in line for line in entries), "the log file doesn't say who called"
+        # A server whose own certificate etcd doesn't take says so, and refuses by name.
+        await cluster.end_server(0, signal.SIGTERM)
+        wrong = ("--etcd-tls", ",".join(strangers.files("wrong")))
+        cluster.start_server(0, words=wrong)
+        connection = await cluster.until(lambda: cluster.connect(0))
+        assert await connection.ask("history", 5) in ("no 40 election", "no 40 quorum")
+        await cluster.until(refuses_for_quorum(cluster))
+        assert "CERTIFICATE" in cluster.errors(0).upper(), cluster.errors(0)[-500:]
+        connection.close()
+        await other.close()
+        return "served, and refused, by certificates"
+
+
+def refuses_for_quorum(cluster):
+    """Whether the first server refuses by name since etcd doesn't answer it."""
+
+    async def refuses():
+        connection = await cluster.connect(0)
+        try:
+            return await connection.ask("step shared", 5) == "no 40 quorum"
+        finally:
+            connection.close()
+
+    return refuses
+
+
+def after_a_loss(book):
+    """A call after the leader's death is lost or answered, and the one after it answered."""
+    try:
+        book.step("shared")
+    except ConnectionLost:
+        book.step("shared")
+
+
+def connection_fault(address, files):
+    """What is raised to a caller with other certificates."""
+    try:
+        Book.connect(address, tls=files, retry=0.5)
+    except Exception as fault:
+        return fault
+    return None
+
+
+async def begins_and_refuses(words):
+    """A log that is filled from a journal; journals of another book, another etcd, a log with a gap; another version; who leads."""
+    async with Cluster(words.ttl) as cluster:
+        for number in range(3):
+            await cluster.end_server(number, signal.SIGTERM)
+            for path in cluster.room.glob(f"book{number}.db*"):
+                path.unlink()
+        lines = [*SETUP, *(line for each in range(700) for line in (f"start e{each} p {{}}", f"step e{each}"))]
+        made = run_command([PROGRAM, "--journal", str(cluster.journal(0))], "\n".join(lines) + "\n")
+        assert made.returncode == 0
+        before = cluster.journal(0).read_bytes()
+        cluster.start_server(0)
+        status = await asyncio.to_thread(cluster.servers[0].wait, 30)
+        assert status == 5 and "--seed" in cluster.errors(0), (status, cluster.errors(0)[-500:])
+        assert cluster.journal(0).read_bytes() == before
+        cluster.start_server(0, words=("--seed",))
+        history = await cluster.ask(0, "history")
+        assert len(history.split("\n")) == 1402, history[:100]
+        cluster.start_server(1)
+        assert await cluster.ask(1, "history") == history
+        logged, _ = await log_lines(cluster)
+        assert [line for _, line in logged] == lines
+        await begins_by_a_copy(cluster, history)
+        await shows_who_leads(cluster)
+        await stands_aside(cluster)
+        await refuses_others(cluster)
+        return f"{len(lines)} lines of a journal filled the log"
+
+
+async def begins_by_a_copy(cluster, history):
+    """A new machine may begin with a copy of the book, with whatever the log has beyond it."""
+    address = "cluster:" + ",".join(cluster.addresses)
+    await asyncio.to_thread(copy_book, address, cluster.journal(2), PROGRAM)
+    assert await cluster.ask(None, "step shared") == "ok shared#1 plain"
+    cluster.start_server(2)
+    assert (await cluster.ask(2, "history")).split("\n")[1:-1] == history.split("\n")[1:]
+    opened = cluster.events("opened")[-1]
+    assert any(each.get("lines", 0) >= 1404 for each in cluster.events("opened")), opened
+
+
+async def shows_who_leads(cluster):
+    """The status says who leads and how far the others are, and ends with 1 if one is gone."""
+    words = cluster.server_words(1) + ["--cluster-status"]
+    found = await asyncio.to_thread(run_command, words)
+    leader = cluster.addresses[await cluster.leader()]
+    assert found.returncode == 0, found
+    assert (
+        f"book orders: {leader} leads since revision" in found.stdout and "the log has 1405 lines" in found.stdout
+    ), found
+    assert found.stdout.count("1405 lines, 0 behind") == 3 and found.stdout.count("answers, ") == 3, found
+    await cluster.end_server(0)
+    found = await asyncio.to_thread(run_command, words)
+    assert found.returncode == 1 and "doesn't answer" in found.stdout, found
+    cluster.start_server(0)
+    await cluster.ask(0, "history")
+
+
+async def stands_aside(cluster):
+    """A server whose program has another version follows nobody, names the leader, and takes part again with the same one."""
+    number = (await cluster.leader() + 1) % 3
+    await cluster.end_server(number, signal.SIGTERM)
+    other = cluster.room / "other"
+    other.write_text(f'#!/bin/sh\n[ "$1" = --version ] && echo "rollback 9.9.9" && exit 0\nexec {PROGRAM} "$@"\n')
+    other.chmod(0o755)
+    cluster.start_server(number, other)
+    connection = await cluster.until(lambda: cluster.connect(number))
+    wanted = f"no 40 leader {cluster.addresses[await cluster.leader()]}"
+    while (reply := await connection.ask("history", 5)) != wanted:
+        assert reply == "no 40 election", reply
+        await asyncio.sleep(0.05)
+    connection.close()
+    assert cluster.events("aside"), "the log file doesn't say that it stands aside"
+    await cluster.end_server(number, signal.SIGTERM)
+    cluster.start_server(number)
+    await cluster.ask(number, "history")
+
+
+async def refuses_others(cluster):
+    """Another etcd's journal, and a log with a gap, are refused by name, and nothing is cut."""
+    number = (await cluster.leader() + 1) % 3
+    await cluster.end_server(number, signal.SIGTERM)
+    journal = cluster.journal(number)
+    beside, before = journal.with_name(journal.name + ".cluster"), journal.read_bytes()
+    kept = beside.read_text(encoding="utf-8")
+    beside.write_text(kept.replace('"cluster_id": "', '"cluster_id": "1'), encoding="utf-8")
+    cluster.start_server(number)
+    assert await asyncio.to_thread(cluster.servers[number].wait, 30) == 5
+    assert "belongs to" in cluster.errors(number) and journal.read_bytes() == before, cluster.errors(number)[-500:]
+    beside.write_text(kept, encoding="utf-8")
+    first = (await cluster.batches())[1][0]
+    key = f"{PREFIX}/log/{first:012d}"
+    pair = (await cluster.etcd("kv/range", {"key": encoded(key)}))["kvs"][0]
+    for path in cluster.room.glob(f"book{number}.db*"):
+        path.unlink()
+    await cluster.etcd("kv/deleterange", {"key": encoded(key)})
+    cluster.start_server(number)
+    assert await asyncio.to_thread(cluster.servers[number].wait, 30) == 5
+    assert "gap" in cluster.errors(number), cluster.errors(number)[-500:]
+    assert pair["value"]
+
+
 TRIALS = {
     each.__name__: each
     for each in (
@@ -421,6 +610,8 @@ TRIALS = {
         rolling_restart,
         drives,
         client_follows,
+        secured,
+        begins_and_refuses,
     )
 }
 

@@ -23,6 +23,8 @@ NAMES = (
     "leader_stopped",
     "answers_lost",
     "client_follows",
+    "secured",
+    "begins_and_refuses",
     "leader_killed",
     "rolling_restart",
     "drives",

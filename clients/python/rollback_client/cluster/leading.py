@@ -28,6 +28,14 @@ class Leadership:
         turns.role, turns.refusal = Role.LEADER, ""
         turns.give_questions()
         self._tell("leads", f"leads from line {gate.position} on", term=self._log.term)
+        try:
+            await self._hand_out_on()
+        except Deposed:
+            turns.refusal = "election"
+            raise
+
+    async def _hand_out_on(self) -> None:
+        turns, gate = self._turns, self._turns.gate
         while True:
             await gate.something()
             part, last = gate.next()
@@ -61,7 +69,7 @@ class Leadership:
         The same bytes are sent again until it is known what became of them. Callers are let go if it takes too long; so they are if this
         ends otherwise than by a known outcome.
         """
-        began, is_known, has_patience = time.monotonic(), True, True
+        began, is_known = time.monotonic(), True
         try:
             while True:
                 try:
@@ -74,8 +82,7 @@ class Leadership:
                 except Unreachable as fault:
                     is_known = False
                     self._meet(fault)
-                if has_patience and time.monotonic() - began > PATIENCE * self._log.ttl:
-                    has_patience = False
+                if time.monotonic() - began > PATIENCE * self._log.ttl:
                     self._let_go()
                 await asyncio.sleep(PAUSE)
         except (Deposed, Resigned):

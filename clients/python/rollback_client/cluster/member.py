@@ -3,6 +3,7 @@ from __future__ import annotations
 
 import asyncio
 import contextlib
+import sqlite3
 import time
 from dataclasses import dataclass
 from typing import Callable, List, Optional, Protocol
@@ -67,6 +68,8 @@ class Member:
                 self._refuse_with("election", "another server leads, or may: the book is opened again from the log")
             except Resigned as fault:
                 self._refuse_with(fault.reason, str(fault))
+            except (OSError, sqlite3.Error) as fault:
+                raise ProgramGone(f"the journal, or what is kept beside it, can't be written: {fault}") from fault
             await asyncio.sleep(PAUSE)
 
     @property

@@ -25,8 +25,8 @@ class Replica:
 
         Raises `BrokenLog`, `Differs` and `ProgramGone`.
         """
-        if batch.end <= self.position and batch.number >= self.read_from:
-            return
+        if batch.end <= self.position:
+            return  # met twice, by a read and by a watch
         is_next = batch.number == self.position and batch.chain == self.chain
         is_begun = self.read_from <= batch.number < self.position
         if not is_next and not is_begun:
