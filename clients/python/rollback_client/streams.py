@@ -147,13 +147,12 @@ def connected_socket(address: str, timeout: Optional[float], tls: Optional[Tls] 
 def link_to(address: str, timeout: Optional[float], tls: Optional[Tls] = None) -> Link:
     """A connection to a server of lines, secured if there are files of TLS. Raises `OSError`."""
     place = host_and_port(address)
+    if tls is not None and place is None:
+        raise ValueError("TLS is for host:port, and not for a Unix socket")
     found = unix_socket(address) if place is None else socket.create_connection(place, timeout)
-    if tls is not None:
+    if tls is not None and place is not None:
         from .secured import SecuredLink, secured
 
-        if place is None:
-            found.close()
-            raise ValueError("TLS is for host:port, and not for a Unix socket")
         try:
             passing = secured(found, place[0], tls, timeout)
         except BaseException:

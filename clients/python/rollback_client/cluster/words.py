@@ -42,12 +42,12 @@ def checked(parser: argparse.ArgumentParser, words: argparse.Namespace) -> Clust
         parser.error("--book is a name of 1 to 64 ASCII letters, digits, _ and -")
     if words.ttl < LEAST_TTL:
         parser.error(f"--ttl is at least {LEAST_TTL} seconds")
-    if importlib.util.find_spec("aiohttp") is None:
-        parser.error("--cluster needs aiohttp for this Python (on Debian the package python3-aiohttp)")
     found.cluster = urls
     found.tls = _files(parser, "--tls", words.tls)
     found.etcd_tls = _files(parser, "--etcd-tls", words.etcd_tls)
     _look_at_host(parser, found)
+    if importlib.util.find_spec("aiohttp") is None:
+        parser.error("--cluster needs aiohttp for this Python (on Debian the package python3-aiohttp)")
     return found
 
 
