@@ -326,13 +326,6 @@ class JournalRefused(Refusal):
     )
 
 
-class BadJson(_OfNumber):
-    """The line's JSON is faulty. `fault` is a `JsonFaultKind`."""
-
-    code, means, advice = 25, "bad JSON", "correct J"
-    _kinds, _what = JsonFaultKind, "JSON fault"
-
-
 class Unavailable(Refusal):
     """The book takes no line now. `why` is `election` while no server leads, `quorum` without a majority of etcd, or `space`."""
 
@@ -366,6 +359,13 @@ class NotLeader(Refusal):
         super().__init__(code, detail, line)
 
 
+class BadJson(_OfNumber):
+    """The line's JSON is faulty. `fault` is a `JsonFaultKind`."""
+
+    code, means, advice = 25, "bad JSON", "correct J"
+    _kinds, _what = JsonFaultKind, "JSON fault"
+
+
 REFUSALS: Tuple[Type[Refusal], ...] = (
     NoMachine,
     MachineTaken,
@@ -386,9 +386,7 @@ REFUSALS: Tuple[Type[Refusal], ...] = (
     JournalRefused,
     BadJson,
 )
-# Those of a server of a cluster aren't the program's, and not in that table.
-_ALL: Tuple[Type[Refusal], ...] = (*REFUSALS, Unavailable)
-_CLASSES = {refusal.code: refusal for refusal in _ALL}
+_CLASSES = {refusal.code: refusal for refusal in REFUSALS}
 
 
 def refusal_of(first: str, line: str = "") -> Refusal:
@@ -397,6 +395,7 @@ def refusal_of(first: str, line: str = "") -> Refusal:
     code, _, detail = rest.partition(" ")
     if word != "no" or not (code.isascii() and code.isdecimal()):
         raise ValueError(f"no refusal: {short(first)!r}")
-    if code == "40" and detail.startswith("leader "):
-        return NotLeader(int(code), detail, line)
+    if code == "40":  # of a server of a cluster, and not of the program
+        kind = NotLeader if detail.startswith("leader ") else Unavailable
+        return kind(int(code), detail, line)
     return _CLASSES.get(int(code), Refusal)(int(code), detail, line)

@@ -107,6 +107,7 @@ class Way:
 
     def __init__(self, etcd):
         self.etcd, self.cluster_id, self.plan, self.is_cut = etcd, "7", [], False
+        self.alone = None  # what a member that is cut off from the others still has
 
     async def call(self, path, body):
         self.etcd.calls.append((path, body))
@@ -114,6 +115,8 @@ class Way:
         what = next((planned for planned in self.plan if planned[0] == path), None)
         if what:
             self.plan.remove(what)
+        if self.alone is not None:
+            return self.answer_alone(path, body)
         if self.is_cut or what and what[1] == "refuse":
             raise Unreachable("etcd doesn't answer")
         answer = self.etcd.carry_out(path, body)
@@ -122,6 +125,18 @@ class Way:
         if what:
             await what[1].wait()
         return answer
+
+    def cut_off(self):
+        """From now on only a member answers that is cut off from the others."""
+        self.alone = FakeEtcd()
+        self.alone.pairs, self.alone.revision = dict(self.etcd.pairs), self.etcd.revision
+
+    def answer_alone(self, path, body):
+        """Such a member answers by what it has whatever needs no majority: reads that ask for it, and empty transactions."""
+        is_empty = path == "kv/txn" and not body.get("success") and not body.get("failure")
+        if path == "kv/range" and body.get("serializable") or is_empty:
+            return self.alone.carry_out(path, {"success": [], "failure": [], **body})
+        raise Unreachable("etcd doesn't answer")
 
     async def watch(self, prefix, revision, most_idle):
         queue = asyncio.Queue()

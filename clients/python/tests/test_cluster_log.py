@@ -321,6 +321,18 @@ class OfLeader(InLoop):
         self.give_up()
         self.assertEqual(reader.said, ["no 40 election"] * 2)
 
+    async def test_a_leader_whose_member_is_cut_off_answers_no_question(self):
+        # A member that is cut off answers a read that asks for that, or an empty transaction, by what it had: another leads by now.
+        await self.lead()
+        self.the_log.way.cut_off()
+        self.etcd.expire_leader()
+        other = await self.leading_log("two:2")
+        await other.append(0, "", [STEP])
+        reader = self.server.caller()
+        reader.give("show a", "? why", "show a")
+        await passes()
+        self.assertEqual(reader.said, ["no 40 quorum"] * 3)
+
     async def test_lines_of_a_leader_that_is_deposed_are_refused_and_arent_in_the_log(self):
         await self.lead()
         self.the_log.way.plan = [("kv/txn", "refuse")]

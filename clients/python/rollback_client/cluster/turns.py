@@ -170,7 +170,7 @@ class ClusterTurns(Turns):
 
     def is_done(self) -> bool:
         """Whether no line is at hand."""
-        return self._is_quiet() and not self.asking
+        return self._has_nothing_at_hand() and not self.asking
 
     def feed(self, data: bytes) -> None:
         if not self._is_cut_off:
@@ -215,8 +215,8 @@ class ClusterTurns(Turns):
     def _can_give(self) -> bool:
         return super()._can_give() and self.gate.has_room
 
-    def _is_quiet(self) -> bool:
-        return super()._is_quiet() and self.gate.is_empty()
+    def _has_nothing_at_hand(self) -> bool:
+        return super()._has_nothing_at_hand() and self.gate.is_empty()
 
 
 def is_at_once(asked: Asked) -> bool:

@@ -58,7 +58,7 @@ class Turns:
             self._hand_on(finished)
             if not finished and not self._can_give() and not (self._given and self._given[0].asked.own):
                 break
-        if self._copy_of and self._is_quiet():
+        if self._copy_of and self._has_nothing_at_hand():
             (caller, asked), self._copy_of = self._copy_of, None
             self._copy(caller, asked)
 
@@ -88,7 +88,7 @@ class Turns:
     def _replied(self, given: Given, reply: bytes) -> None:
         """Hears of each reply of the program, also to a piece. A server of a cluster keeps what was accepted."""
 
-    def _is_quiet(self) -> bool:
+    def _has_nothing_at_hand(self) -> bool:
         return not self._given
 
     def _can_give(self) -> bool:
