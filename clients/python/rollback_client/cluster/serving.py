@@ -67,7 +67,12 @@ class ClusterServer(Server):
         tls = client_tls(words.etcd_tls) if words.etcd_tls else None
         self._log = Log(Etcd(words.cluster, words.ttl / 4, tls), f"/rollback/{words.book}", words.ttl)
         try:
-            listening = await self._listen()
+            try:
+                listening = await self._listen()
+            except OSError as fault:
+                # An address that isn't there yet may come: unlike wrong words it is worth another try.
+                self.tell("ends", f"{words.listen} can't be listened on: {fault}")
+                return 1
             port = cast(asyncio.base_events.Server, listening).sockets[0].getsockname()[1]
             name = f"{words.listen.rpartition(':')[0]}:{port}"
             who = Identity(name, words.book, words.program, self._version, words.journal, words.seed, words.wait)
