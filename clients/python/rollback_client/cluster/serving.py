@@ -69,6 +69,8 @@ class ClusterServer(Server):
         try:
             try:
                 listening = await self._listen()
+            except ssl.SSLError:
+                raise
             except OSError as fault:
                 # An address that isn't there yet may come: unlike wrong words it is worth another try.
                 self.tell("ends", f"{words.listen} can't be listened on: {fault}")
