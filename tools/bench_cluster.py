@@ -1,7 +1,7 @@
 #!/usr/bin/env python3
 """Lines a second of a book on three machines, beside the same server without etcd, in one run.
 
-    python3 tools/bench_cluster.py [--program PATH] [--callers 1,16,64] [--rounds N] [--seconds N]
+    python3 tools/bench_cluster.py [--program PATH] [--callers 1,16,64] [--rounds N] [--seconds N] [--folder F]
 
 Three members of etcd and three servers run on this machine, so the processors are shared by all of them: the share counts, and not the
 lines. Each caller gives a start, a step and a question in turn and waits for each reply. In each round both arrangements take their turns.
@@ -14,6 +14,7 @@ import pathlib
 import statistics
 import subprocess
 import sys
+import tempfile
 import time
 
 TOP = pathlib.Path(__file__).resolve().parent.parent
@@ -86,7 +87,7 @@ async def bench(words):
     from tests.cluster_callers import SETUP
     from tests.cluster_machines import Cluster, free_ports
 
-    async with Cluster(5) as cluster:
+    async with Cluster(5, place=words.folder) as cluster:
         alone = Alone(cluster, words.program, free_ports(1)[0])
         try:
             leader = await cluster.leader()
@@ -120,6 +121,7 @@ def main():
     parser.add_argument("--callers", default="1,16,64")
     parser.add_argument("--rounds", type=int, default=5)
     parser.add_argument("--seconds", type=float, default=3)
+    parser.add_argument("--folder", default=tempfile.gettempdir(), help="where all files are, on a disk")
     words = parser.parse_args()
     os.environ["ROLLBACK_PROGRAM"] = words.program
     from tests.cluster_machines import what_is_missing

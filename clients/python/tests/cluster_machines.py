@@ -69,8 +69,8 @@ def encoded(text):
 class Cluster:
     """Processes with their folder. `servers` and `members` are three of each, or nothing in the place of one that was ended."""
 
-    def __init__(self, ttl=2, nearest_only=False, quota=0, loss=0.0, tls=False):
-        self.room = pathlib.Path(tempfile.mkdtemp(prefix="rollback-cluster-", dir=folder()))
+    def __init__(self, ttl=2, nearest_only=False, quota=0, loss=0.0, tls=False, place=None):
+        self.room = pathlib.Path(tempfile.mkdtemp(prefix="rollback-cluster-", dir=place or folder()))
         self.ttl, self.nearest_only, self.quota, self.loss = ttl, nearest_only, quota, loss
         ports = free_ports(12)
         self.clients = [f"http://127.0.0.1:{port}" for port in ports[:3]]
