@@ -106,9 +106,12 @@ class Member:
 
     async def _keep_place(self, replica: Replica) -> None:
         """Keeps beside the journal how far it certainly is the log's, so that rows before are never cut."""
+        kept = replica.position
         while True:
             await asyncio.sleep(self._log.ttl)
-            await asyncio.to_thread(self._belongs(replica.position).write, self._who.journal)
+            if replica.position > kept:
+                kept = replica.position
+                await asyncio.to_thread(self._belongs(kept).write, self._who.journal)
 
     def _belongs(self, lines: int) -> Belongs:
         return Belongs(self._log.etcd.cluster_id or "", self._who.book, lines)

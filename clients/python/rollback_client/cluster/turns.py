@@ -7,6 +7,7 @@ from typing import Callable, List, Optional, Set, Union
 
 from ..lines import LISTS, Replies
 from ..server.callers import Asked, Caller, Given
+from ..server.pieces import Pieces
 from ..server.turns import Finished, Turns
 from .entries import QUESTIONS, word_of
 from .faults import ProgramGone
@@ -59,33 +60,33 @@ class ClusterTurns(Turns):
 
     def admit(self, turn: Union[Given, Asked]) -> Union[Given, Asked, None]:
         """What becomes of a line at its turn: it is given, refused, or kept until this book has what the log has."""
-        asked, caller = (turn, None) if isinstance(turn, Asked) else (turn.asked, turn.caller)
+        if isinstance(turn, Asked):
+            return turn  # a copy, which is refused where it is made if this server doesn't lead
+        asked = turn.asked
         if self.role is Role.LEADER and not self.refusal:
-            if asked.head.startswith(b"?"):
+            if asked.own is None and asked.head.startswith(b"?"):
                 asked.own = answer_question(asked)
             return turn
-        if caller is not None and self.role is Role.STANDBY and is_question(asked) and asked.own is None:
-            self._hold(turn)  # type: ignore[arg-type]
-            self.asking.append(turn)  # type: ignore[arg-type]
+        if turn.pieces is not None:
+            return self._refused_piece(turn, turn.pieces)
+        if asked.own is not None:
+            return turn
+        if self.role is Role.STANDBY and is_question(asked):
+            self._hold(turn)
+            self.asking.append(turn)
             self.has_asked.set()
             return None
-        if caller is None:
-            return turn  # a copy, which is refused where it is made
-        if turn.pieces is None and asked.own is None:  # type: ignore[union-attr]
-            asked.own = self.refused()
-        elif turn.pieces is not None:  # type: ignore[union-attr]
-            return self._refused_piece(turn)  # type: ignore[arg-type]
+        asked.own = self.refused()
         return turn
 
     def refused(self) -> bytes:
         """The reply to a line that isn't taken."""
         return f"no 40 {self.refusal or 'election'}\n".encode()
 
-    def _refused_piece(self, given: Given) -> Given:
+    def _refused_piece(self, given: Given, pieces: Pieces) -> Given:
         """A long line, or what is left of one, that isn't taken: it ends with the steps before."""
-        assert given.pieces is not None
-        given.pieces.take(self.refused())
-        given.asked.own = given.pieces.reply()
+        pieces.take(self.refused())
+        given.asked.own = pieces.reply()
         given.pieces = None
         self._hold(given)
         return given
