@@ -380,6 +380,12 @@ async def client_follows(words):
         history = await other.history()
         assert history == await asyncio.to_thread(book.history)
         assert [str(step) for step in history] == [f"shared#{number}" for number in range(len(history))]
+        # What workers took, in an order that only the leader's program knows, is the same in all books.
+        for number in range(40):
+            await other.start(f"w{number}", "p", {})
+        taken = await other.work(4, 60)
+        history = await other.history()
+        assert taken and history[-len(taken) :] == taken
         standby = cluster.addresses[(await cluster.leader() + 1) % 3]
         reading = await asyncio.to_thread(Book.connect, standby)
         assert await asyncio.to_thread(reading.history) == history
