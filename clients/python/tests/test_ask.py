@@ -49,7 +49,7 @@ class Accepted(Asked):
 class Questions(Asked):
     def test_a_question_sees_every_line_that_was_answered(self):
         server = self.asking(machine=FORK)
-        with Book.connect(server.address, timeout=60) as book:
+        with Book.connect(server.address, timeout=20) as book:
             self.assertEqual(book.threads()["threads"], [])
             for number in range(20):
                 book.start(f"e{number:02}", "p", {"number": number})
@@ -72,7 +72,7 @@ class Questions(Asked):
         server, wrong = self.asking(), []
 
         def call(name):
-            with Book.connect(server.address, timeout=60) as book:
+            with Book.connect(server.address, timeout=20) as book:
                 for number in range(40):
                     execution = f"{name}-{number}"
                     book.start(execution, "p", {})
@@ -100,7 +100,7 @@ class Questions(Asked):
 
     def test_long_answers(self):
         server = self.asking()
-        with Book.connect(server.address, timeout=60) as book:
+        with Book.connect(server.address, timeout=20) as book:
             for number in range(12):
                 book.start(f"e{number}", "p", "x" * 1_000_000)
             told = book.threads()
@@ -174,7 +174,7 @@ class WithoutFollower(Asked):
 
     def test_it_is_begun_again(self):
         server = self.asking(machine=LOOP)
-        with Book.connect(server.address, timeout=60) as book:
+        with Book.connect(server.address, timeout=20) as book:
             book.start("a", "p", {})
             for _ in range(3):
                 os.kill(self.follower_of(server), signal.SIGKILL)
@@ -209,7 +209,7 @@ for line in sys.stdin:
 """
         )
         server = self.asking(graph=graph)
-        with Book.connect(server.address, timeout=60) as book:
+        with Book.connect(server.address, timeout=20) as book:
             book.start("a", "p", {})
             book.step("a")
 

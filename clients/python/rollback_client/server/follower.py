@@ -54,6 +54,7 @@ class Follower:
         self._pause = FIRST_PAUSE
         self._began = 0.0
         self._is_ending = False
+        self._is_lost = asyncio.Event()
         self._tasks: set[asyncio.Task[None]] = set()
         self.count = 0  # lines that were accepted since the beginning
         self.heard: Callable[[], None] = lambda: None  # something was accepted
@@ -88,7 +89,9 @@ class Follower:
         self._asked.append(take)
         self._process.write(question + b"\n")
 
-    def _take(self, data: bytes) -> None:
+    def _take(self, process: Program, data: bytes) -> None:
+        if process is not self._process:
+            return
         self._data += data
         while True:
             end = self._data.find(b"\n", self._looked)
@@ -104,6 +107,8 @@ class Follower:
             take = self._asked.popleft()
             if take is not None:
                 take(answer)
+                if process is not self._process:
+                    return
             elif answer != b"ok":
                 self._lose(f"it refuses a line: {answer[:200].decode(errors='replace')}")
                 return
@@ -118,6 +123,7 @@ class Follower:
             raise ValueError(f"{self._graph} can't be begun: {fault}") from fault
         if self._process is None:
             raise ValueError(f"{self._graph} answers no questions: it is another program, or an earlier one")
+        self._spawn(self._keep_up())
 
     def _copied(self) -> Optional[str]:
         """A copy of the journal in a folder of its own, in one file. The program has to be quiet."""
@@ -145,7 +151,7 @@ class Follower:
             process.write(f"{GREETING}\n".encode())
             await _first_of(process.answered, process.ended)
             if process.answered.is_set():
-                process.take_by(self._take)
+                process.take_by(lambda data: self._take(process, data))
         except ValueError:
             await process.status()
             return
@@ -164,38 +170,41 @@ class Follower:
             self._lose("it has ended")
 
     def _lose(self, why: str) -> None:
-        """Goes on without it, and begins it again."""
+        """Goes on without it, and has it begun again."""
         process, self._process = self._process, None
         if process is None:
             return
         if time.monotonic() - self._began > STEADY:
             self._pause = FIRST_PAUSE
         process.kill()
+        self._spawn(process.reaped())
         asked, self._asked = self._asked, deque()
         self._data, self._looked = bytearray(), 0
         for take in asked:
             if take is not None:
                 asyncio.get_running_loop().call_soon(take, NO_FOLLOWER)
-        self._spawn(process.reaped())
-        if self._is_ending:
-            return
         if self._journal is None:
             say(f"the follower is gone, and a book in memory has no journal to begin it again on: {why}")
-            return
-        say(f"the follower is begun again: {why}")
-        self._spawn(self._again())
+        elif not self._is_ending:
+            say(f"the follower is begun again: {why}")
+            self._is_lost.set()
 
-    async def _again(self) -> None:
-        while not self._is_ending and self._process is None:
-            await asyncio.sleep(self._pause)
-            self._pause = min(2 * self._pause, LONGEST_PAUSE)
-            is_made = asyncio.Event()
-            self._turns.when_quiet(lambda: self._spawn(self._copy_and_start(is_made)))
-            self._turns.go_on()
-            await is_made.wait()
+    async def _keep_up(self) -> None:
+        """Begins it again whenever it is lost."""
+        while True:
+            await self._is_lost.wait()
+            self._is_lost.clear()
+            while self._process is None:
+                await asyncio.sleep(self._pause)
+                self._pause = min(2 * self._pause, LONGEST_PAUSE)
+                await self._begin_again()
 
-    async def _copy_and_start(self, is_made: asyncio.Event) -> None:
+    async def _begin_again(self) -> None:
         """Begins it on a copy that is made between two lines. It has the lines that came since before it is asked anything."""
+        is_quiet = asyncio.Event()
+        self._turns.when_quiet(is_quiet.set)
+        self._turns.go_on()
+        await is_quiet.wait()
         try:
             try:
                 made = self._copied()
@@ -209,7 +218,6 @@ class Follower:
         if self._process is not None:
             self._feed(since or [])
             self.begun()
-        is_made.set()
 
     def _spawn(self, work: Coroutine[Any, Any, None]) -> None:
         task = asyncio.ensure_future(work)

@@ -76,7 +76,8 @@ class Program(asyncio.Protocol):
     def kill(self) -> None:
         """Ends it at once, with what it was given."""
         self._process.kill()
-        self._input.abort()
+        if not self._input.is_closing():
+            self._input.abort()
 
     async def reaped(self) -> None:
         """Waits for its end."""
