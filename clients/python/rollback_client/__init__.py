@@ -27,8 +27,11 @@ from .faults import (
     MachineFault,
     MachineFaultKind,
     MachineTaken,
+    NoAnswer,
+    NoFollower,
     NoMachine,
     NoMove,
+    NoRunner,
     NoServer,
     NoStep,
     NoTable,
@@ -44,7 +47,7 @@ from .faults import (
     TableTaken,
     Unavailable,
 )
-from .values import Done, Failed, Frame, Parked, Ready, Step, Taken
+from .values import Done, Failed, Frame, Parked, Ready, Step, Taken, Waiting
 
 __version__ = "0.1.0"
 
@@ -70,8 +73,11 @@ __all__ = [
     "MachineFault",
     "MachineFaultKind",
     "MachineTaken",
+    "NoAnswer",
+    "NoFollower",
     "NoMachine",
     "NoMove",
+    "NoRunner",
     "NoServer",
     "NoStep",
     "NoTable",
@@ -90,6 +96,7 @@ __all__ = [
     "TableTaken",
     "Taken",
     "Unavailable",
+    "Waiting",
     "attribute",
     "plain",
 ]

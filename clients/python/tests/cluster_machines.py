@@ -17,7 +17,7 @@ import urllib.request
 from rollback_client.lines import lines_after
 from tests import certificates
 from tests.certificates import Authority, context_of
-from tests.program import PROGRAM, TOP
+from tests.program import PROGRAM, TOP, follower
 
 LISTS = ("items", "history", "plan", "rollback", "drive", "work", "held")
 PREFIX = "/rollback/orders"
@@ -69,7 +69,7 @@ def encoded(text):
 class Cluster:
     """Processes with their folder. `servers` and `members` are three of each, or nothing in the place of one that was ended."""
 
-    def __init__(self, ttl=2, nearest_only=False, quota=0, loss=0.0, tls=False, place=None):
+    def __init__(self, ttl=2, nearest_only=False, quota=0, loss=0.0, tls=False, place=None, ask=False):
         self.room = pathlib.Path(tempfile.mkdtemp(prefix="rollback-cluster-", dir=place or folder()))
         self.ttl, self.nearest_only, self.quota, self.loss = ttl, nearest_only, quota, loss
         ports = free_ports(12)
@@ -79,6 +79,7 @@ class Cluster:
         self.ways = ports[9:]  # by which servers reach etcd, if answers get lost
         self.members, self.servers = [None] * 3, [None] * 3
         self.python = python_of_servers()
+        self.ask_words = ["--ask", "--graph", follower()] if ask else []
         self.tls = None  # the context of callers, and of this test's own calls
         if tls:
             self.secure(["127.0.0.1"])
@@ -161,7 +162,7 @@ class Cluster:
         words += ["--cluster", ",".join(nearest[:1] if self.nearest_only else nearest)]
         if self.tls:
             words += ["--tls", ",".join(self.server_files), "--etcd-tls", ",".join(self.caller_files)]
-        return [*words, "--log", str(self.room / f"log{number}"), "--grace", "5"]
+        return [*words, *self.ask_words, "--log", str(self.room / f"log{number}"), "--grace", "5"]
 
     def start_server(self, number, program=PROGRAM, words=(), **environment):
         """Starts a server."""

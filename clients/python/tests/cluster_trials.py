@@ -4,6 +4,8 @@
 """
 import argparse
 import asyncio
+import contextlib
+import json
 import random
 import signal
 import sqlite3
@@ -412,6 +414,37 @@ def copy_is_the_log(cluster, address):
     assert lines == steps + len(SETUP) - 1
 
 
+async def questions(words):
+    """Questions of a follower, at the leader and at standbys, amid a leader's death: each sees what was answered before."""
+    async with Cluster(words.ttl, ask=True) as cluster:
+        for line in SETUP:
+            await cluster.ask(None, line)
+        book = await AsyncBook.connect("cluster:" + ",".join(cluster.addresses))
+        for turn in range(words.times + 1):
+            number = await cluster.leader()
+            for each in range(10):
+                execution = f"q{turn}-{each}"
+                await book.start(execution, "p", {})
+                told = json.loads(await cluster.ask((number + 1) % 3, f"? threads {execution}"))
+                assert told["threads"][0]["moves"] == 0, told
+                await book.step(execution)
+                (row,) = (await book.threads(execution))["threads"]
+                assert row["moves"] == 1, row
+            if turn < words.times:
+                await cluster.end_server(number)
+                cluster.start_server(number)
+                await cluster.ask(number, "history")
+                with contextlib.suppress(ConnectionLost):
+                    await book.history()
+        entries = []
+        for address in cluster.addresses:
+            async with await AsyncBook.connect(address) as one:
+                entries.append((await one.threads())["entries"])
+        assert entries[0] == entries[1] == entries[2], entries
+        await book.close()
+        return f"{entries[0]} entries in the three followers"
+
+
 async def secured(words):
     """Servers and etcd with TLS: callers with a certificate are served, others aren't, and all commands take one."""
     async with Cluster(words.ttl, tls=True) as cluster:
@@ -616,6 +649,7 @@ TRIALS = {
         rolling_restart,
         drives,
         client_follows,
+        questions,
         secured,
         begins_and_refuses,
     )

@@ -207,7 +207,7 @@ class FakeServer:
     """Callers and turns over a program that is a function of a line. `hold` has the program keep its replies."""
 
     def __init__(self, answer):
-        self.turns = ClusterTurns(self.write, lambda caller, asked: None)
+        self.turns = ClusterTurns(self.write, lambda caller, asked: self.turns.take_question(caller, asked))
         self.is_ending, self.unread, self.answer = False, None, answer
         self.given = []  # lines that the program was given
         self.transports = []

@@ -23,6 +23,7 @@ NAMES = (
     "leader_stopped",
     "answers_lost",
     "client_follows",
+    "questions",
     "secured",
     "begins_and_refuses",
     "leader_killed",

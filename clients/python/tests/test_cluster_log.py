@@ -251,7 +251,7 @@ class OfReplica(InLoop):
             await self.replica().take(self.batch(0, 1))
 
 
-class OfLeader(InLoop):
+class LeaderInLoop(InLoop):
     """A leader with callers, over etcd in memory."""
 
     async def asyncSetUp(self):
@@ -276,6 +276,10 @@ class OfLeader(InLoop):
         self.turns.refusal = self.turns.refusal or "election"
         self.turns.drop_all()
         self.turns.go_on()
+
+
+class OfLeader(LeaderInLoop):
+    """Lines and questions at the leader."""
 
     async def test_a_reply_leaves_once_the_log_has_the_line(self):
         await self.lead()
@@ -319,6 +323,7 @@ class OfLeader(InLoop):
         self.assertIsInstance(self.leads.exception(), Deposed)
         self.assertEqual(reader.said, [])
         self.give_up()
+        await passes()
         self.assertEqual(reader.said, ["no 40 election"] * 2)
 
     async def test_a_leader_whose_member_is_cut_off_answers_no_question(self):
@@ -578,6 +583,60 @@ class OfStandby(InLoop):
         caller.give("show a", "step a")
         await passes()
         self.assertEqual(caller.said, ["no 40 leader new:9"] * 2)
+
+
+class OfFollower(LeaderInLoop):
+    """Questions of a follower, which knows lines before the log has them: their answers wait as all replies do."""
+
+    def ask(self, given):
+        self.asked.append(given)
+
+    async def lead(self):
+        self.asked = []
+        self.turns.ask = self.ask
+        await super().lead()
+
+    async def test_an_answer_waits_until_the_log_has_what_the_follower_knew(self):
+        await self.lead()
+        held = asyncio.Event()
+        self.the_log.way.plan = [("kv/txn", held)]
+        caller, reader = self.server.caller(), self.server.caller()
+        caller.give("step a")
+        await passes()
+        reader.give("? threads", "show a")
+        await passes()
+        [given] = self.asked
+        self.turns.finish(given, b"{}\n")
+        await passes()
+        self.assertEqual((caller.said, reader.said), ([], []))
+        held.set()
+        await passes()
+        self.assertEqual(reader.said, ["{}", 'ok ready "P" 1'])
+
+    async def test_an_answer_that_comes_after_the_leading_is_nobodys(self):
+        await self.lead()
+        reader = self.server.caller()
+        reader.give("? threads")
+        await passes()
+        [given] = self.asked
+        self.etcd.expire_leader()
+        self.give_up()
+        await passes()
+        self.assertEqual(reader.said, ["no 40 election"])
+        self.turns.finish(given, b"{}\n")
+        await passes()
+        self.assertEqual(reader.said, ["no 40 election"])
+
+    async def test_lines_of_the_log_wait_until_a_copy_for_the_follower_is_made(self):
+        copied = []
+        self.turns.when_quiet(lambda: copied.append(1))
+        self.turns.go_on()
+        coming = self.turns.enter(b"step a")
+        await passes()
+        self.assertEqual((copied, self.server.given, coming.done()), ([1], [], False))
+        self.turns.go_on_after_copy()
+        await passes()
+        self.assertEqual((self.server.given, coming.result()), ([b"step a"], b"ok a#1 plain\n"))
 
 
 class Tasks(unittest.IsolatedAsyncioTestCase):

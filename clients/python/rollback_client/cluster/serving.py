@@ -48,7 +48,8 @@ class ClusterServer(Server):
 
     def __init__(self, words: ClusterWords):
         super().__init__(words)
-        self.turns = ClusterTurns(self._write, self._copy)
+        self.turns = ClusterTurns(self._write, self._own)
+        self.turns.ask = self._ask_follower
         self._log: Log
         self._member: Member
         self._version = ""
@@ -130,6 +131,7 @@ class ClusterServer(Server):
         """Starts the program on the journal."""
         if not await self._open_program():
             raise ProgramGone("the program doesn't open the journal")
+        await self._begin_follower()
 
     async def program_gone(self) -> None:
         """Waits until the program has ended by itself."""
@@ -138,8 +140,12 @@ class ClusterServer(Server):
 
     async def end_program(self) -> None:
         """Lets the program close its journal."""
-        if self.turns.is_stopped:
+        follower, self._follower, self.turns.follow = self._follower, None, None
+        if follower is not None:
+            await follower.end()
+        if self._copies:
             await self._until(lambda: not self.turns.is_stopped, self.time() + MOST_PLACE)
+        self.turns.end_quiet()
         self._program.end_input()
         await self._program.status()
 
@@ -176,6 +182,22 @@ class ClusterServer(Server):
         }
         return PLACE + json.dumps(said).encode()[1:] + b"\n"
 
+    def _own(self, caller: Caller, asked: Asked) -> None:
+        if asked.head.startswith(b"?"):
+            self.turns.take_question(caller, asked)
+        elif self.turns.role is Role.LEADER and not self.turns.refusal:
+            super()._own(caller, asked)
+        else:
+            self._answer(caller, asked, self.turns.refused())
+
+    def _ask_follower(self, given: Given) -> None:
+        """Has the follower answer a question, which is fed what this book's program accepts."""
+        if self._follower is None:
+            self.turns.ask_nobody(given)
+            return
+        question = given.asked.line.removesuffix(b"\r")
+        self._follower.ask(question, lambda answer: self.turns.finish(given, answer + b"\n"))
+
     def _copy(self, caller: Caller, asked: Asked) -> None:
         task = asyncio.ensure_future(self._copy_behind_guard(caller, asked))
         self._copies.add(task)
@@ -196,11 +218,8 @@ class ClusterServer(Server):
             await send_copy(self.turns, self.words.journal, caller, asked)
             return
         reply = self.turns.refused()
-        self.turns.log_own(caller, asked, reply)
-        caller.is_held = False
-        self.turns.is_stopped = False
-        caller.write(reply)
-        self.turns.answered(caller)
+        self.turns.go_on_after_copy()
+        self._answer_now(caller, asked, reply)
 
     # ---- what is said
 

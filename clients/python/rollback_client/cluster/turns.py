@@ -7,13 +7,13 @@ from typing import Callable, List, Optional, Set, Union
 
 from ..lines import LISTS, Replies
 from ..server.callers import Asked, Caller, Given
+from ..server.follower import NO_FOLLOWER
 from ..server.pieces import Pieces
 from ..server.turns import Finished, Turns
 from .entries import QUESTIONS, word_of
 from .faults import ProgramGone
 from .gate import Gate, Held
 
-NO_FOLLOWER = b'{"rollback_graph":1,"error":"no follower"}\n'
 PLACE = b'{"rollback_cluster":1,'  # the reply to `!place` begins so
 _LISTS = frozenset(word.encode() for word in LISTS)
 
@@ -45,14 +45,17 @@ class ClusterTurns(Turns):
     taken is refused with `refusal`, and has changed nothing.
     """
 
-    def __init__(self, write: Callable[[bytes], None], copy: Callable[[Caller, Asked], None]):
-        super().__init__(write, copy)
+    def __init__(self, write: Callable[[bytes], None], own: Callable[[Caller, Asked], None]):
+        super().__init__(write, own)
         self.role = Role.OUT
         self.refusal = "election"  # empty while the leader takes lines
         self.gate = Gate()
         self.asking: List[Given] = []
         self.has_asked = asyncio.Event()
         self.journal_failed = asyncio.Event()  # the program has answered `no 24`
+        self.ask: Callable[[Given], None] = self.ask_nobody  # has the follower answer a question, by `finish`
+        self._following: Set[Given] = set()  # questions that the follower was asked
+        self._later: List[Entered] = []  # lines of the log that wait until a copy of the journal is made
         self._holding: Set[Given] = set()  # lines whose callers' next lines wait for their replies
         self._is_cut_off = False  # what the program still says counts no more
 
@@ -61,11 +64,9 @@ class ClusterTurns(Turns):
     def admit(self, turn: Union[Given, Asked]) -> Union[Given, Asked, None]:
         """What becomes of a line at its turn: it is given, refused, or kept until this book has what the log has."""
         if isinstance(turn, Asked):
-            return turn  # a copy, which is refused where it is made if this server doesn't lead
+            return turn  # a line that the server answers itself
         asked = turn.asked
         if self.role is Role.LEADER and not self.refusal:
-            if asked.own is None and asked.head.startswith(b"?"):
-                asked.own = answer_question(asked)
             return turn
         if turn.pieces is not None:
             return self._refused_piece(turn, turn.pieces)
@@ -78,6 +79,19 @@ class ClusterTurns(Turns):
             return None
         asked.own = self.refused()
         return turn
+
+    def take_question(self, caller: Caller, asked: Asked) -> None:
+        """Answers a line that begins with `?`: at the leader now, at a standby once this book has what the log has."""
+        given = Given(caller, asked, b"", False)
+        self._hold(given)
+        if self.role is Role.LEADER and not self.refusal:
+            self.give_question(given)
+        elif self.role is Role.STANDBY:
+            self.asking.append(given)
+            self.has_asked.set()
+        else:
+            self._following.add(given)
+            asyncio.get_running_loop().call_soon(self.finish, given, self.refused())
 
     def refused(self) -> bytes:
         """The reply to a line that isn't taken."""
@@ -102,10 +116,23 @@ class ClusterTurns(Turns):
 
     def give_question(self, given: Given) -> None:
         """Gives a question that was kept, now that this book has what the log has."""
-        given.asked.own = answer_question(given.asked) if given.asked.head.startswith(b"?") else None
+        if given.asked.head.startswith(b"?"):
+            self._following.add(given)
+            self.ask(given)
+            return
         self._given.append(given)
-        if given.asked.own is None:
-            self._write(given.line)
+        self._write(given.line)
+
+    def finish(self, given: Given, answer: bytes) -> None:
+        """Hands on the follower's answer. It knows lines that the log hasn't, so at the leader it waits as any reply does."""
+        if given in self._following:
+            self._following.discard(given)
+            self._hand_on([(given, answer)])
+            self.go_on()
+
+    def ask_nobody(self, given: Given) -> None:
+        """Answers that there is no follower."""
+        asyncio.get_running_loop().call_soon(self.finish, given, NO_FOLLOWER + b"\n")
 
     def refuse_question(self, given: Given) -> None:
         """Refuses a question that was kept."""
@@ -122,9 +149,29 @@ class ClusterTurns(Turns):
         """Gives a line of the log. Its reply will come."""
         coming: asyncio.Future[bytes] = asyncio.get_running_loop().create_future()
         entered = Entered(line, coming)
+        if self.is_stopped:
+            self._later.append(entered)
+        else:
+            self._give_entered(entered)
+        return coming
+
+    def _give_entered(self, entered: Entered) -> None:
         self._given.append(entered)
         self._write(entered.line)
-        return coming
+
+    def go_on_after_copy(self) -> None:
+        later, self._later = self._later, []
+        for entered in later:
+            self._give_entered(entered)
+        super().go_on_after_copy()
+
+    def end_quiet(self) -> None:
+        """Ends the waiting for a copy: what waited for it sees for itself that there is no book."""
+        actions = list(self._quiet)
+        self._quiet.clear()
+        self._is_quiet = self.is_stopped = False
+        for action in actions:
+            action()
 
     # ---- replies
 
@@ -150,8 +197,10 @@ class ClusterTurns(Turns):
         in_part = {given for given in begun if self.gate.partly_in_log(given)}
         for held in self.gate.forget():
             self._drop(held.given, held.first < self.gate.position < held.mark)
-        waiting, self.asking = [*self._given, *self.asking], []
+        waiting, self.asking = [*self._given, *self._later, *self._following, *self.asking], []
         self._given.clear()
+        self._later.clear()
+        self._following.clear()
         self._replies = Replies()
         for given in waiting:
             if isinstance(given, Entered):
@@ -178,6 +227,7 @@ class ClusterTurns(Turns):
             super().feed(data)
 
     def _replied(self, given: Given, reply: bytes) -> None:
+        super()._replied(given, reply)
         if self.role is Role.LEADER and not isinstance(given, Entered):
             self.gate.note(given, given.line.rstrip(b"\n").removesuffix(b"\r"), reply)
             if reply.startswith(b"no 24"):
@@ -229,7 +279,3 @@ def is_question(asked: Asked) -> bool:
     """Whether a line asks something that a standby answers too."""
     return asked.head.startswith(b"?") or word_of(asked.head) in QUESTIONS
 
-
-def answer_question(asked: Asked) -> bytes:
-    """The answer to a line that begins with `?`, at a server that may answer now. Nothing follows the book here yet."""
-    return NO_FOLLOWER

@@ -10,6 +10,7 @@ from typing import TYPE_CHECKING, Any, Callable, Dict, Optional, Set, Tuple
 
 from ..commands import GREETING
 from .callers import Asked, Caller
+from .follower import NO_FOLLOWER, Follower, graph_beside
 from .places import UnixPlace, loopback
 from .program import Program, is_in_use, meaning
 from .speaking import say, say_bytes
@@ -29,7 +30,7 @@ class Server:
 
     def __init__(self, words: Words):
         self.words = words
-        self.turns = Turns(self._write, self._copy)
+        self.turns = Turns(self._write, self._own)
         self.unread = Unread(words.unread << 20)
         self.callers: Set[Caller] = set()
         self.is_ending = False
@@ -38,6 +39,7 @@ class Server:
         self._asked_to_end = asyncio.Event()
         self._is_hurried = False
         self._copies: Set[asyncio.Task[None]] = set()
+        self._follower: Optional[Follower] = None
 
     # ---- callers
 
@@ -73,6 +75,31 @@ class Server:
     def _write(self, data: bytes) -> None:
         self._program.write(data)
 
+    def _own(self, caller: Caller, asked: Asked) -> None:
+        """Answers a line that isn't the program's."""
+        if asked.head == b"!copy":
+            self.turns.when_quiet(lambda: self._copy(caller, asked))
+        elif asked.head.startswith(b"?"):
+            self._ask(caller, asked)
+        else:
+            self._answer(caller, asked, b"no 20\n")
+
+    def _answer(self, caller: Caller, asked: Asked, reply: bytes) -> None:
+        """Answers such a line, later and never at once."""
+        asyncio.get_running_loop().call_soon(self._answer_now, caller, asked, reply)
+
+    def _answer_now(self, caller: Caller, asked: Asked, reply: bytes) -> None:
+        self.turns.log_own(caller, asked, reply)
+        self.turns.answered(caller, reply)
+
+    def _ask(self, caller: Caller, asked: Asked) -> None:
+        """Has the follower answer a question."""
+        if self._follower is None:
+            self._answer(caller, asked, NO_FOLLOWER + b"\n")
+            return
+        question = asked.line[:-1] if asked.line.endswith(b"\r") else asked.line
+        self._follower.ask(question, lambda answer: self._answer_now(caller, asked, answer + b"\n"))
+
     def _copy(self, caller: Caller, asked: Asked) -> None:
         from .copy import send_copy  # who never asks for a copy doesn't need it
 
@@ -94,8 +121,9 @@ class Server:
         if not await self._open_program():
             return await self._status()
         try:
+            await self._begin_follower()
             listening = await self._listen()
-        except OSError:
+        except (OSError, ValueError):
             if self._place:
                 self._place.remove()
             self._program.end_input()
@@ -143,6 +171,14 @@ class Server:
             ):
                 return False
             await asyncio.sleep(min(0.1, max(0.0, ends - self.time())))
+
+    async def _begin_follower(self) -> None:
+        if self.words.ask:
+            self._follower = Follower(
+                self.turns, graph_beside(self.words.program, self.words.graph), self.words.journal
+            )
+            await self._follower.begin()
+            self.turns.follow = self._follower.follow
 
     async def _listen(self) -> asyncio.AbstractServer:
         loop = asyncio.get_running_loop()
@@ -199,6 +235,8 @@ class Server:
         await self._until(lambda: not self.turns.given, None)
         self._program.end_input()
         await self._program.status()
+        if self._follower is not None:
+            await self._follower.end()
         await self._until(self._have_read, None if self._is_hurried else ends)
         cut = sum(1 for caller in self.callers if not caller.transport.is_closing())
         if cut:

@@ -29,6 +29,8 @@ class Words(argparse.Namespace):
     book: Any
     tls: Any
     etcd_tls: Any
+    ask: bool
+    graph: Optional[str]
 
 
 def _typed(read: Callable[[str], T], name: str) -> Callable[[str], T]:
@@ -106,6 +108,8 @@ def read_words(given: Optional[Sequence[str]] = None) -> Words:
     add("--idle", type=seconds, metavar="SECONDS", help="a caller that idles so long makes room for another (never)")
     add("--unread", type=_typed(_positive, "number"), default=512, metavar="MB", help="of replies of all callers (512)")
     add("--wait", type=seconds, default=0.0, metavar="SECONDS", help="tries again while the journal is in use (0)")
+    add("--ask", action="store_true", help="answers questions, by rollback_graph as a follower")
+    add("--graph", metavar="PATH", help="rollback_graph; beside the program or on the path if it is left out")
     _add_cluster(parser)
     words = parser.parse_args(given, Words())
     if words.socket is None and (words.mode is not None or words.group is not None):
