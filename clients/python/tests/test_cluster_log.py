@@ -559,10 +559,12 @@ class OfStandby(InLoop):
         leadership = Leadership(self.own, self.replica, self.turns, silent)
         from rollback_client.cluster.member import Identity, Member
 
-        member = Member(Identity("two:2", "b", "", "v", "nothing"), self.own, self.turns, None, silent)
+        begun = mock.AsyncMock()
+        member = Member(Identity("two:2", "b", "", "v", "nothing"), self.own, self.turns, begun, silent)
         self.begin(member._take_over(self.standby, leadership, self.replica))
         await passes()
         self.assertEqual((self.replica.position, self.turns.role), (1, Role.LEADER))
+        begun.begin_leading.assert_awaited_once_with(self.own)
         caller = self.server.caller()
         caller.give("step a")
         await passes()

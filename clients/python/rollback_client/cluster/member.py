@@ -23,7 +23,7 @@ LEAST_WAIT = 5.0  # seconds for the program of an earlier life to end
 
 
 class Programs(Protocol):
-    """What starts and ends the program on the journal, in the main thread."""
+    """What starts and ends the program on the journal, in the main thread, and what runs at the leader alone."""
 
     async def start_program(self) -> None:
         """Starts it, and waits until it has opened the journal. Raises `ProgramGone`."""
@@ -33,6 +33,12 @@ class Programs(Protocol):
 
     async def end_program(self) -> None:
         """Ends it, after what it was given, and the copies of its journal."""
+
+    async def begin_leading(self, log: Log) -> None:
+        """Begins what runs at the leader alone. The book has all lines, and none is taken yet."""
+
+    async def end_leading(self) -> None:
+        """Ends that. It may be called although nothing was begun."""
 
 
 @dataclass(frozen=True)
@@ -129,6 +135,7 @@ class Member:
         await standby.catch_up()
         if replica.position < await self._log.seeded():
             raise Resigned("election", "the log isn't filled yet: begin the server with --seed again")
+        await self._programs.begin_leading(self._log)
         await leadership.lead()
 
     async def _end_life(self) -> None:
@@ -137,6 +144,7 @@ class Member:
         turns.refusal = turns.refusal or "election"
         turns.drop_all()
         turns.go_on()
+        await self._programs.end_leading()
         with contextlib.suppress(Exception):
             await self._log.resign()
         await self._programs.end_program()

@@ -149,6 +149,12 @@ class ClusterServer(Server):
         self._program.end_input()
         await self._program.status()
 
+    async def begin_leading(self, log: Log) -> None:
+        """Begins what runs at the leader alone. What it pauses is kept by `log.keep`, and outlasts this leader. Nothing does yet."""
+
+    async def end_leading(self) -> None:
+        """Ends what runs at the leader alone."""
+
     def _has_program(self) -> bool:
         return hasattr(self, "_program")
 

@@ -30,13 +30,13 @@ class Standby:
                 if leader and leader.version != self._version:
                     await self._stand_aside(leader)
                     continue
+                self._say_who(leader)  # also while there is much to catch up with
                 await self.catch_up()
                 self._turns.role = Role.STANDBY
                 if leader is None:
                     if await self._log.campaign(self._address, self._version):
                         return
-                    leader = await self._log.leader()
-                self._say_who(leader)
+                    self._say_who(await self._log.leader())
                 await self._follow()
             except Unreachable as fault:
                 self._meet(fault.reason, str(fault))
