@@ -278,4 +278,3 @@ def is_at_once(asked: Asked) -> bool:
 def is_question(asked: Asked) -> bool:
     """Whether a line asks something that a standby answers too."""
     return asked.head.startswith(b"?") or word_of(asked.head) in QUESTIONS
-
