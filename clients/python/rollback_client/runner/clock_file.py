@@ -21,11 +21,14 @@ class ClockFile:
         self._path, self._say = path, say
         self._store: Optional[sqlite3.Connection] = None
         self.paused: Set[Whom] = set()
-        if path is not None:
-            with self._minding():
-                self._open(path)
+        if path is not None and os.path.exists(path):
+            self._open(path)
 
     def _open(self, path: str) -> None:
+        with self._minding():
+            self._open_or_begin(path)
+
+    def _open_or_begin(self, path: str) -> None:
         try:
             self._store = self._opened(path)
         except sqlite3.DatabaseError as fault:
@@ -49,7 +52,7 @@ class ClockFile:
         except BaseException:
             store.close()
             raise
-        self.paused = {(kind, name) for kind, name in found}
+        self.paused.update((kind, name) for kind, name in found)
         return store
 
     @contextlib.contextmanager
@@ -58,8 +61,8 @@ class ClockFile:
         try:
             yield
         except (sqlite3.Error, OSError) as fault:
-            self._store = None
             self._say(f"{self._path} can't be used, so clocks and pauses don't outlast this process: {fault}")
+            self._store = self._path = None
 
     def arrivals(self) -> Dict[str, Arrival]:
         """When each thread came to its place, as far as it is known."""
@@ -77,6 +80,8 @@ class ClockFile:
     def keep(self, changes: Mapping[str, Optional[Arrival]]) -> None:
         """Keeps arrivals, and drops those of threads that have none any more."""
         dropped = [(thread,) for thread, arrival in changes.items() if arrival is None]
+        if len(dropped) == len(changes) and self._store is None:
+            return
         kept = [(thread, *arrival) for thread, arrival in changes.items() if arrival is not None]
         if changes:
             self._do(
@@ -98,6 +103,9 @@ class ClockFile:
             self._do([("DELETE FROM paused WHERE kind = ? AND name = ?", [whom])])
 
     def _do(self, changes: Iterable[Tuple[str, Iterable[Tuple[object, ...]]]]) -> None:
+        if self._store is None and self._path is not None:
+            # it is made once there is something to keep
+            self._open(self._path)
         if self._store is None:
             return
         with self._minding():
