@@ -1,22 +1,27 @@
 #!/usr/bin/env python3
 """Compares the plain book of tools/plain_book with the program, by sessions that are drawn at random.
 
-usage: plain_rows.py [--program PATH] [--sessions N] [--seed S] [--session I] [--lines L]
+usage: plain_rows.py [--program PATH] [--graph PATH] [--sessions N] [--seed S] [--session I] [--lines L]
 
 tools/drawn.py draws the lines: starts, steps, drives, rounds of workers, undoings, plans, rollbacks, holds, settlements, and lines that are
 refused. Both are given each line, and answer the same, but that the plain book doesn't say which fault of a definition it is. At the end
 both show each thread, the items and the history alike. Rows of threads that are kept by `threads since` alone are those of all threads.
-Session I of seed S is the same each time. The last line is `N passed, M failed`.
+With --graph the follower of rollback_graph is fed the same lines, and answers drawn questions of all kinds as the plain book does: `causes`,
+`plan`, `why`, `item`, `show`, `list`, `threads`, `log`, `steps`, `find`, and of `explain` whether something is said, of which state, error
+and step, and which path picks nothing of what. Session I of seed S is the same each time. The last line is `N passed, M failed`.
 """
 import argparse
+import json
 import os
 import random
+import subprocess
 import sys
 
 sys.dont_write_bytecode = True
 from drawn import PROGRAM, Drawer  # noqa: E402: beside this file
 from drawn_steps import Difference, Session  # noqa: E402: beside this file
-from plain_book.book import Book, path_of  # noqa: E402: beside this file
+from plain_book.book import JOURNALED, Book, path_of  # noqa: E402: beside this file
+from plain_book.following import answered  # noqa: E402: beside this file
 from plain_book.questions import answer, thread_row  # noqa: E402: beside this file
 
 
@@ -37,7 +42,7 @@ class Both:
     def left(self):
         return [step.name for step in self.book.left]
 
-    def take(self, line):
+    def take(self, line, followed=None):
         """Gives a line to both. Which steps a round of workers takes is for the program to say."""
         self.lines.append(line)
         before = len(self.book.entries)
@@ -54,6 +59,11 @@ class Both:
         said = ["no 3"] if reply and reply[0].startswith("no 3 ") else reply
         if found != said:
             raise Difference(f"{line}: the program answers {reply}, and the plain book {found}")
+        if followed and line and line.split(" ", 1)[0] in ("drive", "work") and found[0].startswith("ok "):
+            for name in found[1:]:
+                followed.feed("step " + name.rsplit("#", 1)[0], ["ok"])
+        elif followed and line and "\udcff" not in line:
+            followed.feed(line, found)
         self.follow(before)
 
     def follow(self, before):
@@ -81,14 +91,86 @@ class Both:
         self.live.close()
 
 
-def check(program, seed, number, count):
+class Followed:
+    """A follower that is fed what the plain book accepts, and whose answers are compared with the plain book's."""
+
+    def __init__(self, graph):
+        self.process = subprocess.Popen([graph, "--serve"], stdin=subprocess.PIPE, stdout=subprocess.PIPE, text=True)
+        self.compared = 0
+
+    def ask(self, line):
+        self.process.stdin.write(line + "\n")
+        self.process.stdin.flush()
+        return self.process.stdout.readline().rstrip("\n")
+
+    def feed(self, line, reply):
+        """Gives a line as a journal has it, accepted or refused."""
+        wanted = "ok" if reply[0].startswith("ok") else " ".join(reply[0].split(" ")[:2])
+        if line.split(" ", 1)[0] not in JOURNALED:
+            wanted = "no 20"
+        found = self.ask(f"= {line}")
+        if found != wanted:
+            raise Difference(f"= {line}: the follower answers {found}, and {wanted} is right")
+
+    def compare(self, book, question):
+        """Asks the follower and the plain book."""
+        found = self.ask(f"? {question}")
+        wanted = answered(book, f"? {question}")
+        if in_any_order(json.loads(found)) != in_any_order(json.loads(wanted)):
+            raise Difference(f"? {question}: the follower answers\n{found}\nand the plain book\n{wanted}")
+        if json.dumps(json.loads(found), separators=(",", ":"), ensure_ascii=False, sort_keys=True) != found:
+            raise Difference(f"? {question}: another spelling: {found}")
+        self.compared += 1
+
+    def close(self):
+        self.process.stdin.close()
+        self.process.stdout.close()
+        if self.process.wait() != 0:
+            raise Difference("the follower ends with a status")
+
+
+def in_any_order(told):
+    """An answer, with the nearest dependences of a step in one order, and only the checked fields of an explanation."""
+    if isinstance(told, dict):
+        found = {name: in_any_order(value) for name, value in told.items()}
+        if isinstance(found.get("on"), list):
+            found["on"] = sorted(found["on"], key=lambda on: on["step"])
+        if "why" in found and found["why"] is not None:
+            found["why"] = {name: found["why"].get(name) for name in ("state", "error", "step", "path", "of")}
+        return found
+    return [in_any_order(value) for value in told] if isinstance(told, list) else told
+
+
+def drawn_questions(chance, book):
+    """Questions of all kinds about the book as it is."""
+    steps = [step.name for step in book.steps] or ["e0#0"]
+    threads = sorted(book.threads) or ["e0"]
+    keys = sorted({step.access.key for step in book.steps if step.access} | set(book.items))
+    some = lambda names: chance.choice(names)  # noqa: E731
+    found = ["threads ready", f"threads since {chance.randrange(len(book.entries) + 1)}", f"threads {some(threads)}", "machines"]
+    found += [f"causes {some(steps)}", f"causes {some(steps)} writes", f"plan {some(steps)}", f"why {some(steps)} {some(steps)}"]
+    found += [f"show {some(steps)}", f"show {some(threads)}", f"show {some(threads).split('/')[0]}", f"explain {some(threads)}"]
+    found += ["list", "list failed", "list open", "list done", f"list since {chance.randrange(len(book.entries) + 1)}", "list machine m0"]
+    found += ["item", "item most 1", f"log {chance.randrange(len(book.entries) + 2)} {chance.randrange(9)}", "machine m0 definition"]
+    found += [f"steps {chance.randrange(len(steps) + 1)} {chance.randrange(5)}", f"find {some(('get', 'E0', 'k1', 'X', 's1 '))}", "nothing"]
+    return found + [f"item {key}" for key in keys] + [f"explain {thread}" for thread in threads]
+
+
+def check(program, graph, seed, number, count):
     """Draws a session, and says what differs, if something does."""
     chance = random.Random(f"plain {seed} {number}")
     drawer = Drawer(chance, chance.randrange(count // 2, count + count // 2 + 1), random.Random(f"aside {seed} {number}"))
-    both = Both(program)
+    asking = random.Random(f"asked {seed} {number}")
+    both, followed = Both(program), Followed(graph) if graph else None
     try:
         while (line := drawer.line(both)) is not None:
-            both.take(line)
+            both.take(line, followed)
+            if followed and asking.random() < 0.15:
+                followed.compare(both.book, asking.choice(drawn_questions(asking, both.book)))
+        if followed:
+            for question in drawn_questions(asking, both.book):
+                followed.compare(both.book, question)
+            followed.close()
         both.end()
     except Difference as difference:
         both.live.process.kill()
@@ -99,8 +181,9 @@ def check(program, seed, number, count):
 
 
 def main():
-    parser = argparse.ArgumentParser(description="Compares the plain book with the program.")
+    parser = argparse.ArgumentParser(description="Compares the plain book with the program, and with a follower.")
     parser.add_argument("--program", default=os.environ.get("ROLLBACK_PROGRAM", PROGRAM))
+    parser.add_argument("--graph", help="rollback_graph, whose answers are compared too")
     parser.add_argument("--sessions", type=int, default=200)
     parser.add_argument("--seed", type=int, default=1)
     parser.add_argument("--session", type=int)
@@ -108,7 +191,7 @@ def main():
     given = parser.parse_args()
     passed = failed = lines = 0
     for number in [given.session] if given.session is not None else range(given.sessions):
-        is_same, count = check(given.program, given.seed, number, given.lines)
+        is_same, count = check(given.program, given.graph, given.seed, number, given.lines)
         passed, failed, lines = passed + is_same, failed + (not is_same), lines + count
     print(f"{lines} lines in drawn sessions")
     print(f"{passed} passed, {failed} failed")

@@ -7,7 +7,7 @@ values      JSON, paths and templates
 items       attribute values, keys and the three calls
 turns       what a state makes of a frame
 book        the commands, and what each leaves
-rows        threads and steps as the questions tell them
+rows        steps, frames and dependence as the questions tell them
 questions   which question a line is, and its answer
 following   lines in, lines out: a stand-in for `rollback_graph --serve`
 """

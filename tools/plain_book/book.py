@@ -8,7 +8,7 @@ from dataclasses import dataclass, field, replace
 from pathlib import Path
 from typing import Any, Dict, List, Optional, Set, Tuple
 
-from .items import NO_TABLE, VALIDATION, Call, Decided, Item, Malformed, Schema, decide, key_asked, normal_item
+from .items import NO_TABLE, VALIDATION, Call, Item, Malformed, Schema, decide, key_asked, normal_item
 from .turns import Failure, Fork, Frame, Machine, Why
 from .values import BadJson, read, written
 
@@ -140,8 +140,10 @@ class Entry:
 
     line: str
     step: Optional[str] = None
+    kind: Optional[str] = None
     undone: List[str] = field(default_factory=list)
-    branches: List[str] = field(default_factory=list)
+    branches: List[str] = field(default_factory=list)  # that a join or a terminate took out
+    held: int = 0
 
 
 class Book:
@@ -317,29 +319,23 @@ class Book:
                 raise Failure(VALIDATION, Why("key", ("Parameters", of, fault.field)), origin="call") from None
             decided = decide(call, self.items.get(key))
             step.kind = "call"
-            step.access = Access(
-                key, decided.writes, self.items.get(key), decided.after, decided.answer, decided.error
-            )
+            step.access = Access(key, decided.writes, self.items.get(key), decided.after, decided.answer, decided.error)
             if decided.error is not None:
                 raise Failure(decided.error, Why("condition", ("Parameters", "ConditionExpression")), origin="call")
+            step.after = machine.after_result(step.before, decided.answer)
         except Failure as failure:
             step.failure, step.after = failure, machine.handled(step.before, failure)
-            return
-        step.after = self._after_answer(step, machine, decided)
-
-    @staticmethod
-    def _after_answer(step: Step, machine: Machine, decided: Decided) -> Frame:
-        assert step.before is not None
-        return machine.after_result(step.before, decided.answer)
 
     def _closing(self, name: str, frame: Frame, machine: Machine, move: str) -> Step:
         branches = self.branches(name)
         step = Step(name, frame.moves + 1, move, frame, frame, len(self.entries))
-        if move == "join":
+        try:
+            if move == "terminate":
+                failed = next(branch for branch in branches if self.threads[branch].frame.phase == "failed")
+                raise machine.branch_failure(frame, self.threads[failed].frame)
             step.after = machine.after_result(frame, [self.threads[branch].frame.output for branch in branches])
-        else:
-            failed = next(branch for branch in branches if self.threads[branch].frame.phase == "failed")
-            step.after = machine.after_branch(frame, self.threads[failed].frame)
+        except Failure as failure:
+            step.failure, step.after = failure, machine.handled(frame, failure)
         step.closed = {below: self.threads[below] for branch in branches for below in self._below(branch)}
         return step
 
@@ -376,7 +372,7 @@ class Book:
 
     def _add(self, step: Step) -> None:
         entry = len(self.entries)
-        self.entries.append(Entry("", step.name, branches=sorted(step.closed, key=path_of)))
+        self.entries.append(Entry("", step.name, step.kind, branches=sorted(step.closed, key=path_of)))
         self.steps.append(step)
         for name in step.closed:
             del self.threads[name]
@@ -416,6 +412,10 @@ class Book:
         """The threads whose rows an entry after this one has changed, there or gone, in the order of `drive`."""
         at = bisect.bisect_left(self._changes, (entry + 1, ""))
         return sorted({name for _, name in self._changes[at:]}, key=path_of)
+
+    def last_change(self, execution: str) -> int:
+        """The last entry that changed a thread of an execution."""
+        return max(entry for entry, name in self._changes if name.split("/")[0] == execution)
 
     def _drive(self, count: str) -> List[str]:
         taken: List[str] = []
@@ -504,7 +504,7 @@ class Book:
             raise No(f"13 {self.hold.name}")
         self._has_room(1)
         self.hold, self.left = step, self.planned(step)
-        self.entries.append(Entry(""))
+        self.entries.append(Entry("", held=len(self.left)))
         return [f"ok {len(self.left)}"]
 
     def holder(self, step: Step) -> Optional[Step]:

@@ -135,17 +135,14 @@ class Machine:
         return replace(frame, phase="done", output=output, moves=frame.moves + 1, branches=0, bound=0, retrier=None)
 
     def after_result(self, frame: Frame, result: Any) -> Frame:
-        """The frame after its state's work has given a result: an answer, or the outputs of branches."""
+        """The frame after its state's work has given a result, an answer or the outputs of branches; or its `Failure`."""
         state = self.state(frame)
-        try:
-            return self.goes_on(frame, state, _passed_on(state, frame.input, result))
-        except Failure as failure:
-            return self.handled(frame, failure)
+        return self.goes_on(frame, state, _passed_on(state, frame.input, result))
 
-    def after_branch(self, frame: Frame, failed: Frame) -> Frame:
-        """The frame after a branch's error was taken."""
+    def branch_failure(self, frame: Frame, failed: Frame) -> Failure:
+        """The error that is taken from a branch."""
         origin = "branch" if self.state(frame)["Type"] == "Parallel" else "other"
-        return self.handled(frame, Failure(failed.error, Why("branch"), failed.cause, origin))
+        return Failure(failed.error, Why("branch"), failed.cause, origin)
 
     def _map(self, frame: Frame, state: State) -> Fork:
         selected = _picked(("InputPath",), state.get("InputPath", "$"), frame.input)
@@ -179,9 +176,7 @@ class Machine:
                 if frame.counters[number] < retrier.get("MaxAttempts", 3):
                     counters = [*frame.counters]
                     counters[number] += 1
-                    return replace(
-                        frame, phase="ready", branches=0, bound=0, counters=tuple(counters), moves=moves, retrier=number
-                    )
+                    return replace(frame, phase="ready", branches=0, bound=0, counters=tuple(counters), moves=moves, retrier=number)
                 break
         failed = replace(frame, phase="failed", branches=0, bound=0, moves=moves, retrier=None)
         for catcher in state.get("Catch", []):

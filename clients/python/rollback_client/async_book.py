@@ -4,7 +4,7 @@ from __future__ import annotations
 import asyncio
 import os
 from types import TracebackType
-from typing import TYPE_CHECKING, Any, Mapping, Optional, Sequence, Type, Union
+from typing import TYPE_CHECKING, Any, Mapping, Optional, Sequence, Type, TypeVar, Union
 
 from . import async_streams, commands, finishing, questions
 from .book import Book
@@ -16,6 +16,8 @@ from .values import Frame, Step, Taken, Waiting
 
 if TYPE_CHECKING:
     from .lint import Finding, Table
+
+T = TypeVar("T")
 
 
 class AsyncBook:
@@ -82,6 +84,19 @@ class AsyncBook:
 
     async def ask(self, line: str) -> list[str]:
         return await self._stream.call(commands.ask(line))
+
+    async def give(self, command: commands.Command[T]) -> T:
+        return await self._stream.call(command)
+
+    async def give_all(self, given: Sequence[commands.Command[T]]) -> list[Union[T, Refusal]]:
+        async def outcome_of(command: commands.Command[T]) -> Union[T, Refusal]:
+            try:
+                value: T = await self._stream.call(command)
+                return value
+            except Refusal as refusal:
+                return refusal
+
+        return [await outcome_of(command) for command in given]
 
     # ---- commands
 

@@ -116,6 +116,21 @@ class Book:
         """
         return self._stream.call(commands.ask(line))
 
+    def give(self, command: commands.Command[T]) -> T:
+        """Gives a command of `rollback_client.commands` or `rollback_client.questions`, and hands back its value.
+
+        Raises the refusal of the reply.
+        """
+        return self._stream.call(command)
+
+    def give_all(self, given: Sequence[commands.Command[T]]) -> list[Union[T, Refusal]]:
+        """Gives a few short commands at once, and hands back the value or the refusal of each, in order. No refusal is raised.
+
+        They are done one after another, also behind one that is refused; a server may do other callers' lines between them.
+        Raises a `RollbackError` if the stream breaks.
+        """
+        return self._stream.call_all(given)
+
     # ---- commands
 
     def table(self, name: str, key: Mapping[str, str], items: Sequence[Mapping[str, Any]] = ()) -> None:

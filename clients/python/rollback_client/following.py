@@ -9,7 +9,7 @@ import asyncio
 import socket
 import ssl
 import time
-from typing import Any, List, Optional, Tuple, TypeVar, Union
+from typing import Any, List, Optional, Sequence, Tuple, TypeVar, Union
 
 from . import async_streams, streams
 from .commands import Command, greeting
@@ -123,7 +123,7 @@ class FollowingStream(streams.Stream):
         route.begin()
         return cls(_leading_link(route, seconds, tls), route, seconds, tls)
 
-    def _exchange(self, command: Command[T], data: bytes) -> Union[T, Refusal]:
+    def _exchange(self, asked: Sequence[Command[T]], data: bytes) -> List[Union[T, Refusal]]:
         self._route.begin()
         while True:
             if self._is_lost:
@@ -131,18 +131,21 @@ class FollowingStream(streams.Stream):
                 self.link = _leading_link(self._route, self._timeout or TIMEOUT, self._tls)
                 self._is_lost = False
             try:
-                outcome = super()._exchange(command, data)
+                outcomes = super()._exchange(asked, data)
             except ConnectionLost:
                 self._is_lost = True
                 raise
-            if not isinstance(outcome, (NotLeader, Unavailable)):
-                return outcome
+            elsewhere = [outcome for outcome in outcomes if isinstance(outcome, (NotLeader, Unavailable))]
+            if not elsewhere:
+                return outcomes
             self._is_lost = True
             self.link.cut()
             try:
-                pause = self._route.pause_after(outcome)
+                pause = self._route.pause_after(elsewhere[-1])
             except Refusal:
-                return outcome
+                return outcomes
+            if len(elsewhere) < len(outcomes):
+                return outcomes  # some were done: who gave them together sees which
             time.sleep(pause)
 
 

@@ -69,7 +69,7 @@ def encoded(text):
 class Cluster:
     """Processes with their folder. `servers` and `members` are three of each, or nothing in the place of one that was ended."""
 
-    def __init__(self, ttl=2, nearest_only=False, quota=0, loss=0.0, tls=False, place=None, ask=False):
+    def __init__(self, ttl=2, nearest_only=False, quota=0, loss=0.0, tls=False, place=None, ask=None):
         self.room = pathlib.Path(tempfile.mkdtemp(prefix="rollback-cluster-", dir=place or folder()))
         self.ttl, self.nearest_only, self.quota, self.loss = ttl, nearest_only, quota, loss
         ports = free_ports(12)
@@ -79,7 +79,7 @@ class Cluster:
         self.ways = ports[9:]  # by which servers reach etcd, if answers get lost
         self.members, self.servers = [None] * 3, [None] * 3
         self.python = python_of_servers()
-        self.ask_words = ["--ask", "--graph", follower()] if ask else []
+        self.ask_words = [ask, "--graph", follower()] if ask else []
         self.tls = None  # the context of callers, and of this test's own calls
         if tls:
             self.secure(["127.0.0.1"])

@@ -10,18 +10,19 @@ import random
 import signal
 import sqlite3
 import statistics
+import subprocess
 import sys
 import time
 from contextlib import closing
 
-from rollback_client import AsyncBook, Book, ConnectionLost, NoServer, NotLeader, Unavailable
+from rollback_client import AsyncBook, Book, ConnectionLost, Done, NoServer, NotLeader, Ready, Unavailable
 from rollback_client.copy import copy_book
 from rollback_client.lines import MOST_BYTES
 from tests.cluster_callers import SETUP, Caller, Reader, Said
 from tests.cluster_checks import check, journals_agree, log_lines
 from tests.certificates import Authority
 from tests.cluster_machines import PREFIX, Cluster, Connection, encoded, run_command
-from tests.program import PROGRAM
+from tests.program import PROGRAM, TOP
 
 
 class Trial:
@@ -416,7 +417,7 @@ def copy_is_the_log(cluster, address):
 
 async def questions(words):
     """Questions of a follower, at the leader and at standbys, amid a leader's death: each sees what was answered before."""
-    async with Cluster(words.ttl, ask=True) as cluster:
+    async with Cluster(words.ttl, ask="--ask") as cluster:
         for line in SETUP:
             await cluster.ask(None, line)
         book = await AsyncBook.connect("cluster:" + ",".join(cluster.addresses))
@@ -443,6 +444,63 @@ async def questions(words):
         assert entries[0] == entries[1] == entries[2], entries
         await book.close()
         return f"{entries[0]} entries in the three followers"
+
+
+async def runner_follows(words):
+    """A runner at the leader alone: behind another leader it goes on, and what was paused stays paused."""
+    async with Cluster(words.ttl, ask="--run") as cluster:
+        for line in SETUP[:2]:
+            await cluster.ask(None, line)
+        book = await AsyncBook.connect("cluster:" + ",".join(cluster.addresses))
+        for turn in range(words.times + 1):
+            await book.start(f"r{turn}", "p", {})
+            assert await book.wait(f"r{turn}", 10) == Done(7)
+            await book.pause(machine="p")
+            number = await cluster.leader()
+            await cluster.end_server(number)
+            cluster.start_server(number)
+            await cluster.ask(number, "history")
+            with contextlib.suppress(ConnectionLost):
+                await book.history()
+            await book.start(f"late{turn}", "p", {})
+            await asyncio.sleep(0.5)
+            assert isinstance(await book.show(f"late{turn}"), Ready), "what was paused is moved by the next leader"
+            standby = await cluster.connect((await cluster.leader() + 1) % 3)
+            assert (await standby.ask("!waits", 5)).startswith("no 40 leader")
+            standby.close()
+            await book.resume(machine="p")
+            assert await book.wait(f"late{turn}", 10) == Done(7)
+        histories = [await cluster.ask(number, "history") for number in range(3)]
+        assert histories[0] == histories[1] == histories[2]
+        lines, _ = await log_lines(cluster)
+        assert sum(1 for _, line in lines if line.startswith("step ")) == 2 * (words.times + 1)
+        await book.close()
+        return f"{len(lines)} lines of {words.times + 2} leaders"
+
+
+async def runner_beside(words):
+    """A runner beside the servers follows the leader, with certificates."""
+    async with Cluster(words.ttl, ask="--ask", tls=True) as cluster:
+        for line in SETUP[:2]:
+            await cluster.ask(None, line)
+        address, files = "cluster:" + ",".join(cluster.addresses), cluster.caller_files
+        command = [sys.executable, "-m", "rollback_client.runner", address, "--tls", ",".join(files)]
+        runner = subprocess.Popen(command, cwd=TOP / "clients/python", stderr=subprocess.DEVNULL)
+        try:
+            async with await AsyncBook.connect(address, tls=files) as book:
+                for turn in range(words.times + 1):
+                    await book.start(f"r{turn}", "p", {})
+                    assert await book.wait(f"r{turn}", 20) == Done(7)
+                    number = await cluster.leader()
+                    await cluster.end_server(number)
+                    cluster.start_server(number)
+                    await cluster.ask(number, "history")
+                    with contextlib.suppress(ConnectionLost):
+                        await book.history()
+            return f"{words.times + 1} leaders followed"
+        finally:
+            runner.kill()
+            runner.wait()
 
 
 async def secured(words):
@@ -650,6 +708,8 @@ TRIALS = {
         drives,
         client_follows,
         questions,
+        runner_follows,
+        runner_beside,
         secured,
         begins_and_refuses,
     )

@@ -24,6 +24,8 @@ NAMES = (
     "answers_lost",
     "client_follows",
     "questions",
+    "runner_follows",
+    "runner_beside",
     "secured",
     "begins_and_refuses",
     "leader_killed",

@@ -8,6 +8,7 @@ import subprocess
 from typing import Any, Optional, Tuple, Union, cast
 
 from ..links import host_and_port
+from ..runner.clock_file import ClockFile
 from ..server.callers import Asked, Caller, Given
 from ..server.running import Server
 from ..server.speaking import say
@@ -18,6 +19,8 @@ from .member import Identity, Member
 from .turns import PLACE, ClusterTurns, Role
 from .words import ClusterWords
 
+PAUSED = "paused"  # the key in etcd of what is paused
+PAUSE = 0.2  # seconds between two tries
 MOST_PLACE = 10.0  # seconds that a snapshot of the journal may take at the end of a life
 
 
@@ -150,10 +153,36 @@ class ClusterServer(Server):
         await self._program.status()
 
     async def begin_leading(self, log: Log) -> None:
-        """Begins what runs at the leader alone. What it pauses is kept by `log.keep`, and outlasts this leader. Nothing does yet."""
+        """Begins what runs at the leader alone: the runner, with what is paused, which outlasts the leader before."""
+        clock_file = ClockFile(f"{self.words.journal}-clock", say)
+        clock_file.paused = {(kind, name) for kind, name in json.loads(await log.kept(PAUSED) or b"[]")}
+        self._begin_runner(clock_file, self._answer_for_runner)
 
     async def end_leading(self) -> None:
         """Ends what runs at the leader alone."""
+        runners, self._runners = self._runners, None
+        if runners is not None:
+            await runners.end()
+
+    def _answer_for_runner(self, caller: Caller, asked: Asked, reply: bytes) -> None:
+        """Answers a line for the runner, once etcd keeps what is paused."""
+        if asked.head.startswith((b"!pause", b"!resume")) and reply == b"ok\n":
+            self._keep(self._keep_paused(caller, asked))
+        else:
+            self._answer(caller, asked, reply)
+
+    async def _keep_paused(self, caller: Caller, asked: Asked) -> None:
+        reply = b"ok\n"
+        try:
+            while True:
+                try:
+                    await self._log.keep(PAUSED, self._runners.paused() if self._runners else b"[]")
+                    break
+                except Unreachable:
+                    await asyncio.sleep(PAUSE)
+        except (Deposed, Stopped):
+            reply = self.turns.refused()
+        self._answer(caller, asked, reply)
 
     def _has_program(self) -> bool:
         return hasattr(self, "_program")

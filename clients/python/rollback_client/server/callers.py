@@ -9,7 +9,7 @@ import socket
 import struct
 import termios
 from collections import deque
-from typing import TYPE_CHECKING, Any, Deque, Optional, Union, cast
+from typing import TYPE_CHECKING, Any, Callable, Deque, Optional, Union, cast
 
 from ..lines import MOST_BYTES
 from .pieces import Pieces, pieces_of
@@ -114,6 +114,7 @@ class Caller(asyncio.Protocol):
         self.is_held = False  # its next line waits for the whole reply to the one before
         self.is_copying = False  # bytes of a copy are still to be sent
         self.is_gone = False
+        self.takes: Optional[Callable[[bytes], None]] = None  # its bytes, if they are no lines
         self._cutter = Cutter()
         self._has_ended = False
         self._is_paused = False
@@ -145,6 +146,9 @@ class Caller(asyncio.Protocol):
         if self.is_gone or self.server.is_ending:
             return
         self.last = self.server.time()
+        if self.takes is not None:
+            self.takes(data)
+            return
         self._cutter.feed(data)
         self.cut()
         self.server.turns.want(self)
@@ -256,7 +260,7 @@ class Caller(asyncio.Protocol):
     @property
     def is_idle(self) -> bool:
         """Whether nothing is owed to it."""
-        return not self.owed and not self.unread
+        return not self.owed and not self.unread and self.takes is None
 
     def close_if_answered(self) -> None:
         """Ends a connection whose caller has ended its lines, once it has all replies."""

@@ -48,6 +48,7 @@ class Follower:
         self._turns, self._graph, self._journal = turns, graph, journal
         self._process: Optional[Program] = None
         self._asked: Deque[Optional[Take]] = deque()  # for each line that it wasn't heard on: who takes the answer
+        self._unsent: List[bytes] = []
         self._since: Optional[List[bytes]] = None  # what was accepted since the copy on which it is begun
         self._data = bytearray()
         self._looked = 0
@@ -75,7 +76,15 @@ class Follower:
         self.heard()
 
     def _feed(self, lines: List[bytes]) -> None:
-        assert self._process is not None
+        if not self._unsent:
+            asyncio.get_running_loop().call_soon(self._send)
+        self._unsent += lines
+
+    def _send(self) -> None:
+        """Sends what it is to be fed, all at once."""
+        lines, self._unsent = self._unsent, []
+        if self._process is None or not lines:
+            return
         self._asked.extend([None] * len(lines))
         self._process.write(b"".join(b"= " + line + b"\n" for line in lines))
         if self._process.waiting > MOST_WAITING:
@@ -83,6 +92,10 @@ class Follower:
 
     def ask(self, question: bytes, take: Take) -> None:
         """Has a question answered: `take` gets the answer without its line feed, later and never at once."""
+        if self._process is None:
+            asyncio.get_running_loop().call_soon(take, NO_FOLLOWER)
+            return
+        self._send()
         if self._process is None:
             asyncio.get_running_loop().call_soon(take, NO_FOLLOWER)
             return
@@ -178,7 +191,7 @@ class Follower:
             self._pause = FIRST_PAUSE
         process.kill()
         self._spawn(process.reaped())
-        asked, self._asked = self._asked, deque()
+        asked, self._asked, self._unsent = self._asked, deque(), []
         self._data, self._looked = bytearray(), 0
         for take in asked:
             if take is not None:

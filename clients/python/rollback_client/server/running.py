@@ -6,13 +6,16 @@ import logging
 import os
 import signal
 import time
-from typing import TYPE_CHECKING, Any, Callable, Dict, Optional, Set, Tuple
+from typing import TYPE_CHECKING, Any, Callable, Coroutine, Dict, Optional, Set, Tuple
 
 from ..commands import GREETING
+from ..runner.clock_file import ClockFile
 from .callers import Asked, Caller
 from .follower import NO_FOLLOWER, Follower, graph_beside
+from .inside import InsideRunner
 from .places import UnixPlace, loopback
 from .program import Program, is_in_use, meaning
+from .runners import NO_RUNNER, Answer, Runners
 from .speaking import say, say_bytes
 from .turns import Turns
 from .unread import Unread
@@ -40,6 +43,7 @@ class Server:
         self._is_hurried = False
         self._copies: Set[asyncio.Task[None]] = set()
         self._follower: Optional[Follower] = None
+        self._runners: Optional[Runners] = None
 
     # ---- callers
 
@@ -59,6 +63,8 @@ class Server:
         self.callers.discard(caller)
         self.unread.forget(caller)
         self.turns.end_pieces(caller)
+        if self._runners is not None:
+            self._runners.leaves(caller)
 
     def _make_room(self) -> bool:
         if self.words.idle is None:
@@ -81,8 +87,10 @@ class Server:
             self.turns.when_quiet(lambda: self._copy(caller, asked))
         elif asked.head.startswith(b"?"):
             self._ask(caller, asked)
+        elif self._runners is None:
+            self._answer(caller, asked, NO_RUNNER)
         else:
-            self._answer(caller, asked, b"no 20\n")
+            self._keep(self._runners.take(caller, asked))
 
     def _answer(self, caller: Caller, asked: Asked, reply: bytes) -> None:
         """Answers such a line, later and never at once."""
@@ -103,7 +111,10 @@ class Server:
     def _copy(self, caller: Caller, asked: Asked) -> None:
         from .copy import send_copy  # who never asks for a copy doesn't need it
 
-        task = asyncio.ensure_future(send_copy(self.turns, self.words.journal, caller, asked))
+        self._keep(send_copy(self.turns, self.words.journal, caller, asked))
+
+    def _keep(self, work: Coroutine[Any, Any, None]) -> None:
+        task = asyncio.ensure_future(work)
         self._copies.add(task)
         task.add_done_callback(self._copies.discard)
 
@@ -122,6 +133,7 @@ class Server:
             return await self._status()
         try:
             await self._begin_follower()
+            self._begin_runner(ClockFile(None if self.words.journal is None else f"{self.words.journal}-clock", say))
             listening = await self._listen()
         except (OSError, ValueError):
             if self._place:
@@ -173,12 +185,21 @@ class Server:
             await asyncio.sleep(min(0.1, max(0.0, ends - self.time())))
 
     async def _begin_follower(self) -> None:
-        if self.words.ask:
-            self._follower = Follower(
-                self.turns, graph_beside(self.words.program, self.words.graph), self.words.journal
-            )
-            await self._follower.begin()
-            self.turns.follow = self._follower.follow
+        words = self.words
+        if not words.ask:
+            return
+        follower = self._follower = Follower(self.turns, graph_beside(words.program, words.graph), words.journal)
+        await follower.begin()
+        self.turns.follow = follower.follow
+
+    def _begin_runner(self, clock_file: ClockFile, answer: Optional[Answer] = None) -> None:
+        words, follower = self.words, self._follower
+        if follower is None:
+            return
+        self._runners = Runners(clock_file, answer or self._answer)
+        if words.run:
+            self._runners.inside = InsideRunner(self, self.turns, follower, words.runner_options(), clock_file)
+            self._runners.inside.begin()
 
     async def _listen(self) -> asyncio.AbstractServer:
         loop = asyncio.get_running_loop()
@@ -224,6 +245,8 @@ class Server:
         ends = self.time() + self.words.grace
         self.is_ending = self.turns.is_ending = True
         listening.close()
+        if self._runners is not None and self._runners.inside is not None:
+            await self._runners.inside.end()
         if self._place:
             self._place.remove()
         for caller in list(self.callers):
