@@ -101,7 +101,7 @@ async def bench(words):
                     for name, address in places.items():
                         found[name].append(await rate(address, callers, words.seconds, f"{callers}x{turn}"))
                         await asyncio.sleep(0.3)
-                shares = [three / one for one, three in zip(found["alone"], found["on three"])]
+                shares = [three / one for one, three in zip(found["alone"], found["on three"]) if one] or [0.0]
                 spread = f"{statistics.median(shares):.2f} ({min(shares):.2f} to {max(shares):.2f})"
                 medians = ", ".join(f"{name} {statistics.median(rates):.0f}" for name, rates in found.items())
                 print(f"{callers} callers: lines a second {medians}; share {spread}", flush=True)
