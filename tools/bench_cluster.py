@@ -5,7 +5,7 @@
 
 Three members of etcd and three servers run on this machine, so the processors are shared by all of them: the share counts, and not the
 lines. Each caller gives a start, a step and a question in turn and waits for each reply. In each round both arrangements take their turns.
-Printed are the medians of the rounds, the shares with their range, and how long a leader's line took to be in the books that stand by.
+Printed are the medians of the rounds, their share, the shares of the middle rounds, and how long a leader's line took to be in the books that stand by.
 """
 import argparse
 import asyncio
@@ -101,9 +101,11 @@ async def bench(words):
                     for name, address in places.items():
                         found[name].append(await rate(address, callers, words.seconds, f"{callers}x{turn}"))
                         await asyncio.sleep(0.3)
-                shares = [three / one for one, three in zip(found["alone"], found["on three"])]
-                spread = f"{statistics.median(shares):.2f} ({min(shares):.2f} to {max(shares):.2f})"
-                medians = ", ".join(f"{name} {statistics.median(rates):.0f}" for name, rates in found.items())
+                medians_of = {name: statistics.median(rates) for name, rates in found.items()}
+                shares = sorted(three / one for one, three in zip(found["alone"], found["on three"]) if one) or [0.0]
+                quarters = f"{shares[len(shares) // 4]:.2f} to {shares[len(shares) * 3 // 4]:.2f}"
+                spread = f"{medians_of['on three'] / max(1.0, medians_of['alone']):.2f} (half of the rounds {quarters})"
+                medians = ", ".join(f"{name} {median:.0f}" for name, median in medians_of.items())
                 print(f"{callers} callers: lines a second {medians}; share {spread}", flush=True)
             late = await behind(cluster, leader, words.seconds)
             print(

@@ -324,7 +324,7 @@ class Cluster:
             await asyncio.sleep(0.05)
         raise AssertionError(f"{holds.__name__} doesn't hold after {seconds} s: {last!r}")
 
-    async def ask(self, number, line, seconds=40):
+    async def ask(self, number, line, seconds=120):
         """One line to one server, or to the one that leads, again until it is taken."""
 
         async def answered():
