@@ -6,9 +6,11 @@ usage: plain_rows.py [--program PATH] [--graph PATH] [--sessions N] [--seed S] [
 tools/drawn.py draws the lines: starts, steps, drives, rounds of workers, undoings, plans, rollbacks, holds, settlements, and lines that are
 refused. Both are given each line, and answer the same, but that the plain book doesn't say which fault of a definition it is. At the end
 both show each thread, the items and the history alike. Rows of threads that are kept by `threads since` alone are those of all threads.
-With --graph the follower of rollback_graph is fed the same lines, and answers drawn questions of all kinds as the plain book does: `causes`,
-`plan`, `why`, `item`, `show`, `list`, `threads`, `log`, `steps`, `find`, and of `explain` whether something is said, of which state, error
-and step, and which path picks nothing of what. Session I of seed S is the same each time. The last line is `N passed, M failed`.
+If rollback_graph can follow (--graph, else the one that the gate leaves), it is fed the same lines, and answers drawn questions of all kinds
+as the plain book does: `causes`, `plan`, `why`, `item`, `show`, `list`, `threads`, `log`, `steps`, `find`, and of `explain` whether something
+is said, of which state, error and step, and which path picks nothing of what.
+
+Session I of seed S is the same each time. The last line is `N passed, M failed`.
 """
 import argparse
 import json
@@ -23,6 +25,9 @@ from drawn_steps import Difference, Session  # noqa: E402: beside this file
 from plain_book.book import JOURNALED, Book, path_of  # noqa: E402: beside this file
 from plain_book.following import answered  # noqa: E402: beside this file
 from plain_book.questions import answer, thread_row  # noqa: E402: beside this file
+
+
+GRAPH = os.path.join(os.path.dirname(PROGRAM), "..", "..", "rollback_graph", "out", "rollback_graph")
 
 
 class Both:
@@ -180,20 +185,31 @@ def check(program, graph, seed, number, count):
     return True, len(both.lines)
 
 
+def follower_of_gate():
+    """The rollback_graph that the gate leaves, if it can follow."""
+    graph = os.environ.get("ROLLBACK_GRAPH", GRAPH)
+    try:
+        done = subprocess.run([graph, "--serve"], stdin=subprocess.DEVNULL, capture_output=True, check=False)
+    except OSError:
+        return None
+    return graph if done.returncode == 0 else None
+
+
 def main():
     parser = argparse.ArgumentParser(description="Compares the plain book with the program, and with a follower.")
     parser.add_argument("--program", default=os.environ.get("ROLLBACK_PROGRAM", PROGRAM))
-    parser.add_argument("--graph", help="rollback_graph, whose answers are compared too")
+    parser.add_argument("--graph", help="rollback_graph, whose answers are compared too; that of the gate if it can follow")
     parser.add_argument("--sessions", type=int, default=200)
     parser.add_argument("--seed", type=int, default=1)
     parser.add_argument("--session", type=int)
     parser.add_argument("--lines", type=int, default=60)
     given = parser.parse_args()
+    graph = given.graph or follower_of_gate()
     passed = failed = lines = 0
     for number in [given.session] if given.session is not None else range(given.sessions):
-        is_same, count = check(given.program, given.graph, given.seed, number, given.lines)
+        is_same, count = check(given.program, graph, given.seed, number, given.lines)
         passed, failed, lines = passed + is_same, failed + (not is_same), lines + count
-    print(f"{lines} lines in drawn sessions")
+    print(f"{lines} lines in drawn sessions" + ("" if graph else "; no rollback_graph here follows, so no answers are compared"))
     print(f"{passed} passed, {failed} failed")
     return 1 if failed or not passed else 0
 

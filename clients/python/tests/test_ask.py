@@ -261,6 +261,16 @@ for line in sys.stdin:
         with Book.connect(server.address) as book:
             self.assertEqual(book.threads()["entries"], 0)
 
+    def test_one_that_hangs_holds_no_end_up(self):
+        graph = self.script("#!/bin/sh\nread a; echo no 20; exec sleep 1000\n")
+        server = self.asking(graph=graph)
+        with Book.connect(server.address) as book:
+            book.start("a", "p", {})
+            self.assertEqual(str(book.step("a").step), "a#1")
+        began = time.monotonic()
+        self.assertEqual(server.end(), (0, ""))
+        self.assertLess(time.monotonic() - began, 30)
+
     def test_a_caller_that_leaves_before_the_answer(self):
         server = self.asking()
         for _ in range(5):

@@ -313,6 +313,23 @@ class Others(Ran):
                 self.assertIsInstance(self.book.show("b"), Done)
 
 
+class Guide(Ran):
+    def test_the_tutorial(self):
+        """docs/USER_GUIDE.md says when each of the example's executions is stepped."""
+        lines = (TOP / "examples/polls-and-locks.txt").read_text(encoding="utf-8").split("\n")
+        for line in lines[1 : lines.index("drive 6")]:
+            self.book.ask(line)
+        with running(self.server.address) as run:
+            run.until(0)
+            self.assertEqual(self.moments(), {"export-2": 5, "export-1": 12, "arrival-1": 30, "courier-1": 75})
+            self.assertEqual([found.why for found in self.book.waits()][:2], ["retry 1 of Lock", "Wait of Export"])
+            run.until(3600)
+        for execution in ("arrival-1", "courier-1", "export-1", "export-2"):
+            self.assertIsInstance(self.book.show(execution), Done)
+        # the lock is free after 12 seconds, tried for after 5, 10 and 15, and then kept for 12
+        self.assertEqual(run.jumps, [5, 10, 12, 15, 27, 30, 60, 75, 90])
+
+
 class Restarts(Served):
     def setUp(self):
         super().setUp()

@@ -12,7 +12,7 @@ from ..faults import Full, Held, JournalRefused, NoFollower, NoTable, OutOfMemor
 from .clock_file import Arrival, ClockFile, is_paused
 from .schedule import Known, Schedule
 
-PAGE = 1000  # rows of one answer
+PAGE = 250  # rows of one answer
 FIRST_PAUSE, LONGEST_PAUSE = 1.0, 60.0  # seconds before it tries again, if the journal takes no line
 AGAIN = 0.2  # seconds before it asks a follower again that isn't there, and looks at a hold
 SMOOTH = 0.02  # seconds over which a rate is kept
@@ -136,6 +136,8 @@ class Running:
                 yield from self._turn()
             else:
                 yield from self._look(Look(self._since))
+                if self._has_many and now >= self._not_before:
+                    yield from self._settle()
                 yield from self._rest()
 
     def changed_pauses(self) -> None:
@@ -240,8 +242,13 @@ class Running:
                 self._limit.took(now)
         if self._is_full:
             yield from self._make_room()
-        elif self.options.settle_at is not None and self._remaining + self._own >= self.options.settle_at:
+        elif self._has_many:
             yield from self._settle()
+
+    @property
+    def _has_many(self) -> bool:
+        """Whether perhaps as many steps remain as are to be settled."""
+        return self.options.settle_at is not None and self._remaining + self._own >= self.options.settle_at
 
     def _came(self, known: Known, outcome: Optional[Refusal]) -> None:
         """What came of a step."""

@@ -21,6 +21,7 @@ from .turns import Turns
 
 NO_FOLLOWER = b'{"rollback_graph":1,"error":"no follower"}'
 FIRST_PAUSE, LONGEST_PAUSE = 0.1, 30.0  # seconds before it is begun again
+PATIENCE = 5.0  # seconds that it has to end
 STEADY = 10.0  # seconds after which one that ends is begun again at once
 MOST_WAITING = 256 << 20  # bytes of lines that it hasn't read
 _KEPT = frozenset((b"table", b"define", b"start", b"step", b"undo", b"rollback", b"settle", b"hold"))
@@ -243,8 +244,13 @@ class Follower:
         process, self._process = self._process, None
         for task in list(self._tasks):
             task.cancel()
-        if process is not None:
-            process.end_input()
+        if process is None:
+            return
+        process.end_input()
+        try:
+            await asyncio.wait_for(process.status(), PATIENCE)
+        except asyncio.TimeoutError:
+            process.kill()
             await process.status()
 
 

@@ -19,6 +19,7 @@ if TYPE_CHECKING:
     from .running import Server
 
 ALONE, BESIDE_OTHERS = 64, 16  # steps that are given at once
+MOST_UNSEEN = 1024  # of its own steps, before it looks what came of them
 TOGETHER = 0.005  # seconds
 PATIENCE = 1.0  # seconds for which others' lines wait for an answer of the follower
 
@@ -172,7 +173,7 @@ class InsideRunner:
             self._own += outcome is None
             # the end of a fork takes its branches away
             self._must_look = self._must_look or outcome is not None or known.row["move"] != "step"
-        self._must_look = self._must_look or self._own - self._own_looked > PAGE
+        self._must_look = self._must_look or self._own - self._own_looked >= MOST_UNSEEN
         return outcomes
 
     def _give(self, lines: List[bytes]) -> List[asyncio.Future[bytes]]:
