@@ -70,6 +70,7 @@ class InLoop(unittest.IsolatedAsyncioTestCase):
     """A test with an etcd in memory."""
 
     async def asyncSetUp(self):
+        asyncio.get_running_loop().slow_callback_duration = 60  # what a busy machine takes isn't looked at
         self.etcd = FakeEtcd()
         self.tasks = []
 
