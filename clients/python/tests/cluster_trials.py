@@ -6,6 +6,7 @@ import argparse
 import asyncio
 import contextlib
 import json
+import os
 import random
 import signal
 import sqlite3
@@ -64,10 +65,15 @@ class Trial:
             since = [each for each in self.said[-800:] if each.sent > moment and each.word in ("start", "step")]
             return next((each.answered - moment for each in since if each.reply and not each.is_refused), 0)
 
-        seconds = await self.cluster.until(found)
+        seconds, most = await self.cluster.until(found, 120), allowed(most)
         assert seconds <= most, f"accepted again after {seconds:.1f} s, and not within {most} s"
         self.gone.append(seconds)
         return seconds
+
+
+def allowed(seconds):
+    """What a limit in seconds is on this machine now: longer, if more processes want its processors than there are."""
+    return seconds * max(1.0, os.getloadavg()[0] / len(os.sched_getaffinity(0)))
 
 
 def in_words(seconds):
@@ -211,12 +217,16 @@ async def space_used_up(words):
         while (reply := await long_line(trial, f"long-{count}")) == f"ok long-{count}#0":
             count += 1
         assert reply in ("no 40 space", "no 40 election", None), reply
-        await asyncio.sleep(words.ttl)
-        moment = time.monotonic() - words.ttl / 2
-        since = [each for each in trial.said if each.sent > moment and each.reply]
-        told = {each.reply for each in since if each.word != "show"}
-        assert "no 40 space" in told and all(each.startswith("no 40") for each in told), told
-        assert any(each.word == "show" and each.reply.startswith("ok") for each in since), "no question is answered"
+        moment = time.monotonic()
+
+        async def is_named():
+            since = [each for each in trial.said if each.sent > moment and each.reply]
+            told = {each.reply for each in since if each.word != "show"}
+            assert all(each.startswith("no 40") for each in told), told
+            is_read = any(each.word == "show" and each.reply.startswith("ok") for each in since)
+            return "no 40 space" in told and is_read
+
+        await cluster.until(is_named)
         assert cluster.events("space"), "the log file doesn't say that there is no space"
         cluster.quota = 1 << 30
         for number in range(3):
@@ -235,7 +245,11 @@ async def long_line(trial, execution):
     """The reply of the leader to a line of the greatest length, which the check knows as that of a caller of its own."""
     begin = f'start {execution} p "'
     line = begin + "x" * (MOST_BYTES - len(begin) - 1) + '"'
-    connection = await trial.cluster.connect(await trial.cluster.leader())
+    try:
+        number = int(await trial.cluster.until(trial.cluster.leading, 3))
+    except AssertionError:
+        return None  # other lines have used up the space, and nobody leads
+    connection = await trial.cluster.connect(number)
     sent = time.monotonic()
     reply = await connection.ask(line)
     trial.said.append(Said("long", line, sent, reply, time.monotonic()))
@@ -377,7 +391,7 @@ async def client_follows(words):
             await cluster.end_server(number, signal.SIGKILL if turn % 2 == 0 else signal.SIGTERM)
             ended.set()
             await asyncio.gather(*both)
-            assert time.monotonic() - moment < words.ttl + 2.5
+            assert time.monotonic() - moment < allowed(words.ttl + 2.5)
             cluster.start_server(number)
             await cluster.ask(number, "history")
         history = await other.history()
