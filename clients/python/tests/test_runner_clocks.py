@@ -1,5 +1,6 @@
 """Clocks and turns by themselves: when a thread is due, and which one is next. Moments are those of the standard's own examples."""
 import bisect
+import itertools
 import math
 import os
 import sqlite3
@@ -107,6 +108,48 @@ class Waits(unittest.TestCase):
         line = wait_line("a/1.0", NEVER, "Wait of S")
         moment = datetime(9999, 12, 31, 23, 59, 59, tzinfo=timezone.utc)
         self.assertEqual(waiting_of(line), Waiting("a/1.0", moment, "Wait of S"))
+
+
+class Anything(unittest.TestCase):
+    def test_no_definition_and_no_input_is_an_error(self):
+        values = (
+            None,
+            True,
+            -1,
+            0,
+            7,
+            0.5,
+            1e300,
+            10**400,
+            -(10**400),
+            math.inf,
+            "x",
+            "$",
+            "$.a",
+            "$.a[0]",
+            "",
+            [],
+            [1],
+            {},
+        )
+        values += (
+            {"a": [2]},
+            "2026-11-23T12:00:05Z",
+            "9999-12-31T23:59:59Z",
+            "0001-01-01T00:00:00+23:59",
+            "$" * 9,
+            "$['",
+        )
+        for field in ("Seconds", "SecondsPath", "Timestamp", "TimestampPath"):
+            for value, input, path in itertools.product(values, values, ("$", None, "$.a", 5)):
+                due = due_of(row(input=input), {"Type": "Wait", field: value, "InputPath": path}, NOON)
+                self.assertLessEqual(due.moment, NEVER)
+                datetime_of(due.moment)
+        for one, two, three in itertools.product(values, repeat=3):
+            retrier = {"IntervalSeconds": one, "BackoffRate": two, "MaxDelaySeconds": three, "JitterStrategy": one}
+            for number in (1, 9):
+                due = due_of(row(kind="Task", retrier=0, retries=number), {"Retry": [retrier]}, NOON)
+                self.assertTrue(NOON <= due.moment <= NEVER, retrier)
 
 
 class Retries(unittest.TestCase):

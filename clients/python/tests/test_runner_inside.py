@@ -10,6 +10,7 @@ import time
 import unittest
 
 from rollback_client import Book, Done, Failed, NoRunner, Ready
+from rollback_client.copy import copy_book
 from tests.program import LOOP, PROGRAM, TOP, Served, follower
 from tests.runners import ABSENT, NOON, PASSING, OwnClock, chain, put, running, wait
 
@@ -140,6 +141,23 @@ class Runs(Inside):
                     book.start(f"e{round}-{number}", "m", {})
                 self.until(lambda: all(isinstance(book.show(f"e{round}-{number}"), Done) for number in range(20)))
         self.assertEqual(server.end()[0], 0)
+
+    def test_copies_amid_its_steps(self):
+        """Each copy is a journal of whole lines, and the runner goes on."""
+        server = self.run_server()
+        with Book.connect(server.address, timeout=60) as book:
+            book.table("items", {"id": "S"})
+            book.define("loop", LOOP)
+            for number in range(10):
+                book.start(f"e{number}", "loop", {})
+            before = 0
+            for number in range(5):
+                lines, steps = copy_book(server.address, self.path(f"copy{number}"), PROGRAM, 60)
+                self.assertEqual(lines, 2 + steps)
+                self.assertGreaterEqual(steps, before)
+                before = steps
+            self.assertGreater(before, 10)
+            book.pause()
 
     def test_a_standing_runner_beside_the_one_inside(self):
         server = self.run_server(journal=None)

@@ -174,7 +174,9 @@ def delay_of(retrier: Mapping[str, Any], number: int) -> float:
     interval = _field(retrier, "IntervalSeconds", 1)
     rate = _field(retrier, "BackoffRate", 2.0)
     most = _field(retrier, "MaxDelaySeconds", math.inf)
-    return min(interval * _power(rate, max(number, 1) - 1), most) if interval else 0.0
+    factor = _power(rate, max(number, 1) - 1)
+    # nothing times something beyond all bounds is nothing
+    return min(interval * factor, most) if interval and factor else 0.0
 
 
 def _field(retrier: Mapping[str, Any], name: str, otherwise: float) -> float:
