@@ -27,11 +27,15 @@ from .faults import (
     MachineFault,
     MachineFaultKind,
     MachineTaken,
+    NoAnswer,
+    NoFollower,
     NoMachine,
     NoMove,
+    NoRunner,
     NoServer,
     NoStep,
     NoTable,
+    NotLeader,
     NoThread,
     OtherProcess,
     OutOfMemory,
@@ -41,8 +45,9 @@ from .faults import (
     Settled,
     StreamBroken,
     TableTaken,
+    Unavailable,
 )
-from .values import Done, Failed, Frame, Parked, Ready, Step, Taken
+from .values import Done, Failed, Frame, Parked, Ready, Step, Taken, Waiting
 
 __version__ = "0.1.0"
 
@@ -68,12 +73,16 @@ __all__ = [
     "MachineFault",
     "MachineFaultKind",
     "MachineTaken",
+    "NoAnswer",
+    "NoFollower",
     "NoMachine",
     "NoMove",
+    "NoRunner",
     "NoServer",
     "NoStep",
     "NoTable",
     "NoThread",
+    "NotLeader",
     "OtherProcess",
     "OutOfMemory",
     "Parked",
@@ -86,6 +95,8 @@ __all__ = [
     "StreamBroken",
     "TableTaken",
     "Taken",
+    "Unavailable",
+    "Waiting",
     "attribute",
     "plain",
 ]

@@ -2,7 +2,7 @@
 from __future__ import annotations
 
 import enum
-from typing import TYPE_CHECKING, Any, Optional, Sequence, Tuple, Type, Union
+from typing import TYPE_CHECKING, Any, Dict, Optional, Sequence, Tuple, Type, Union
 
 from .lines import short
 from .values import Step, texts_of
@@ -326,11 +326,71 @@ class JournalRefused(Refusal):
     )
 
 
+class Unavailable(Refusal):
+    """The book takes no line now. `why` is `election` while no server leads, `quorum` without a majority of etcd, or `space`."""
+
+    code, means = 40, "the book takes no line now"
+    advice = "give the line again later: it has changed nothing"
+    _reasons = {
+        "election": "no server leads now",
+        "quorum": "the majority of etcd doesn't answer",
+        "space": "the quota of etcd's database is used up",
+    }
+
+    def __init__(self, code: int, detail: str, line: str = ""):
+        self.why = detail
+        super().__init__(code, detail, line)
+
+    def _in_words(self) -> str:
+        return self._reasons.get(self.why, self.why)
+
+
+class NotLeader(Refusal):
+    """Another server of the book leads. `leader` is its address. A book that was connected by `cluster:` goes there by itself."""
+
+    code, means, advice = (
+        40,
+        "another server leads",
+        "connect to that one, or by cluster:HOST:PORT,.. to whichever leads",
+    )
+
+    def __init__(self, code: int, detail: str, line: str = ""):
+        self.leader = detail.partition(" ")[2]
+        super().__init__(code, detail, line)
+
+
 class BadJson(_OfNumber):
     """The line's JSON is faulty. `fault` is a `JsonFaultKind`."""
 
     code, means, advice = 25, "bad JSON", "correct J"
     _kinds, _what = JsonFaultKind, "JSON fault"
+
+
+class NoRunner(Refusal):
+    """No runner takes steps of this book, and the server keeps nothing for one."""
+
+    code, means = 31, "no runner takes steps of this book"
+    advice = "serve it by rollback-serve --run, or run rollback-run beside a server with --ask"
+
+
+class NoAnswer(Refusal):
+    """A question has no answer. `detail` says why, as `order-9 is no execution`."""
+
+    means = "no answer"
+
+    def __init__(self, code: int, detail: str, line: str = ""):
+        super().__init__(code, detail, line)
+        self.args = (f"{short(line)}: {detail}" if line else detail,)
+
+
+class NoFollower(NoAnswer):
+    """Nobody answers questions here: there is no server, or it has no follower, or begins it again just now."""
+
+    advice = "serve the book by rollback-serve --ask, and give the question again"
+
+    def __init__(self, code: int, detail: str, line: str = ""):
+        super().__init__(code, detail, line)
+        self.args = (f"{self.args[0]}: {self.advice}",)
 
 
 REFUSALS: Tuple[Type[Refusal], ...] = (
@@ -353,7 +413,7 @@ REFUSALS: Tuple[Type[Refusal], ...] = (
     JournalRefused,
     BadJson,
 )
-_CLASSES = {refusal.code: refusal for refusal in REFUSALS}
+_CLASSES: Dict[int, Type[Refusal]] = {**{refusal.code: refusal for refusal in REFUSALS}, NoRunner.code: NoRunner}
 
 
 def refusal_of(first: str, line: str = "") -> Refusal:
@@ -362,4 +422,7 @@ def refusal_of(first: str, line: str = "") -> Refusal:
     code, _, detail = rest.partition(" ")
     if word != "no" or not (code.isascii() and code.isdecimal()):
         raise ValueError(f"no refusal: {short(first)!r}")
+    if code == "40":  # of a server of a cluster, and not of the program
+        kind = NotLeader if detail.startswith("leader ") else Unavailable
+        return kind(int(code), detail, line)
     return _CLASSES.get(int(code), Refusal)(int(code), detail, line)

@@ -5,12 +5,12 @@ import select
 import socket
 import threading
 import time
-from typing import Optional, TypeVar, Union
+from typing import List, Optional, Sequence, TypeVar, Union
 
 from .commands import Command, greeting
 from .faults import Refusal, RollbackError, StreamBroken
 from .lines import Replies
-from .links import CHUNK, Link, Retry, StreamEnded, host_and_port, unix_socket
+from .links import CHUNK, CLUSTER, Link, Retry, StreamEnded, Tls, host_and_port, unix_socket
 
 T = TypeVar("T")
 
@@ -30,12 +30,25 @@ class Stream:
         with self._lock:
             try:
                 self._holder = threading.get_ident()
-                outcome = self._exchange(command, data)
+                (outcome,) = self._exchange([command], data)
             finally:
                 self._holder = None
         if isinstance(outcome, Refusal):
             raise outcome
         return outcome
+
+    def call_all(self, asked: Sequence[Command[T]]) -> List[Union[T, Refusal]]:
+        """Gives the lines of some commands at once, and hands back what each came to. They have to be few and short."""
+        data = b"".join(command.encoded() for command in asked)
+        if not asked:
+            return []
+        self._look()
+        with self._lock:
+            try:
+                self._holder = threading.get_ident()
+                return self._exchange(asked, data)
+            finally:
+                self._holder = None
 
     def close(self) -> None:
         """Ends the stream, after the call under way. A program that ends with another status than 0 is an error."""
@@ -53,38 +66,41 @@ class Stream:
                 "a call of this book is under way in this thread: what interrupts it can't make another"
             )
 
-    def _exchange(self, command: Command[T], data: bytes) -> Union[T, Refusal]:
-        self.link.begin(command.line)
+    def _exchange(self, asked: Sequence[Command[T]], data: bytes) -> List[Union[T, Refusal]]:
+        line = asked[0].line if asked else ""
+        self.link.begin(line)
         try:
-            outcome = self._reply(command, data)
+            outcomes = self._replies(asked, data)
             self.link.end()
-            return outcome
+            return outcomes
         except BaseException as fault:
-            error = self.link.failed(fault, command.line)
+            error = self.link.failed(fault, line)
             if error is fault:
                 raise
             raise error from fault
 
-    def _reply(self, command: Command[T], data: bytes) -> Union[T, Refusal]:
+    def _replies(self, asked: Sequence[Command[T]], data: bytes) -> List[Union[T, Refusal]]:
         unsent: Optional[OSError] = None
         try:
             self._send(data)
         except (BrokenPipeError, ConnectionResetError) as fault:
             unsent = fault  # what the server said before it closed is read first
         replies = Replies()
-        reply = None
-        while reply is None:
-            chunk = self._receive()
-            if not chunk:
-                raise unsent or StreamEnded("the connection has ended")
-            replies.feed(chunk)
+        outcomes: List[Union[T, Refusal]] = []
+        for command in asked:
             reply = replies.next(command.is_list)
-        outcome = command.outcome(reply)
+            while reply is None:
+                chunk = self._receive()
+                if not chunk:
+                    raise unsent or StreamEnded("the connection has ended")
+                replies.feed(chunk)
+                reply = replies.next(command.is_list)
+            outcomes.append(command.outcome(reply))
         if unsent:
             raise unsent
         if replies.rest():
             raise StreamBroken("more bytes came than those of the reply")
-        return outcome
+        return outcomes
 
     def _send(self, data: bytes) -> None:
         left = memoryview(data)
@@ -105,12 +121,16 @@ class Stream:
             raise StreamEnded(f"no byte came or went for {self._timeout} seconds")
 
 
-def connect(address: str, timeout: Optional[float], retry: Optional[float]) -> Stream:
-    """A stream to a server of lines that has a place for this caller."""
+def connect(address: str, timeout: Optional[float], retry: Optional[float], tls: Optional[Tls] = None) -> Stream:
+    """A stream to a server of lines that has a place for this caller, or to whichever server of a cluster leads."""
+    if address.startswith(CLUSTER):
+        from .following import FollowingStream
+
+        return FollowingStream.to(address, timeout, retry, tls)
     attempts = Retry(address, timeout, retry)
     while True:
         try:
-            stream = Stream(Link(f"at {address}", _opened(address, timeout)), timeout)
+            stream = Stream(link_to(address, timeout, tls), timeout)
             try:
                 stream.call(greeting())
             except Refusal:
@@ -121,12 +141,18 @@ def connect(address: str, timeout: Optional[float], retry: Optional[float]) -> S
         time.sleep(pause)
 
 
-def connected_socket(address: str, timeout: Optional[float]) -> socket.socket:
-    """A plain connection to a server of lines, or `NoServer` or `Busy`."""
+def connected_socket(address: str, timeout: Optional[float], tls: Optional[Tls] = None) -> socket.socket:
+    """A plain connection to a server of lines, or to the one of a cluster that leads; or `NoServer`, `Busy` or `Unavailable`."""
+    if address.startswith(CLUSTER):
+        from .following import FollowingStream
+
+        found = FollowingStream.to(address, timeout, None, tls).link.socket
+        found.settimeout(timeout)
+        return found
     attempts = Retry(address, timeout, None)
     while True:
         try:
-            found = _opened(address, timeout)
+            found = link_to(address, timeout, tls).socket
             found.settimeout(timeout)
             return found
         except OSError as fault:
@@ -134,8 +160,20 @@ def connected_socket(address: str, timeout: Optional[float]) -> socket.socket:
         time.sleep(pause)
 
 
-def _opened(address: str, timeout: Optional[float]) -> socket.socket:
+def link_to(address: str, timeout: Optional[float], tls: Optional[Tls] = None) -> Link:
+    """A connection to a server of lines, secured if there are files of TLS. Raises `OSError`."""
     place = host_and_port(address)
+    if tls is not None and place is None:
+        raise ValueError("TLS is for host:port, and not for a Unix socket")
     found = unix_socket(address) if place is None else socket.create_connection(place, timeout)
+    if tls is not None and place is not None:
+        from .secured import SecuredLink, secured
+
+        try:
+            passing = secured(found, place[0], tls, timeout)
+        except BaseException:
+            found.close()
+            raise
+        return SecuredLink(f"at {address}", passing)
     found.setblocking(True)
-    return found
+    return Link(f"at {address}", found)

@@ -6,16 +6,23 @@ import logging
 import os
 import signal
 import time
-from typing import Any, Callable, Dict, Optional, Set
+from typing import TYPE_CHECKING, Any, Callable, Coroutine, Dict, Optional, Set, Tuple
 
 from ..commands import GREETING
+from ..runner.clock_file import ClockFile
 from .callers import Asked, Caller
+from .follower import NO_FOLLOWER, Follower, graph_beside
+from .inside import InsideRunner
 from .places import UnixPlace, loopback
 from .program import Program, is_in_use, meaning
+from .runners import NO_RUNNER, Answer, Runners
 from .speaking import say, say_bytes
 from .turns import Turns
 from .unread import Unread
 from .words import Words
+
+if TYPE_CHECKING:
+    import ssl
 
 BACKLOG = 512  # callers that wait to be taken
 ENDING = (signal.SIGTERM, signal.SIGINT, signal.SIGQUIT)
@@ -26,7 +33,7 @@ class Server:
 
     def __init__(self, words: Words):
         self.words = words
-        self.turns = Turns(self._write, self._copy)
+        self.turns = Turns(self._write, self._own)
         self.unread = Unread(words.unread << 20)
         self.callers: Set[Caller] = set()
         self.is_ending = False
@@ -35,6 +42,8 @@ class Server:
         self._asked_to_end = asyncio.Event()
         self._is_hurried = False
         self._copies: Set[asyncio.Task[None]] = set()
+        self._follower: Optional[Follower] = None
+        self._runners: Optional[Runners] = None
 
     # ---- callers
 
@@ -54,6 +63,8 @@ class Server:
         self.callers.discard(caller)
         self.unread.forget(caller)
         self.turns.end_pieces(caller)
+        if self._runners is not None:
+            self._runners.leaves(caller)
 
     def _make_room(self) -> bool:
         if self.words.idle is None:
@@ -70,10 +81,40 @@ class Server:
     def _write(self, data: bytes) -> None:
         self._program.write(data)
 
+    def _own(self, caller: Caller, asked: Asked) -> None:
+        """Answers a line that isn't the program's."""
+        if asked.head == b"!copy":
+            self.turns.when_quiet(lambda: self._copy(caller, asked))
+        elif asked.head.startswith(b"?"):
+            self._ask(caller, asked)
+        elif self._runners is None:
+            self._answer(caller, asked, NO_RUNNER)
+        else:
+            self._keep(self._runners.take(caller, asked))
+
+    def _answer(self, caller: Caller, asked: Asked, reply: bytes) -> None:
+        """Answers such a line, later and never at once."""
+        asyncio.get_running_loop().call_soon(self._answer_now, caller, asked, reply)
+
+    def _answer_now(self, caller: Caller, asked: Asked, reply: bytes) -> None:
+        self.turns.log_own(caller, asked, reply)
+        self.turns.answered(caller, reply)
+
+    def _ask(self, caller: Caller, asked: Asked) -> None:
+        """Has the follower answer a question."""
+        if self._follower is None:
+            self._answer(caller, asked, NO_FOLLOWER + b"\n")
+            return
+        question = asked.line[:-1] if asked.line.endswith(b"\r") else asked.line
+        self._follower.ask(question, lambda answer: self._answer_now(caller, asked, answer + b"\n"))
+
     def _copy(self, caller: Caller, asked: Asked) -> None:
         from .copy import send_copy  # who never asks for a copy doesn't need it
 
-        task = asyncio.ensure_future(send_copy(self.turns, self.words.journal, caller, asked))
+        self._keep(send_copy(self.turns, self.words.journal, caller, asked))
+
+    def _keep(self, work: Coroutine[Any, Any, None]) -> None:
+        task = asyncio.ensure_future(work)
         self._copies.add(task)
         task.add_done_callback(self._copies.discard)
 
@@ -91,8 +132,10 @@ class Server:
         if not await self._open_program():
             return await self._status()
         try:
+            await self._begin_follower()
+            self._begin_runner(ClockFile(None if self.words.journal is None else f"{self.words.journal}-clock", say))
             listening = await self._listen()
-        except OSError:
+        except (OSError, ValueError):
             if self._place:
                 self._place.remove()
             self._program.end_input()
@@ -141,11 +184,28 @@ class Server:
                 return False
             await asyncio.sleep(min(0.1, max(0.0, ends - self.time())))
 
+    async def _begin_follower(self) -> None:
+        words = self.words
+        if not words.ask:
+            return
+        follower = self._follower = Follower(self.turns, graph_beside(words.program, words.graph), words.journal)
+        await follower.begin()
+        self.turns.follow = follower.follow
+
+    def _begin_runner(self, clock_file: ClockFile, answer: Optional[Answer] = None) -> None:
+        words, follower = self.words, self._follower
+        if follower is None:
+            return
+        self._runners = Runners(clock_file, answer or self._answer)
+        if words.run:
+            self._runners.inside = InsideRunner(self, self.turns, follower, words.runner_options(), clock_file)
+            self._runners.inside.begin()
+
     async def _listen(self) -> asyncio.AbstractServer:
         loop = asyncio.get_running_loop()
         if self._place:
             made = self._place.bind()
-            listening = await loop.create_unix_server(lambda: Caller(self), sock=made, backlog=BACKLOG)
+            listening = await loop.create_unix_server(self._new_caller, sock=made, backlog=BACKLOG)
             name = os.fsencode(self._place.path)
             if self._place.others_reach_it():
                 does = "lets them in" if self._place.mode & 0o006 else "alone keeps them out"
@@ -153,8 +213,8 @@ class Server:
                     f"others can reach the folder of {self._place.path}: the socket's mode {self._place.mode:04o} {does}"
                 )
         else:
-            host, port = loopback(self.words.listen or "")
-            listening = await loop.create_server(lambda: Caller(self), host, port, backlog=BACKLOG)
+            host, port = self._host_and_port()
+            listening = await loop.create_server(self._new_caller, host, port, backlog=BACKLOG, ssl=self._tls())
             port = listening.sockets[0].getsockname()[1]
             name = f"{(self.words.listen or '').rpartition(':')[0]}:{port}".encode()
         try:
@@ -162,6 +222,15 @@ class Server:
         except OSError:
             pass  # nobody hears it
         return listening
+
+    def _new_caller(self) -> Caller:
+        return Caller(self)
+
+    def _host_and_port(self) -> Tuple[str, int]:
+        return loopback(self.words.listen or "")
+
+    def _tls(self) -> Optional[ssl.SSLContext]:
+        return None
 
     async def _first_of(self, *events: asyncio.Event) -> None:
         tasks = [asyncio.ensure_future(event.wait()) for event in events]
@@ -176,6 +245,8 @@ class Server:
         ends = self.time() + self.words.grace
         self.is_ending = self.turns.is_ending = True
         listening.close()
+        if self._runners is not None and self._runners.inside is not None:
+            await self._runners.inside.end()
         if self._place:
             self._place.remove()
         for caller in list(self.callers):
@@ -187,6 +258,8 @@ class Server:
         await self._until(lambda: not self.turns.given, None)
         self._program.end_input()
         await self._program.status()
+        if self._follower is not None:
+            await self._follower.end()
         await self._until(self._have_read, None if self._is_hurried else ends)
         cut = sum(1 for caller in self.callers if not caller.transport.is_closing())
         if cut:
@@ -232,6 +305,14 @@ def _say_fault(loop: asyncio.AbstractEventLoop, context: Dict[str, Any]) -> None
     say(f"{context.get('message')}: {context.get('exception')!r}")
 
 
+def _server_of(words: Words) -> Server:
+    if words.cluster is None:
+        return Server(words)
+    from ..cluster.serving import ClusterServer  # who has no cluster doesn't need it, nor aiohttp
+
+    return ClusterServer(words)  # type: ignore[arg-type]
+
+
 async def serve(words: Words) -> int:
     """Serves, in the main thread."""
     # Of a caller that is gone asyncio would write a line for each reply.
@@ -239,7 +320,7 @@ async def serve(words: Words) -> int:
     logging.getLogger("asyncio").propagate = False
     asyncio.get_running_loop().set_exception_handler(_say_fault)
     try:
-        return await Server(words).run()
+        return await _server_of(words).run()
     finally:
         # All is done: a further signal doesn't take the place of the status.
         signal.pthread_sigmask(signal.SIG_BLOCK, (*ENDING, signal.SIGHUP))
