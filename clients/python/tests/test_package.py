@@ -90,7 +90,7 @@ class Imports(unittest.TestCase):
         self.assertIn("rollback_client.server.turns", found)
         self.assertNotIn("rollback_client.server.log", found)
         self.assertNotIn("rollback_client.server.copy", found)
-        self.assertEqual([name for name in found if "cluster" in name or "follow" in name or "secured" in name], [])
+        self.assertEqual([name for name in found if "cluster" in name or "following" in name or "secured" in name], [])
 
 
 def python_with_pip():
