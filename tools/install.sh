@@ -16,7 +16,7 @@ prefix=${1:-$HOME/.local}
 library=$prefix/lib/rollback
 pages=$prefix/share/man/man1
 programs="rollback rollback_graph"
-commands="serve copy look lint shell"
+commands="serve copy look lint shell run"
 
 say() {
     echo "install: $*"
@@ -57,9 +57,11 @@ put_programs() {
 
 # A command in Python, which finds its package and the programs where they were put.
 put_command() {
+    module=$1
+    [ "$1" != run ] || module=runner
     cat >"$prefix/bin/rollback-$1" <<COMMAND
 #!/bin/sh
-PYTHONPATH="$library\${PYTHONPATH:+:\$PYTHONPATH}" PATH="\$PATH:$prefix/bin" exec python3 -m rollback_client.$1 "\$@"
+PYTHONPATH="$library\${PYTHONPATH:+:\$PYTHONPATH}" PATH="\$PATH:$prefix/bin" exec python3 -m rollback_client.$module "\$@"
 COMMAND
     chmod 755 "$prefix/bin/rollback-$1"
 }
@@ -92,6 +94,7 @@ put_page rollback-copy "copies a running book"
 put_page rollback-look "asks a copy of a running book what depends on what"
 put_page rollback-lint "finds all faults of a definition"
 put_page rollback-shell "a prompt for a book"
+put_page rollback-run "takes the steps of a book by turns and clocks"
 say "$programs and rollback-{$(echo $commands | tr ' ' ',')} are in $prefix/bin"
 case ":$PATH:" in
 *":$prefix/bin:"*) ;;

@@ -27,8 +27,11 @@ from .faults import (
     MachineFault,
     MachineFaultKind,
     MachineTaken,
+    NoAnswer,
+    NoFollower,
     NoMachine,
     NoMove,
+    NoRunner,
     NoServer,
     NoStep,
     NoTable,
@@ -42,7 +45,7 @@ from .faults import (
     StreamBroken,
     TableTaken,
 )
-from .values import Done, Failed, Frame, Parked, Ready, Step, Taken
+from .values import Done, Failed, Frame, Parked, Ready, Step, Taken, Waiting
 
 __version__ = "0.1.0"
 
@@ -68,8 +71,11 @@ __all__ = [
     "MachineFault",
     "MachineFaultKind",
     "MachineTaken",
+    "NoAnswer",
+    "NoFollower",
     "NoMachine",
     "NoMove",
+    "NoRunner",
     "NoServer",
     "NoStep",
     "NoTable",
@@ -86,6 +92,7 @@ __all__ = [
     "StreamBroken",
     "TableTaken",
     "Taken",
+    "Waiting",
     "attribute",
     "plain",
 ]

@@ -4,18 +4,20 @@ from __future__ import annotations
 import asyncio
 import os
 from types import TracebackType
-from typing import TYPE_CHECKING, Any, Mapping, Optional, Sequence, Type
+from typing import TYPE_CHECKING, Any, Mapping, Optional, Sequence, Type, TypeVar, Union
 
-from . import async_streams, commands, finishing
+from . import async_streams, commands, finishing, questions
 from .book import Book
 from .commands import StepName
 from .faults import Refusal
 from .json_text import Definition
 from .links import Address, open_child
-from .values import Frame, Step, Taken
+from .values import Frame, Step, Taken, Waiting
 
 if TYPE_CHECKING:
     from .lint import Finding, Table
+
+T = TypeVar("T")
 
 
 class AsyncBook:
@@ -79,6 +81,19 @@ class AsyncBook:
     async def ask(self, line: str) -> list[str]:
         return await self._stream.call(commands.ask(line))
 
+    async def give(self, command: commands.Command[T]) -> T:
+        return await self._stream.call(command)
+
+    async def give_all(self, given: Sequence[commands.Command[T]]) -> list[Union[T, Refusal]]:
+        async def outcome_of(command: commands.Command[T]) -> Union[T, Refusal]:
+            try:
+                value: T = await self._stream.call(command)
+                return value
+            except Refusal as refusal:
+                return refusal
+
+        return [await outcome_of(command) for command in given]
+
     # ---- commands
 
     async def table(self, name: str, key: Mapping[str, str], items: Sequence[Mapping[str, Any]] = ()) -> None:
@@ -140,6 +155,61 @@ class AsyncBook:
 
     async def held(self) -> list[Step]:
         return await self._stream.call(commands.held())
+
+    # ---- questions to a follower
+
+    async def question(self, text: str) -> dict[str, Any]:
+        return await self._stream.call(questions.question(text))
+
+    async def causes(self, step: StepName, writes: bool = False) -> dict[str, Any]:
+        return await self._stream.call(questions.causes(step, writes))
+
+    async def item(
+        self,
+        key: Union[str, Mapping[str, Any], None] = None,
+        after: Optional[str] = None,
+        most: Optional[int] = None,
+    ) -> dict[str, Any]:
+        return await self._stream.call(questions.item(key, after, most))
+
+    async def explain(self, thread: str) -> dict[str, Any]:
+        return await self._stream.call(questions.explain(thread))
+
+    async def execution(self, name: str, after: Optional[str] = None, most: Optional[int] = None) -> dict[str, Any]:
+        return await self._stream.call(questions.execution(name, after, most))
+
+    async def threads(
+        self,
+        thread: Optional[str] = None,
+        since: Optional[int] = None,
+        after: Optional[str] = None,
+        most: Optional[int] = None,
+    ) -> dict[str, Any]:
+        return await self._stream.call(questions.threads(thread, since, after, most))
+
+    async def executions(
+        self,
+        status: Optional[str] = None,
+        machine: Optional[str] = None,
+        since: Optional[int] = None,
+        after: Optional[str] = None,
+        most: Optional[int] = None,
+    ) -> dict[str, Any]:
+        return await self._stream.call(questions.executions(status, machine, since, after, most))
+
+    async def log(self, first: int = 0, count: int = 100) -> dict[str, Any]:
+        return await self._stream.call(questions.log(first, count))
+
+    # ---- a runner
+
+    async def pause(self, execution: Optional[str] = None, machine: Optional[str] = None) -> None:
+        await self._stream.call(questions.pause(execution, machine))
+
+    async def resume(self, execution: Optional[str] = None, machine: Optional[str] = None) -> None:
+        await self._stream.call(questions.resume(execution, machine))
+
+    async def waits(self) -> list[Waiting]:
+        return await self._stream.call(questions.waits())
 
     # ---- one execution
 

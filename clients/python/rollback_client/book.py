@@ -4,14 +4,14 @@ from __future__ import annotations
 import os
 import time
 from types import TracebackType
-from typing import TYPE_CHECKING, Any, Mapping, Optional, Sequence, Type, TypeVar
+from typing import TYPE_CHECKING, Any, Mapping, Optional, Sequence, Type, TypeVar, Union
 
-from . import commands, finishing, streams
+from . import commands, finishing, questions, streams
 from .commands import StepName
 from .faults import Refusal
 from .json_text import Definition
 from .links import Address, open_child
-from .values import Frame, Step, Taken
+from .values import Frame, Step, Taken, Waiting
 
 if TYPE_CHECKING:
     from .lint import Finding, Table
@@ -102,6 +102,21 @@ class Book:
         no line: an empty one, or with a line feed, a carriage return at its end, a lone surrogate, or a `!` at its beginning.
         """
         return self._stream.call(commands.ask(line))
+
+    def give(self, command: commands.Command[T]) -> T:
+        """Gives a command of `rollback_client.commands` or `rollback_client.questions`, and hands back its value.
+
+        Raises the refusal of the reply.
+        """
+        return self._stream.call(command)
+
+    def give_all(self, given: Sequence[commands.Command[T]]) -> list[Union[T, Refusal]]:
+        """Gives a few short commands at once, and hands back the value or the refusal of each, in order. No refusal is raised.
+
+        They are done one after another, also behind one that is refused; a server may do other callers' lines between them.
+        Raises a `RollbackError` if the stream breaks.
+        """
+        return self._stream.call_all(given)
 
     # ---- commands
 
@@ -227,6 +242,108 @@ class Book:
         Raises `NoTable`; `BadLine` from a program without this line.
         """
         return self._stream.call(commands.held())
+
+    # ---- questions to a follower
+
+    def question(self, text: str) -> dict[str, Any]:
+        """Asks a question in the words of docs/GRAPH.md, as `causes order-2#3`, and gives the answer as it is laid down there.
+
+        A question sees each line that was answered before. Raises `NoFollower` if the server has no `--ask` or `--run`, or
+        begins its follower again just now; `NoAnswer` if there is no answer, as of a step that doesn't remain.
+        """
+        return self._stream.call(questions.question(text))
+
+    def causes(self, step: StepName, writes: bool = False) -> dict[str, Any]:
+        """The steps on which a step depends, the latest first, in `causes`; with `writes` those that wrote an item, and starts.
+
+        Raises `NoFollower`, `NoAnswer`.
+        """
+        return self._stream.call(questions.causes(step, writes))
+
+    def item(
+        self,
+        key: Union[str, Mapping[str, Any], None] = None,
+        after: Optional[str] = None,
+        most: Optional[int] = None,
+    ) -> dict[str, Any]:
+        """The steps that read and wrote the item of a key, in `accesses`, and the item in `now`. Without a key all `items`.
+
+        The key is an object of attribute values, as `{"id": {"S": "ann"}}`, or the text of a key of one text.
+
+        Raises `NoFollower`, and `NoAnswer` of an item that isn't there and was never accessed.
+        """
+        return self._stream.call(questions.item(key, after, most))
+
+    def explain(self, thread: str) -> dict[str, Any]:
+        """Why a thread failed, or why its next step would: in `why`, which is None if nothing fails.
+
+        Raises `NoFollower`, `NoAnswer`.
+        """
+        return self._stream.call(questions.explain(thread))
+
+    def execution(self, name: str, after: Optional[str] = None, most: Optional[int] = None) -> dict[str, Any]:
+        """An execution: its machine, input and status, and the steps of its threads.
+
+        Raises `NoFollower`, `NoAnswer`.
+        """
+        return self._stream.call(questions.execution(name, after, most))
+
+    def threads(
+        self,
+        thread: Optional[str] = None,
+        since: Optional[int] = None,
+        after: Optional[str] = None,
+        most: Optional[int] = None,
+    ) -> dict[str, Any]:
+        """The threads that have a move, in `threads`; or one; or those that an entry after `since` changed, and who is `gone`.
+
+        Raises `NoFollower`, and `NoAnswer` if there is no such thread.
+        """
+        return self._stream.call(questions.threads(thread, since, after, most))
+
+    def executions(
+        self,
+        status: Optional[str] = None,
+        machine: Optional[str] = None,
+        since: Optional[int] = None,
+        after: Optional[str] = None,
+        most: Optional[int] = None,
+    ) -> dict[str, Any]:
+        """The `executions`: all, those that are `failed` or `open`, those of a machine, or those that changed since an entry.
+
+        Raises `NoFollower`, and `NoAnswer` if there is no such machine.
+        """
+        return self._stream.call(questions.executions(status, machine, since, after, most))
+
+    def log(self, first: int = 0, count: int = 100) -> dict[str, Any]:
+        """The accepted commands from a number on, the `table` line being 0, with what each did.
+
+        Raises `NoFollower`.
+        """
+        return self._stream.call(questions.log(first, count))
+
+    # ---- a runner
+
+    def pause(self, execution: Optional[str] = None, machine: Optional[str] = None) -> None:
+        """Has the runner take no step of one execution, of a machine's, or of any. It has stopped when this returns.
+
+        Raises `NoRunner` if there is no server, or none that a runner can run by.
+        """
+        self._stream.call(questions.pause(execution, machine))
+
+    def resume(self, execution: Optional[str] = None, machine: Optional[str] = None) -> None:
+        """Has the runner go on: with one execution, with a machine's, or, if neither is named, with all that was paused.
+
+        Raises `NoRunner`, as `pause` does.
+        """
+        self._stream.call(questions.resume(execution, machine))
+
+    def waits(self) -> list[Waiting]:
+        """For which threads the runner waits, the next one first.
+
+        Raises `NoRunner` if there is none at the moment.
+        """
+        return self._stream.call(questions.waits())
 
     # ---- one execution
 

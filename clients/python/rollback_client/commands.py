@@ -5,7 +5,7 @@ import json
 import os
 import re
 from dataclasses import dataclass
-from typing import Any, Callable, Generic, Mapping, Sequence, TypeVar, Union
+from typing import Any, Callable, Generic, Mapping, Optional, Sequence, TypeVar, Union
 
 from . import lines
 from .faults import BadLine, Busy, Refusal, StreamBroken, refusal_of
@@ -39,6 +39,8 @@ class Command(Generic[T]):
 
     line: str
     read: Callable[[list[str]], T]
+    # what a refusal means of this line, if that isn't what its code says; without it a line is no question
+    instead: Optional[Callable[[Refusal], Refusal]] = None
 
     @property
     def word(self) -> str:
@@ -64,7 +66,8 @@ class Command(Generic[T]):
             if said == ["busy"]:
                 raise Busy()
             if said[0].startswith("no "):
-                return refusal_of(said[0], self.line)
+                refusal = refusal_of(said[0], self.line)
+                return self.instead(refusal) if self.instead else refusal
             self._look_at(said)
             return self.read(said)
         except (ValueError, TypeError, KeyError, IndexError, RecursionError) as fault:
@@ -73,7 +76,8 @@ class Command(Generic[T]):
 
     def _look_at(self, said: list[str]) -> None:
         if self.line.startswith("?"):
-            json.loads(said[0])
+            if not isinstance(json.loads(said[0]), dict):
+                raise ValueError("an answer is an object")
             return
         form = _FORMS.get(self.word, _OTHER)
         if not form.fullmatch(said[0]):
@@ -87,7 +91,7 @@ class Command(Generic[T]):
             raise ValueError("another step")
         if self.word in ("drive", "work") and len(said) - 1 > int(words[-1]):
             raise ValueError("more steps")
-        if self.is_list and self.word != "items":
+        if self.is_list and self.word not in ("items", "!waits"):
             for name in said[1:]:
                 Step.read(name)
 
@@ -116,6 +120,8 @@ def ask(line: str) -> Command[list[str]]:
     """A line as it is."""
     if not isinstance(line, str):
         raise TypeError(f"a line is a text, and not {type(line).__name__}")
+    if line.startswith("!"):
+        raise ValueError("a line that begins with ! is the server's own: copy_book, pause, resume and waits give those")
     return Command(line, lambda said: said)
 
 

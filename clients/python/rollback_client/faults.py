@@ -2,7 +2,7 @@
 from __future__ import annotations
 
 import enum
-from typing import TYPE_CHECKING, Any, Optional, Sequence, Tuple, Type, Union
+from typing import TYPE_CHECKING, Any, Dict, Optional, Sequence, Tuple, Type, Union
 
 from .lines import short
 from .values import Step, texts_of
@@ -333,6 +333,33 @@ class BadJson(_OfNumber):
     _kinds, _what = JsonFaultKind, "JSON fault"
 
 
+class NoRunner(Refusal):
+    """No runner takes steps of this book, and the server keeps nothing for one."""
+
+    code, means = 31, "no runner takes steps of this book"
+    advice = "serve it by rollback-serve --run, or run rollback-run beside a server with --ask"
+
+
+class NoAnswer(Refusal):
+    """A question has no answer. `detail` says why, as `order-9 is no execution`."""
+
+    means = "no answer"
+
+    def __init__(self, code: int, detail: str, line: str = ""):
+        super().__init__(code, detail, line)
+        self.args = (f"{short(line)}: {detail}" if line else detail,)
+
+
+class NoFollower(NoAnswer):
+    """Nobody answers questions here: there is no server, or it has no follower, or begins it again just now."""
+
+    advice = "serve the book by rollback-serve --ask, and give the question again"
+
+    def __init__(self, code: int, detail: str, line: str = ""):
+        super().__init__(code, detail, line)
+        self.args = (f"{self.args[0]}: {self.advice}",)
+
+
 REFUSALS: Tuple[Type[Refusal], ...] = (
     NoMachine,
     MachineTaken,
@@ -353,7 +380,7 @@ REFUSALS: Tuple[Type[Refusal], ...] = (
     JournalRefused,
     BadJson,
 )
-_CLASSES = {refusal.code: refusal for refusal in REFUSALS}
+_CLASSES: Dict[int, Type[Refusal]] = {**{refusal.code: refusal for refusal in REFUSALS}, NoRunner.code: NoRunner}
 
 
 def refusal_of(first: str, line: str = "") -> Refusal:

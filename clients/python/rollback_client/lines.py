@@ -10,7 +10,7 @@ MOST_WORKERS = 8
 MOST_NUMBER = 4_294_967_295  # of a step, a fork or a branch in a name
 MOST_BRANCHES = 31  # that a thread lies under
 
-LISTS = ("items", "history", "plan", "rollback", "drive", "work", "held")
+LISTS = ("items", "history", "plan", "rollback", "drive", "work", "held", "!waits")
 COUNT = re.compile(r"0|[1-9][0-9]{0,9}")
 _NAME = re.compile(r"[A-Za-z0-9_-]{1,64}")
 _TABLE = re.compile(r"[A-Za-z0-9_.-]{1,255}")
@@ -80,8 +80,6 @@ def encoded(line: str) -> bytes:
         raise ValueError("a command is one line, and not empty")
     if line.endswith("\r"):
         raise ValueError("a line doesn't end with a carriage return, since one before the line feed is dropped")
-    if line.startswith("!"):
-        raise ValueError("a line that begins with ! is the server's own: rollback_client.copy gives it")
     return utf8(line) + b"\n"
 
 

@@ -23,6 +23,10 @@ With `--log FILE` a line of JSON is appended for each line answered: `time`, `ca
 `length` and `milliseconds`. SIGHUP opens the file again. A line that begins with `!` is for the server itself: `!copy` is answered with
 `ok`, the bytes of the journal and of its log, and then these files, as they were between two lines (`rollback_client.copy` asks).
 
+With `--ask` a line that begins with `?` is a question, which `rollback_graph` answers as a follower that gets each accepted line. With
+`--run` a runner takes steps, too, by turns and clocks (`rollback_client.runner`); `!pause`, `!resume` and `!waits` are for it, or for one
+beside the server. FILE-clock, beside the journal, keeps when threads came to their Waits, and what is paused.
+
 The server listens once the program has opened its journal. If it can't, the server ends with the program's status and words, and says
 what they usually mean; with `--wait SECONDS` it tries again while another process has the file. The program ends with the server,
 also if that is killed.
@@ -31,7 +35,7 @@ SIGTERM, SIGINT, SIGQUIT and, without a log, SIGHUP end the server: it takes no 
 journal, and waits `--grace SECONDS` for its replies to be read. Its status is then the program's. A second signal ends the waiting. If
 the program ends by itself, each caller's connection ends, and so does the server, with status 1 at least.
 
-It keeps nothing of its own.
+Without `--ask` and `--run` it keeps nothing of its own.
 """
 from __future__ import annotations
 

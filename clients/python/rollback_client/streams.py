@@ -5,7 +5,7 @@ import select
 import socket
 import threading
 import time
-from typing import Optional, TypeVar, Union
+from typing import List, Optional, Sequence, TypeVar, Union
 
 from .commands import Command, greeting
 from .faults import Refusal, RollbackError, StreamBroken
@@ -30,12 +30,25 @@ class Stream:
         with self._lock:
             try:
                 self._holder = threading.get_ident()
-                outcome = self._exchange(command, data)
+                (outcome,) = self._exchange([command], data)
             finally:
                 self._holder = None
         if isinstance(outcome, Refusal):
             raise outcome
         return outcome
+
+    def call_all(self, asked: Sequence[Command[T]]) -> List[Union[T, Refusal]]:
+        """Gives the lines of some commands at once, and hands back what each came to. They have to be few and short."""
+        data = b"".join(command.encoded() for command in asked)
+        if not asked:
+            return []
+        self._look()
+        with self._lock:
+            try:
+                self._holder = threading.get_ident()
+                return self._exchange(asked, data)
+            finally:
+                self._holder = None
 
     def close(self) -> None:
         """Ends the stream, after the call under way. A program that ends with another status than 0 is an error."""
@@ -53,38 +66,41 @@ class Stream:
                 "a call of this book is under way in this thread: what interrupts it can't make another"
             )
 
-    def _exchange(self, command: Command[T], data: bytes) -> Union[T, Refusal]:
-        self.link.begin(command.line)
+    def _exchange(self, asked: Sequence[Command[T]], data: bytes) -> List[Union[T, Refusal]]:
+        line = asked[0].line if asked else ""
+        self.link.begin(line)
         try:
-            outcome = self._reply(command, data)
+            outcomes = self._replies(asked, data)
             self.link.end()
-            return outcome
+            return outcomes
         except BaseException as fault:
-            error = self.link.failed(fault, command.line)
+            error = self.link.failed(fault, line)
             if error is fault:
                 raise
             raise error from fault
 
-    def _reply(self, command: Command[T], data: bytes) -> Union[T, Refusal]:
+    def _replies(self, asked: Sequence[Command[T]], data: bytes) -> List[Union[T, Refusal]]:
         unsent: Optional[OSError] = None
         try:
             self._send(data)
         except (BrokenPipeError, ConnectionResetError) as fault:
             unsent = fault  # what the server said before it closed is read first
         replies = Replies()
-        reply = None
-        while reply is None:
-            chunk = self._receive()
-            if not chunk:
-                raise unsent or StreamEnded("the connection has ended")
-            replies.feed(chunk)
+        outcomes: List[Union[T, Refusal]] = []
+        for command in asked:
             reply = replies.next(command.is_list)
-        outcome = command.outcome(reply)
+            while reply is None:
+                chunk = self._receive()
+                if not chunk:
+                    raise unsent or StreamEnded("the connection has ended")
+                replies.feed(chunk)
+                reply = replies.next(command.is_list)
+            outcomes.append(command.outcome(reply))
         if unsent:
             raise unsent
         if replies.rest():
             raise StreamBroken("more bytes came than those of the reply")
-        return outcome
+        return outcomes
 
     def _send(self, data: bytes) -> None:
         left = memoryview(data)

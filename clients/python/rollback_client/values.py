@@ -5,7 +5,8 @@ import functools
 import json
 import re
 from dataclasses import dataclass
-from typing import Any, Dict, Tuple, Union
+from datetime import datetime, timezone
+from typing import Any, Dict, Optional, Tuple, Union
 
 _STEP = re.compile(r"([A-Za-z0-9_-]{1,64}(?:/[1-9][0-9]*\.[0-9]+)*)#([0-9]+)")
 
@@ -92,6 +93,30 @@ class Failed:
 
 
 Frame = Union[Ready, Parked, Done, Failed]
+
+
+@dataclass(frozen=True)
+class Waiting:
+    """A thread for which a runner waits, until a moment in UTC, and why. There is no moment if it waits for the end of a hold."""
+
+    thread: str
+    moment: Optional[datetime]
+    why: str
+
+
+def waiting_of(line: str) -> Waiting:
+    """What a line of the reply to `!waits` says. Another text is a `ValueError`."""
+    told = json.loads(line)
+    moment = told["moment"]
+    return Waiting(told["thread"], None if moment is None else moment_of(moment), told["why"])
+
+
+def moment_of(text: str) -> datetime:
+    """A moment that is written as `2026-11-23T09:14:02.118000Z`."""
+    return datetime.strptime(text, MOMENT).replace(tzinfo=timezone.utc)
+
+
+MOMENT = "%Y-%m-%dT%H:%M:%S.%fZ"
 
 
 def texts_of(line: str) -> list[Any]:

@@ -1,4 +1,6 @@
 """Where the tests find the program, and what they say to it."""
+import contextlib
+import functools
 import os
 import pathlib
 import shutil
@@ -14,6 +16,8 @@ from rollback_client import BadLine, Book
 
 TOP = pathlib.Path(__file__).resolve().parents[3]
 PROGRAM = os.environ.get("ROLLBACK_PROGRAM", str(TOP / "crates/rollback_program/out/rollback_program"))
+GRAPH = os.environ.get("ROLLBACK_GRAPH", str(TOP / "crates/rollback_graph/out/rollback_graph"))
+PLAIN_FOLLOWER = str(TOP / "tools/plain_follower.py")
 
 PASS = {"StartAt": "P", "States": {"P": {"Type": "Pass", "Result": 7, "End": True}}}
 FORK = {"StartAt": "S", "States": {"S": {"Type": "Parallel", "End": True, "Branches": [PASS, PASS]}}}
@@ -37,6 +41,22 @@ LOOP = {"StartAt": "A", "States": {"A": {"Type": "Pass", "Next": "A"}}}
 FOLDER = "/dev/shm" if os.access("/dev/shm", os.W_OK) and shutil.disk_usage("/dev/shm").free > 1 << 28 else None
 LISTS = ("items", "history", "plan", "rollback", "drive", "work", "held")
 GET = call("getItem", Key={"id": {"S": "k"}})
+
+
+@functools.lru_cache(maxsize=None)
+def follower():
+    """The program that answers questions: rollback_graph, or a plain one in its place as long as that can't follow."""
+    with contextlib.suppress(OSError):
+        done = subprocess.run(
+            [GRAPH, "--serve"],
+            stdin=subprocess.DEVNULL,
+            stdout=subprocess.DEVNULL,
+            stderr=subprocess.DEVNULL,
+            check=False,
+        )
+        if done.returncode == 0:
+            return GRAPH
+    return PLAIN_FOLLOWER
 
 
 def takes_work(book):

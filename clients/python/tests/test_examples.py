@@ -1,4 +1,4 @@
-"""The two examples, over a server: one drives, one repairs."""
+"""The example of a repair, over a server."""
 import os
 import subprocess
 import sys
@@ -39,7 +39,7 @@ class Examples(Served):
         )
         return done.stdout.splitlines()
 
-    def test_drive_and_repair(self):
+    def test_repair(self):
         with Book.connect(self.server.address) as book:
             book.table("items", {"id": "S"})
             book.define("order", GET_OR_FAIL)
@@ -47,9 +47,7 @@ class Examples(Served):
             book.start("good", "order", {"paid": True})
             book.start("bad", "order", {"paid": False})
             book.start("other", "p", {})
-            told = self.example("drive.py", "--rounds", "2", "--pause", "0.01")
-            self.assertEqual(len(told), 1)
-            self.assertTrue(told[0].startswith("5 steps"))
+            self.assertEqual(len(book.drive(100)), 5)
             self.assertEqual(book.show("bad"), Failed("Unpaid", ""))
             self.assertEqual(self.example("repair.py", "Nothing"), ["no execution has failed with Nothing"])
             self.assertEqual(

@@ -48,7 +48,7 @@ class Linter(unittest.TestCase):
 
 class Shell(InFolder):
     def test_the_guide_shows_what_it_answers(self):
-        (shown,) = [block for block in blocks("USER_GUIDE.md") if block[0].startswith(PROMPT)]
+        (shown,) = [block for block in blocks("USER_GUIDE.md") if block[0] == f"{PROMPT}show order-2"]
         lines = (TOP / "examples/wrong-bill.txt").read_text().split("\n")
         begin = lines[: lines.index("rollback billing-7#0")]
         given = "".join(line + "\n" for line in begin)

@@ -7,7 +7,7 @@ from .graph import Edges, in_loops, reached_from, turned
 from .machine import HANDLING, Level, State
 from .scanner import Node
 
-_KEEP_TIME = "run it by a program that keeps time"
+_KEEP_TIME = "run it by a runner, as rollback-serve --run"
 
 
 def check_flow(report: Report, level: Level) -> None:

@@ -8,5 +8,8 @@ places      sockets: their rights, and which of them are this server's own
 unread      how much of replies may wait for callers that don't read
 log         a line for each line answered
 copy        a copy of the journal amid all that
+follower    rollback_graph as a child that answers questions, and is fed what is accepted
+inside      the runner within the server
+runners     who runs the book, within the server or beside it, and what is paused
 running     its beginning and its end
 """

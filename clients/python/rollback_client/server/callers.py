@@ -3,12 +3,13 @@ from __future__ import annotations
 
 import asyncio
 import fcntl
+import re
 import select
 import socket
 import struct
 import termios
 from collections import deque
-from typing import TYPE_CHECKING, Any, Deque, Optional, Union, cast
+from typing import TYPE_CHECKING, Any, Callable, Deque, Optional, Union, cast
 
 from ..lines import MOST_BYTES
 from .pieces import Pieces, pieces_of
@@ -19,6 +20,8 @@ if TYPE_CHECKING:
 MOST_AT_HAND = 64  # whole lines of one caller that wait for their turn
 MOST_UNCUT = 1 << 16  # further bytes of it
 HEAD = 4096  # bytes of a line that are kept for the log
+# lines that the server answers itself
+OWN = re.compile(rb"!copy|!runner|!waits|!(?:pause|resume)(?: (?:execution|machine) [A-Za-z0-9_-]{1,64})?")
 
 
 class Asked:
@@ -28,6 +31,11 @@ class Asked:
 
     def __init__(self, line: bytes, head: bytes, length: int, since: float, own: Optional[bytes] = None):
         self.line, self.head, self.length, self.since, self.own = line, head, length, since, own
+
+    @property
+    def is_for_server(self) -> bool:
+        """Whether it is a question, or one of the server's own lines, and is no line of the program."""
+        return self.own is None and self.head[:1] in (b"!", b"?")
 
 
 class Cutter:
@@ -70,7 +78,7 @@ class Cutter:
                 self._passed, self._head = 0, b""
                 return Asked(b"", head, length, now, b"no 20\n")
             if text:
-                own = b"no 20\n" if text.startswith(b"!") and text != b"!copy" else None
+                own = b"no 20\n" if text.startswith(b"!") and not OWN.fullmatch(text) else None
                 return Asked(line, text[:HEAD], len(text), now, own)
 
     def _pass_over(self) -> None:
@@ -106,6 +114,7 @@ class Caller(asyncio.Protocol):
         self.is_held = False  # its next line waits for the whole reply to the one before
         self.is_copying = False  # bytes of a copy are still to be sent
         self.is_gone = False
+        self.takes: Optional[Callable[[bytes], None]] = None  # its bytes, if they are no lines
         self._cutter = Cutter()
         self._has_ended = False
         self._is_paused = False
@@ -137,6 +146,9 @@ class Caller(asyncio.Protocol):
         if self.is_gone or self.server.is_ending:
             return
         self.last = self.server.time()
+        if self.takes is not None:
+            self.takes(data)
+            return
         self._cutter.feed(data)
         self.cut()
         self.server.turns.want(self)
@@ -178,8 +190,13 @@ class Caller(asyncio.Protocol):
     @property
     def wants_turn(self) -> bool:
         """Whether it has something to give, and reads its replies."""
-        has_line = self.under_way is not None or bool(self.lines) and not self.is_held
+        has_line = self.under_way is not None or bool(self.lines) and not self.is_held and not self._waits_for_own()
         return has_line and self._readable.is_set() and not self.is_gone
+
+    def _waits_for_own(self) -> bool:
+        """Whether its next line is a question or for the server, which come after the replies to its lines before."""
+        asked = self.lines[0]
+        return asked.is_for_server and asked.head != b"!copy" and self.owed > len(self.lines)
 
     def next_turn(self) -> Union[Given, Asked]:
         """What it gives at its turn: a line, or the next piece of one. A line that is the server's own comes as it was asked."""
@@ -191,13 +208,13 @@ class Caller(asyncio.Protocol):
         asked = self.lines.popleft()
         if asked.own is not None:
             return Given(self, asked, b"", False)
-        if asked.head == b"!copy":
+        if asked.is_for_server:
             return asked
         pieces = pieces_of(asked.head)
         if pieces is not None:
             self.is_held = True
             return Given(self, asked, pieces.next_line(), True, pieces)
-        return Given(self, asked, asked.line + b"\n", asked.head.split(b" ", 1)[0] in _LISTS)
+        return Given(self, asked, asked.line + b"\n", asked.head.split(b" ", 1)[0] in LISTS)
 
     def tell(self, data: bytes, count: int) -> None:
         """Hands on replies to so many of its lines."""
@@ -240,7 +257,7 @@ class Caller(asyncio.Protocol):
     @property
     def is_idle(self) -> bool:
         """Whether nothing is owed to it."""
-        return not self.owed and not self.unread
+        return not self.owed and not self.unread and self.takes is None
 
     def close_if_answered(self) -> None:
         """Ends a connection whose caller has ended its lines, once it has all replies."""
@@ -280,7 +297,7 @@ class Caller(asyncio.Protocol):
         self.transport.abort()
 
 
-_LISTS = frozenset((b"items", b"history", b"plan", b"rollback", b"drive", b"work", b"held"))
+LISTS = frozenset((b"items", b"history", b"plan", b"rollback", b"drive", b"work", b"held"))
 
 
 def _peer_of(transport: asyncio.BaseTransport) -> Any:

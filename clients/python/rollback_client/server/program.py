@@ -68,6 +68,21 @@ class Program(asyncio.Protocol):
         """Gives lines."""
         self._input.write(data)
 
+    @property
+    def waiting(self) -> int:
+        """Bytes that it hasn't read."""
+        return self._input.get_write_buffer_size()
+
+    def kill(self) -> None:
+        """Ends it at once, with what it was given."""
+        self._process.kill()
+        if not self._input.is_closing():
+            self._input.abort()
+
+    async def reaped(self) -> None:
+        """Waits for its end."""
+        await self.status()
+
     def end_input(self) -> None:
         """Ends its input, after what was given."""
         self._input.close()

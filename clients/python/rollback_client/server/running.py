@@ -6,12 +6,16 @@ import logging
 import os
 import signal
 import time
-from typing import Any, Callable, Dict, Optional, Set
+from typing import Any, Callable, Coroutine, Dict, Optional, Set
 
 from ..commands import GREETING
+from ..runner.clock_file import ClockFile
 from .callers import Asked, Caller
+from .follower import NO_FOLLOWER, Follower, graph_beside
+from .inside import InsideRunner
 from .places import UnixPlace, loopback
 from .program import Program, is_in_use, meaning
+from .runners import NO_RUNNER, Runners
 from .speaking import say, say_bytes
 from .turns import Turns
 from .unread import Unread
@@ -26,7 +30,7 @@ class Server:
 
     def __init__(self, words: Words):
         self.words = words
-        self.turns = Turns(self._write, self._copy)
+        self.turns = Turns(self._write, self._own)
         self.unread = Unread(words.unread << 20)
         self.callers: Set[Caller] = set()
         self.is_ending = False
@@ -35,6 +39,8 @@ class Server:
         self._asked_to_end = asyncio.Event()
         self._is_hurried = False
         self._copies: Set[asyncio.Task[None]] = set()
+        self._follower: Optional[Follower] = None
+        self._runners: Optional[Runners] = None
 
     # ---- callers
 
@@ -54,6 +60,8 @@ class Server:
         self.callers.discard(caller)
         self.unread.forget(caller)
         self.turns.end_pieces(caller)
+        if self._runners is not None:
+            self._runners.leaves(caller)
 
     def _make_room(self) -> bool:
         if self.words.idle is None:
@@ -70,10 +78,40 @@ class Server:
     def _write(self, data: bytes) -> None:
         self._program.write(data)
 
+    def _own(self, caller: Caller, asked: Asked) -> None:
+        """Answers a line that isn't the program's."""
+        if asked.head == b"!copy":
+            self.turns.when_quiet(lambda: self._copy(caller, asked))
+        elif asked.head.startswith(b"?"):
+            self._ask(caller, asked)
+        elif self._runners is None:
+            self._answer(caller, asked, NO_RUNNER)
+        else:
+            self._keep(self._runners.take(caller, asked))
+
+    def _answer(self, caller: Caller, asked: Asked, reply: bytes) -> None:
+        """Answers such a line, later and never at once."""
+        asyncio.get_running_loop().call_soon(self._answer_now, caller, asked, reply)
+
+    def _answer_now(self, caller: Caller, asked: Asked, reply: bytes) -> None:
+        self.turns.log_own(caller, asked, reply)
+        self.turns.answered(caller, reply)
+
+    def _ask(self, caller: Caller, asked: Asked) -> None:
+        """Has the follower answer a question."""
+        if self._follower is None:
+            self._answer(caller, asked, NO_FOLLOWER + b"\n")
+            return
+        question = asked.line[:-1] if asked.line.endswith(b"\r") else asked.line
+        self._follower.ask(question, lambda answer: self._answer_now(caller, asked, answer + b"\n"))
+
     def _copy(self, caller: Caller, asked: Asked) -> None:
         from .copy import send_copy  # who never asks for a copy doesn't need it
 
-        task = asyncio.ensure_future(send_copy(self.turns, self.words.journal, caller, asked))
+        self._keep(send_copy(self.turns, self.words.journal, caller, asked))
+
+    def _keep(self, work: Coroutine[Any, Any, None]) -> None:
+        task = asyncio.ensure_future(work)
         self._copies.add(task)
         task.add_done_callback(self._copies.discard)
 
@@ -91,8 +129,9 @@ class Server:
         if not await self._open_program():
             return await self._status()
         try:
+            await self._begin_follower()
             listening = await self._listen()
-        except OSError:
+        except (OSError, ValueError):
             if self._place:
                 self._place.remove()
             self._program.end_input()
@@ -141,6 +180,19 @@ class Server:
                 return False
             await asyncio.sleep(min(0.1, max(0.0, ends - self.time())))
 
+    async def _begin_follower(self) -> None:
+        words = self.words
+        if not words.ask:
+            return
+        follower = self._follower = Follower(self.turns, graph_beside(words.program, words.graph), words.journal)
+        await follower.begin()
+        self.turns.follow = follower.follow
+        clock_file = ClockFile(None if words.journal is None else f"{words.journal}-clock", say)
+        self._runners = Runners(clock_file, self._answer)
+        if words.run:
+            self._runners.inside = InsideRunner(self, self.turns, follower, words.runner_options(), clock_file)
+            self._runners.inside.begin()
+
     async def _listen(self) -> asyncio.AbstractServer:
         loop = asyncio.get_running_loop()
         if self._place:
@@ -176,6 +228,8 @@ class Server:
         ends = self.time() + self.words.grace
         self.is_ending = self.turns.is_ending = True
         listening.close()
+        if self._runners is not None and self._runners.inside is not None:
+            await self._runners.inside.end()
         if self._place:
             self._place.remove()
         for caller in list(self.callers):
@@ -187,6 +241,8 @@ class Server:
         await self._until(lambda: not self.turns.given, None)
         self._program.end_input()
         await self._program.status()
+        if self._follower is not None:
+            await self._follower.end()
         await self._until(self._have_read, None if self._is_hurried else ends)
         cut = sum(1 for caller in self.callers if not caller.transport.is_closing())
         if cut:

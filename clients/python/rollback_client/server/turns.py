@@ -6,7 +6,7 @@ from collections import deque
 from typing import TYPE_CHECKING, Callable, Deque, Dict, List, Optional, Tuple
 
 from ..lines import Replies
-from .callers import Asked, Caller, Given
+from .callers import HEAD, LISTS, Asked, Caller, Given
 
 if TYPE_CHECKING:
     from .log import Log
@@ -21,15 +21,19 @@ Finished = Tuple[Given, bytes]
 class Turns:
     """Callers that wait for their turn, and what the program was given, in order.
 
-    For a copy no further line is given; once all that were given are answered, `copy` is called, and ends by `go_on_after_copy`.
+    Lines that the server answers itself go to `own`, which ends by `answered`. For a copy no further line is given; once all that were
+    given are answered it is made, and ends by `go_on_after_copy`.
     """
 
-    def __init__(self, write: Callable[[bytes], None], copy: Callable[[Caller, Asked], None]):
-        self._write, self._copy = write, copy
+    def __init__(self, write: Callable[[bytes], None], own: Callable[[Caller, Asked], None]):
+        self._write, self._own = write, own
         self._waiting: Deque[Caller] = deque()
         self._given: Deque[Given] = deque()
         self._replies = Replies()
-        self._copy_of: Optional[Tuple[Caller, Asked]] = None
+        self._quiet: Deque[Callable[[], None]] = deque()  # what waits until no line is with the program
+        self._is_quiet = False  # one of these is under way
+        # takes each line with its reply, before the reply is handed on
+        self.follow: Optional[Callable[[bytes, bytes], None]] = None
         self.is_stopped = False  # no line is given
         self.is_ending = False  # no further piece is given
         self.log: Optional[Log] = None
@@ -58,9 +62,22 @@ class Turns:
             self._hand_on(finished)
             if not finished and not self._can_give() and not (self._given and self._given[0].asked.own):
                 break
-        if self._copy_of and not self._given:
-            (caller, asked), self._copy_of = self._copy_of, None
-            self._copy(caller, asked)
+        if self._quiet and not self._given and not self._is_quiet:
+            self._is_quiet = True
+            self._quiet.popleft()()
+
+    def when_quiet(self, action: Callable[[], None]) -> None:
+        """Gives no further line, and does this once all that were given are answered. It ends by `go_on_after_copy`."""
+        self._quiet.append(action)
+        self.is_stopped = True
+
+    def give_at_once(self, caller: Caller, lines: List[bytes]) -> None:
+        """Gives lines before those that wait."""
+        now = time.monotonic()
+        for line in lines:
+            asked = Asked(line, line[:HEAD], len(line), now)
+            self._given.append(Given(caller, asked, line, line.split(b" ", 1)[0] in LISTS))
+        self._write(b"".join(line + b"\n" for line in lines))
 
     def end_pieces(self, caller: Caller) -> None:
         """Answers a line in pieces that waits for its next turn by the steps that were taken."""
@@ -71,7 +88,8 @@ class Turns:
 
     def go_on_after_copy(self) -> None:
         """Gives lines again."""
-        self.is_stopped = False
+        self._is_quiet = False
+        self.is_stopped = bool(self._quiet)
         self.go_on()
 
     def log_own(self, caller: Caller, asked: Asked, reply: bytes) -> None:
@@ -79,11 +97,17 @@ class Turns:
         if self.log is not None:
             self.log.write([(caller.peer, asked, reply, time.monotonic())])
 
-    def answered(self, caller: Caller) -> None:
+    def answered(self, caller: Caller, data: bytes = b"") -> None:
         """Goes on with a caller whose line the server has answered itself."""
-        caller.tell(b"", 1)
+        caller.is_held = False
+        caller.tell(data, 1)
         self.want(caller)
         self.go_on()
+
+    @property
+    def are_waiting(self) -> bool:
+        """Whether callers wait for a turn."""
+        return bool(self._waiting)
 
     def _can_give(self) -> bool:
         return bool(self._waiting) and len(self._given) < MOST_GIVEN and not self.is_stopped
@@ -97,9 +121,9 @@ class Turns:
                 continue
             turn = caller.next_turn()
             if isinstance(turn, Asked):
-                caller.is_held = self.is_stopped = True
-                self._copy_of = caller, turn
-                break
+                caller.is_held = True
+                self._own(caller, turn)
+                continue
             self._given.append(turn)
             if turn.pieces is not None:
                 turn.since = time.monotonic()
@@ -118,6 +142,8 @@ class Turns:
             if reply is None:
                 break
             self._given.popleft()
+            if self.follow is not None and given.asked.own is None:
+                self.follow(given.line, reply)
             if given.pieces is not None:
                 given.pieces.take(reply, time.monotonic() - given.since)
                 if not (given.pieces.is_over or self.is_ending or given.caller.has_gone()):

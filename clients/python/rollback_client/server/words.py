@@ -4,6 +4,8 @@ from __future__ import annotations
 import argparse
 from typing import Any, Callable, Optional, Sequence, TypeVar
 
+from ..runner.running import Options
+from ..runner.words import add_runner_words, options_of
 from .places import group_of, loopback, mode_of
 from .speaking import NAME
 
@@ -25,6 +27,13 @@ class Words(argparse.Namespace):
     idle: Optional[float]
     unread: int
     wait: float
+    ask: bool
+    graph: Optional[str]
+    run: bool
+
+    def runner_options(self) -> Options:
+        """What the runner is told."""
+        return options_of(self)
 
 
 def _typed(read: Callable[[str], T], name: str) -> Callable[[str], T]:
@@ -81,7 +90,16 @@ def read_words(given: Optional[Sequence[str]] = None) -> Words:
     add("--idle", type=seconds, metavar="SECONDS", help="a caller that idles so long makes room for another (never)")
     add("--unread", type=_typed(_positive, "number"), default=512, metavar="MB", help="of replies of all callers (512)")
     add("--wait", type=seconds, default=0.0, metavar="SECONDS", help="tries again while the journal is in use (0)")
+    add("--ask", action="store_true", help="answers questions, by rollback_graph as a follower")
+    add("--graph", metavar="PATH", help="rollback_graph; beside the program or on the path if it is left out")
+    add("--run", action="store_true", help="runs the book: steps by turns and clocks; answers questions, too")
+    add_runner_words(parser)
     words = parser.parse_args(given, Words())
+    if not words.run and words.runner_options() != Options():
+        parser.error("--rate, --only, --except and --settle-at are those of --run")
+    words.ask = words.ask or words.run
+    if words.graph is not None and not words.ask:
+        parser.error("--graph is that of --ask or --run")
     if words.socket is None and (words.mode is not None or words.group is not None):
         parser.error("--mode and --group are those of a --socket")
     if words.socket == "":

@@ -16,7 +16,7 @@ import os
 import sys
 from typing import Optional, Sequence
 
-from . import absent, defining, looking, moving, scripts, undoing
+from . import asking, defining, looking, moving, pausing, scripts, undoing
 from .core import Lines, Shell
 from .output import Output
 from .session import Gone, Place, Session
@@ -29,7 +29,8 @@ COMMANDS = {
         moving.COMMANDS,
         undoing.COMMANDS,
         looking.COMMANDS,
-        absent.COMMANDS,
+        asking.COMMANDS,
+        pausing.COMMANDS,
         scripts.COMMANDS,
     )
     for command in commands

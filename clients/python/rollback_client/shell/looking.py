@@ -4,8 +4,12 @@ from __future__ import annotations
 import json
 from typing import Any, Mapping, Sequence
 
+from ..faults import NoAnswer
 from ..values import Done, Failed, Frame, Parked, Ready, frame_of
 from . import given
+from .absent import no_questions
+from .answers import execution_lines, outcome_of, text_of, what
+from .asking import question, told
 from .core import Command, Shell
 from .moving import THREAD, counted
 from .output import laid_out
@@ -36,10 +40,40 @@ def _branches(count: int) -> str:
 
 
 def _show(shell: Shell, rest: str) -> None:
-    thread = given.thread_name(given.exactly(rest, "show THREAD", 1)[0])
+    word = given.exactly(rest, "show THREAD", 1)[0]
+    if "#" in word:
+        _show_step(shell, given.step_name(word))
+        return
+    thread = given.thread_name(word)
+    if not shell.is_raw and shell.session.answers_questions():
+        try:
+            for line in execution_lines(shell.session.question(f"show {thread}")):
+                shell.output.say(line)
+            return
+        except NoAnswer:
+            pass  # the program says why, with names that nearly fit
     reply = shell.ask(f"show {thread}")
     if not shell.raw(reply):
         shell.output.say(in_words(thread, frame_of(reply[0])))
+
+
+def _show_step(shell: Shell, step: str) -> None:
+    answer = question(shell, f"show {step}", f"--show {step}")
+    if told(shell, answer):
+        return
+    row = answer["step"]
+    shell.output.say(f"{what(row)} {outcome_of(row)}".rstrip())
+    for of, name in (("before", "before"), ("after", "after")):
+        if row.get("items"):
+            shell.output.say(f"  the item {of}: {_item_text(row['items'][name])}")
+    for cause in row["on"]:
+        shell.output.say(f"  depends on {cause['step']} ({cause['reason']})")
+    for later in answer["dependents"]:
+        shell.output.say(f"  {later['step']} depends on it ({later['reason']})")
+
+
+def _item_text(item: Any) -> str:
+    return "none" if item is None else text_of(item)
 
 
 # ---- items
@@ -115,7 +149,11 @@ def _row(shell: Shell, execution: str, steps: int) -> list[str]:
 
 
 def _list(shell: Shell, rest: str) -> None:
-    given.exactly(rest, "list", 0)
+    if shell.session.answers_questions():
+        _list_by_question(shell, rest)
+        return
+    if rest.strip():
+        raise no_questions(shell, f"list {rest.strip()}", "--list")
     steps: dict[str, int] = {}
     for step in shell.ask("history")[1:]:
         execution = step.partition("#")[0].partition("/")[0]
@@ -133,15 +171,48 @@ def _list(shell: Shell, rest: str) -> None:
     shell.output.say(f"{len(rows)} execution{'' if len(rows) == 1 else 's'} with steps that remain")
 
 
+def _list_by_question(shell: Shell, rest: str) -> None:
+    words = rest.split()
+    if words not in ([], ["failed"], ["open"], ["done"]) and not (len(words) == 2 and words[0] == "machine"):
+        raise Refused("a list is of all, failed, open or done executions, or of a machine's", "write list machine NAME")
+    answer = question(shell, " ".join(["list", *words]), "--list")
+    if told(shell, answer):
+        return
+    rows = [
+        [row["execution"], row["machine"], row["status"], str(row["steps"]), row["error"] or row["state"] or ""]
+        for row in answer["executions"]
+    ]
+    if rows:
+        for line in laid_out(["execution", "machine", "status", "steps", "where"], rows, shell.output.width):
+            shell.output.say(line)
+    counts = answer["counts"]
+    shell.output.say(f"executions: {counts['done']} done, {counts['failed']} failed, {counts['open']} open")
+    if answer.get("held"):
+        shell.output.say(
+            f"{answer['held']['step']} is held, and {counted(answer['held']['left'])} of the hold are left"
+        )
+
+
 COMMANDS = (
-    Command("show", "show THREAD", "says where a thread is", _show, (THREAD,), ("thread",)),
+    Command(
+        "show",
+        "show THREAD",
+        "says where a thread is",
+        _show,
+        (THREAD, "A server that answers questions lists its steps, too; there show STEP says all of a step."),
+        ("thread",),
+    ),
     Command("items", "items", "lists the items, in the order of their keys", _items),
     Command("history", "history", "lists the steps that remain, in the order in which they were taken", _history),
     Command(
         "list",
-        "list",
+        "list [failed | open | done | machine NAME]",
         "lists the executions, with their status",
         _list,
-        ("An execution of which all steps are settled isn't among them: show it by its name.",),
+        (
+            "The words behind it need a server that answers questions (rollback-serve --ask).",
+            "Without one an execution of which all steps are settled isn't listed: show it by its name.",
+        ),
+        ("", "machine"),
     ),
 )

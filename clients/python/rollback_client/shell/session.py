@@ -2,14 +2,27 @@
 from __future__ import annotations
 
 from dataclasses import dataclass
-from typing import Optional
+from typing import Any, Optional, TypeVar
 
+from .. import commands, questions
 from ..book import Book
-from ..faults import BookClosed, Busy, ConnectionLost, NoServer, ProgramEnded, Refusal, RollbackError, StreamBroken
+from ..faults import (
+    BookClosed,
+    Busy,
+    ConnectionLost,
+    NoAnswer,
+    NoFollower,
+    NoServer,
+    ProgramEnded,
+    Refusal,
+    RollbackError,
+    StreamBroken,
+)
 from .interrupts import Interrupts
 
 # what a question may be given twice, and what changes the book if it is done
-QUESTIONS = ("plan", "show", "items", "history", "held")
+QUESTIONS = ("plan", "show", "items", "history", "held", "?", "!waits")
+T = TypeVar("T")
 
 
 class Gone(Exception):
@@ -50,15 +63,23 @@ class Session:
     # ---- what the server has beside the lines
 
     def answers_questions(self) -> bool:
-        """Whether the server answers questions, as causes and items with their writers. None does yet.
+        """Whether the server answers questions now, as causes and items with their writers.
 
-        All commands of the shell that would ask one look here, and nowhere else.
+        All commands of the shell that ask one look here, and nowhere else.
         """
-        return False
+        if self.place.address is None:
+            return False
+        try:
+            self.question("machines most 1")
+        except NoFollower:
+            return False
+        except NoAnswer:
+            pass
+        return True
 
-    def has_runner(self) -> bool:
-        """Whether a runner that keeps time takes steps of this book. There is none yet."""
-        return False
+    def question(self, text: str) -> dict[str, Any]:
+        """Asks a question of the server. `NoFollower` says that it answers none, and `NoAnswer` that it has no answer."""
+        return self.give(questions.question(text))
 
     # ---- lines
 
@@ -73,11 +94,16 @@ class Session:
 
     def ask(self, line: str) -> list[str]:
         """Gives a line. A refusal is raised as it is; `Gone` says what is known if no whole reply came."""
+        return self.give(commands.ask(line))
+
+    def give(self, command: commands.Command[T]) -> T:
+        """Gives a command, as `ask` does, and hands back its value."""
+        line = command.line
         with self.interrupts:
             if self._book is None:
                 self._book = self._opened()
             try:
-                return self._book.ask(line)
+                return self._book.give(command)
             except Refusal:
                 raise
             except (ConnectionLost, ProgramEnded, StreamBroken, BookClosed) as fault:

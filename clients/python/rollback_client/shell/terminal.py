@@ -91,11 +91,24 @@ class Completer:
         if kind == "command":
             yield from self._shell.commands
         elif kind == "machine":
-            yield from self._shell.session.machines
+            yield from self._machines()
+        elif kind == "runner":
+            yield from self._of_runner(before)
         elif kind == "file":
             yield from _files(text, command.word != "script")
         elif kind:
             yield from self._of_history(kind)
+
+    def _machines(self) -> set[str]:
+        """The machines by the server's answer, else those of this session."""
+        if self._shell.session.answers_questions():
+            return set(self._shell.session.question("machines")["machines"])
+        return self._shell.session.machines
+
+    def _of_runner(self, before: list[str]) -> set[str]:
+        if len(before) == 1:
+            return {"execution", "machine"}
+        return self._machines() if before[1] == "machine" else self._of_history("execution")
 
     def _of_history(self, kind: str) -> set[str]:
         steps = list(self._shell.names().steps())

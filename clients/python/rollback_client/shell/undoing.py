@@ -5,7 +5,9 @@ import textwrap
 from dataclasses import dataclass
 from typing import Mapping, Optional, Sequence
 
+from ..faults import NoAnswer
 from . import given
+from .answers import consequence
 from .core import Command, Shell
 from .moving import STEP, counted
 
@@ -21,24 +23,28 @@ def grouped(steps: Sequence[str]) -> dict[str, list[str]]:
 
 
 def _reasons(shell: Shell, steps: Sequence[str]) -> Mapping[str, str]:
-    """Why each step is among those of a plan, if the server can be asked."""
+    """Why each step is among those of the plan of the last one, if the server can be asked."""
     if not shell.session.answers_questions():
         return {}
-    raise NotImplementedError("a server that answers questions has the reasons of a plan")
+    try:
+        told = shell.session.question(f"plan {steps[-1]}")
+    except NoAnswer:
+        return {}  # another caller has taken it back since
+    return {row["step"]: consequence(row) for row in told["steps"]}
 
 
-def show_steps(shell: Shell, head: str, steps: Sequence[str]) -> None:
-    """Writes steps by their executions, each by its whole name, with its reason if there is one."""
+def show_steps(shell: Shell, head: str, steps: Sequence[str], of_plan: bool = False) -> None:
+    """Writes steps by their executions, each by its whole name. Those of a plan have their reasons, if the server can be asked."""
     groups = grouped(steps)
     of = f" of {len(groups)} execution{'' if len(groups) == 1 else 's'}" if steps else ""
     shell.output.say(f"{head}: {counted(len(steps))}{of}")
-    reasons = _reasons(shell, steps)
+    reasons = _reasons(shell, steps) if of_plan and steps else {}
     room = max(map(len, groups), default=0) + 4
     for execution, names in groups.items():
         begin = f"  {execution}".ljust(room)
         if reasons:
             for name in names:
-                shell.output.say(f"{begin}{name} {reasons.get(name, '')}".rstrip())
+                shell.output.say(f"{begin}{name}  {reasons.get(name, '')}".rstrip())
                 begin = " " * room
             continue
         width = max(shell.output.width or 0, _LEAST_WIDTH) if shell.output.is_terminal else 1 << 30
@@ -52,7 +58,7 @@ def _plan(shell: Shell, rest: str) -> None:
     step = given.step_name(given.exactly(rest, "plan STEP", 1)[0])
     reply = shell.ask(f"plan {step}")
     if not shell.raw(reply):
-        show_steps(shell, f"a rollback of {step} takes back", reply[1:])
+        show_steps(shell, f"a rollback of {step} takes back", reply[1:], True)
 
 
 @dataclass(frozen=True)
@@ -69,7 +75,7 @@ class _Change:
         if shell.raw(reply):
             return
         if self.is_listed:
-            show_steps(shell, self.head, reply[1:])
+            show_steps(shell, self.head, reply[1:], True)
         else:
             shell.output.say(f"{self.head}: {counted(len(reply) - 1)}")
 

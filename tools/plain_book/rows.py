@@ -1,0 +1,171 @@
+"""Steps, frames and their dependence as the questions tell them (docs/QUESTIONS.md)."""
+from __future__ import annotations
+
+import json
+from typing import Any, Dict, List, Optional, Sequence, Tuple
+
+from .book import Book, Step, path_of, reason, waited_for
+from .turns import Frame
+
+Row = Dict[str, Any]
+
+
+def key_object(text: str) -> Row:
+    """A key as an object of attributes."""
+    found = json.loads(text)
+    assert isinstance(found, dict)
+    return found
+
+
+def state_of(book: Book, step: Step) -> Tuple[Optional[str], Optional[str]]:
+    """The state that a step took, and its type."""
+    if step.before is None:
+        return None, None
+    return step.before.state, book.machines[step.before.machine].state(step.before)["Type"]
+
+
+def access_word(step: Step) -> Optional[str]:
+    """How a step accessed an item."""
+    if step.access is None:
+        return None
+    if step.access.writes:
+        return "write"
+    return "refused" if step.access.error is not None else "read"
+
+
+# ---- dependence
+
+
+def nearest(book: Book, step: Step) -> List[Row]:
+    """The steps on which one depends in a picture, each with the reason."""
+    at = book.steps.index(step)
+    earlier = book.steps[:at]
+    found: Dict[str, str] = {}
+    for other in _of_thread(step, earlier) + _of_fork(step, earlier) + _taken_out(step, earlier):
+        found.setdefault(other.name, reason(step, other) or "")
+    for other in _of_item(step, earlier) + _of_bound(step, earlier):
+        found.setdefault(other.name, reason(step, other) or "")
+    places = {other.name: place for place, other in enumerate(earlier)}
+    return [{"reason": found[name], "step": name} for name in sorted(found, key=places.__getitem__)]
+
+
+def _of_thread(step: Step, earlier: Sequence[Step]) -> List[Step]:
+    return [other for other in earlier if other.thread == step.thread][-1:]
+
+
+def _of_fork(step: Step, earlier: Sequence[Step]) -> List[Step]:
+    if step.number != 1 or "/" not in step.thread:
+        return []
+    above, _, branch = step.thread.rpartition("/")
+    fork = int(branch.split(".")[0])
+    return [other for other in earlier if other.thread == above and other.number == fork]
+
+
+def _taken_out(step: Step, earlier: Sequence[Step]) -> List[Step]:
+    last = {other.thread: other for other in earlier if other.thread in step.closed}
+    # a thread that this one's branch has taken out itself is below that
+    return [other for other in last.values() if reason(step, other) == "join"]
+
+
+def _of_item(step: Step, earlier: Sequence[Step]) -> List[Step]:
+    if step.access is None:
+        return []
+    same = [other for other in earlier if other.access and other.access.key == step.access.key]
+    writes = [place for place, other in enumerate(same) if other.access and other.access.writes]
+    since = same[writes[-1] :] if writes else same
+    return since if step.access.writes else since[:1] if writes else []
+
+
+def _of_bound(step: Step, earlier: Sequence[Step]) -> List[Step]:
+    if not step.bound:
+        return []
+    above, _, branch = step.thread.rpartition("/")
+    fork, number = map(int, branch.split("."))
+    found = []
+    for index in range(max(number - 2 * step.bound + 1, 0), number - step.bound + 1):
+        own = [other for other in earlier if other.thread == f"{above}/{fork}.{index}"]
+        found += [other for other in own[-1:] if waited_for(step, other.path)]
+    return found
+
+
+def causes(book: Book, step: Step) -> List[Tuple[Step, Step, str]]:
+    """The steps on which one depends, the latest first, each with the earliest one that depends directly on it, and why."""
+    members = [step]
+    found = []
+    for earlier in reversed(book.steps[: book.steps.index(step)]):
+        needing = [later for later in members if reason(later, earlier)]
+        if needing:
+            members.append(earlier)
+            first = min(needing, key=book.steps.index)
+            found.append((earlier, first, reason(first, earlier) or ""))
+    return found
+
+
+# ---- rows
+
+
+def step_row(book: Book, step: Step) -> Row:
+    """The fields that each row of a step has."""
+    state, kind = state_of(book, step)
+    return {
+        "access": access_word(step),
+        "key": None if step.access is None else key_object(step.access.key),
+        "kind": step.kind,
+        "on": nearest(book, step),
+        "state": state,
+        "step": step.name,
+        "thread": step.thread,
+        "type": kind,
+    }
+
+
+def shown_row(book: Book, step: Step) -> Row:
+    """A row of `show`, too."""
+    return {
+        **step_row(book, step),
+        "entry": step.entry,
+        "input": None if step.before is None else step.before.input,
+        "outcome": outcome(step),
+        "output": step.after.output if step.after.phase == "done" else step.after.input,
+    }
+
+
+def whole_row(book: Book, step: Step) -> Row:
+    """A row of `steps`, and of the question for one step."""
+    access = step.access
+    return {
+        **shown_row(book, step),
+        "frames": {"after": frame_object(step.after), "before": step.before and frame_object(step.before)},
+        "items": None if access is None else {"after": access.after, "before": access.before},
+    }
+
+
+def frame_object(frame: Frame) -> Row:
+    """A frame."""
+    found: Row = {"input": frame.input, "moves": frame.moves, "phase": frame.phase, "state": frame.state}
+    if frame.phase == "parked":
+        found["branches"] = frame.branches
+    elif frame.phase == "done":
+        found["output"] = frame.output
+    elif frame.phase == "failed":
+        found.update(error=frame.error, cause=frame.cause)
+    return found
+
+
+def outcome(step: Step) -> Row:
+    """What a step went on to."""
+    after = step.after
+    if after.phase == "parked":
+        return {"branches": after.branches, "to": "forked"}
+    if after.phase == "done":
+        return {"to": "done"}
+    if after.phase == "failed":
+        return {"error": after.error, "to": "failed"}
+    if after.retrier is not None:
+        return {"to": "retry"}
+    return {"state": after.state, "to": "caught" if step.failure is not None else "next"}
+
+
+def in_order(names: Sequence[str]) -> List[str]:
+    """Threads in the order of `drive`."""
+    return sorted(names, key=path_of)
