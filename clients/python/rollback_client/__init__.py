@@ -35,6 +35,7 @@ from .faults import (
     NoServer,
     NoStep,
     NoTable,
+    NotLeader,
     NoThread,
     OtherProcess,
     OutOfMemory,
@@ -44,6 +45,7 @@ from .faults import (
     Settled,
     StreamBroken,
     TableTaken,
+    Unavailable,
 )
 from .values import Done, Failed, Frame, Parked, Ready, Step, Taken, Waiting
 
@@ -80,6 +82,7 @@ __all__ = [
     "NoStep",
     "NoTable",
     "NoThread",
+    "NotLeader",
     "OtherProcess",
     "OutOfMemory",
     "Parked",
@@ -92,6 +95,7 @@ __all__ = [
     "StreamBroken",
     "TableTaken",
     "Taken",
+    "Unavailable",
     "Waiting",
     "attribute",
     "plain",

@@ -11,7 +11,7 @@ from .book import Book
 from .commands import StepName
 from .faults import Refusal
 from .json_text import Definition
-from .links import Address, open_child
+from .links import Address, Tls, open_child
 from .values import Frame, Step, Taken, Waiting
 
 if TYPE_CHECKING:
@@ -38,10 +38,14 @@ class AsyncBook:
 
     @classmethod
     async def connect(
-        cls, address: Address, timeout: Optional[float] = None, retry: Optional[float] = None
+        cls,
+        address: Address,
+        timeout: Optional[float] = None,
+        retry: Optional[float] = None,
+        tls: Optional[Tls] = None,
     ) -> AsyncBook:
-        """Speaks to a server of lines, as `Book.connect` does."""
-        return cls(await async_streams.connect(os.fspath(address), timeout, retry))
+        """Speaks to a server of lines, or to whichever server of a cluster leads, as `Book.connect` does."""
+        return cls(await async_streams.connect(os.fspath(address), timeout, retry, tls))
 
     async def close(self) -> None:
         await self._stream.close()

@@ -9,7 +9,7 @@ from typing import Any, Awaitable, Optional, TypeVar, Union
 from .commands import Command, greeting
 from .faults import Refusal, RollbackError, StreamBroken
 from .lines import Replies
-from .links import CHUNK, Link, Retry, StreamEnded, host_and_port, unix_socket
+from .links import CHUNK, CLUSTER, Link, Retry, StreamEnded, Tls, host_and_port, unix_socket
 
 T = TypeVar("T")
 
@@ -115,29 +115,52 @@ class AsyncStream:
             raise StreamEnded(f"no byte came or went for {self._timeout} seconds") from None
 
 
-async def connect(address: str, timeout: Optional[float], retry: Optional[float]) -> AsyncStream:
-    """A stream to a server of lines that has a place for this caller."""
+async def connect(
+    address: str, timeout: Optional[float], retry: Optional[float], tls: Optional[Tls] = None
+) -> AsyncStream:
+    """A stream to a server of lines that has a place for this caller, or to whichever server of a cluster leads."""
+    if address.startswith(CLUSTER):
+        from .following import AsyncFollowingStream
+
+        return await AsyncFollowingStream.to(address, timeout, retry, tls)
     attempts = Retry(address, timeout, retry)
     while True:
         try:
-            return await _connected(address, timeout)
+            return await _connected(address, timeout, tls)
         except (OSError, RollbackError) as fault:
             pause = attempts.pause_after(fault)
         await asyncio.sleep(pause)
 
 
-async def _connected(address: str, timeout: Optional[float]) -> AsyncStream:
-    place = host_and_port(address)
-    found = unix_socket(address) if place is None else await _tcp_socket(place[0], place[1], timeout)
-    stream = AsyncStream(Link(f"at {address}", found), timeout)
+async def _connected(address: str, timeout: Optional[float], tls: Optional[Tls]) -> AsyncStream:
+    stream = AsyncStream(await link_to(address, timeout, tls), timeout)
     try:
         await stream.call(greeting())
     except Refusal:
         pass  # that the word is no command says that there is a place
     except BaseException:
-        found.close()
+        stream.link.cut()
         raise
     return stream
+
+
+async def link_to(address: str, timeout: Optional[float], tls: Optional[Tls] = None) -> Link:
+    """A connection to a server of lines, secured if there are files of TLS. Raises `OSError`."""
+    place = host_and_port(address)
+    if tls is None:
+        found = unix_socket(address) if place is None else await _tcp_socket(place[0], place[1], timeout)
+        return Link(f"at {address}", found)
+    if place is None:
+        raise ValueError("TLS is for host:port, and not for a Unix socket")
+    from .secured import SecuredLink, secured
+
+    plain = await _tcp_socket(place[0], place[1], timeout)
+    try:
+        passing = await asyncio.get_running_loop().run_in_executor(None, secured, plain, place[0], tls, timeout)
+    except BaseException:
+        plain.close()
+        raise
+    return SecuredLink(f"at {address}", passing)
 
 
 async def _tcp_socket(host: str, port: int, timeout: Optional[float]) -> socket.socket:

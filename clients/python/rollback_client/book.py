@@ -10,7 +10,7 @@ from . import commands, finishing, questions, streams
 from .commands import StepName
 from .faults import Refusal
 from .json_text import Definition
-from .links import Address, open_child
+from .links import Address, Tls, open_child
 from .values import Frame, Step, Taken, Waiting
 
 if TYPE_CHECKING:
@@ -45,15 +45,28 @@ class Book:
         return cls(streams.Stream(open_child(journal, program)))
 
     @classmethod
-    def connect(cls, address: Address, timeout: Optional[float] = None, retry: Optional[float] = None) -> Book:
+    def connect(
+        cls,
+        address: Address,
+        timeout: Optional[float] = None,
+        retry: Optional[float] = None,
+        tls: Optional[Tls] = None,
+    ) -> Book:
         """Speaks to a server of lines: a path of a Unix socket, or `host:port`.
 
         `timeout` is how many seconds it waits for a place in the server's queue, and in each call for the next byte: a call of which
         none comes is a `ConnectionLost`. `retry` is for how many seconds it waits for a server that isn't there yet, or is busy.
         Raises `NoServer`, `Busy` if all places are taken, `ConnectionLost`, or `StreamBroken` if it is no server of lines. After
         `ConnectionLost` no call is sent again by itself.
+
+        `cluster:host:port,host:port,..` names servers of one book, of which one leads: calls go there, and after a loss of that one
+        to the next. What was under way is a `ConnectionLost`, and the call after it finds the new leader. It is waited for up to
+        `retry` seconds, 15 if nothing is said; then, and at once if etcd has no majority or no space, a call is `Unavailable`.
+        `timeout` is 30 seconds then, if nothing is said.
+
+        `tls` has the paths of a certificate, of its key, and of the server's authority, for a server with `--tls`.
         """
-        return cls(streams.connect(os.fspath(address), timeout, retry))
+        return cls(streams.connect(os.fspath(address), timeout, retry, tls))
 
     def close(self) -> None:
         """Ends the session, after a call of another thread that is under way. Closed twice is as once.

@@ -16,10 +16,10 @@ import shutil
 import subprocess
 import sys
 import tempfile
-from typing import IO, Iterator, Optional
+from typing import IO, Any, Iterator, Optional
 
-from .faults import Busy, ConnectionLost, RollbackError
-from .links import Address
+from .faults import Busy, ConnectionLost, RollbackError, refusal_of
+from .links import Address, Tls
 from .streams import connected_socket
 
 _SIZES = re.compile(rb"ok ([0-9]{1,18}) ([0-9]{1,18})\n")
@@ -31,11 +31,16 @@ class NoCopy(RollbackError):
 
 
 def copy_book(
-    address: Address, dest: Address, program: Address = "rollback", timeout: Optional[float] = None
+    address: Address,
+    dest: Address,
+    program: Address = "rollback",
+    timeout: Optional[float] = None,
+    tls: Optional[Tls] = None,
 ) -> tuple[int, int]:
     """Copies the book of a server to a file, and gives its lines and its remaining steps, as `--check` answers them.
 
-    Raises `FileExistsError` if DEST or DEST-wal is there, `NoCopy`, `NoServer`, `Busy`, `ConnectionLost`, and `OSError`.
+    `address` and `tls` are those of `Book.connect`. Raises `FileExistsError` if DEST or DEST-wal is there, `NoCopy`, `NoServer`,
+    `Busy`, `ConnectionLost`, `Unavailable`, and `OSError`.
     """
     place = pathlib.Path(dest).absolute()
     for taken in (place, _log_of(place)):
@@ -43,7 +48,7 @@ def copy_book(
             raise FileExistsError(errno.EEXIST, "there is a file already", str(taken))
     with tempfile.TemporaryDirectory(prefix=f".{place.name}.", dir=place.parent) as room:
         made = pathlib.Path(room) / "copy"
-        fetch(address, made, timeout)
+        fetch(address, made, timeout, tls)
         found = settle_in_one_file(made, program)
         _rename(made, place)
         with _opened_folder(place.parent) as folder:
@@ -66,9 +71,9 @@ def _rename(made: pathlib.Path, place: pathlib.Path) -> None:
         made.unlink()
 
 
-def fetch(address: Address, made: pathlib.Path, timeout: Optional[float] = None) -> None:
+def fetch(address: Address, made: pathlib.Path, timeout: Optional[float] = None, tls: Optional[Tls] = None) -> None:
     """Has the server send its journal and its log, and writes them."""
-    with connected_socket(os.fspath(address), timeout) as found, found.makefile("rb") as stream:
+    with connected_socket(os.fspath(address), timeout, tls) as found, found.makefile("rb") as stream:
         with contextlib.suppress(BrokenPipeError, ConnectionResetError):
             found.sendall(b"!copy\n")
         first = stream.readline()
@@ -96,6 +101,8 @@ def _refusal(first: bytes) -> RollbackError:
         return Busy()
     if first == b"no 30 memory\n":
         return NoCopy("the server's book is in memory, and has no journal to copy")
+    if first.startswith(b"no 40 "):
+        return refusal_of(first.decode(errors="replace").strip(), "!copy")
     if not first.endswith(b"\n"):
         return ConnectionLost("the connection has ended before the copy came")
     return NoCopy(f"the server doesn't copy its book: {first[:200].decode(errors='replace').strip()}")
@@ -147,15 +154,30 @@ def program_named(name: str, option: str) -> str:
     return found
 
 
+def tls_files(text: str) -> Tls:
+    """The files of `--tls CERT,KEY,CA`."""
+    parts = text.split(",")
+    if len(parts) != 3:
+        raise argparse.ArgumentTypeError("a certificate, its key and the server's authority: CERT,KEY,CA")
+    return parts[0], parts[1], parts[2]
+
+
+def add_address(parser: argparse.ArgumentParser, **more: Any) -> None:
+    """The words that say which server, for the commands that ask one."""
+    about = "a server of lines: a path of a Unix socket, host:port, or cluster:host:port,host:port,.."
+    parser.add_argument("address", metavar="ADDRESS", help=about, **more)
+    parser.add_argument("--tls", type=tls_files, metavar="CERT,KEY,CA", help="for a server with --tls")
+
+
 def main() -> int:
     """Copies as the command line says, and gives the status."""
     parser = argparse.ArgumentParser(prog="python3 -m rollback_client.copy", description="Copies a running book.")
-    parser.add_argument("address", metavar="ADDRESS", help="a server of lines: a path of a Unix socket, or host:port")
+    add_address(parser)
     parser.add_argument("dest", metavar="DEST", help="the file to make")
     parser.add_argument("--program", default="rollback", help="the program, rollback on the path if it is left out")
     words = parser.parse_args()
     try:
-        lines, steps = copy_book(words.address, words.dest, program_named(words.program, "--program"))
+        lines, steps = copy_book(words.address, words.dest, program_named(words.program, "--program"), tls=words.tls)
     except (RollbackError, OSError, ValueError) as fault:
         print(f"rollback_client.copy: {fault}", file=sys.stderr)
         return 1

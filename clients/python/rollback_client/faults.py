@@ -326,6 +326,39 @@ class JournalRefused(Refusal):
     )
 
 
+class Unavailable(Refusal):
+    """The book takes no line now. `why` is `election` while no server leads, `quorum` without a majority of etcd, or `space`."""
+
+    code, means = 40, "the book takes no line now"
+    advice = "give the line again later: it has changed nothing"
+    _reasons = {
+        "election": "no server leads now",
+        "quorum": "the majority of etcd doesn't answer",
+        "space": "the quota of etcd's database is used up",
+    }
+
+    def __init__(self, code: int, detail: str, line: str = ""):
+        self.why = detail
+        super().__init__(code, detail, line)
+
+    def _in_words(self) -> str:
+        return self._reasons.get(self.why, self.why)
+
+
+class NotLeader(Refusal):
+    """Another server of the book leads. `leader` is its address. A book that was connected by `cluster:` goes there by itself."""
+
+    code, means, advice = (
+        40,
+        "another server leads",
+        "connect to that one, or by cluster:HOST:PORT,.. to whichever leads",
+    )
+
+    def __init__(self, code: int, detail: str, line: str = ""):
+        self.leader = detail.partition(" ")[2]
+        super().__init__(code, detail, line)
+
+
 class BadJson(_OfNumber):
     """The line's JSON is faulty. `fault` is a `JsonFaultKind`."""
 
@@ -389,4 +422,7 @@ def refusal_of(first: str, line: str = "") -> Refusal:
     code, _, detail = rest.partition(" ")
     if word != "no" or not (code.isascii() and code.isdecimal()):
         raise ValueError(f"no refusal: {short(first)!r}")
+    if code == "40":  # of a server of a cluster, and not of the program
+        kind = NotLeader if detail.startswith("leader ") else Unavailable
+        return kind(int(code), detail, line)
     return _CLASSES.get(int(code), Refusal)(int(code), detail, line)

@@ -16,6 +16,8 @@ CHUNK = 1 << 16
 FIRST_PAUSE, LONGEST_PAUSE = 0.01, 1.0  # seconds between two attempts, or two looks
 PATIENCE = 10.0  # seconds that a child has to end once it has ended its output
 Address = Union[str, "os.PathLike[str]"]
+Tls = Tuple[str, str, str]  # paths: a certificate, its key, and the authority of the other side
+CLUSTER = "cluster:"  # begins an address of several servers, of which one leads
 
 
 class StreamEnded(Exception):

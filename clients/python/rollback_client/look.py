@@ -11,7 +11,7 @@ import subprocess
 import sys
 import tempfile
 
-from .copy import fetch, program_named, settle_in_one_file
+from .copy import add_address, fetch, program_named, settle_in_one_file
 from .faults import RollbackError
 
 
@@ -20,7 +20,7 @@ def main() -> int:
     parser = argparse.ArgumentParser(
         prog="python3 -m rollback_client.look", description="Asks a running book what depends on what."
     )
-    parser.add_argument("address", metavar="ADDRESS", help="a server of lines: a path of a Unix socket, or host:port")
+    add_address(parser)
     parser.add_argument("words", nargs="+", metavar="WORD", help="behind --: the words of rollback_graph, as --why S T")
     parser.add_argument("--program", default="rollback", help="the program, rollback on the path if it is left out")
     parser.add_argument("--graph", default="rollback_graph", help="rollback_graph, on the path if it is left out")
@@ -29,7 +29,7 @@ def main() -> int:
         program, graph = program_named(words.program, "--program"), program_named(words.graph, "--graph")
         with tempfile.TemporaryDirectory(prefix="rollback-look-") as room:
             made = pathlib.Path(room) / "book"
-            fetch(words.address, made)
+            fetch(words.address, made, tls=words.tls)
             settle_in_one_file(made, program)
             return subprocess.run([graph, str(made), *words.words], check=False).returncode
     except (RollbackError, OSError, ValueError) as fault:

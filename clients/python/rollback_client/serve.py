@@ -41,6 +41,7 @@ from __future__ import annotations
 
 import asyncio
 import sys
+from typing import cast
 
 from .server.running import serve
 from .server.speaking import say
@@ -51,6 +52,11 @@ def main() -> int:
     """Serves as the command line says, and gives the status."""
     words = read_words()
     try:
+        if words.cluster is not None and words.cluster_status:
+            from .cluster.status import show_status
+            from .cluster.words import ClusterWords
+
+            return asyncio.run(show_status(cast(ClusterWords, words)))
         return asyncio.run(serve(words))
     except (OSError, ValueError) as fault:
         say(str(fault))

@@ -10,7 +10,7 @@ from typing import List, Optional, Sequence, TypeVar, Union
 from .commands import Command, greeting
 from .faults import Refusal, RollbackError, StreamBroken
 from .lines import Replies
-from .links import CHUNK, Link, Retry, StreamEnded, host_and_port, unix_socket
+from .links import CHUNK, CLUSTER, Link, Retry, StreamEnded, Tls, host_and_port, unix_socket
 
 T = TypeVar("T")
 
@@ -121,12 +121,16 @@ class Stream:
             raise StreamEnded(f"no byte came or went for {self._timeout} seconds")
 
 
-def connect(address: str, timeout: Optional[float], retry: Optional[float]) -> Stream:
-    """A stream to a server of lines that has a place for this caller."""
+def connect(address: str, timeout: Optional[float], retry: Optional[float], tls: Optional[Tls] = None) -> Stream:
+    """A stream to a server of lines that has a place for this caller, or to whichever server of a cluster leads."""
+    if address.startswith(CLUSTER):
+        from .following import FollowingStream
+
+        return FollowingStream.to(address, timeout, retry, tls)
     attempts = Retry(address, timeout, retry)
     while True:
         try:
-            stream = Stream(Link(f"at {address}", _opened(address, timeout)), timeout)
+            stream = Stream(link_to(address, timeout, tls), timeout)
             try:
                 stream.call(greeting())
             except Refusal:
@@ -137,12 +141,18 @@ def connect(address: str, timeout: Optional[float], retry: Optional[float]) -> S
         time.sleep(pause)
 
 
-def connected_socket(address: str, timeout: Optional[float]) -> socket.socket:
-    """A plain connection to a server of lines, or `NoServer` or `Busy`."""
+def connected_socket(address: str, timeout: Optional[float], tls: Optional[Tls] = None) -> socket.socket:
+    """A plain connection to a server of lines, or to the one of a cluster that leads; or `NoServer`, `Busy` or `Unavailable`."""
+    if address.startswith(CLUSTER):
+        from .following import FollowingStream
+
+        found = FollowingStream.to(address, timeout, None, tls).link.socket
+        found.settimeout(timeout)
+        return found
     attempts = Retry(address, timeout, None)
     while True:
         try:
-            found = _opened(address, timeout)
+            found = link_to(address, timeout, tls).socket
             found.settimeout(timeout)
             return found
         except OSError as fault:
@@ -150,8 +160,20 @@ def connected_socket(address: str, timeout: Optional[float]) -> socket.socket:
         time.sleep(pause)
 
 
-def _opened(address: str, timeout: Optional[float]) -> socket.socket:
+def link_to(address: str, timeout: Optional[float], tls: Optional[Tls] = None) -> Link:
+    """A connection to a server of lines, secured if there are files of TLS. Raises `OSError`."""
     place = host_and_port(address)
+    if tls is not None and place is None:
+        raise ValueError("TLS is for host:port, and not for a Unix socket")
     found = unix_socket(address) if place is None else socket.create_connection(place, timeout)
+    if tls is not None and place is not None:
+        from .secured import SecuredLink, secured
+
+        try:
+            passing = secured(found, place[0], tls, timeout)
+        except BaseException:
+            found.close()
+            raise
+        return SecuredLink(f"at {address}", passing)
     found.setblocking(True)
-    return found
+    return Link(f"at {address}", found)

@@ -90,6 +90,7 @@ class Imports(unittest.TestCase):
         self.assertIn("rollback_client.server.turns", found)
         self.assertNotIn("rollback_client.server.log", found)
         self.assertNotIn("rollback_client.server.copy", found)
+        self.assertEqual([name for name in found if "cluster" in name or "follow" in name or "secured" in name], [])
 
 
 def python_with_pip():
@@ -137,16 +138,39 @@ class Installed(unittest.TestCase):
 
 
 class Unit(unittest.TestCase):
-    def test_systemd_takes_the_unit_of_the_guide(self):
+    def units(self):
         guide = (TOP / "docs/USER_GUIDE.md").read_text(encoding="utf-8")
-        unit = re.search(r"(?m)^    \[Unit\]\n(?:    .*\n|\n)*?    WantedBy=.*\n", guide)
-        self.assertIsNotNone(unit)
-        text = "\n".join(line[4:] for line in unit[0].splitlines()) + "\n"
+        found = re.findall(r"(?m)^    \[Unit\]\n(?:    .*\n|\n)*?    WantedBy=.*\n", guide)
+        return ["\n".join(line[4:] for line in unit.splitlines()) + "\n" for unit in found]
+
+    def test_systemd_takes_the_unit_of_the_guide(self):
+        text = self.units()[0]
         for line in ("RuntimeDirectoryMode=0750", "KillMode=mixed", "ProtectSystem=strict", "NoNewPrivileges=yes"):
             self.assertIn(line, text.splitlines())
         for key in ("User", "Group", "StateDirectory", "RuntimeDirectory", "UMask"):
             self.assertRegex(text, f"(?m)^{key}=")
         self.assertRegex(text, r"(?m)^ExecStart=\S*rollback-serve .*--mode 0660")
+        self.verify(text, "rollback.service")
+
+    def test_systemd_takes_the_unit_of_three_machines(self):
+        text = next(unit for unit in self.units() if "--cluster" in unit)
+        for line in ("KillMode=mixed", "Restart=always", "RestartPreventExitStatus=2 5 6"):
+            self.assertIn(line, text.splitlines())
+        # The words are those that the server takes.
+        words = re.search(r"(?m)^ExecStart=\S+ (.*)$", text)[1].replace("%i", "orders").split(" ")
+        files = [word for word in words if word.startswith("/etc/rollback/")]
+        self.assertEqual(len(files), 2)
+        with tempfile.TemporaryDirectory() as room:
+            there = pathlib.Path(room) / "there"
+            there.touch()
+            words = [",".join([str(there)] * 3) if word in files else word for word in words]
+            command = [sys.executable, "-c", "from rollback_client.server.words import read_words; read_words()", *words]
+            done = run(*command, cwd=PYTHON)
+        self.assertTrue(done.returncode == 0 or "needs aiohttp" in done.stdout, done.stdout)
+        self.verify(text, "rollback@orders.service")
+
+    def verify(self, text, name):
+        """Has systemd look at a unit, whose programs are there in the place of the guide's."""
         analyze = shutil.which("systemd-analyze")
         if analyze is None:
             self.skipTest("there is no systemd-analyze")
@@ -154,7 +178,7 @@ class Unit(unittest.TestCase):
             "--program /usr/local/bin/rollback", f"--program {PROGRAM}"
         )
         with tempfile.TemporaryDirectory() as room:
-            place = pathlib.Path(room) / "rollback.service"
+            place = pathlib.Path(room) / name
             place.write_text(text, encoding="utf-8")
             done = run(analyze, "verify", "--man=no", str(place))
         about = [line for line in done.stdout.splitlines() if "rollback" in line]

@@ -13,6 +13,7 @@ import signal
 import sys
 from typing import Any, Optional, Sequence
 
+from ..copy import add_address
 from ..faults import RollbackError
 from .alone import Alone, NoQuestions
 from .clock_file import ClockFile
@@ -42,7 +43,7 @@ _seconds.__name__ = "number"
 def read_words(given: Optional[Sequence[str]] = None) -> Any:
     """Reads the command line. Wrong words end the process with status 2 and a sentence."""
     parser = argparse.ArgumentParser(prog="rollback-run", description="Runs the book of a server, by turns and clocks.")
-    parser.add_argument("address", metavar="ADDRESS", help="a server with --ask: a path of a Unix socket, or host:port")
+    add_address(parser)
     add_runner_words(parser)
     parser.add_argument("--clock", metavar="FILE", help="keeps when threads came to their Waits, for the next start")
     parser.add_argument(
@@ -61,7 +62,7 @@ def main() -> int:
     signal.signal(signal.SIGTERM, _end)
     try:
         clock_file = ClockFile(words.clock, say)
-        Alone(words.address, options_of(words), clock_file, words.wait, say).run()
+        Alone(words.address, options_of(words), clock_file, words.wait, say, tls=words.tls).run()
     except NoQuestions as fault:
         say(str(fault))
         return 2

@@ -9,8 +9,8 @@ from typing import Any, Callable, Dict, Generator, List, Optional
 
 from ..book import Book
 from ..commands import Command, step
-from ..faults import Busy, ConnectionLost, NoServer, Refusal, StreamBroken
-from ..links import CHUNK
+from ..faults import Busy, ConnectionLost, NoServer, NotLeader, Refusal, StreamBroken, Unavailable
+from ..links import CHUNK, Tls
 from ..questions import threads
 from ..streams import connected_socket
 from .clock_file import Arrival, ClockFile
@@ -19,7 +19,7 @@ from .running import PAGE, Ask, Look, Options, Running, Sleep, Steps
 
 LOOKS = 0.2  # seconds between two looks at what changed
 BATCH = 64  # steps that are given at once
-GONE = (NoServer, Busy, ConnectionLost, StreamBroken, OSError)
+GONE = (NoServer, Busy, ConnectionLost, StreamBroken, NotLeader, Unavailable, OSError)
 
 
 class NoQuestions(Exception):
@@ -45,8 +45,8 @@ class Clock:
 class Control:
     """The connection on which the server says what is paused, and asks for what is waited for."""
 
-    def __init__(self, address: str, timeout: Optional[float]):
-        self.socket = connected_socket(address, timeout)
+    def __init__(self, address: str, timeout: Optional[float], tls: Optional[Tls] = None):
+        self.socket = connected_socket(address, timeout, tls)
         self._rest = b""
         self.socket.sendall(b"!runner\n")
         first = self._line()
@@ -100,7 +100,9 @@ class Alone:
         wait: float,
         say: Callable[[str], None],
         clock: Optional[Clock] = None,
+        tls: Optional[Tls] = None,
     ):
+        self._tls = tls
         self._address, self._options, self._clock_file, self._wait = address, options, clock_file, wait
         self._say, self._clock = say, clock or Clock()
         self._arrivals: Dict[str, Arrival] = {}
@@ -123,9 +125,9 @@ class Alone:
             time.sleep(min(0.1, self._wait))
 
     def _serve(self) -> None:
-        control = Control(self._address, 60.0)
+        control = Control(self._address, 60.0, self._tls)
         try:
-            with Book.connect(self._address) as book:
+            with Book.connect(self._address, tls=self._tls) as book:
                 self._has_run = True
                 running = Running(self._options, self._clock_file, self._clock.now, self._say, lambda: BATCH)
                 self._stand_by(control, running)

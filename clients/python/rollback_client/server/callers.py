@@ -198,8 +198,11 @@ class Caller(asyncio.Protocol):
         asked = self.lines[0]
         return asked.is_for_server and asked.head != b"!copy" and self.owed > len(self.lines)
 
-    def next_turn(self) -> Union[Given, Asked]:
-        """What it gives at its turn: a line, or the next piece of one. A line that is the server's own comes as it was asked."""
+    def next_turn(self) -> Union[Given, Asked, None]:
+        """What it gives at its turn: a line, or the next piece of one. A line that is the server's own comes as it was asked.
+
+        Nothing comes of a line that the server keeps, to give it later.
+        """
         if self.under_way is not None:
             given, self.under_way = self.under_way, None
             assert given.pieces is not None

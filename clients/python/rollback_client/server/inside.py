@@ -55,6 +55,10 @@ class RunnerCaller(Caller):
             if not future.done():
                 future.set_result(reply)
 
+    def leave(self) -> None:
+        """Of a line it isn't known whether it stands. Refused, it looks again where its thread is."""
+        self.tell(b"no 40 quorum\n", 1)
+
     @property
     def is_waiting(self) -> bool:
         """Whether it has lines with the program."""

@@ -25,7 +25,16 @@ class Log:
 
     def write(self, entries: List[Entry]) -> None:
         """Appends entries."""
-        self._rest += b"".join(map(_line_of, entries))
+        self._append(b"".join(map(_line_of, entries)))
+
+    def event(self, does: str, why: str, **more: Any) -> None:
+        """Appends what the server itself does or meets."""
+        self._append(
+            json.dumps({"time": _now(), "event": does, "why": why, **more}, ensure_ascii=False).encode() + b"\n"
+        )
+
+    def _append(self, data: bytes) -> None:
+        self._rest += data
         try:
             while self._rest:
                 self._rest = self._rest[os.write(self._file, self._rest) :]
@@ -67,10 +76,14 @@ def _opened(path: str) -> int:
     return found
 
 
+def _now() -> str:
+    return datetime.now(timezone.utc).isoformat(timespec="milliseconds").replace("+00:00", "Z")
+
+
 def _line_of(entry: Entry) -> bytes:
     peer, asked, reply, now = entry
     taken = {
-        "time": datetime.now(timezone.utc).isoformat(timespec="milliseconds").replace("+00:00", "Z"),
+        "time": _now(),
         "caller": peer,
         "line": asked.head.decode(errors="replace"),
         "reply": reply[: reply.index(b"\n")][:HEAD].decode(errors="replace"),

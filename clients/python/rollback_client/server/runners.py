@@ -81,15 +81,24 @@ class Runners:
             await self._tell_pauses()
             self._answer(caller, asked, b"ok\n")
 
-    def _paused(self) -> bytes:
+    def paused(self) -> bytes:
+        """What is paused, as JSON."""
         return json.dumps(sorted(self._clock_file.paused)).encode()
+
+    async def end(self) -> None:
+        """Ends the runner, and lets callers go that ran or stood by."""
+        if self.inside is not None:
+            await self.inside.end()
+        for runner in list(self._outside):
+            runner.caller.leave()
+        self._clock_file.close()
 
     async def _tell_pauses(self) -> None:
         """Waits until the runner has stopped what is paused."""
         if self.inside is not None:
             await self.inside.changed_pauses()
         elif self._outside:
-            await self._outside[0].ask(b"paused " + self._paused())
+            await self._outside[0].ask(b"paused " + self.paused())
 
     async def _waits(self) -> bytes:
         if self.inside is not None:
@@ -109,7 +118,7 @@ class Runners:
         caller.takes = runner.take
         self._outside.append(runner)
         if self.inside is None and len(self._outside) == 1:
-            return b"ok run " + self._paused() + b"\n"
+            return b"ok run " + self.paused() + b"\n"
         return b"ok stand\n"
 
     def leaves(self, caller: Caller) -> None:
@@ -120,7 +129,7 @@ class Runners:
                 self._outside.remove(runner)
                 runner.has_gone()
                 if was_first and self._outside and self.inside is None:
-                    self._outside[0].push(b"run " + self._paused())
+                    self._outside[0].push(b"run " + self.paused())
                 return
 
 

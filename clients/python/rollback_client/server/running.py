@@ -6,7 +6,7 @@ import logging
 import os
 import signal
 import time
-from typing import Any, Callable, Coroutine, Dict, Optional, Set
+from typing import TYPE_CHECKING, Any, Callable, Coroutine, Dict, Optional, Set, Tuple
 
 from ..commands import GREETING
 from ..runner.clock_file import ClockFile
@@ -15,11 +15,14 @@ from .follower import NO_FOLLOWER, Follower, graph_beside
 from .inside import InsideRunner
 from .places import UnixPlace, loopback
 from .program import Program, is_in_use, meaning
-from .runners import NO_RUNNER, Runners
+from .runners import NO_RUNNER, Answer, Runners
 from .speaking import say, say_bytes
 from .turns import Turns
 from .unread import Unread
 from .words import Words
+
+if TYPE_CHECKING:
+    import ssl
 
 BACKLOG = 512  # callers that wait to be taken
 ENDING = (signal.SIGTERM, signal.SIGINT, signal.SIGQUIT)
@@ -130,6 +133,7 @@ class Server:
             return await self._status()
         try:
             await self._begin_follower()
+            self._begin_runner(ClockFile(None if self.words.journal is None else f"{self.words.journal}-clock", say))
             listening = await self._listen()
         except (OSError, ValueError):
             if self._place:
@@ -187,8 +191,12 @@ class Server:
         follower = self._follower = Follower(self.turns, graph_beside(words.program, words.graph), words.journal)
         await follower.begin()
         self.turns.follow = follower.follow
-        clock_file = ClockFile(None if words.journal is None else f"{words.journal}-clock", say)
-        self._runners = Runners(clock_file, self._answer)
+
+    def _begin_runner(self, clock_file: ClockFile, answer: Optional[Answer] = None) -> None:
+        words, follower = self.words, self._follower
+        if follower is None:
+            return
+        self._runners = Runners(clock_file, answer or self._answer)
         if words.run:
             self._runners.inside = InsideRunner(self, self.turns, follower, words.runner_options(), clock_file)
             self._runners.inside.begin()
@@ -197,7 +205,7 @@ class Server:
         loop = asyncio.get_running_loop()
         if self._place:
             made = self._place.bind()
-            listening = await loop.create_unix_server(lambda: Caller(self), sock=made, backlog=BACKLOG)
+            listening = await loop.create_unix_server(self._new_caller, sock=made, backlog=BACKLOG)
             name = os.fsencode(self._place.path)
             if self._place.others_reach_it():
                 does = "lets them in" if self._place.mode & 0o006 else "alone keeps them out"
@@ -205,8 +213,8 @@ class Server:
                     f"others can reach the folder of {self._place.path}: the socket's mode {self._place.mode:04o} {does}"
                 )
         else:
-            host, port = loopback(self.words.listen or "")
-            listening = await loop.create_server(lambda: Caller(self), host, port, backlog=BACKLOG)
+            host, port = self._host_and_port()
+            listening = await loop.create_server(self._new_caller, host, port, backlog=BACKLOG, ssl=self._tls())
             port = listening.sockets[0].getsockname()[1]
             name = f"{(self.words.listen or '').rpartition(':')[0]}:{port}".encode()
         try:
@@ -214,6 +222,15 @@ class Server:
         except OSError:
             pass  # nobody hears it
         return listening
+
+    def _new_caller(self) -> Caller:
+        return Caller(self)
+
+    def _host_and_port(self) -> Tuple[str, int]:
+        return loopback(self.words.listen or "")
+
+    def _tls(self) -> Optional[ssl.SSLContext]:
+        return None
 
     async def _first_of(self, *events: asyncio.Event) -> None:
         tasks = [asyncio.ensure_future(event.wait()) for event in events]
@@ -288,6 +305,14 @@ def _say_fault(loop: asyncio.AbstractEventLoop, context: Dict[str, Any]) -> None
     say(f"{context.get('message')}: {context.get('exception')!r}")
 
 
+def _server_of(words: Words) -> Server:
+    if words.cluster is None:
+        return Server(words)
+    from ..cluster.serving import ClusterServer  # who has no cluster doesn't need it, nor aiohttp
+
+    return ClusterServer(words)  # type: ignore[arg-type]
+
+
 async def serve(words: Words) -> int:
     """Serves, in the main thread."""
     # Of a caller that is gone asyncio would write a line for each reply.
@@ -295,7 +320,7 @@ async def serve(words: Words) -> int:
     logging.getLogger("asyncio").propagate = False
     asyncio.get_running_loop().set_exception_handler(_say_fault)
     try:
-        return await Server(words).run()
+        return await _server_of(words).run()
     finally:
         # All is done: a further signal doesn't take the place of the status.
         signal.pthread_sigmask(signal.SIG_BLOCK, (*ENDING, signal.SIGHUP))

@@ -62,7 +62,7 @@ class Turns:
             self._hand_on(finished)
             if not finished and not self._can_give() and not (self._given and self._given[0].asked.own):
                 break
-        if self._quiet and not self._given and not self._is_quiet:
+        if self._quiet and self._has_nothing_at_hand() and not self._is_quiet:
             self._is_quiet = True
             self._quiet.popleft()()
 
@@ -104,6 +104,14 @@ class Turns:
         self.want(caller)
         self.go_on()
 
+    def _replied(self, given: Given, reply: bytes) -> None:
+        """Hears of each reply of the program, also to a piece. A server of a cluster keeps what was accepted."""
+        if self.follow is not None:
+            self.follow(given.line, reply)
+
+    def _has_nothing_at_hand(self) -> bool:
+        return not self._given
+
     @property
     def are_waiting(self) -> bool:
         """Whether callers wait for a turn."""
@@ -120,6 +128,8 @@ class Turns:
             if not caller.wants_turn:
                 continue
             turn = caller.next_turn()
+            if turn is None:
+                continue
             if isinstance(turn, Asked):
                 caller.is_held = True
                 self._own(caller, turn)
@@ -142,8 +152,8 @@ class Turns:
             if reply is None:
                 break
             self._given.popleft()
-            if self.follow is not None and given.asked.own is None:
-                self.follow(given.line, reply)
+            if given.asked.own is None:
+                self._replied(given, reply)
             if given.pieces is not None:
                 given.pieces.take(reply, time.monotonic() - given.since)
                 if not (given.pieces.is_over or self.is_ending or given.caller.has_gone()):

@@ -27,6 +27,10 @@ class Words(argparse.Namespace):
     idle: Optional[float]
     unread: int
     wait: float
+    cluster: Any  # the further words are those of `..cluster.words`
+    book: Any
+    tls: Any
+    etcd_tls: Any
     ask: bool
     graph: Optional[str]
     run: bool
@@ -63,9 +67,32 @@ def _positive(text: str) -> int:
     return found
 
 
-def _address(text: str) -> str:
-    loopback(text)
-    return text
+def _add_cluster(parser: argparse.ArgumentParser) -> None:
+    """The words of a server of a cluster, which `..cluster.words` looks at."""
+    add = parser.add_argument_group("a book on three machines").add_argument
+    add("--cluster", metavar="URL,URL,URL", help="members of the etcd that has the log, the nearest first")
+    add("--book", metavar="NAME", help="the book's name in that etcd")
+    add("--ttl", type=int, default=5, metavar="SECONDS", help="how long a leader may say nothing (5)")
+    add("--tls", metavar="CERT,KEY,CA", help="listens with TLS, to callers with a certificate of CA")
+    add("--etcd-tls", metavar="CERT,KEY,CA", help="speaks to etcd with this certificate")
+    add("--seed", action="store_true", help="fills an empty log from the journal")
+    add("--cluster-status", action="store_true", help="asks who leads and how far the others are, and ends")
+
+
+def _of_cluster(parser: argparse.ArgumentParser, words: Words) -> Words:
+    """The words as they count: with --cluster as that package has them, and without it none of these."""
+    if words.cluster is not None:
+        from ..cluster.words import checked
+
+        return checked(parser, words)
+    if words.book or words.tls or words.etcd_tls or words.seed or words.cluster_status:
+        parser.error("--book, --tls, --etcd-tls, --seed and --cluster-status are words of a --cluster")
+    if words.listen is not None:
+        try:
+            loopback(words.listen)
+        except ValueError as fault:
+            parser.error(f"argument --listen: {fault}")
+    return words
 
 
 def read_words(given: Optional[Sequence[str]] = None) -> Words:
@@ -79,9 +106,7 @@ def read_words(given: Optional[Sequence[str]] = None) -> Words:
     add("--callers", type=_typed(_positive, "number"), default=64, metavar="N", help="at most so many at a time (64)")
     places = parser.add_mutually_exclusive_group(required=True)
     places.add_argument("--socket", metavar="PATH", help="a Unix socket, which is made")
-    places.add_argument(
-        "--listen", type=_typed(_address, "address"), metavar="HOST:PORT", help="a port of the loopback"
-    )
+    places.add_argument("--listen", metavar="HOST:PORT", help="a port of the loopback")
     add("--mode", type=_typed(mode_of, "mode"), help="the socket's mode in octal (0600)")
     add("--group", type=_typed(group_of, "group"), help="the socket's group")
     add("--log", metavar="FILE", help="a line of JSON for each line answered is appended to it")
@@ -94,6 +119,7 @@ def read_words(given: Optional[Sequence[str]] = None) -> Words:
     add("--graph", metavar="PATH", help="rollback_graph; beside the program or on the path if it is left out")
     add("--run", action="store_true", help="runs the book: steps by turns and clocks; answers questions, too")
     add_runner_words(parser)
+    _add_cluster(parser)
     words = parser.parse_args(given, Words())
     if not words.run and words.runner_options() != Options():
         parser.error("--rate, --only, --except and --settle-at are those of --run")
@@ -105,4 +131,4 @@ def read_words(given: Optional[Sequence[str]] = None) -> Words:
     if words.socket == "":
         parser.error("--socket is a path, and not empty")
     words.mode = 0o600 if words.mode is None else words.mode
-    return words
+    return _of_cluster(parser, words)

@@ -1,8 +1,8 @@
 """A shell for operators of a book: a prompt, words in place of codes, and questions before anything is taken back.
 
-    rollback-shell [ADDRESS | --journal FILE] [--program PATH] [--raw] [-c LINE ..]
+    rollback-shell [ADDRESS | --journal FILE] [--tls CERT,KEY,CA] [--program PATH] [--raw] [-c LINE ..]
 
-ADDRESS is a server's: a path of a Unix socket, or host:port. Without it and without --journal the book is in memory.
+ADDRESS is a server's: a path of a Unix socket, host:port, or cluster:host:port,host:port,... Without it and without --journal the book is in memory.
 `help` lists the commands.
 
 The status is 0 at the end of a terminal's session. Without a terminal, and with -c, it is 1 if a line was refused. It
@@ -16,6 +16,7 @@ import os
 import sys
 from typing import Optional, Sequence
 
+from ..copy import tls_files
 from . import asking, defining, looking, moving, pausing, scripts, undoing
 from .core import Lines, Shell
 from .output import Output
@@ -41,8 +42,10 @@ _INTERRUPTED = 130
 def _options() -> argparse.ArgumentParser:
     options = argparse.ArgumentParser(prog="rollback-shell", description="A shell for operators of a book.")
     places = options.add_mutually_exclusive_group()
-    places.add_argument("address", nargs="?", metavar="ADDRESS", help="a server: a path of a Unix socket, or host:port")
+    about = "a server: a path of a Unix socket, host:port, or cluster:host:port,.."
+    places.add_argument("address", nargs="?", metavar="ADDRESS", help=about)
     places.add_argument("--journal", metavar="FILE", help="a journal's file, which the program is started on")
+    options.add_argument("--tls", type=tls_files, metavar="CERT,KEY,CA", help="for a server with --tls")
     options.add_argument("--program", default="rollback", metavar="PATH", help="the program, if there is no ADDRESS")
     options.add_argument("--raw", action="store_true", help="replies as the program writes them")
     options.add_argument("-c", nargs="+", dest="lines", metavar="LINE", help="runs these lines, and ends")
@@ -53,7 +56,7 @@ def main(words: Optional[Sequence[str]] = None) -> int:
     """Runs a shell by a command line, and hands back its status."""
     given = _options().parse_args(words)
     output = Output()
-    shell = Shell(Session(Place(given.program, given.address, given.journal)), output, COMMANDS, given.raw)
+    shell = Shell(Session(Place(given.program, given.address, given.journal, given.tls)), output, COMMANDS, given.raw)
     try:
         shell.session.begin()
         try:

@@ -18,6 +18,7 @@ from ..faults import (
     RollbackError,
     StreamBroken,
 )
+from ..links import Tls
 from .interrupts import Interrupts
 
 # what a question may be given twice, and what changes the book if it is done
@@ -40,10 +41,13 @@ class Place:
     program: str = "rollback"
     address: Optional[str] = None
     journal: Optional[str] = None
+    tls: Optional[Tls] = None
 
     def open(self) -> Book:
         """Opens the book. That a journal can't be opened is known at the first call."""
-        return Book.connect(self.address) if self.address is not None else Book.open(self.journal, self.program)
+        if self.address is not None:
+            return Book.connect(self.address, tls=self.tls)
+        return Book.open(self.journal, self.program)
 
     def __str__(self) -> str:
         if self.address is not None:

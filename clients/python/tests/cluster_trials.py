@@ -1,0 +1,750 @@
+"""Trials of a cluster: what is killed, stopped, lost and filled, and what has to hold afterwards.
+
+    python3 -m tests.cluster_trials [--ttl SECONDS] [--times N] [NAME ..]      in clients/python
+"""
+import argparse
+import asyncio
+import contextlib
+import json
+import os
+import random
+import signal
+import sqlite3
+import statistics
+import subprocess
+import sys
+import time
+from contextlib import closing
+
+from rollback_client import AsyncBook, Book, ConnectionLost, Done, NoServer, NotLeader, Ready, Unavailable
+from rollback_client.copy import copy_book
+from rollback_client.lines import MOST_BYTES
+from tests.cluster_callers import SETUP, Caller, Reader, Said
+from tests.cluster_checks import check, journals_agree, log_lines
+from tests.certificates import Authority
+from tests.cluster_machines import PREFIX, Cluster, Connection, encoded, run_command
+from tests.program import PROGRAM, TOP
+
+
+class Trial:
+    """Callers amid whatever happens to the cluster, and the check at its end."""
+
+    def __init__(self, cluster, callers=4, readers=2):
+        self.cluster, self.said, self.gone = cluster, [], []
+        self.callers = [Caller(f"c{number}", cluster, self.said) for number in range(callers)]
+        self.callers += [Reader(f"r{number}", cluster, self.said) for number in range(readers)]
+        self.tasks = []
+
+    async def begin(self, seconds=0.7):
+        """Begins the book and the callers."""
+        for line in SETUP:
+            reply = await self.cluster.ask(None, line)
+            assert reply.startswith("ok"), (line, reply)
+        self.tasks = [asyncio.ensure_future(caller.run()) for caller in self.callers]
+        await asyncio.sleep(seconds)
+
+    async def end(self):
+        """Ends the callers, and checks all."""
+        for caller in self.callers:
+            caller.ends = True
+        await asyncio.gather(*self.tasks)
+        wrong = [each for caller in self.callers for each in caller.wrong]
+        assert not wrong, wrong[:3]
+        found = await check(self.cluster, self.said)
+        for number in range(3):
+            assert await self.cluster.end_server(number, signal.SIGTERM) == 0, self.cluster.errors(number)[-500:]
+        journals_agree(self.cluster)
+        cut = sum(each["cut"] for each in self.cluster.events("cut"))
+        of_gone = f"accepted again after {in_words(self.gone)}; " if self.gone else ""
+        return f"{of_gone}{found}, {cut} rows cut"
+
+    async def accepted_since(self, moment, most):
+        """How long after a moment the first line was accepted that was sent later. It is an error if it takes longer than `most`."""
+
+        async def found():
+            since = [each for each in self.said[-800:] if each.sent > moment and each.word in ("start", "step")]
+            return next((each.answered - moment for each in since if each.reply and not each.is_refused), 0)
+
+        seconds, most = await self.cluster.until(found, 120), allowed(most)
+        assert seconds <= most, f"accepted again after {seconds:.1f} s, and not within {most} s"
+        self.gone.append(seconds)
+        return seconds
+
+
+def allowed(seconds):
+    """What a limit in seconds is on this machine now: longer, if more processes want its processors than there are."""
+    return seconds * max(1.0, os.getloadavg()[0] / len(os.sched_getaffinity(0)))
+
+
+def in_words(seconds):
+    """Some durations."""
+    return f"{statistics.median(seconds):.1f} s ({min(seconds):.1f} to {max(seconds):.1f})"
+
+
+async def leader_killed(words):
+    """The leader's server, by kill -9, amid callers: the next line is answered within the lease and 2.5 s."""
+    async with Cluster(words.ttl) as cluster:
+        trial = Trial(cluster)
+        await trial.begin()
+        for _ in range(words.times):
+            number, moment = await cluster.leader(), time.monotonic()
+            await cluster.end_server(number)
+            await trial.accepted_since(moment, words.ttl + 2.5)
+            cluster.start_server(number)
+            await cluster.ask(number, "history")
+        return await trial.end()
+
+
+async def leader_stopped(words):
+    """The leader's server, stopped past its lease with a question and a step in its socket, and let go on."""
+    async with Cluster(words.ttl) as cluster:
+        trial, late = Trial(cluster), []
+        await trial.begin()
+        for _ in range(words.times):
+            number = await cluster.leader()
+            asked = [await cluster.connect(number) for _ in range(2)]
+            assert (await asked[0].ask("show shared")).startswith("ok")
+            moment = time.monotonic()
+            cluster.servers[number].send_signal(signal.SIGSTOP)
+            coming = [
+                asyncio.ensure_future(asked[0].ask("show shared")),
+                asyncio.ensure_future(asked[1].ask("step shared")),
+            ]
+            # The callers' own patience is a part of that.
+            await trial.accepted_since(moment, words.ttl + 2.5 + trial.callers[0].patience)
+            await asyncio.sleep(0.3)
+            cluster.servers[number].send_signal(signal.SIGCONT)
+            late += await asyncio.gather(*coming)
+            for connection in asked:
+                connection.close()
+            await cluster.ask(number, "history")
+        assert not any((reply or "").startswith("ok") for reply in late), late
+        return f"late lines got {sorted({str(reply).split(' 127')[0] for reply in late})}; {await trial.end()}"
+
+
+async def idle_leader_stopped(words):
+    """The leader's server, stopped past its lease without other callers, and asked meanwhile; the next leader has moved on."""
+    async with Cluster(words.ttl) as cluster:
+        trial, late = Trial(cluster, callers=0, readers=0), []
+        await trial.begin(0)
+        for turn in range(2 * words.times):
+            number = await cluster.leader()
+            old = await cluster.connect(number)
+            cluster.servers[number].send_signal(signal.SIGSTOP)
+            coming = asyncio.ensure_future(old.ask("step shared" if turn % 2 else "show shared"))
+            while (await cluster.until(cluster.leader_key))[0] == cluster.addresses[number]:
+                await asyncio.sleep(0.05)
+            asked = await cluster.ask(await cluster.leader(), "show shared" if turn % 2 else "step shared")
+            count = int(asked.removesuffix(" plain").replace("#", " ").rsplit(" ", 1)[1])
+            cluster.servers[number].send_signal(signal.SIGCONT)
+            late.append(await coming)
+            is_true = not late[-1] or late[-1].startswith("no 40") or late[-1] == f'ok ready "P" {count}'
+            assert is_true, f"the stopped leader answers {late[-1]!r} when the count is {count}"
+            old.close()
+            await cluster.ask(number, "history")
+        return f"late lines got {sorted({str(reply).split(' 127')[0] for reply in late})}"
+
+
+async def nearest_stopped(words):
+    """Each server knows its nearest member of etcd alone; the leader's is stopped past the lease, and let go on."""
+    async with Cluster(words.ttl, nearest_only=True) as cluster:
+        trial = Trial(cluster)
+        await trial.begin()
+        for _ in range(words.times):
+            number, moment = await cluster.leader(), time.monotonic()
+            cluster.members[number].send_signal(signal.SIGSTOP)
+            await trial.accepted_since(moment, 20)
+            await asyncio.sleep(0.5)
+            cluster.members[number].send_signal(signal.SIGCONT)
+            await cluster.ask(number, "history")
+        return await trial.end()
+
+
+async def member_killed(words):
+    """One member of etcd, by kill -9: in turn the one that leads etcd, and the one beside the leader's server."""
+    async with Cluster(words.ttl) as cluster:
+        trial = Trial(cluster)
+        await trial.begin()
+        for turn in range(2 * words.times):
+            number = await cluster.leader() if turn % 2 else await cluster.etcd_leader()
+            moment = time.monotonic()
+            await cluster.end_member(number)
+            await trial.accepted_since(moment, words.ttl + 5)
+            cluster.start_member(number)
+            await asyncio.sleep(1)
+        return await trial.end()
+
+
+async def majority_lost(words):
+    """Two members of etcd, by kill -9, for longer than the TTL: lines are refused by name, and go on when they are back."""
+    async with Cluster(words.ttl) as cluster:
+        trial, terms = Trial(cluster), set()
+        for caller in trial.callers:
+            caller.patience = 5 * words.ttl  # so the servers' own ends
+        await trial.begin()
+        for turn in range(words.times):
+            terms.add(await cluster.term())
+            lost = [turn % 3, (turn + 1) % 3]
+            for number in lost:
+                await cluster.end_member(number)
+            await asyncio.sleep(3 * words.ttl)
+            moment = time.monotonic()
+            since = [each for each in trial.said if each.sent > moment - words.ttl and each.reply is not None]
+            assert since and all(each.reply == "no 40 quorum" for each in since), since[:3]
+            for number in lost:
+                cluster.start_member(number)
+            await trial.accepted_since(moment, 20)
+            await asyncio.sleep(0.5)
+        terms.add(await cluster.term())
+        assert cluster.events("quorum"), "the log file doesn't say that the majority was lost"
+        return f"{len(terms)} terms; {await trial.end()}"
+
+
+async def answers_lost(words):
+    """Each tenth answer of etcd is lost on its way, with the connection, after what was asked was done."""
+    async with Cluster(words.ttl, loss=0.1) as cluster:
+        trial = Trial(cluster)
+        await trial.begin()
+        await asyncio.sleep(4 * words.times)
+        return await trial.end()
+
+
+async def space_used_up(words):
+    """etcd's quota, used up by lines of the greatest length: named, and standbys answer questions. Then there is room again."""
+    async with Cluster(words.ttl, quota=12 << 20) as cluster:
+        trial, count = Trial(cluster), 0
+        await trial.begin()
+        for number in range(60):
+            if any(each.reply == "no 40 space" for each in trial.said[-40:]):
+                break
+            reply = await long_line(trial, f"long-{number}")
+            count += (reply or "").startswith("ok")
+        moment = time.monotonic()
+
+        async def is_named():
+            since = [each for each in trial.said if each.sent > moment and each.reply]
+            told = {each.reply for each in since if each.word != "show"}
+            assert all(each.startswith("no 40") for each in told), told
+            is_read = any(each.word == "show" and each.reply.startswith("ok") for each in since)
+            return "no 40 space" in told and is_read
+
+        await cluster.until(is_named)
+        assert cluster.events("space"), "the log file doesn't say that there is no space"
+        cluster.quota = 1 << 30
+        for number in range(3):
+            await cluster.end_member(number)
+            cluster.start_member(number)
+            await cluster.until(cluster.has_quorum)
+            await asyncio.sleep(0.5)
+        moment = time.monotonic()
+        for alarm in (await cluster.etcd("maintenance/alarm", {"action": "GET"})).get("alarms", []):
+            await cluster.etcd("maintenance/alarm", {"action": "DEACTIVATE", **alarm})
+        await trial.accepted_since(moment, words.ttl + 5)
+        return f"{count} lines of {MOST_BYTES} bytes went in; {await trial.end()}"
+
+
+async def long_line(trial, execution):
+    """The reply of the leader to a line of the greatest length, which the check knows as that of a caller of its own."""
+    begin = f'start {execution} p "'
+    line = begin + "x" * (MOST_BYTES - len(begin) - 1) + '"'
+    try:
+        number = int(await trial.cluster.until(trial.cluster.leading, 3))
+    except AssertionError:
+        return None  # other lines have used up the space, and nobody leads
+    connection = await trial.cluster.connect(number)
+    sent = time.monotonic()
+    reply = await connection.ask(line)
+    trial.said.append(Said("long", line, sent, reply, time.monotonic()))
+    connection.close()
+    return reply
+
+
+async def reply_differs(words):
+    """A server whose program answers otherwise cuts that row, and stops by name. With the right program it takes part again."""
+    async with Cluster(words.ttl) as cluster:
+        trial = Trial(cluster)
+        await trial.begin()
+        number = (await cluster.leader() + 1) % 3
+        assert await cluster.end_server(number, signal.SIGTERM) == 0
+        wrong = cluster.room / "wrong"
+        wrong.write_text(
+            f'#!/bin/sh\n[ "$1" = --version ] && exec {PROGRAM} --version\n'
+            f"{PROGRAM} \"$@\" | sed -u 's/^ok \\(c1-.*\\)#0$/ok \\1#9/'\n"
+        )
+        wrong.chmod(0o755)
+        for _ in range(2):  # begun again it doesn't lead either
+            cluster.start_server(number, wrong)
+            status = await asyncio.to_thread(cluster.servers[number].wait, 30)
+            assert status == 6 and "Differs" in cluster.errors(number), (status, cluster.errors(number)[-300:])
+        with closing(sqlite3.connect(cluster.journal(number))) as file:
+            rows = [line for (line,) in file.execute("select line from entry order by no")]
+        lines, _ = await log_lines(cluster)
+        assert rows == [line for _, line in lines[: len(rows)]] and len(rows) < len(lines)
+        assert lines[len(rows)][1].startswith("start c1-"), lines[len(rows)]
+        cluster.start_server(number)
+        await cluster.ask(number, "history")
+        return await trial.end()
+
+
+async def journal_damaged(words):
+    """A standby's journal with another row, and a file that is no journal: both are refused, and nothing is cut. Moved away, the
+    server takes the log from the start."""
+    async with Cluster(words.ttl) as cluster:
+        trial = Trial(cluster)
+        await trial.begin()
+        for turn in range(2 * words.times):
+            number = (await cluster.leader() + 1) % 3
+            assert await cluster.end_server(number, signal.SIGTERM) == 0
+            journal = cluster.journal(number)
+            if turn % 2:
+                journal.write_bytes(b"no journal" * 1000)
+            else:
+                with closing(sqlite3.connect(journal)) as file, file:
+                    file.execute("update entry set line = 'start other p {}' where no = 3")
+            before = journal.read_bytes()
+            cluster.start_server(number)
+            status = await asyncio.to_thread(cluster.servers[number].wait, 30)
+            assert status == 5 and "nothing was cut" in cluster.errors(number), (status, cluster.errors(number)[-300:])
+            assert journal.read_bytes() == before, "the journal was changed"
+            for path in cluster.room.glob(f"book{number}.db*"):
+                path.rename(path.with_name(f"damaged{turn}-{path.name}"))
+            cluster.start_server(number)
+            await cluster.ask(number, "history")
+        return await trial.end()
+
+
+async def rolling_restart(words):
+    """Each server in turn by SIGTERM, which hands over at once, amid callers who lose no line."""
+    async with Cluster(words.ttl) as cluster:
+        trial = Trial(cluster)
+        await trial.begin()
+        for turn in range(3 * words.times):
+            moment = time.monotonic()
+            assert await cluster.end_server(turn % 3, signal.SIGTERM) == 0, cluster.errors(turn % 3)[-500:]
+            await trial.accepted_since(moment, 2.5)
+            cluster.start_server(turn % 3)
+            await cluster.ask(turn % 3, "history")
+        return await trial.end()
+
+
+async def drives(words):
+    """The leader's server, by kill -9, amid drives of more steps than a batch has."""
+    async with Cluster(words.ttl) as cluster:
+        for line in SETUP:
+            await cluster.ask(None, line)
+        told, most = [], 1500
+
+        async def drive():
+            number = await cluster.leader()
+            connection = await cluster.connect(number)
+            reply = await connection.ask(f"drive {most}", words.ttl + 10)
+            connection.close()
+            if (reply or "").startswith("ok"):
+                told.append(reply.split("\n")[1:])
+
+        for _ in range(words.times):
+            await drive()
+            number = await cluster.leader()
+            driving = asyncio.ensure_future(drive())
+            await asyncio.sleep(random.uniform(0, 0.2))
+            await cluster.end_server(number)
+            cluster.start_server(number)
+            await asyncio.gather(driving, cluster.ask(number, "history"))
+        lines, _ = await log_lines(cluster)
+        steps = sum(1 for _, line in lines if line == "step shared")
+        wanted = [f"shared#{count + 1}" for count in range(steps)]
+        assert steps + len(SETUP) == len(lines)
+        for names in told:
+            first = wanted.index(names[0])
+            assert wanted[first : first + most] == names, "the steps of a drive that was answered aren't in the log"
+        for number in range(3):
+            assert (await cluster.ask(number, "history")).split("\n")[2:] == wanted
+        return f"{len(told)} drives of {most} steps answered, {steps - most * len(told)} steps of others stand"
+
+
+async def client_follows(words):
+    """A book and an asyncio book of the client: a call that was under way is lost, and the next one finds the new leader."""
+    async with Cluster(words.ttl) as cluster:
+        address = "cluster:" + ",".join(cluster.addresses)
+        for line in SETUP:
+            await cluster.ask(None, line)
+        book = await asyncio.to_thread(Book.connect, address)
+        other = await AsyncBook.connect(address)
+        lost = []
+        for turn in range(2 * words.times):
+            number, ended = await cluster.leader(), asyncio.Event()
+
+            async def step(call):
+                count = 0
+                while not ended.is_set() or not count:
+                    try:
+                        await call()
+                        count += 1 if ended.is_set() else 0
+                    except ConnectionLost as fault:
+                        assert fault.line == "step shared"
+                        lost.append(fault)
+
+            both = [
+                asyncio.ensure_future(step(call))
+                for call in (lambda: asyncio.to_thread(book.step, "shared"), lambda: other.step("shared"))
+            ]
+            await asyncio.sleep(0.2)
+            moment = time.monotonic()
+            await cluster.end_server(number, signal.SIGKILL if turn % 2 == 0 else signal.SIGTERM)
+            ended.set()
+            await asyncio.gather(*both)
+            assert time.monotonic() - moment < allowed(words.ttl + 2.5)
+            cluster.start_server(number)
+            await cluster.ask(number, "history")
+        history = await other.history()
+        assert history == await asyncio.to_thread(book.history)
+        assert [str(step) for step in history] == [f"shared#{number}" for number in range(len(history))]
+        # What workers took, in an order that only the leader's program knows, is the same in all books.
+        for number in range(40):
+            await other.start(f"w{number}", "p", {})
+        taken = await other.work(4, 60)
+        history = await other.history()
+        assert taken and history[-len(taken) :] == taken
+        standby = cluster.addresses[(await cluster.leader() + 1) % 3]
+        reading = await asyncio.to_thread(Book.connect, standby)
+        assert await asyncio.to_thread(reading.history) == history
+        try:
+            await asyncio.to_thread(reading.step, "shared")
+            raise AssertionError("a standby takes a step")
+        except NotLeader as refusal:
+            assert refusal.leader == cluster.addresses[await cluster.leader()]
+        await asyncio.to_thread(copy_is_the_log, cluster, address)
+        for number in range(3):
+            await cluster.end_member(number)
+        try:
+            await asyncio.to_thread(Book.connect(address, retry=2).history)
+            raise AssertionError("a book without etcd answers")
+        except Unavailable as refusal:
+            assert refusal.why == "quorum", refusal
+        await other.close()
+        return f"{len(lost)} calls were under way at {2 * words.times} ends, {len(history)} steps"
+
+
+def copy_is_the_log(cluster, address):
+    """A copy of the running book is the leader's, checked."""
+    lines, steps = copy_book(address, cluster.room / "copy.db", PROGRAM)
+    assert lines == steps + len(SETUP) - 1
+
+
+async def questions(words):
+    """Questions of a follower, at the leader and at standbys, amid a leader's death: each sees what was answered before."""
+    async with Cluster(words.ttl, ask="--ask") as cluster:
+        for line in SETUP:
+            await cluster.ask(None, line)
+        book = await AsyncBook.connect("cluster:" + ",".join(cluster.addresses))
+        for turn in range(words.times + 1):
+            number = await cluster.leader()
+            for each in range(10):
+                execution = f"q{turn}-{each}"
+                await book.start(execution, "p", {})
+                told = json.loads(await cluster.ask((number + 1) % 3, f"? threads {execution}"))
+                assert told["threads"][0]["moves"] == 0, told
+                await book.step(execution)
+                (row,) = (await book.threads(execution))["threads"]
+                assert row["moves"] == 1, row
+            if turn < words.times:
+                await cluster.end_server(number)
+                cluster.start_server(number)
+                await cluster.ask(number, "history")
+                with contextlib.suppress(ConnectionLost):
+                    await book.history()
+        entries = []
+        for address in cluster.addresses:
+            async with await AsyncBook.connect(address) as one:
+                entries.append((await one.threads())["entries"])
+        assert entries[0] == entries[1] == entries[2], entries
+        await book.close()
+        return f"{entries[0]} entries in the three followers"
+
+
+async def runner_follows(words):
+    """A runner at the leader alone: behind another leader it goes on, and what was paused stays paused."""
+    async with Cluster(words.ttl, ask="--run") as cluster:
+        for line in SETUP[:2]:
+            await cluster.ask(None, line)
+        book = await AsyncBook.connect("cluster:" + ",".join(cluster.addresses))
+        for turn in range(words.times + 1):
+            await book.start(f"r{turn}", "p", {})
+            assert await book.wait(f"r{turn}", 10) == Done(7)
+            await book.pause(machine="p")
+            number = await cluster.leader()
+            await cluster.end_server(number)
+            cluster.start_server(number)
+            await cluster.ask(number, "history")
+            with contextlib.suppress(ConnectionLost):
+                await book.history()
+            await book.start(f"late{turn}", "p", {})
+            await asyncio.sleep(0.5)
+            assert isinstance(await book.show(f"late{turn}"), Ready), "what was paused is moved by the next leader"
+            standby = await cluster.connect((await cluster.leader() + 1) % 3)
+            assert (await standby.ask("!waits", 5)).startswith("no 40 leader")
+            standby.close()
+            await book.resume(machine="p")
+            assert await book.wait(f"late{turn}", 10) == Done(7)
+        histories = [await cluster.ask(number, "history") for number in range(3)]
+        assert histories[0] == histories[1] == histories[2]
+        lines, _ = await log_lines(cluster)
+        assert sum(1 for _, line in lines if line.startswith("step ")) == 2 * (words.times + 1)
+        await book.close()
+        return f"{len(lines)} lines of {words.times + 2} leaders"
+
+
+async def runner_beside(words):
+    """A runner beside the servers follows the leader, with certificates."""
+    async with Cluster(words.ttl, ask="--ask", tls=True) as cluster:
+        for line in SETUP[:2]:
+            await cluster.ask(None, line)
+        address, files = "cluster:" + ",".join(cluster.addresses), cluster.caller_files
+        command = [sys.executable, "-m", "rollback_client.runner", address, "--tls", ",".join(files)]
+        runner = subprocess.Popen(command, cwd=TOP / "clients/python", stderr=subprocess.DEVNULL)
+        try:
+            async with await AsyncBook.connect(address, tls=files) as book:
+                for turn in range(words.times + 1):
+                    await book.start(f"r{turn}", "p", {})
+                    assert await book.wait(f"r{turn}", 20) == Done(7)
+                    number = await cluster.leader()
+                    await cluster.end_server(number)
+                    cluster.start_server(number)
+                    await cluster.ask(number, "history")
+                    with contextlib.suppress(ConnectionLost):
+                        await book.history()
+            return f"{words.times + 1} leaders followed"
+        finally:
+            runner.kill()
+            runner.wait()
+
+
+async def secured(words):
+    """Servers and etcd with TLS: callers with a certificate are served, others aren't, and all commands take one."""
+    async with Cluster(words.ttl, tls=True) as cluster:
+        address = "cluster:" + ",".join(cluster.addresses)
+        for line in SETUP:
+            await cluster.ask(None, line)
+        book = await asyncio.to_thread(Book.connect, address, tls=cluster.caller_files)
+        other = await AsyncBook.connect(address, tls=cluster.caller_files)
+        await asyncio.gather(asyncio.to_thread(book.step, "shared"), other.step("shared"))
+        assert len(await other.history()) == 3
+        big = await other.start("big", "p", ["x" * 1000] * 900)
+        assert str(big) == "big#0" and await asyncio.to_thread(book.show, "big") == await other.show("big")
+        number = await cluster.leader()
+        await cluster.end_server(number)
+        await asyncio.to_thread(after_a_loss, book)
+        cluster.start_server(number)
+        await cluster.ask(number, "history")
+        strangers = Authority(cluster.room / "strangers")
+        for files in (strangers.files("stranger"), (*strangers.files("guest")[:2], cluster.caller_files[2])):
+            fault = await asyncio.to_thread(connection_fault, address, files)
+            assert isinstance(fault, (ConnectionLost, NoServer, OSError)), fault
+            assert "certificate" in str(fault).lower(), fault
+        plain = await Connection.open(cluster.addresses[0])
+        assert await plain.ask("history", 5) is None, "a caller without TLS is answered"
+        files = ",".join(cluster.caller_files)
+        status = await asyncio.to_thread(run_command, cluster.server_words(0) + ["--cluster-status"])
+        assert status.returncode == 0 and "leads since" in status.stdout and " 0 behind" in status.stdout, status
+        copy = [
+            "-m",
+            "rollback_client.copy",
+            address,
+            str(cluster.room / "copy.db"),
+            "--program",
+            PROGRAM,
+            "--tls",
+            files,
+        ]
+        done = await asyncio.to_thread(run_command, [sys.executable, *copy])
+        assert done.returncode == 0 and done.stdout.startswith("ok "), done
+        shell = ["-m", "rollback_client.shell", address, "--tls", files, "-c", "show big"]
+        done = await asyncio.to_thread(run_command, [sys.executable, *shell])
+        assert done.returncode == 0 and "big" in done.stdout, done
+        entries = [line for path in cluster.room.glob("log?") for line in path.read_text(encoding="utf-8").splitlines()]
+        assert any('"name": "caller"' in line for line in entries), "the log file doesn't say who called"
+        # A server whose own certificate etcd doesn't take says so, and refuses by name.
+        await cluster.end_server(0, signal.SIGTERM)
+        wrong = ("--etcd-tls", ",".join(strangers.files("wrong")))
+        cluster.start_server(0, words=wrong)
+        connection = await cluster.until(lambda: cluster.connect(0))
+        assert await connection.ask("history", 5) in ("no 40 election", "no 40 quorum")
+        await cluster.until(refuses_for_quorum(cluster))
+        assert "CERTIFICATE" in cluster.errors(0).upper(), cluster.errors(0)[-500:]
+        connection.close()
+        await other.close()
+        return "served, and refused, by certificates"
+
+
+def refuses_for_quorum(cluster):
+    """Whether the first server refuses by name since etcd doesn't answer it."""
+
+    async def refuses():
+        connection = await cluster.connect(0)
+        try:
+            return await connection.ask("step shared", 5) == "no 40 quorum"
+        finally:
+            connection.close()
+
+    return refuses
+
+
+def after_a_loss(book):
+    """A call after the leader's death is lost or answered, and the one after it answered."""
+    try:
+        book.step("shared")
+    except ConnectionLost:
+        book.step("shared")
+
+
+def connection_fault(address, files):
+    """What is raised to a caller with other certificates."""
+    try:
+        Book.connect(address, tls=files, retry=0.5)
+    except Exception as fault:
+        return fault
+    return None
+
+
+async def begins_and_refuses(words):
+    """A log that is filled from a journal; journals of another book, another etcd, a log with a gap; another version; who leads."""
+    async with Cluster(words.ttl) as cluster:
+        for number in range(3):
+            await cluster.end_server(number, signal.SIGTERM)
+            for path in cluster.room.glob(f"book{number}.db*"):
+                path.unlink()
+        lines = [*SETUP, *(line for each in range(700) for line in (f"start e{each} p {{}}", f"step e{each}"))]
+        made = run_command([PROGRAM, "--journal", str(cluster.journal(0))], "\n".join(lines) + "\n")
+        assert made.returncode == 0
+        before = cluster.journal(0).read_bytes()
+        cluster.start_server(0)
+        status = await asyncio.to_thread(cluster.servers[0].wait, 30)
+        assert status == 5 and "--seed" in cluster.errors(0), (status, cluster.errors(0)[-500:])
+        assert cluster.journal(0).read_bytes() == before
+        cluster.start_server(0, words=("--seed",))
+        history = await cluster.ask(0, "history")
+        assert len(history.split("\n")) == 1402, history[:100]
+        cluster.start_server(1)
+        assert await cluster.ask(1, "history") == history
+        logged, _ = await log_lines(cluster)
+        assert [line for _, line in logged] == lines
+        await begins_by_a_copy(cluster, history)
+        await shows_who_leads(cluster)
+        await stands_aside(cluster)
+        await refuses_others(cluster)
+        return f"{len(lines)} lines of a journal filled the log"
+
+
+async def begins_by_a_copy(cluster, history):
+    """A new machine may begin with a copy of the book, with whatever the log has beyond it."""
+    address = "cluster:" + ",".join(cluster.addresses)
+    await asyncio.to_thread(copy_book, address, cluster.journal(2), PROGRAM)
+    assert await cluster.ask(None, "step shared") == "ok shared#1 plain"
+    cluster.start_server(2)
+    assert (await cluster.ask(2, "history")).split("\n")[1:-1] == history.split("\n")[1:]
+    opened = cluster.events("opened")[-1]
+    assert any(each.get("lines", 0) >= 1404 for each in cluster.events("opened")), opened
+
+
+async def shows_who_leads(cluster):
+    """The status says who leads and how far the others are, and ends with 1 if one is gone."""
+    words = cluster.server_words(1) + ["--cluster-status"]
+    found = await asyncio.to_thread(run_command, words)
+    leader = cluster.addresses[await cluster.leader()]
+    assert found.returncode == 0, found
+    assert (
+        f"book orders: {leader} leads since revision" in found.stdout and "the log has 1405 lines" in found.stdout
+    ), found
+    assert found.stdout.count("1405 lines, 0 behind") == 3 and found.stdout.count("answers, ") == 3, found
+    await cluster.end_server(0)
+    found = await asyncio.to_thread(run_command, words)
+    assert found.returncode == 1 and "doesn't answer" in found.stdout, found
+    cluster.start_server(0)
+    await cluster.ask(0, "history")
+
+
+async def stands_aside(cluster):
+    """A server whose program has another version follows nobody, names the leader, and takes part again with the same one."""
+    number = (await cluster.leader() + 1) % 3
+    await cluster.end_server(number, signal.SIGTERM)
+    other = cluster.room / "other"
+    other.write_text(f'#!/bin/sh\n[ "$1" = --version ] && echo "rollback 9.9.9" && exit 0\nexec {PROGRAM} "$@"\n')
+    other.chmod(0o755)
+    cluster.start_server(number, other)
+    connection = await cluster.until(lambda: cluster.connect(number))
+    wanted = f"no 40 leader {cluster.addresses[await cluster.leader()]}"
+    while (reply := await connection.ask("history", 5)) != wanted:
+        assert reply == "no 40 election", reply
+        await asyncio.sleep(0.05)
+    connection.close()
+    assert cluster.events("aside"), "the log file doesn't say that it stands aside"
+    await cluster.end_server(number, signal.SIGTERM)
+    cluster.start_server(number)
+    await cluster.ask(number, "history")
+
+
+async def refuses_others(cluster):
+    """Another etcd's journal, and a log with a gap, are refused by name, and nothing is cut."""
+    number = (await cluster.leader() + 1) % 3
+    await cluster.end_server(number, signal.SIGTERM)
+    journal = cluster.journal(number)
+    beside, before = journal.with_name(journal.name + ".cluster"), journal.read_bytes()
+    kept = beside.read_text(encoding="utf-8")
+    beside.write_text(kept.replace('"cluster_id": "', '"cluster_id": "1'), encoding="utf-8")
+    cluster.start_server(number)
+    assert await asyncio.to_thread(cluster.servers[number].wait, 30) == 5
+    assert "belongs to" in cluster.errors(number) and journal.read_bytes() == before, cluster.errors(number)[-500:]
+    beside.write_text(kept, encoding="utf-8")
+    first = (await cluster.batches())[1][0]
+    key = f"{PREFIX}/log/{first:012d}"
+    pair = (await cluster.etcd("kv/range", {"key": encoded(key)}))["kvs"][0]
+    for path in cluster.room.glob(f"book{number}.db*"):
+        path.unlink()
+    await cluster.etcd("kv/deleterange", {"key": encoded(key)})
+    cluster.start_server(number)
+    assert await asyncio.to_thread(cluster.servers[number].wait, 30) == 5
+    assert "gap" in cluster.errors(number), cluster.errors(number)[-500:]
+    assert pair["value"]
+
+
+TRIALS = {
+    each.__name__: each
+    for each in (
+        leader_killed,
+        leader_stopped,
+        idle_leader_stopped,
+        nearest_stopped,
+        member_killed,
+        majority_lost,
+        answers_lost,
+        space_used_up,
+        reply_differs,
+        journal_damaged,
+        rolling_restart,
+        drives,
+        client_follows,
+        questions,
+        runner_follows,
+        runner_beside,
+        secured,
+        begins_and_refuses,
+    )
+}
+
+
+def main():
+    """Runs trials one after another, and says of each what was found."""
+    parser = argparse.ArgumentParser()
+    parser.add_argument("--ttl", type=int, default=2)
+    parser.add_argument("--times", type=int, default=1)
+    parser.add_argument("names", nargs="*", metavar="NAME")
+    words = parser.parse_args()
+    for name in words.names or TRIALS:
+        began = time.monotonic()
+        found = asyncio.run(TRIALS[name](words))
+        print(f"{name}: {words.times} times, {time.monotonic() - began:.0f} s: {found}", flush=True)
+    return 0
+
+
+if __name__ == "__main__":
+    sys.exit(main())
