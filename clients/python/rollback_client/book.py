@@ -322,7 +322,7 @@ class Book:
         after: Optional[str] = None,
         most: Optional[int] = None,
     ) -> dict[str, Any]:
-        """The `executions`: all, those that are `failed` or `open`, those of a machine, or those that changed since an entry.
+        """The `executions`: all, or those that are `failed`, `open` or `done`, of a machine, changed by an entry after `since`.
 
         Raises `NoFollower`, and `NoAnswer` if there is no such machine.
         """

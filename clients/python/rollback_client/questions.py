@@ -82,13 +82,11 @@ def executions(
     most: Optional[int],
 ) -> Command[Answer]:
     """A list of executions."""
-    if sum(one is not None for one in (status, machine, since)) > 1:
-        raise ValueError("a list is of a status, of a machine or since an entry, and not of two of these")
-    if status is not None and status not in ("failed", "open"):
-        raise ValueError(f"a list is of failed or open executions, and not of {status!r}")
-    of = f" {status}" if status else f" machine {lines.name('a machine', machine)}" if machine is not None else ""
-    if since is not None:
-        of = f" since {lines.count('an entry', since, 0, MOST_ENTRIES)}"
+    if status is not None and status not in ("failed", "open", "done"):
+        raise ValueError(f"a list is of failed, open or done executions, and not of {status!r}")
+    of = f" {status}" if status else ""
+    of += f" machine {lines.name('a machine', machine)}" if machine is not None else ""
+    of += f" since {lines.count('an entry', since, 0, MOST_ENTRIES)}" if since is not None else ""
     return question(f"list{of}{_page(after, most)}")
 
 

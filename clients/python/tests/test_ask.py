@@ -119,6 +119,10 @@ class Questions(Asked):
             self.assertEqual(found.exception.detail, "nobody is no thread")
             self.assertEqual(str(found.exception), "? threads nobody: nobody is no thread")
             self.assertRaises(ValueError, book.threads, "a b")
+            self.assertRaises(ValueError, book.executions, "ended")
+            self.assertRaises(ValueError, book.log, -1)
+            self.assertRaises(ValueError, book.item, None, "x")
+            self.assertRaises(TypeError, book.question, 7)
             self.assertRaises(ValueError, book.threads, None, None, "a")
             self.assertEqual(
                 book.question("machines"), {"rollback_graph": 1, "entries": 2, "more": False, "machines": ["p"]}

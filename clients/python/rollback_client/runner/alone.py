@@ -5,7 +5,7 @@ import json
 import select
 import socket
 import time
-from typing import Any, Callable, Dict, Generator, List, Optional
+from typing import Any, Callable, Dict, Generator, Optional
 
 from ..book import Book
 from ..commands import Command, step
@@ -67,18 +67,18 @@ class Control:
         line, _, self._rest = self._rest.partition(b"\n")
         return line
 
-    def lines(self) -> List[str]:
-        """The lines that have come. A connection that has ended is a `ConnectionLost`."""
-        while True:
+    def next_line(self) -> Optional[str]:
+        """The next line, if one has come. A connection that has ended is a `ConnectionLost`."""
+        while b"\n" not in self._rest:
             try:
                 chunk = self.socket.recv(CHUNK)
             except BlockingIOError:
-                break
+                return None
             if not chunk:
                 raise ConnectionLost("the server has ended the connection")
             self._rest += chunk
-        *lines, self._rest = self._rest.split(b"\n")
-        return [line.decode() for line in lines]
+        line, _, self._rest = self._rest.partition(b"\n")
+        return line.decode()
 
     def answer(self, *lines: str) -> None:
         """Answers a line of the server's."""
@@ -145,8 +145,7 @@ class Alone:
             self._say("another runner runs: this one stands by")
         while word != "run":
             select.select([control.socket], [], [])
-            for line in control.lines():
-                word, _, rest = line.partition(" ")
+            word, _, rest = (control.next_line() or "").partition(" ")
         running.paused = _paused_of(rest)
 
 
@@ -193,7 +192,7 @@ class _Runs:
 
     def _hear(self) -> None:
         """Answers what the server says. None of this runner's lines is under way."""
-        for line in self._control.lines():
+        while (line := self._control.next_line()) is not None:
             word, _, rest = line.partition(" ")
             if word == "paused":
                 self._running.paused = _paused_of(rest)

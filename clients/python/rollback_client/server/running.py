@@ -166,6 +166,7 @@ class Server:
         """Starts the program, and waits until it answers, and so has opened its journal."""
         journal = ("--journal", self.words.journal) if self.words.journal is not None else ()
         ends = self.time() + self.words.wait
+        was_free = False
         while True:
             self._program = Program([self.words.program, *journal])
             await self._program.start()
@@ -176,12 +177,11 @@ class Server:
                 return True
             self._program.end_input()
             await self._program.status()
-            if (
-                self._asked_to_end.is_set()
-                or self.time() >= ends
-                or not is_in_use(self._program.said(), self.words.journal)
-            ):
+            is_free = not is_in_use(self._program.said(), self.words.journal)
+            # it may have become free since the program was refused
+            if self._asked_to_end.is_set() or self.time() >= ends or is_free and was_free:
                 return False
+            was_free = is_free
             await asyncio.sleep(min(0.1, max(0.0, ends - self.time())))
 
     async def _begin_follower(self) -> None:
