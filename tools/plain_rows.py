@@ -141,7 +141,10 @@ def in_any_order(told):
         if isinstance(found.get("on"), list):
             found["on"] = sorted(found["on"], key=lambda on: on["step"])
         if "why" in found and found["why"] is not None:
-            found["why"] = {name: found["why"].get(name) for name in ("state", "error", "step", "path", "of")}
+            names = ("state", "error", "step") + (("path", "of") if found["why"]["case"] in ("picks_nothing", "path") else ())
+            found["why"] = {name: found["why"].get(name) for name in names}
+        if found.get("to") == "caught":  # a catcher that leads to where the transition does can't be seen
+            found["to"] = "next"
         return found
     return [in_any_order(value) for value in told] if isinstance(told, list) else told
 

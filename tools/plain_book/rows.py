@@ -73,7 +73,9 @@ def _of_item(step: Step, earlier: Sequence[Step]) -> List[Step]:
     same = [other for other in earlier if other.access and other.access.key == step.access.key]
     writes = [place for place, other in enumerate(same) if other.access and other.access.writes]
     since = same[writes[-1] :] if writes else same
-    return since if step.access.writes else since[:1] if writes else []
+    needed = since if step.access.writes else since[:1] if writes else []
+    # of one thread's steps a picture has neighbours alone
+    return [other for other in needed if other.thread != step.thread]
 
 
 def _of_bound(step: Step, earlier: Sequence[Step]) -> List[Step]:

@@ -259,7 +259,7 @@ class Book:
     # ---- questions to a follower
 
     def question(self, text: str) -> dict[str, Any]:
-        """Asks a question in the words of docs/GRAPH.md, as `causes order-2#3`, and gives the answer as it is laid down there.
+        """Asks a question in the words of docs/QUESTIONS.md, as `causes order-2#3`, and gives the answer as it is laid down there.
 
         A question sees each line that was answered before. Raises `NoFollower` if the server has no `--ask` or `--run`, or
         begins its follower again just now; `NoAnswer` if there is no answer, as of a step that doesn't remain.

@@ -24,7 +24,7 @@ def _answer(line: str, said: list[str]) -> Union[Answer, Refusal]:
 
 
 def question(text: str) -> Command[Answer]:
-    """A question in the words of docs/GRAPH.md, as `causes order-2#3`."""
+    """A question in the words of docs/QUESTIONS.md, as `causes order-2#3`."""
     if not isinstance(text, str):
         raise TypeError(f"a question is a text, and not {type(text).__name__}")
     line = f"? {text}"

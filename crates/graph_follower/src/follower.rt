@@ -167,11 +167,11 @@ fn is_kept(command: &Command<'_>) -> bool {
 
 /// The first two words of a refusal: `no` and its number.
 fn two_words(reply: &[u8]) -> &[u8] {
-    let mut blanks = 0;
+    let mut has_blank = false;
     for at in 0..reply.len() {
         match reply[at] {
-            b' ' if blanks == 1 => return &reply[..at],
-            b' ' => blanks += 1,
+            b' ' if has_blank => return &reply[..at],
+            b' ' => has_blank = true,
             b'\n' => return &reply[..at],
             _ => {}
         }

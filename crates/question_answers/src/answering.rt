@@ -1,10 +1,10 @@
 // The answer to a question.
-use crate::asked::{Asked, answer_after, no_answer};
+use crate::asked::{Asked, Page, answer_after, no_answer};
 use crate::causing::{causes_of, chain_of, plan_of};
 use crate::explaining::explained;
 use crate::finding::found_steps;
 use crate::items::{item_of, items_of};
-use crate::listing::executions;
+use crate::listing::{Filter, executions, put_none};
 use crate::logging::{definition_of, log_from, machines_of};
 use crate::questions::Question;
 use crate::showing::{execution_of, step_of, steps_from, thread_of};
@@ -45,7 +45,7 @@ fn answer_of(asked: &Asked<'_>, question: &Question) -> Result<Answer, AllocErro
         Question::Why(from, to) => why(asked, from, to),
         Question::Item(key) => item(asked, key.as_str()),
         Question::Items(page) => found(items_of(asked, page)?),
-        Question::List(filter, page) => found(executions(asked, filter, page)?),
+        Question::List(filter, page) => list(asked, filter, page),
         Question::Machines => found(machines_of(asked.alloc, asked.index, asked.answer()?)?),
         Question::Find(text, most) => found(found_steps(asked, text.as_str(), *most)?),
         Question::Steps(from, count) => found(steps_from(asked, *from, *count)?),
@@ -58,6 +58,17 @@ fn answer_of(asked: &Asked<'_>, question: &Question) -> Result<Answer, AllocErro
         | Question::Definition(_)
         | Question::Thread(_) => of_name(asked, question),
     }
+}
+
+/// The executions of a filter, if its machine is one.
+fn list(asked: &Asked<'_>, filter: &Filter, page: &Page) -> Result<Answer, AllocError> {
+    if let Some(machine) = &filter.machine {
+        if !asked.index.definitions().contains_key(machine) {
+            let name = String::from_str(asked.alloc, machine.as_str())?;
+            return or_absent(asked.alloc, None, name, " is no machine");
+        }
+    }
+    found(executions(asked, filter, page)?)
 }
 
 // ---- of a step
@@ -221,7 +232,7 @@ fn answer_before(alloc: Global, index: &Index, question: &Question) -> Result<An
     let mut answer = answer_after(alloc, index.lines())?;
     match question {
         Question::Items(_) => answer.put_list("items", Vec::new(alloc))?,
-        Question::List(_, _) => answer.put_list("executions", Vec::new(alloc))?,
+        Question::List(filter, _) => put_none(alloc, &mut answer, filter)?,
         Question::Machines => answer.put_list("machines", Vec::new(alloc))?,
         Question::Find(_, _) | Question::Steps(_, _) => answer.put_list("steps", Vec::new(alloc))?,
         Question::ReadyThreads(_) => answer.put_list("threads", Vec::new(alloc))?,

@@ -101,6 +101,21 @@ pub(crate) fn executions(
     Ok(answer.done())
 }
 
+/// What a list answers before there is a table.
+pub(crate) fn put_none(
+    alloc: Global,
+    answer: &mut Object,
+    filter: &Filter,
+) -> Result<(), AllocError> {
+    answer.put("counts", Count::none().value(alloc)?)?;
+    answer.put("machines", Object::new(alloc).done())?;
+    answer.put("held", Json::Null)?;
+    if filter.since.is_some() {
+        answer.put_list("gone", Vec::new(alloc))?;
+    }
+    answer.put_list("executions", Vec::new(alloc))
+}
+
 /// How many executions are done, failed and open: of all, and of each machine.
 fn counts(asked: &Asked<'_>) -> Result<(Count, Json), AllocError> {
     let mut by_machine: BTreeMap<Text, Count> = BTreeMap::new(asked.alloc);
