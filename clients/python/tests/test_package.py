@@ -90,7 +90,7 @@ class Imports(unittest.TestCase):
         self.assertIn("rollback_client.server.turns", found)
         self.assertNotIn("rollback_client.server.log", found)
         self.assertNotIn("rollback_client.server.copy", found)
-        self.assertEqual([name for name in found if "cluster" in name or "follow" in name or "secured" in name], [])
+        self.assertEqual([name for name in found if "cluster" in name or "following" in name or "secured" in name], [])
 
 
 def python_with_pip():
@@ -164,7 +164,12 @@ class Unit(unittest.TestCase):
             there = pathlib.Path(room) / "there"
             there.touch()
             words = [",".join([str(there)] * 3) if word in files else word for word in words]
-            command = [sys.executable, "-c", "from rollback_client.server.words import read_words; read_words()", *words]
+            command = [
+                sys.executable,
+                "-c",
+                "from rollback_client.server.words import read_words; read_words()",
+                *words,
+            ]
             done = run(*command, cwd=PYTHON)
         self.assertTrue(done.returncode == 0 or "needs aiohttp" in done.stdout, done.stdout)
         self.verify(text, "rollback@orders.service")
