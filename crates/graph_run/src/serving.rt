@@ -24,16 +24,57 @@ pub fn serve<T: Threads + Wait + Sync, S: Alter + Drop, M: Alter + Drop, R: BufR
     reader: &mut R,
     writer: &mut W,
 ) -> Result<(), ExitCause> {
-    let lines = match file {
-        Some(connection) => lines_of(alloc, connection)?,
-        None => Vec::new(alloc),
-    };
-    let mut follower = Follower::new(alloc, session_of(alloc, memory)?);
-    feed_all(rt, &mut follower, lines.as_slice())?;
-    drop(lines);
-    match follow(rt, alloc, reader, writer, &mut follower) {
+    match lines_in(alloc, file) {
+        Ok(lines) => serve_behind(rt, alloc, lines.as_slice(), memory, reader, writer),
+        Err(cause) => {
+            drop(memory);
+            Err(cause)
+        }
+    }
+}
+
+/// As `serve`, behind these lines. In a function of its own, which owns no file.
+fn serve_behind<T: Threads + Wait + Sync, M: Alter + Drop, R: BufRead, W: Write>(
+    rt: &T,
+    alloc: Global,
+    lines: &[String],
+    memory: Result<Connection<M>, Error>,
+    reader: &mut R,
+    writer: &mut W,
+) -> Result<(), ExitCause> {
+    match session_of(alloc, memory) {
+        Ok(session) => {
+            let mut follower = Follower::new(alloc, session);
+            follow_behind(rt, alloc, lines, &mut follower, reader, writer)
+        }
+        Err(cause) => Err(cause),
+    }
+}
+
+/// The same, by this follower, which isn't owned here.
+fn follow_behind<T: Threads + Wait + Sync, M: Alter, R: BufRead, W: Write>(
+    rt: &T,
+    alloc: Global,
+    lines: &[String],
+    follower: &mut Follower<M>,
+    reader: &mut R,
+    writer: &mut W,
+) -> Result<(), ExitCause> {
+    feed_all(rt, follower, lines)?;
+    match follow(rt, alloc, reader, writer, follower) {
         Ok(()) => Ok(()),
         Err(fault) => Err(of_follow(fault)),
+    }
+}
+
+/// The lines of a file's journal; none if no file is named.
+fn lines_in<S: Alter + Drop>(
+    alloc: Global,
+    file: Option<Result<Connection<S>, Error>>,
+) -> Result<Vec<String>, ExitCause> {
+    match file {
+        Some(connection) => lines_of(alloc, connection),
+        None => Ok(Vec::new(alloc)),
     }
 }
 
@@ -80,8 +121,7 @@ fn feed_all<T: Threads + Wait + Sync, M: Alter>(
     follower: &mut Follower<M>,
     lines: &[String],
 ) -> Result<(), ExitCause> {
-    let mut place = 0;
-    for line in lines {
+    for (place, line) in lines.iter().enumerate() {
         let is_accepted = match follower.feed(rt, line.as_str().as_bytes()) {
             Ok(answer) => answer.as_slice() == b"ok".as_slice(),
             Err(fault) => return Err(of_followed(fault)),
@@ -89,7 +129,6 @@ fn feed_all<T: Threads + Wait + Sync, M: Alter>(
         if !is_accepted {
             return Err(ExitCause::Damaged(place));
         }
-        place += 1;
     }
     Ok(())
 }
