@@ -32,10 +32,12 @@ TESTS = ("docs/GUARANTEES.md", "docs/MAP.md")
 SHORT = (
     "CONTRIBUTING.md",
     "README.md",
+    "docs/CLUSTER.md",
     "docs/GLOSSARY.md",
     "docs/GUARANTEES.md",
     "docs/INTERNALS.md",
     "docs/REFERENCE.md",
+    "docs/SERVER.md",
     "docs/TUTORIALS.md",
     "docs/USER_GUIDE.md",
 )

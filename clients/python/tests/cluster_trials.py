@@ -7,6 +7,7 @@ import asyncio
 import contextlib
 import json
 import os
+import pathlib
 import random
 import signal
 import sqlite3
@@ -23,7 +24,7 @@ from tests.cluster_callers import SETUP, Caller, Reader, Said
 from tests.cluster_checks import check, journals_agree, log_lines
 from tests.certificates import Authority
 from tests.cluster_machines import PREFIX, Cluster, Connection, encoded, run_command
-from tests.program import PROGRAM, TOP
+from tests.program import PROGRAM, TOP, follower
 
 
 class Trial:
@@ -447,6 +448,12 @@ async def questions(words):
                 await book.step(execution)
                 (row,) = (await book.threads(execution))["threads"]
                 assert row["moves"] == 1, row
+            for each in range(3):
+                os.kill(follower_of(cluster.servers[each]), signal.SIGKILL)
+            for each in range(10):
+                await book.start(f"k{turn}-{each}", "p", {})
+            for each in range(3):
+                await cluster.until(lambda each=each, turn=turn: has_followed(cluster, each, f"k{turn}-9"))
             if turn < words.times:
                 await cluster.end_server(number)
                 cluster.start_server(number)
@@ -459,7 +466,36 @@ async def questions(words):
                 entries.append((await one.threads())["entries"])
         assert entries[0] == entries[1] == entries[2], entries
         await book.close()
+        await refuses_graphs(cluster)
         return f"{entries[0]} entries in the three followers"
+
+
+def follower_of(server):
+    """The number of the process that answers a server's questions."""
+    for child in pathlib.Path(f"/proc/{server.pid}/task/{server.pid}/children").read_text().split():
+        if b"--serve" in pathlib.Path(f"/proc/{child}/cmdline").read_bytes().split(b"\0"):
+            return int(child)
+    raise AssertionError("there is no follower")
+
+
+async def has_followed(cluster, number, thread):
+    """Whether a server's follower, begun again, has an execution that was started meanwhile."""
+    told = json.loads(await cluster.ask(number, f"? threads {thread}"))
+    assert told.get("error") in (None, "no follower"), told
+    return "error" not in told and told["threads"][0]["thread"] == thread
+
+
+async def refuses_graphs(cluster):
+    """A program that can't follow is a wrong word. One that can, and not on this journal, is worth another start."""
+    graph = cluster.room / "graph"
+    graph.write_text(f'#!/bin/sh\n[ "$1" = --serve ] && exec {follower()} --serve\nexit 1\n', encoding="utf-8")
+    graph.chmod(0o755)
+    number = (await cluster.leader() + 1) % 3
+    await cluster.end_server(number, signal.SIGTERM)
+    for path, status, why in (("/bin/true", 2, "answers no questions"), (graph, 1, f"ProgramGone: {graph}")):
+        cluster.start_server(number, words=("--graph", str(path)))
+        assert await asyncio.to_thread(cluster.servers[number].wait, 60) == status, cluster.errors(number)[-500:]
+        assert why in cluster.errors(number), cluster.errors(number)[-500:]
 
 
 async def runner_follows(words):

@@ -140,6 +140,23 @@ class Refusals(unittest.TestCase):
         self.assertEqual(book.slept[:2], [0.2, 0.4])
         self.assertGreater(len(book.taken), 5)
 
+    def test_a_follower_that_is_gone_when_the_first_execution_comes(self):
+        book, refusals = Book(), [NoFollower(0, "no follower")] * 2
+        talk, sent, begun, idle = book.running.run(), None, 0, 0
+        for _ in range(60):
+            asked = talk.send(sent)
+            if isinstance(asked, Look) and begun and refusals:
+                sent = refusals.pop()
+                continue
+            if isinstance(asked, Sleep) and asked.until is None:
+                idle += 1
+                if not begun:  # an execution is started, and nobody gives a line later
+                    begun, book.moves["a"], book.entry["a"] = 1, 0, book.entries
+                    book.entries += 1
+            sent = book.answer(asked)
+        self.assertEqual((refusals, idle), ([], 1))
+        self.assertGreater(len(book.taken), 5)
+
 
 class FullBooks(unittest.TestCase):
     def test_it_waits_until_another_makes_room(self):

@@ -10,6 +10,7 @@ from typing import Any, Optional, Tuple, Union, cast
 from ..links import host_and_port
 from ..runner.clock_file import ClockFile
 from ..server.callers import Asked, Caller, Given
+from ..server.follower import Follower, graph_beside
 from ..server.running import Server
 from ..server.speaking import say
 from .etcd import Etcd, client_tls
@@ -68,6 +69,8 @@ class ClusterServer(Server):
 
             self.turns.log = LogFile(words.log)
         self._version = version_of(words.program)
+        if words.ask:
+            await self._look_at_graph()
         tls = client_tls(words.etcd_tls) if words.etcd_tls else None
         self._log = Log(Etcd(words.cluster, words.ttl / 4, tls), f"/rollback/{words.book}", words.ttl)
         try:
@@ -130,11 +133,22 @@ class ClusterServer(Server):
 
     # ---- the program
 
+    async def _look_at_graph(self) -> None:
+        """Looks whether the follower's program can follow. Another one is a `ValueError`, as other words are."""
+        follower = Follower(self.turns, graph_beside(self.words.program, self.words.graph), None)
+        await follower.begin()
+        await follower.end()
+
     async def start_program(self) -> None:
         """Starts the program on the journal."""
         if not await self._open_program():
             raise ProgramGone("the program doesn't open the journal")
-        await self._begin_follower()
+        try:
+            await self._begin_follower()
+        except ValueError as fault:
+            # It could follow when this server began: unlike wrong words it is worth another try.
+            await self.end_program()
+            raise ProgramGone(str(fault)) from fault
 
     async def program_gone(self) -> None:
         """Waits until the program has ended by itself."""

@@ -220,7 +220,7 @@ class ClusterTurns(Turns):
 
     def is_done(self) -> bool:
         """Whether no line is at hand."""
-        return self._has_nothing_at_hand() and not self.asking
+        return self._has_nothing_at_hand() and not self.asking and not self._following
 
     def feed(self, data: bytes) -> None:
         if not self._is_cut_off:

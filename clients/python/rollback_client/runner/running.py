@@ -134,11 +134,11 @@ class Running:
             can_give = not self._is_full and now >= self._not_before and self._limit.room(now, 1) > 0
             if can_give and self.schedule.has_due(now):
                 yield from self._turn()
-            else:
-                yield from self._look(Look(self._since))
+            elif (yield from self._look(Look(self._since))):
                 if self._has_many and now >= self._not_before:
                     yield from self._settle()
                 yield from self._rest()
+            # else it looks again before it rests: the news of a follower may have come in the pause after the look
 
     def changed_pauses(self) -> None:
         """Takes over that something was paused or resumed."""

@@ -163,7 +163,11 @@ class Follower:
         try:
             await process.start()
             process.write(f"{GREETING}\n".encode())
-            await _first_of(process.answered, process.ended)
+            try:
+                await _first_of(process.answered, process.ended)
+            except asyncio.CancelledError:
+                process.kill()
+                raise
             if process.answered.is_set():
                 process.take_by(lambda data: self._take(process, data))
         except ValueError:
