@@ -150,12 +150,13 @@ class Runs(Inside):
             book.define("loop", LOOP)
             for number in range(10):
                 book.start(f"e{number}", "loop", {})
-            before = 0
-            for number in range(5):
+            before = number = 0
+            # a busy machine may begin the follower after the first copies
+            while number < 5 or before <= 10 and number < 300:
                 lines, steps = copy_book(server.address, self.path(f"copy{number}"), PROGRAM, 60)
                 self.assertEqual(lines, 2 + steps)
                 self.assertGreaterEqual(steps, before)
-                before = steps
+                before, number = steps, number + 1
             self.assertGreater(before, 10)
             book.pause()
 
