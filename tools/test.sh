@@ -52,6 +52,7 @@ fi
 part python3 tools/value_rows.py
 part python3 tools/graph_rows.py
 part python3 tools/drawn.py --sessions 400
+part python3 tools/follower_ends.py
 part python3 tools/plain_rows.py --sessions 300
 wait
 cat "$room/lane"

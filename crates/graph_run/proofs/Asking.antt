@@ -10,9 +10,10 @@ use Rattle.clap.specs.declared.error.kind.ErrorKind.{ErrorKind}
 use Rattle.clap.specs.declared.error.kind.ErrorKind.TheVariants as kind
 use Rattle.graph_page.specs.declared.asking.Question.{Question}
 use Rattle.graph_run.specs.declared.asked.Asked.{Asked}
+use Rattle.graph_run.specs.declared.asked.Asked.TheVariants.{Question as Ask, Serve}
 use Rattle.graph_run.specs.declared.asked.AskRefusal.{AskRefusal}
 use Rattle.graph_run.specs.declared.asked.AskRefusal.TheVariants.{Shown, Usage, Memory}
-use Rattle.graph_run.specs.Questions.{Asks, AsksNothing, IsAskedIn, IsFlag, NamesIn, pair_of, question_of}
+use Rattle.graph_run.specs.Questions.{Asks, AsksBeside, AsksNothing, has_any, IsAskedIn, IsFlag, IsQuestionIn, IsQuestionOf, IsServedIn, IsServeOf, NamesIn, Serves, pair_of, question_of}
 use Rattle.graph_run.specs.Words.{program, IsRefusedBy, Names, Refuses}
 
 pub flag_rows : (f : Found) (id : Text) (value : Bool) → (one_text f id ≡ None → value ≡ false) → (one_text f id ≡ Some (codes "true") → value ≡ true)
@@ -33,16 +34,43 @@ pub same_question : (list dot html : Bool) (p q : Option Text) (v w : Option (Li
     → question_of list dot html p v f ≡ question_of list dot html q w g
 same_question list dot html p q v w f g plan why from = rw (plan, why, from) refl
 
+pub same_any : (list dot html : Bool) (p q : Option Text) (v w : Option (List Text)) (f g : Option Text) → p ≡ q → v ≡ w → f ≡ g
+    → has_any list dot html p v f ≡ has_any list dot html q w g
+same_any list dot html p q v w f g plan why from = rw (plan, why, from) refl
+
 pub asked_in : (rows : List Row) (file : Text) (question : Question) (r : Result Asked AskRefusal) → first_of (codes "file") rows ≡ Some file
-    → Asks rows (Some question) → IfOk r (λ asked. (string_bytes asked.file ≡ file) × (asked.question ≡ question))
-    → IfErr r (λ refusal. refusal ≡ Memory) → IsAskedIn rows r
-asked_in rows file question (Ok asked) named asks ok err = record {
-  file = named ∙ ap Some (sym ok.0);
+    → Asks rows (Some question) → IfOk r (IsQuestionOf file question) → IfErr r (λ refusal. refusal ≡ Memory) → IsQuestionIn rows r
+asked_in rows file question (Ok (Ask own asked)) named asks ok err = record {
+  named = named ∙ ap Some (sym ok.0);
   asks = subst (λ x. Asks rows (Some x)) (sym ok.1) asks;
 }
+asked_in rows file question (Ok (Serve own)) named asks ok err = absurd ok
 asked_in rows file question (Err Memory) named asks ok err = tt
 asked_in rows file question (Err Usage) named asks ok err = cc
 asked_in rows file question (Err (Shown text)) named asks ok err = cc
+
+pub served_in : (rows : List Row) (file : Option Text) (r : Result Asked AskRefusal) → file ≡ first_of (codes "file") rows → AsksBeside rows false
+    → IfOk r (IsServeOf file) → IfErr r (λ refusal. refusal ≡ Memory) → IsServedIn rows r
+served_in rows file (Ok (Ask own asked)) named alone ok err = absurd ok
+served_in rows file (Ok (Serve own)) named alone ok err = record { named = ok ∙ named; alone = alone }
+served_in rows file (Err Memory) named alone ok err = tt
+served_in rows file (Err Usage) named alone ok err = cc
+served_in rows file (Err (Shown text)) named alone ok err = cc
+
+-- a line asks for a question, or for lines to be followed
+pub of_question : (rows : List Row) (r : Result Asked AskRefusal) → Serves rows false → IsQuestionIn rows r → IsAskedIn rows r
+of_question rows (Ok (Ask file question)) s h = (s, h)
+of_question rows (Ok (Serve file)) s h = absurd h
+of_question rows (Err Memory) s h = tt
+of_question rows (Err Usage) s h = inr (s, h)
+of_question rows (Err (Shown text)) s h = absurd h
+
+pub of_serve : (rows : List Row) (r : Result Asked AskRefusal) → Serves rows true → IsServedIn rows r → IsAskedIn rows r
+of_serve rows (Ok (Ask file question)) s h = absurd h
+of_serve rows (Ok (Serve file)) s h = (s, h)
+of_serve rows (Err Memory) s h = tt
+of_serve rows (Err Usage) s h = inl (s, h)
+of_serve rows (Err (Shown text)) s h = absurd h
 
 -- the rows of a parse by the program's command
 pub rows_are : (a : App) (m : ArgMatches) (words : List Text) → a ≡ program → HasMatchesOf a words m → rows_of (found_of m) ≡ matches_of program words

@@ -77,7 +77,7 @@ module _ {Held : Type 0} (show : Held → State) where
 -- ---- words that ask for nothing
 
 abbrev pub usage_text : List ℕ
-usage_text = codes "usage: rollback_graph FILE (--list | --plan STEP | --why STEP CONSEQUENCE | (--dot | --html) [--from STEP])\n"
+usage_text = codes "usage: rollback_graph FILE (--list | --plan STEP | --why STEP CONSEQUENCE | (--dot | --html) [--from STEP]), or rollback_graph [FILE] --serve\n"
 
 -- the status, what is shown, and what is told on standard error
 abbrev pub IsRefusal : AskRefusal → ℕ → Option (List ℕ) → Option (List ℕ) → Option (List ℕ) → Option (List ℕ) → Type 0

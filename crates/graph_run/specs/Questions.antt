@@ -1,5 +1,5 @@
 -- Which question the values of a line ask.
-use Rattle.std.specs.Prelude.{◌≡◌, ◌⊎◌, Bool, true, false, List, [], ◌∷◌, Option, None, Some, Result, Ok, Err, map, option_map, option_and_then, codes, string_bytes}
+use Rattle.std.specs.Prelude.{◌≡◌, ◌⊎◌, Bool, true, false, List, [], ◌∷◌, Option, None, Some, Result, Ok, Err, map, option_map, option_and_then, is_some, ◌||◌, codes, string_bytes}
 use Rattle.std.specs.Borrow.{Bor}
 use Rattle.clap.specs.Words.{Row, Text, all_of, first_of, one_of}
 use Rattle.step_names.specs.Grammar.{read_step}
@@ -8,6 +8,7 @@ use Rattle.graph_page.specs.Question.TheVariants as lines
 use Rattle.graph_page.specs.declared.asking.Question.{Question}
 use Rattle.graph_page.specs.declared.asking.Question.TheVariants.{Lines, Html}
 use Rattle.graph_run.specs.declared.asked.Asked.{Asked}
+use Rattle.graph_run.specs.declared.asked.Asked.TheVariants.{Question as Ask, Serve}
 use Rattle.graph_run.specs.declared.asked.AskRefusal.{AskRefusal}
 use Rattle.graph_run.specs.declared.asked.AskRefusal.TheVariants.{Shown, Usage, Memory}
 
@@ -91,14 +92,69 @@ pub record IsAnsweredIn (rows : List Row) (result : Result Question AskRefusal) 
   pub asks : Asks rows question
   pub gives : Gives result question
 
--- why a line asks for nothing: it names no file, or asks not just one question
+-- one of these values is there: of --list, --dot, --html, --plan, --why, and --from
+abbrev pub has_any : Bool → Bool → Bool → Option Text → Option (List Text) → Option Text → Bool
+has_any list dot html plan why from = list || (dot || (html || (is_some plan || (is_some why || is_some from))))
+
+-- these flags and the other values of the rows ask for something beside the following of lines, or for nothing
+pub record AsksBeside (rows : List Row) (more : Bool) : Type 0 where
+  pub list : Bool
+  pub dot : Bool
+  pub html : Bool
+  pub is_list : IsFlag (one_of (codes "list") rows) list
+  pub is_dot : IsFlag (one_of (codes "dot") rows) dot
+  pub is_html : IsFlag (one_of (codes "html") rows) html
+  pub beside : more ≡ has_any list dot html (first_of (codes "plan") rows) (all_of (codes "why") rows) (first_of (codes "from") rows)
+
+-- whether a line asks for the following of lines
+abbrev pub Serves : List Row → Bool → Type 0
+Serves rows value = IsFlag (one_of (codes "serve") rows) value
+
+-- why a line asks for no question: it names no file, or asks not just one
+abbrev pub AsksNoQuestion : List Row → Type 0
+AsksNoQuestion rows = (first_of (codes "file") rows ≡ None) ⊎ Asks rows None
+
+-- why a line asks for nothing: it asks for lines to be followed and for something beside that, or for neither that nor a question
 abbrev pub AsksNothing : List Row → Type 0
-AsksNothing rows = (first_of (codes "file") rows ≡ None) ⊎ Asks rows None
+AsksNothing rows = (Serves rows true × AsksBeside rows true) ⊎ (Serves rows false × AsksNoQuestion rows)
+
+-- this question of the book of this file
+abbrev pub IsQuestionOf : Text → Question → Asked → Type 0
+IsQuestionOf file question (Ask own asked) = (string_bytes own ≡ file) × (asked ≡ question)
+IsQuestionOf file question (Serve own) = ⊥
+
+-- the following of lines, behind those of this file, if one is named
+abbrev pub IsServeOf : Option Text → Asked → Type 0
+IsServeOf file (Ask own asked) = ⊥
+IsServeOf file (Serve own) = option_map string_bytes own ≡ file
 
 -- the file and the question of a line
-pub record NamesIn (rows : List Row) (asked : Asked) : Type 0 where
-  pub file : first_of (codes "file") rows ≡ Some (string_bytes asked.file)
-  pub asks : Asks rows (Some asked.question)
+pub record NamesQuestion (rows : List Row) (file : Text) (question : Question) : Type 0 where
+  pub named : first_of (codes "file") rows ≡ Some file
+  pub asks : Asks rows (Some question)
+
+pub record NamesServe (rows : List Row) (file : Option Text) : Type 0 where
+  pub named : file ≡ first_of (codes "file") rows
+  pub alone : AsksBeside rows false
+
+abbrev pub NamesIn : List Row → Asked → Type 0
+NamesIn rows (Ask file question) = Serves rows false × NamesQuestion rows (string_bytes file) question
+NamesIn rows (Serve file) = Serves rows true × NamesServe rows (option_map string_bytes file)
+
+-- what is asked of a file's book
+abbrev pub IsQuestionIn : List Row → Result Asked AskRefusal → Type 0
+IsQuestionIn rows (Ok (Ask file question)) = NamesQuestion rows (string_bytes file) question
+IsQuestionIn rows (Ok (Serve file)) = ⊥
+IsQuestionIn rows (Err Usage) = AsksNoQuestion rows
+IsQuestionIn rows (Err Memory) = Unit {0}
+IsQuestionIn rows (Err (Shown text)) = ⊥
+
+abbrev pub IsServedIn : List Row → Result Asked AskRefusal → Type 0
+IsServedIn rows (Ok (Ask file question)) = ⊥
+IsServedIn rows (Ok (Serve file)) = NamesServe rows (option_map string_bytes file)
+IsServedIn rows (Err Usage) = AsksBeside rows true
+IsServedIn rows (Err Memory) = Unit {0}
+IsServedIn rows (Err (Shown text)) = ⊥
 
 abbrev pub IsAskedIn : List Row → Result Asked AskRefusal → Type 0
 IsAskedIn rows (Ok asked) = NamesIn rows asked

@@ -18,9 +18,9 @@ unread_refusal kind = Usage
 
 -- ---- the program's command
 
--- an argument that has to be there, by its place
+-- an argument by its place, which may be left out
 abbrev pub file_rule : Rule
-file_rule = record (new_rule (codes "file")) { required = true; value_names = 1 }
+file_rule = record (new_rule (codes "file")) { value_names = 1 }
 
 abbrev pub flag_rule : Text → Rule
 flag_rule name = record (new_rule name) { long = Some name; action = Some SetTrue }
@@ -37,7 +37,7 @@ abbrev pub named_program : App
 named_program = record { top = record (new_app (codes "rollback_graph")).top { has_version = true }; subs = [] }
 
 abbrev pub with_lines : App → App
-with_lines app = with_rule (with_rule (with_rule app (flag_rule (codes "list"))) (option_rule (codes "plan"))) why_rule
+with_lines app = with_rule (with_rule (with_rule (with_rule app (flag_rule (codes "list"))) (option_rule (codes "plan"))) why_rule) (flag_rule (codes "serve"))
 
 abbrev pub with_pictures : App → App
 with_pictures app = with_rule (with_rule (with_rule app (flag_rule (codes "dot"))) (flag_rule (codes "html"))) (option_rule (codes "from"))
@@ -58,7 +58,7 @@ pub record IsRefused (words : List Text) (refusal : AskRefusal) : Type 0 where
   pub among : IsAmong kind (fault_of program words)
   pub told : IsRefusedBy kind refusal
 
--- clap takes the words, and their values name this file and ask this question
+-- clap takes the words, and their values ask for this
 pub record Names (words : List Text) (asked : Asked) : Type 0 where
   pub taken : fault_of program words ≡ []
   pub names : NamesIn (matches_of program words) asked

@@ -4,7 +4,7 @@ ghost use Rattle.std.specs.IoError.{error_kind};
 ghost use Rattle.clap.specs.Words.{app_of, rule_of, rows_of, found_of, kind_of};
 ghost use Rattle.step_names.specs.Grammar.{read_step};
 ghost use Rattle.graph_run.specs.Words.{program, with_lines, with_pictures, file_rule, flag_rule, option_rule, why_rule, unread_refusal, IsRefusedBy, Names, Refuses};
-ghost use Rattle.graph_run.specs.Questions.{from_of, plan_of, why_of, list_of, dot_of, html_of, steps_of, pair_of, question_of, text_in, texts_in, Gives, IsAskedIn, IsAnsweredIn};
+ghost use Rattle.graph_run.specs.Questions.{from_of, plan_of, why_of, list_of, dot_of, html_of, steps_of, pair_of, question_of, has_any, text_in, texts_in, Gives, IsAskedIn, IsAnsweredIn, IsQuestionIn, IsQuestionOf, IsServedIn, IsServeOf};
 
 use clap::error::ErrorKind;
 use clap::{Arg, ArgAction, ArgMatches, Command, Error};
@@ -21,11 +21,13 @@ const VERSION: &str = "0.1.0";
 
 const WHY_NAMES: &[&str] = &["STEP", "CONSEQUENCE"];
 
-/// A journal's file, and what is asked of its book.
+/// What is asked of the book of a journal's file.
 #[derive(Debug, Drop)]
-pub struct Asked {
-    pub file: String,
-    pub question: Question,
+pub enum Asked {
+    /// One question.
+    Question { file: String, question: Question },
+    /// To follow the lines of standard input, behind those of the file if one is named, and to answer the questions there.
+    Serve { file: Option<String> },
 }
 
 /// Why nothing is asked.
@@ -59,8 +61,8 @@ pub fn unread_words(error: &io::Error) -> AskRefusal
 ///
 /// # Errors
 ///
-/// `Shown` where help or the version is asked for, `Usage` where the words name no file, not just one question, or a step by no name of
-/// one, and `Memory`.
+/// `Shown` if help or the version is asked for, `Usage` if the words name no file, not just one question, or a step by no name of
+/// one, or ask to serve and something else, and `Memory`.
 pub fn asked_of(alloc: Global, words: &[String]) -> Result<Asked, AskRefusal>
     ensures ok { IfOk result (Names (map string_bytes words.now)) }
     ensures err { IfErr result (Refuses (map string_bytes words.now)) }
@@ -99,7 +101,12 @@ fn with_lines<'a>(alloc: Global, command: Command<'a>) -> Result<Command<'a>, Al
             "plan",
             "Tell what a rollback of this step would take back, why, and what it gives back",
         ))?
-        .arg(pair(alloc))
+        .arg(pair(alloc))?
+        .arg(flag(
+            alloc,
+            "serve",
+            "Follow the accepted lines of standard input, and answer the questions there, in JSON",
+        ))
 }
 
 /// With those that are answered with a picture.
@@ -129,7 +136,6 @@ fn file<'a>(alloc: Global) -> Arg<'a>
     ensures local { result.global ≡ false }
 {
     Arg::new(alloc, "file")
-        .required(true)
         .value_name("FILE")
         .help("The journal's file")
 }
@@ -169,6 +175,17 @@ fn pair<'a>(alloc: Global) -> Arg<'a>
 fn asked_in(alloc: Global, matches: &ArgMatches<'_>) -> Result<Asked, AskRefusal>
     ensures { IsAskedIn (rows_of (found_of matches.now)) result }
 {
+    if matches.get_flag("serve") {
+        served_in(alloc, matches)
+    } else {
+        asked_of_file(alloc, matches)
+    }
+}
+
+/// The question that the values of a line ask of a file's book.
+fn asked_of_file(alloc: Global, matches: &ArgMatches<'_>) -> Result<Asked, AskRefusal>
+    ensures { IsQuestionIn (rows_of (found_of matches.now)) result }
+{
     match matches.get_str("file") {
         Some(file) => match question_in(alloc, matches) {
             Ok(question) => asked_by(alloc, file, question),
@@ -179,15 +196,58 @@ fn asked_in(alloc: Global, matches: &ArgMatches<'_>) -> Result<Asked, AskRefusal
 }
 
 fn asked_by(alloc: Global, file: &str, question: Question) -> Result<Asked, AskRefusal>
-    ensures ok { IfOk result (λ asked. (string_bytes asked.file ≡ file.now) × (asked.question ≡ question)) }
+    ensures ok { IfOk result (λ asked. IsQuestionOf file.now question asked) }
     ensures err { IfErr result (λ refusal. refusal ≡ AskRefusal.Memory) }
 {
     match String::from_str(alloc, file) {
-        Ok(file) => Ok(Asked { file, question }),
+        Ok(file) => Ok(Asked::Question { file, question }),
         Err(AllocError) => {
             drop(question);
             Err(AskRefusal::Memory)
         }
+    }
+}
+
+/// The following that the values of a line ask for, if they ask nothing beside it.
+fn served_in(alloc: Global, matches: &ArgMatches<'_>) -> Result<Asked, AskRefusal>
+    ensures { IsServedIn (rows_of (found_of matches.now)) result }
+{
+    let flags = (
+        matches.get_flag("list"),
+        matches.get_flag("dot"),
+        matches.get_flag("html"),
+    );
+    let plan = matches.get_str("plan");
+    let why = matches.get_strs("why");
+    let from = matches.get_str("from");
+    if has_any(flags, plan, why, from) {
+        return Err(AskRefusal::Usage);
+    }
+    served_by(alloc, matches.get_str("file"))
+}
+
+/// Whether one of these values is there.
+fn has_any(
+    flags: (bool, bool, bool),
+    plan: Option<&str>,
+    why: Option<&[&str]>,
+    from: Option<&str>,
+) -> bool
+    ensures { result ≡ has_any flags.0 flags.1 flags.2 (text_in plan.entry) (texts_in why.entry) (text_in from.entry) }
+{
+    flags.0 || flags.1 || flags.2 || plan.is_some() || why.is_some() || from.is_some()
+}
+
+fn served_by(alloc: Global, file: Option<&str>) -> Result<Asked, AskRefusal>
+    ensures ok { IfOk result (λ asked. IsServeOf (text_in file.entry) asked) }
+    ensures err { IfErr result (λ refusal. refusal ≡ AskRefusal.Memory) }
+{
+    let Some(file) = file else {
+        return Ok(Asked::Serve { file: None });
+    };
+    match String::from_str(alloc, file) {
+        Ok(file) => Ok(Asked::Serve { file: Some(file) }),
+        Err(AllocError) => Err(AskRefusal::Memory),
     }
 }
 

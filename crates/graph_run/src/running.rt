@@ -22,7 +22,7 @@ use std::io::Write;
 pub const ABSENT: u8 = 1;
 
 const USAGE_TEXT: &[u8] =
-    b"usage: rollback_graph FILE (--list | --plan STEP | --why STEP CONSEQUENCE | (--dot | --html) [--from STEP])\n";
+    b"usage: rollback_graph FILE (--list | --plan STEP | --why STEP CONSEQUENCE | (--dot | --html) [--from STEP]), or rollback_graph [FILE] --serve\n";
 
 /// Answers a question from the journal of this connection, and tells whether there was what was asked. The journal's lines stay as they are.
 /// Takes what opening it takes, and what [`ask`] takes.
@@ -140,7 +140,7 @@ fn open_connected<S: Alter + Drop>(
 }
 
 /// How a refusal of the journal is told.
-fn of_journal(fault: JournalFault) -> ExitCause
+pub(crate) fn of_journal(fault: JournalFault) -> ExitCause
     ensures { result ≡ of_journal fault }
 {
     match fault {
@@ -151,7 +151,7 @@ fn of_journal(fault: JournalFault) -> ExitCause
 }
 
 /// How a journal is told that gives no book.
-fn of_open(fault: OpenFault) -> ExitCause
+pub(crate) fn of_open(fault: OpenFault) -> ExitCause
     ensures { result ≡ of_open fault }
 {
     match fault {

@@ -1,15 +1,19 @@
-use Rattle.std.proofs.Common.{◌∙◌, codes, inl, subst, sym}
-use Rattle.clap.proofs.WalkLemmas.{first_value-rows}
+use Rattle.std.proofs.Common.{codes, subst}
 use Rattle.clap.specs.Words.{found_of, rows_of}
-use Rattle.graph_run.specs.Questions.{Asks}
-use Rattle.graph_run.proofs.Asking.{asked_in}
+use Rattle.graph_run.specs.Questions.{Serves}
+use Rattle.graph_run.proofs.Asking.{flag_rows, of_question, of_serve}
 use Rattle.graph_run.proofs.asked.asked_in.Goals as goal
 
-pub returns-in-Ok : goal.returns-in-Ok
-returns-in-Ok c =
+pub returns-then-get_flag : goal.returns-then-get_flag
+returns-then-get_flag c =
     let found = found_of c.args.matches.now in
-    asked_in (rows_of found) _ _ _ (sym (c.in-Some.ensures ∙ first_value-rows found (codes "file"))) (subst (Asks (rows_of found)) c.in-Ok.ensures.gives c.in-Ok.ensures.asks)
-    c.asked_by.ensures.ok c.asked_by.ensures.err
+    of_serve (rows_of found) _
+    (subst (Serves (rows_of found)) c.if-get_flag.true (flag_rows found (codes "serve") _ c.get_flag.ensures.none c.get_flag.ensures.value c.get_flag.ensures.other))
+    c.served_in.ensures
 
-pub returns-in-None : goal.returns-in-None
-returns-in-None c = inl (sym (c.in-None.ensures ∙ first_value-rows (found_of c.args.matches.now) (codes "file")))
+pub returns-else-get_flag : goal.returns-else-get_flag
+returns-else-get_flag c =
+    let found = found_of c.args.matches.now in
+    of_question (rows_of found) _
+    (subst (Serves (rows_of found)) c.if-get_flag.false (flag_rows found (codes "serve") _ c.get_flag.ensures.none c.get_flag.ensures.value c.get_flag.ensures.other))
+    c.asked_of_file.ensures
