@@ -2,6 +2,7 @@
 
 //! `rollback`: serves the lines of standard input on standard output, with a journal in memory or of a file.
 
+use journal_copy::open_at;
 use rollback_run::{Mode, ModeRefusal, finish, mode_of, refuse, run, unread_words};
 use sqlite::{Connection, Error, ErrorCode, File, FileStore, MemStore};
 use std::alloc::{AllocError, Global};
@@ -9,7 +10,7 @@ use std::io::{BufWriter, Write};
 use std::process::ExitCode;
 use std::sync::Wait;
 use std::thread::Threads;
-use std::{env, fs};
+use std::env;
 
 fn asked(rt: &HostRuntime) -> Result<Mode, ModeRefusal> {
     let alloc = rt.alloc();
@@ -27,14 +28,6 @@ fn in_memory(alloc: Global) -> Result<Connection<MemStore>, Error> {
     match Connection::open_in_memory(alloc) {
         Ok(connection) => Ok(connection),
         Err(AllocError) => Err(Error::SqliteFailure(ErrorCode::OutOfMemory)),
-    }
-}
-
-/// The connection to a file that is there: none is made.
-fn to_existing(rt: &HostRuntime, file: &str) -> Result<Connection<FileStore<File>>, Error> {
-    match fs::exists(rt, file) {
-        Ok(true) => Connection::open(rt, file),
-        Ok(false) | Err(_) => Err(Error::SqliteFailure(ErrorCode::CannotOpen)),
     }
 }
 
@@ -80,6 +73,27 @@ fn run_on_file<T: Threads + Wait + Sync, W: Write>(
     finish(outcome, closed, &mut rt.stderr())
 }
 
+/// Checks a copy in memory of a file's journal: the file and its log aren't written, and a session may have them open.
+fn run_on_copy<T: Threads + Wait + Sync, W: Write>(
+    rt: &HostRuntime,
+    threads: &T,
+    mode: &Mode,
+    file: &str,
+    writer: &mut W,
+) -> u8 {
+    let connection = open_at(rt, file);
+    let (outcome, left) = run(
+        threads,
+        rt.alloc(),
+        mode,
+        connection,
+        &mut rt.stdin(),
+        writer,
+    );
+    drop(left);
+    finish(outcome, Ok(()), &mut rt.stderr())
+}
+
 /// Makes the connection that the mode asks for, and runs over it.
 fn run_in<T: Threads + Wait + Sync, W: Write>(
     rt: &HostRuntime,
@@ -93,10 +107,7 @@ fn run_in<T: Threads + Wait + Sync, W: Write>(
             let connection = Connection::open(rt, file.as_str());
             run_on_file(rt, threads, mode, connection, writer)
         }
-        Mode::Check(file) => {
-            let connection = to_existing(rt, file.as_str());
-            run_on_file(rt, threads, mode, connection, writer)
-        }
+        Mode::Check(file) => run_on_copy(rt, threads, mode, file.as_str(), writer),
     }
 }
 
