@@ -120,3 +120,23 @@ fn readers_are_looked_at_once(rt: HostRuntime) -> Result<(), Fail> {
     assert!(rt; planned?);
     Ok(())
 }
+
+/// Whether a start that has one consequence, among all these records, is planned with a few looks: at both, and at steps whose names
+/// have one of their hashes.
+fn is_found_among_others(alloc: Global, records: &StepRecords) -> Result<bool, AllocError> {
+    match measured(alloc, records, READERS - 1)? {
+        Some((steps, looks)) => Ok(steps == 2 && looks <= 10),
+        None => Ok(false),
+    }
+}
+
+#[test]
+fn steps_of_others_are_passed_over(rt: HostRuntime) -> Result<(), Fail> {
+    let mut records = StepRecords::new(rt.alloc());
+    let added = add_all(rt.alloc(), &mut records);
+    let found = is_found_among_others(rt.alloc(), &records);
+    drop(records);
+    added?;
+    assert!(rt; found?);
+    Ok(())
+}

@@ -22,6 +22,22 @@ pub first_fewer : (Q S : ℕ → Type 0) (p : StepRecord → Bool) (rs : List St
 first_fewer Q S p rs low None fewer h = λ k g is l q. h k g is l (fewer k l q)
 first_fewer Q S p rs low (Some i) fewer h = (h.0, h.1, λ k g is l b q. h.2 k g is l b (fewer k l q))
 
+module _ (g : ℕ → Option ℕ) (c n : ℕ) where
+  -- no place of the class is between one there and the one before it
+  pub between : (last : Option ℕ) → IsBefore g c n last → (k : ℕ) → g k ≡ Some c → IsAbove k last → (k ≡ n) ⊎ (n < k)
+  between None h k is above = elim (cases_lt k n) [
+    | inl w ↦ absurd (h k w is)
+    | inr w ↦ elim (cases_lt n k) [ inl v ↦ inr v | inr v ↦ inl (omega (arith, w, v)) ]
+  ]
+  between (Some m) h k is above = elim (cases_lt k n) [
+    | inl w ↦ absurd (h.2 k w above is)
+    | inr w ↦ elim (cases_lt n k) [ inl v ↦ inr v | inr v ↦ inl (omega (arith, w, v)) ]
+  ]
+
+  pub has_class : (last : Option ℕ) → IsBefore g c n last → IfSome last (λ m. g m ≡ Some c)
+  has_class None h = tt
+  has_class (Some m) h = h.1
+
 -- a walk is at a place of class c, and knows the first record that passes the test among those behind it
 pub record IsSought (g : ℕ → Option ℕ) (c : ℕ) (p : StepRecord → Bool) (rs : List StepRecord) (low : ℕ) (found last : Option ℕ) : Type 0 where
   pub here : IfSome last (λ n. g n ≡ Some c)
@@ -39,37 +55,22 @@ module _ (g : ℕ → Option ℕ) (c : ℕ) (p : StepRecord → Bool) (rs : List
     pub broke_off : n < low → IsFirstFrom (λ k. g k ≡ Some c) p rs low found
     broke_off w = first_fewer (λ k. (g k ≡ Some c) × IsAbove k (Some n)) (λ k. g k ≡ Some c) p rs low found (λ k l q. (q, omega (arith, l, w))) old.sought
 
-    -- no place of the class is between this one and the one before it
-    between : (last : Option ℕ) → IsBefore g c n last → (k : ℕ) → g k ≡ Some c → IsAbove k last → (k ≡ n) ⊎ (n < k)
-    between None h k is above = elim (cases_lt k n) [
-      | inl w ↦ absurd (h k w is)
-      | inr w ↦ elim (cases_lt n k) [ inl v ↦ inr v | inr v ↦ inl (omega (arith, w, v)) ]
-    ]
-    between (Some m) h k is above = elim (cases_lt k n) [
-      | inl w ↦ absurd (h.2 k w above is)
-      | inr w ↦ elim (cases_lt n k) [ inl v ↦ inr v | inr v ↦ inl (omega (arith, w, v)) ]
-    ]
-
-    has_class : (last : Option ℕ) → IsBefore g c n last → IfSome last (λ m. g m ≡ Some c)
-    has_class None h = tt
-    has_class (Some m) h = h.1
-
     module _ (x : StepRecord) (at : slice_get rs n ≡ Some x) (far : low ≤ n) where
       pub found_here : p x ≡ true → (last : Option ℕ) → IsBefore g c n last → IsSought g c p rs low (Some n) last
       found_here h last before = record {
-        here = has_class last before;
-        sought = (far, (x, at, h), λ k r is l b q. absurd (elim (between last before k q.0 q.1) [ inl e ↦ omega (arith, e, b) | inr w ↦ omega (arith, w, b) ]));
+        here = has_class g c n last before;
+        sought = (far, (x, at, h), λ k r is l b q. absurd (elim (between g c n last before k q.0 q.1) [ inl e ↦ omega (arith, e, b) | inr w ↦ omega (arith, w, b) ]));
       }
 
       same : p x ≡ false → (k : ℕ) (r : StepRecord) → slice_get rs k ≡ Some r → k ≡ n → p r ≡ false
       same h k r is e = subst (λ y. p y ≡ false) (same_Some x r (sym at ∙ ap (slice_get rs) (sym e) ∙ is)) h
 
       kept : p x ≡ false → (last : Option ℕ) → IsBefore g c n last → (o : Option ℕ) → IsFirstFrom (λ k. (g k ≡ Some c) × IsAbove k (Some n)) p rs low o → IsFirstFrom (λ k. (g k ≡ Some c) × IsAbove k last) p rs low o
-      kept h last before None s = λ k r is l q. elim (between last before k q.0 q.1) [ inl e ↦ same h k r is e | inr w ↦ s k r is l (q.0, w) ]
-      kept h last before (Some i) s = (s.0, s.1, λ k r is l b q. elim (between last before k q.0 q.1) [ inl e ↦ same h k r is e | inr w ↦ s.2 k r is l b (q.0, w) ])
+      kept h last before None s = λ k r is l q. elim (between g c n last before k q.0 q.1) [ inl e ↦ same h k r is e | inr w ↦ s k r is l (q.0, w) ]
+      kept h last before (Some i) s = (s.0, s.1, λ k r is l b q. elim (between g c n last before k q.0 q.1) [ inl e ↦ same h k r is e | inr w ↦ s.2 k r is l b (q.0, w) ])
 
       pub not_here : p x ≡ false → (last : Option ℕ) → IsBefore g c n last → IsSought g c p rs low found last
-      not_here h last before = record { here = has_class last before; sought = kept h last before found old.sought }
+      not_here h last before = record { here = has_class g c n last before; sought = kept h last before found old.sought }
 
       pub sought_on : (now last : Option ℕ) → now ≡ cond (p x) (Some n) found → IsBefore g c n last → IsSought g c p rs low now last
       sought_on now last e before = by (p x) refl

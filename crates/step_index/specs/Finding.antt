@@ -1,9 +1,10 @@
--- Steps that were found; and in which classes there is one.
-use Rattle.std.specs.Prelude.{◌≡◌, ◌<◌, ◌%◌, All, ℕ, Bool, true, false, List, [], ◌∷◌, length, map, Option, None, Some, slice_get, slice_index_or}
-use Rattle.saved_steps.specs.declared.fact.Fact.{Fact}
+-- Steps that a plan found, and the next place that is due for them.
+use Rattle.std.specs.Prelude.{◌≡◌, ◌<◌, ◌≤◌, ◌+◌, All, ℕ, true, false, List, [], ◌∷◌, length, map, Option, None, Some, slice_get}
 use Rattle.saved_steps.specs.declared.record.StepRecord.{StepRecord}
+use Rattle.depends.specs.Plans.{depends_on_some}
 use Rattle.step_marks.specs.Marks.{AreMarksOf}
-use Rattle.step_index.specs.Buckets.{by_exec, by_key}
+use Rattle.step_index.specs.Due.{AreDue, IsOpen, is_due}
+use Rattle.step_index.specs.Near.{is_near}
 use Rattle.step_index.specs.declared.found.FoundSteps.{FoundSteps}
 
 abbrev pub pick : Option StepRecord → List StepRecord → List StepRecord
@@ -15,18 +16,26 @@ abbrev pub picked : List StepRecord → List ℕ → List StepRecord
 picked rs [] = []
 picked rs (p ∷ ps) = pick (slice_get rs p) (picked rs ps)
 
--- a class, where there are fewer, is one in which there is a step
-abbrev pub is_seen : List Bool → Option ℕ → Bool
-is_seen bits None = false
-is_seen bits (Some c) = slice_index_or bits (c % 4093) false
-
--- each step is in a class that is seen
-pub record AreSeen (by : Fact → Option ℕ) (fs : List StepRecord) (bits : List Bool) : Type 0 where
-  pub many : length bits ≡ 4093
-  pub seen : (k : ℕ) (r : StepRecord) (c : ℕ) → slice_get fs k ≡ Some r → by r.fact ≡ Some c → is_seen bits (Some c) ≡ true
-
-pub record AreFound (rs : List StepRecord) (s : FoundSteps) : Type 0 where
+-- the marks are those of the steps that were found; the classes of each are open, and the places there, from one on, are due
+pub record AreFound (rs : List StepRecord) (from : ℕ) (s : FoundSteps) : Type 0 where
   pub within : All (λ p. p < length rs) s.places.items
   pub marked : AreMarksOf (map (λ r. r.fact) (picked rs s.places.items)) s.marks
-  pub run : AreSeen by_exec (picked rs s.places.items) s.execs.bits
-  pub keyed : AreSeen by_key (picked rs s.places.items) s.keys.bits
+  pub due : AreDue rs from s.due
+  pub opened : (k : ℕ) (r : StepRecord) → slice_get (picked rs s.places.items) k ≡ Some r → IsOpen s.due r.fact
+  pub near : (k : ℕ) (g : StepRecord) → slice_get rs k ≡ Some g → is_due s.due k ≡ true → is_near rs s.places.items g ≡ true
+
+-- the step at a place depends directly on none that was found
+abbrev pub IsFree : List StepRecord → List ℕ → ℕ → Type 0
+IsFree rs places k = (g : StepRecord) → slice_get rs k ≡ Some g → depends_on_some (map (λ r. r.fact) rs) places g.fact ≡ false
+
+-- the next place at which a step may depend directly on one that was found; this was taken
+pub record IsNextDueAt (rs : List StepRecord) (from : ℕ) (old new : FoundSteps) (place : ℕ) : Type 0 where
+  pub low : from ≤ place
+  pub within : place < length rs
+  pub free : (k : ℕ) → from ≤ k → k < place → IsFree rs old.places.items k
+  pub near : (g : StepRecord) → slice_get rs place ≡ Some g → is_near rs old.places.items g ≡ true
+  pub found : AreFound rs (place + 1) new
+
+abbrev pub IsNextDue : List StepRecord → ℕ → FoundSteps → FoundSteps → Option ℕ → Type 0
+IsNextDue rs from old new None = (k : ℕ) → from ≤ k → IsFree rs old.places.items k
+IsNextDue rs from old new (Some place) = IsNextDueAt rs from old new place

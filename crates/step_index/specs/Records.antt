@@ -21,10 +21,13 @@ pub record AreIndexed (rs : List StepRecord) (names threads execs gates keys wri
   pub keyed : keys.classes ≡ classes_by by_key rs
   pub wrote : writes.classes ≡ classes_by by_write rs
 
--- the classes of executions and of keys are those of these records
-pub record AreCounted (rs : List StepRecord) (execs keys : Places) : Type 0 where
+-- the classes that a plan opens are those of these records
+pub record AreCounted (rs : List StepRecord) (threads execs gates keys writes : Places) : Type 0 where
+  pub threaded : threads.classes ≡ classes_by by_thread rs
   pub run : execs.classes ≡ classes_by by_exec rs
+  pub gated : gates.classes ≡ classes_by by_gate rs
   pub keyed : keys.classes ≡ classes_by by_key rs
+  pub wrote : writes.classes ≡ classes_by by_write rs
 
 -- there is room for one more place, and there is each class
 abbrev pub is_open : Places → Bool

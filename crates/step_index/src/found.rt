@@ -1,58 +1,60 @@
-//! The steps that were found for a plan, and the marks that they left.
+//! The steps that were found for a plan, the marks that they left, and the later places that are due.
 
-ghost use Rattle.std.specs.Prelude.{◌≡◌, ◌∷◌, ◌++◌, [], false, List, map, IfOk, OnOk, Some, slice_get};
+ghost use Rattle.std.specs.Prelude.{◌≡◌, ◌+◌, ◌∷◌, ◌++◌, [], ℕ, List, map, IfOk, OnOk, Some, slice_get};
 ghost use Rattle.depends.specs.Plans as plans;
 ghost use Rattle.saved_steps.specs.declared.record.StepRecord.{StepRecord as Kept};
-ghost use Rattle.step_index.specs.Buckets.{by_exec, by_key};
-ghost use Rattle.step_index.specs.Finding.{AreFound};
+ghost use Rattle.step_index.specs.Finding.{AreFound, IsNextDue};
 
-use crate::seen::SeenClasses;
+use crate::due::DuePlaces;
+use crate::looks::CountedRecords;
 use saved_steps::Fact;
 use std::alloc::{AllocError, Global};
 use step_marks::Marks;
 
-/// The places of steps that were found, in the order in which they came; the marks that these left; and in which classes of
-/// executions and of keys there is one, each by its hash.
+/// The places of steps that were found, in the order in which they came; the marks that these left; and the later places at which
+/// a step may be that depends directly on one of them.
 #[derive(Drop)]
 pub(crate) struct FoundSteps {
     pub(crate) places: Vec<usize>,
     marks: Marks,
-    execs: SeenClasses,
-    keys: SeenClasses,
+    due: DuePlaces,
 }
 
 impl FoundSteps {
     /// None. Takes no memory.
     pub(crate) fn new(alloc: Global) -> FoundSteps
         ensures places { result.places.items ≡ [] }
-        ensures found { (rs : List Kept) → AreFound rs result }
+        ensures found { (rs : List Kept) (from : ℕ) → AreFound rs from result }
     {
         FoundSteps {
             places: Vec::new(alloc),
             marks: Marks::new(alloc),
-            execs: SeenClasses::new(),
-            keys: SeenClasses::new(),
+            due: DuePlaces::new(alloc),
         }
     }
 
-    /// Adds the step at a place behind the others, which is in these classes of executions and of keys.
+    /// Adds the step at a place behind the others. The later places of its classes become due.
     pub(crate) fn add(
         &mut self,
+        records: &CountedRecords,
         place: usize,
         fact: &Fact,
-        exec: Option<u32>,
-        key: Option<u32>,
     ) -> Result<(), AllocError>
-        requires run { by_exec fact.now ≡ exec }
-        requires keyed { by_key fact.now ≡ key }
         ensures places { OnOk result (self.new.places.items ≡ self.old.places.items ++ place ∷ []) }
-        ensures found { OnOk result ((rs : List Kept) (r : Kept) → slice_get rs place ≡ Some r → r.fact ≡ fact.now → AreFound rs self.old → AreFound rs self.new) }
+        ensures found { OnOk result ((r : Kept) → slice_get records.now place ≡ Some r → r.fact ≡ fact.now → AreFound records.now (place + 1) self.old → AreFound records.now (place + 1) self.new) }
     {
         self.marks.add(fact)?;
-        self.execs.add(exec);
-        self.keys.add(key);
+        self.due.open(records, place, fact)?;
         self.places.push(place)?;
         Ok(())
+    }
+
+    /// Takes the least due place, if there is one. No step before it depends directly on one of those that were found.
+    pub(crate) fn next_due(&mut self) -> Option<usize>
+        ensures places { self.new.places.items ≡ self.old.places.items }
+        ensures next { (rs : List Kept) (from : ℕ) → AreFound rs from self.old → IsNextDue rs from self.old self.new result }
+    {
+        self.due.take_first()
     }
 
     /// Their places.
@@ -62,18 +64,9 @@ impl FoundSteps {
         self.places
     }
 
-    /// Whether one of them is of an execution of this class, or accessed a key of that one. Where none is, no step of these classes
-    /// depends directly on one of them.
-    pub(crate) fn meets(&self, exec: Option<u32>, key: Option<u32>) -> bool
-        ensures { result ≡ false → (rs : List Kept) (g : Kept) → AreFound rs self.now
-            → by_exec g.fact ≡ exec → by_key g.fact ≡ key → plans.depends_on_some (map (λ r. r.fact) rs) self.now.places.items g.fact ≡ false }
-    {
-        self.execs.has(exec) || self.keys.has(key)
-    }
-
     /// Whether a later step depends directly on one of them, by the marks that they left: none of them is looked at.
     pub(crate) fn is_needed(&self, later: &Fact) -> Result<bool, AllocError>
-        ensures { IfOk result (λ b. (rs : List Kept) → AreFound rs self.now → b ≡ plans.depends_on_some (map (λ r. r.fact) rs) self.now.places.items later.now) }
+        ensures { IfOk result (λ b. (rs : List Kept) (from : ℕ) → AreFound rs from self.now → b ≡ plans.depends_on_some (map (λ r. r.fact) rs) self.now.places.items later.now) }
     {
         self.marks.marks(later)
     }

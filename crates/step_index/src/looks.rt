@@ -2,7 +2,7 @@
 
 ghost use Rattle.std.specs.Prelude.{◌≡◌, ◌<◌, ◌+◌, length, slice_get, Some};
 ghost use Rattle.saved_steps.specs.declared.record.StepRecord.{StepRecord as Kept};
-ghost use Rattle.step_index.specs.Buckets.{by_exec, by_key};
+ghost use Rattle.step_index.specs.Buckets.{by_thread, by_exec, by_gate, by_key, by_write};
 ghost use Rattle.step_index.specs.Records.{classes_by};
 
 use linked_classes::{ClassedPlaces, NumberedVec};
@@ -34,9 +34,12 @@ impl Looks {
 /// Records of which only the classes are told, and which are handed out by a call that counts. Contracts see their list.
 #[derive(Drop)]
 pub(crate) struct CountedRecords<'a> {
-    records: &'a NumberedVec<StepRecord>,
-    execs: &'a ClassedPlaces,
-    keys: &'a ClassedPlaces,
+    pub(crate) records: &'a NumberedVec<StepRecord>,
+    pub(crate) threads: &'a ClassedPlaces,
+    pub(crate) execs: &'a ClassedPlaces,
+    pub(crate) gates: &'a ClassedPlaces,
+    pub(crate) keys: &'a ClassedPlaces,
+    pub(crate) writes: &'a ClassedPlaces,
 }
 
 impl<'a> Model for CountedRecords<'a> {
@@ -52,46 +55,49 @@ impl<'a> Model for CountedRecords<'a> {
 
     ghost view = { λ a. a.records.now.items };
 
-    ghost invariant = { λ a. AreCounted a.records.now.items a.execs.now a.keys.now };
+    ghost invariant = { λ a. AreCounted a.records.now.items a.threads.now a.execs.now a.gates.now a.keys.now a.writes.now };
 }
 
 impl<'a> CountedRecords<'a> {
-    pub(crate) fn new(
-        records: &'a NumberedVec<StepRecord>,
-        execs: &'a ClassedPlaces,
-        keys: &'a ClassedPlaces,
-    ) -> CountedRecords<'a>
-        requires run { execs.now.classes ≡ classes_by by_exec records.now.items }
-        requires keyed { keys.now.classes ≡ classes_by by_key records.now.items }
-        ensures { result ≡ records.now.items }
-    {
-        CountedRecords {
-            records,
-            execs,
-            keys,
-        }
-    }
-
     pub(crate) fn len(&self) -> usize
         ensures { result ≡ length self.now }
     {
         self.records.len()
     }
 
-    /// The class of the execution at a place.
-    pub(crate) fn exec(&self, place: usize) -> Option<u32>
-        requires { place < length self.now }
-        ensures { (r : Kept) → slice_get self.now place ≡ Some r → by_exec r.fact ≡ result }
+    /// The classes of threads.
+    pub(crate) fn threads(&self) -> &'a ClassedPlaces
+        ensures { result.now.classes ≡ classes_by by_thread self.now }
     {
-        self.execs.class(place)
+        self.threads
     }
 
-    /// The class of the key at a place, if there is one.
-    pub(crate) fn key(&self, place: usize) -> Option<u32>
-        requires { place < length self.now }
-        ensures { (r : Kept) → slice_get self.now place ≡ Some r → by_key r.fact ≡ result }
+    /// The classes of executions.
+    pub(crate) fn execs(&self) -> &'a ClassedPlaces
+        ensures { result.now.classes ≡ classes_by by_exec self.now }
     {
-        self.keys.class(place)
+        self.execs
+    }
+
+    /// The classes of the executions of steps that close a fork or waited for branches.
+    pub(crate) fn gates(&self) -> &'a ClassedPlaces
+        ensures { result.now.classes ≡ classes_by by_gate self.now }
+    {
+        self.gates
+    }
+
+    /// The classes of the keys that were accessed.
+    pub(crate) fn keys(&self) -> &'a ClassedPlaces
+        ensures { result.now.classes ≡ classes_by by_key self.now }
+    {
+        self.keys
+    }
+
+    /// The classes of the keys that were written.
+    pub(crate) fn writes(&self) -> &'a ClassedPlaces
+        ensures { result.now.classes ≡ classes_by by_write self.now }
+    {
+        self.writes
     }
 
     /// Hands out the record at a place, and counts it.

@@ -1,13 +1,14 @@
 //! The records, and the classes of their places.
 
-ghost use Rattle.std.specs.Prelude.{◌≡◌, ◌<◌, ◌≤◌, ◌+◌, ◌-◌, ◌==◌, ◌||◌, [], ◌∷◌, ◌++◌, true, length, map, position, slice_get, Some, IfOk, OnOk};
-ghost use Rattle.std.specs.List.{remove};
+ghost use Rattle.std.specs.Prelude.{◌≡◌, ◌<◌, ◌≤◌, ◌+◌, ◌-◌, ◌==◌, ◌||◌, [], ◌∷◌, ◌++◌, true, drop, length, map, position, slice_get, Some, IfOk, OnOk};
+ghost use Rattle.std.specs.List.{count_by, remove};
 ghost use Rattle.depends.specs.Plans as plans;
 ghost use Rattle.depends.specs.Dependence.{is_start};
 ghost use Rattle.saved_steps.specs.Steps.{is_fork};
 ghost use Rattle.saved_steps.specs.World.{is_same_step};
 ghost use Rattle.saved_steps.specs.declared.record.StepRecord.{StepRecord as Kept};
 ghost use Rattle.step_index.specs.Gathered.{accesses, is_of, places_where};
+ghost use Rattle.step_index.specs.Near.{is_near};
 ghost use Rattle.step_index.specs.Walks.{ConflictsAt, IsFirstFrom, NeedsByName, needs};
 
 use crate::buckets::{
@@ -225,7 +226,7 @@ impl StepRecords {
         requires { at < length self.now.items }
         ensures { IfOk result (λ p. p ≡ plans.plan (map (λ r. r.fact) self.now.items) at) }
     {
-        plan_of(alloc, &self.records, &self.execs, &self.keys, at)
+        plan_of(alloc, &self.counted(), at)
     }
 
     /// The same, with its looks at records added to a count. One pass over the later steps: each is looked at once at most, and only
@@ -241,9 +242,24 @@ impl StepRecords {
         requires room { looks.old.count + length self.now.items ≤ 18446744073709551615 }
         ensures plan { IfOk result (λ p. p ≡ plans.plan (map (λ r. r.fact) self.now.items) at) }
         ensures looks { looks.new.count ≤ looks.old.count + (length self.now.items - at) }
+        ensures members { IfOk result (λ p. looks.old.count + length p ≤ looks.new.count) }
+        ensures near { IfOk result (λ p. looks.new.count ≤ looks.old.count + 1 + count_by (is_near self.now.items p) (drop (at + 1) self.now.items)) }
     {
-        let records = CountedRecords::new(&self.records, &self.execs, &self.keys);
-        plan_with_looks(alloc, &records, at, looks)
+        plan_with_looks(alloc, &self.counted(), at, looks)
+    }
+
+    /// The records as a plan sees them.
+    fn counted(&self) -> CountedRecords<'_>
+        ensures { result ≡ self.now.items }
+    {
+        CountedRecords {
+            records: &self.records,
+            threads: &self.threads,
+            execs: &self.execs,
+            gates: &self.gates,
+            keys: &self.keys,
+            writes: &self.writes,
+        }
     }
 
     /// The earliest step that depends directly on the one at a place, of those that do so by their names.
@@ -263,7 +279,7 @@ impl StepRecords {
 }
 
 /// Whether threads are there by a step of this kind.
-fn makes_threads(kind: Kind) -> bool
+pub(crate) fn makes_threads(kind: Kind) -> bool
     ensures { result ≡ (is_start kind || is_fork kind) }
 {
     matches!(kind, Kind::Start | Kind::Fork)

@@ -1,13 +1,10 @@
-use Rattle.std.proofs.Common.{◌≡◌, ◌≤◌, ◌+◌, ◌++◌, drop}
-use Rattle.depends.specs.Plans as plans
-use Rattle.step_index.specs.Finding.{AreFound}
-use Rattle.step_index.proofs.Following.{facts}
+use Rattle.std.proofs.Common.{ℕ, ◌+◌, ◌-◌, length}
+use Rattle.step_index.proofs.Finding.{IsUpTo}
 use Rattle.step_index.proofs.plans.plan_with_looks.Given as goal
 
--- the steps that were found, and those that the later steps add, are all; and none was looked at twice
+-- up to a place all steps were found, and each due place is behind it
 abbrev pub invariant-loop-place : goal.invariant-loop-place
-invariant-loop-place l = record {
-  all : l.found.places.items ++ plans.consequences_from (facts l.records) l.found.places.items l.place (drop l.place (facts l.records)) ≡ plans.consequences_at (facts l.records) l.at;
-  found : AreFound l.records l.found;
-  looks : l.looks.count + l.at ≤ l.fn.looks.count + l.place;
-}
+invariant-loop-place l = (from : ℕ) × IsUpTo l.records l.at from l.found l.fn.looks.count l.looks.count
+
+abbrev pub decreases-loop-place : goal.decreases-loop-place
+decreases-loop-place l = (l.fn.looks.count + length l.records) - l.looks.count

@@ -1,0 +1,213 @@
+-- Classes that are opened for a step, one after another; and that each later step which depends directly on it is due.
+use Rattle.std.proofs.Common.{◌≡◌, ◌<◌, ◌≤◌, ◌+◌, arith, ℕ, Bool, true, false, cond, List, [], Option, None, Some, length, eq-eqb, refl, ap, sym, subst, ◌∙◌, inl, inr}
+use Rattle.std.specs.Prelude.{◌||◌, nat_eq, option_map, slice_get}
+use Rattle.std.specs.BTreeMap.{is_at}
+use Rattle.std.specs.HashSet.{contains as has_class}
+use Rattle.std.specs.List.{list_any}
+use Rattle.std.specs.Ordering.{nat_cmp}
+use Rattle.std.proofs.lemmas.Bool.{false_from_ne_true}
+use Rattle.std.proofs.lemmas.List.{length-map}
+use Rattle.linked_classes.specs.Cells.{cell_at}
+use Rattle.linked_classes.specs.Places.{Places}
+use Rattle.saved_steps.specs.Steps.{is_fork, is_write}
+use Rattle.saved_steps.specs.declared.fact.Access.{Access}
+use Rattle.saved_steps.specs.declared.fact.Fact.{Fact}
+use Rattle.saved_steps.specs.declared.record.StepRecord.{StepRecord}
+use Rattle.depends.specs.Dependence.{conflicts, is_start}
+use Rattle.step_index.specs.Buckets.{by_thread, by_exec, by_gate, by_key, by_write, exec_bucket, key_bucket, thread_bucket}
+use Rattle.step_index.specs.Due.{AllDue, AreDue, AreKept, IsBehind, IsFurther, IsGrown, IsOpen, IsOpenByAccess, IsOpenByName, IsTaken, Keeps, is_due}
+use Rattle.step_index.specs.Near.{is_class, shares_by_access, shares_by_name}
+use Rattle.step_index.specs.Records.{classes_by}
+use Rattle.step_index.specs.Walks.{names_need, needs}
+use Rattle.step_index.specs.declared.due.DuePlaces.{DuePlaces}
+use Rattle.step_index.proofs.Listed.{class_there}
+use Rattle.step_index.proofs.Meeting.{by_name_or_item, meet_in_exec, meet_in_key, meet_in_thread_or_gate, meet_in_write}
+use Rattle.step_index.proofs.Opening.{all_due_grown, grown_more, grown_same, grown_trans, same_place}
+
+-- ---- none
+
+pub none_has : (keys : List ℕ) (test : ℕ → Bool) → keys ≡ [] → list_any test keys ≡ true → ⊥
+none_has keys test e h = absurd (let x : false ≡ true = sym (ap (list_any test) e) ∙ h in cc)
+
+-- ---- one after another
+
+pub or_true : (a b : Bool) → b ≡ true → (a || b) ≡ true
+or_true true b h = refl
+or_true false b h = h
+
+-- the step at a place passes a test
+abbrev pub Pass : (Fact → Bool) → List StepRecord → ℕ → Type 0
+Pass test rs k = (g : StepRecord) → slice_get rs k ≡ Some g → test g.fact ≡ true
+
+pub kept_same : (d : DuePlaces) → AreKept d d
+kept_same d = record { threads = λ c h. h; execs = λ c h. h; gates = λ c h. h; keys = λ c h. h; writes = λ c h. h }
+
+pub kept_trans : (a b c : DuePlaces) → AreKept a b → AreKept b c → AreKept a c
+kept_trans a b c f g = record {
+  threads = λ k h. g.threads k (f.threads k h);
+  execs = λ k h. g.execs k (f.execs k h);
+  gates = λ k h. g.gates k (f.gates k h);
+  keys = λ k h. g.keys k (f.keys k h);
+  writes = λ k h. g.writes k (f.writes k h);
+}
+
+pub further_same : (test : Fact → Bool) (rs : List StepRecord) (at : ℕ) (d : DuePlaces) → IsFurther test rs at d d
+further_same test rs at d = record { kept = kept_same d; grown = grown_same (Pass test rs) (is_due d); due = λ h. h }
+
+-- for two reasons
+pub further_both : (one other : Fact → Bool) (rs : List StepRecord) (at : ℕ) (a b c : DuePlaces) → IsFurther one rs at a b → IsFurther other rs at b c → IsFurther (λ g. one g || other g) rs at a c
+further_both one other rs at a b c f g = record {
+  kept = kept_trans a b c f.kept g.kept;
+  grown = grown_trans (Pass both rs) (is_due a) (is_due b) (is_due c) (grown_more (Pass one rs) (Pass both rs) (is_due a) (is_due b) (λ k p r is. ap (λ x. x || other r.fact) (p r is)) f.grown)
+      (grown_more (Pass other rs) (Pass both rs) (is_due b) (is_due c) (λ k p r is. or_true (one r.fact) (other r.fact) (p r is)) g.grown);
+  due = λ h. g.due (f.due h);
+}
+  where
+    both : Fact → Bool
+    both g = one g || other g
+
+-- what was open for a step is open
+pub open_kept : (old new : DuePlaces) (f : Fact) → AreKept old new → IsOpen old f → IsOpen new f
+open_kept old new f k o = record { named = named; accessed = accessed f.access o.accessed }
+  where
+    named : IsOpenByName new f
+    named = elim o.named [ inl x ↦ inl (k.execs (exec_bucket f.name.thread.exec) x) | inr x ↦ inr (x.0, k.threads _ x.1, k.gates _ x.2) ]
+
+    accessed : (a : Option Access) → IsOpenByAccess old a → IsOpenByAccess new a
+    accessed None h = tt
+    accessed (Some a) h = elim h [ inl x ↦ inl (k.keys (key_bucket a.key) x) | inr x ↦ inr (x.0, k.writes _ x.1) ]
+
+-- ---- each later step that depends directly on one is due
+
+module _ (rs : List StepRecord) (from : ℕ) (d : DuePlaces) (due : AreDue rs from d) (k : ℕ) (g : StepRecord) (is : slice_get rs k ≡ Some g) (late : from ≤ k) where
+  class_of : (by : Fact → Option ℕ) → cell_at (classes_by by rs) k ≡ by g.fact
+  class_of by =
+      let v : Places = record { classes = classes_by by rs; width = 0; has_room = false } in
+      class_there by v rs refl k g is
+
+  due_by_name : (f : Fact) → IsOpenByName d f → names_need f g.fact ≡ true → is_due d k ≡ true
+  due_by_name f o need = elim o [
+    | inl x ↦ due.run k (exec_bucket f.name.thread.exec) late (class_of by_exec ∙ meet_in_exec f g.fact need) x
+    | inr x ↦ elim (meet_in_thread_or_gate f g.fact need x.0) [ inl y ↦ due.threaded k _ late (class_of by_thread ∙ y) x.1 | inr y ↦ due.gated k _ late (class_of by_gate ∙ y) x.2 ]
+  ]
+
+  due_by_access : (f : Fact) → IsOpenByAccess d f.access → conflicts f.access g.fact.access ≡ true → is_due d k ≡ true
+  due_by_access f o need = by f.access refl
+    where
+      accessed : (a : Access) → f.access ≡ Some a → by_key g.fact ≡ Some (key_bucket a.key)
+      accessed a has = let m = meet_in_key f g.fact need in m.2 ∙ sym m.1 ∙ ap (option_map (λ (x : Access). key_bucket x.key)) has
+
+      by : (a : Option Access) → f.access ≡ a → is_due d k ≡ true
+      by None has = absurd (let x : false ≡ true = sym (ap (λ a. conflicts a g.fact.access) has) ∙ need in cc)
+      by (Some a) has = elim (subst (IsOpenByAccess d) has o) [
+        | inl x ↦ due.keyed k (key_bucket a.key) late (class_of by_key ∙ accessed a has) x
+        | inr x ↦ due.wrote k (key_bucket a.key) late (class_of by_write ∙ meet_in_write f g.fact a has x.0 need) x.1
+      ]
+
+  pub due_if_needed : (f : StepRecord) → IsOpen d f.fact → needs f g ≡ true → is_due d k ≡ true
+  due_if_needed f o need = elim (by_name_or_item f.fact g.fact need) [ inl x ↦ due_by_name f.fact o.named x | inr x ↦ due_by_access f.fact o.accessed x ]
+
+-- ---- one class is opened
+
+-- the classes of a kind are those of records; places of one class came to those that are due
+module _ (by : Fact → Option ℕ) (rs : List StepRecord) (classes : List (Option ℕ)) (are : classes ≡ classes_by by rs) (class at : ℕ) (old new : ℕ → Bool) (grown : IsGrown (IsBehind classes class at) old new) where
+  in_class : (k : ℕ) → cell_at classes k ≡ Some class → (g : StepRecord) → slice_get rs k ≡ Some g → by g.fact ≡ Some class
+  in_class k there g is =
+      let v : Places = record { classes = classes; width = 0; has_room = false } in
+      sym (class_there by v rs are k g is) ∙ there
+
+  pub grown_by : (test : Fact → Bool) → ((g : Fact) → by g ≡ Some class → test g ≡ true) → IsGrown (Pass test rs) old new
+  grown_by test passes = grown_more (IsBehind classes class at) (Pass test rs) old new (λ k b g is. passes g.fact (in_class k b.2 g is)) grown
+
+  pub within_by : ((k : ℕ) → old k ≡ true → (at + 1 ≤ k) × (k < length rs)) → (k : ℕ) → new k ≡ true → (at + 1 ≤ k) × (k < length rs)
+  within_by before k is = elim (grown.others k is) [
+    | inl x ↦ before k x
+    | inr x ↦ (let l = x.0 in omega (arith, l), let l = x.1 in let n = ap length are ∙ length-map rs (λ (r : StepRecord). by r.fact) in omega (arith, l, n))
+  ]
+
+  -- those of the other classes are due as before
+  pub still : (others : List (Option ℕ)) (opened : ℕ → Bool) → AllDue others (at + 1) old opened → AllDue others (at + 1) new opened
+  still others opened = all_due_grown (IsBehind classes class at) others (at + 1) old new opened grown
+
+  pub due_by : (opened more : ℕ → Bool) → (AllDue classes (at + 1) old opened → AllDue classes (at + 1) new more) → AllDue (classes_by by rs) (at + 1) old opened → AllDue (classes_by by rs) (at + 1) new more
+  due_by opened more = subst (λ cs. AllDue cs (at + 1) old opened → AllDue cs (at + 1) new more) are
+
+-- ---- a class that is opened is one that a later step shares
+
+own_class : (c : ℕ) (o : Option ℕ) → o ≡ Some c → is_class c o ≡ true
+own_class c o e = ap (is_class c) e ∙ eq-eqb c c refl
+
+pub shares_exec : (f g : Fact) → (is_start f.kind || is_fork f.kind) ≡ true → by_exec g ≡ Some (exec_bucket f.name.thread.exec) → shares_by_name f g ≡ true
+shares_exec f g makes e =
+    ap (λ b. cond b (is_class (exec_bucket f.name.thread.exec) (by_exec g)) (is_class (thread_bucket f.name.thread) (by_thread g) || is_class (exec_bucket f.name.thread.exec) (by_gate g))) makes
+    ∙ own_class (exec_bucket f.name.thread.exec) (by_exec g) e
+
+module _ (f g : Fact) (none : (is_start f.kind || is_fork f.kind) ≡ false) where
+  other_name : shares_by_name f g ≡ (is_class (thread_bucket f.name.thread) (by_thread g) || is_class (exec_bucket f.name.thread.exec) (by_gate g))
+  other_name = ap (λ b. cond b (is_class (exec_bucket f.name.thread.exec) (by_exec g)) (is_class (thread_bucket f.name.thread) (by_thread g) || is_class (exec_bucket f.name.thread.exec) (by_gate g))) none
+
+  pub shares_thread : by_thread g ≡ Some (thread_bucket f.name.thread) → shares_by_name f g ≡ true
+  shares_thread e = other_name ∙ ap (λ b. b || is_class (exec_bucket f.name.thread.exec) (by_gate g)) (own_class (thread_bucket f.name.thread) (by_thread g) e)
+
+  pub shares_gate : by_gate g ≡ Some (exec_bucket f.name.thread.exec) → shares_by_name f g ≡ true
+  shares_gate e = other_name ∙ or_true (is_class (thread_bucket f.name.thread) (by_thread g)) (is_class (exec_bucket f.name.thread.exec) (by_gate g)) (own_class (exec_bucket f.name.thread.exec) (by_gate g) e)
+
+module _ (a : Access) (g : Fact) where
+  pub shares_key : is_write a.mode ≡ true → by_key g ≡ Some (key_bucket a.key) → shares_by_access (Some a) g ≡ true
+  shares_key wrote e = ap (λ b. is_class (key_bucket a.key) (cond b (by_key g) (by_write g))) wrote ∙ own_class (key_bucket a.key) (by_key g) e
+
+  pub shares_write : is_write a.mode ≡ false → by_write g ≡ Some (key_bucket a.key) → shares_by_access (Some a) g ≡ true
+  shares_write read e = ap (λ b. is_class (key_bucket a.key) (cond b (by_key g) (by_write g))) read ∙ own_class (key_bucket a.key) (by_write g) e
+
+-- ---- the least due place is taken
+
+pub taken : (rs : List StepRecord) (from : ℕ) (old new : DuePlaces) (r : Option ℕ) → AreDue rs from old → AreKept old new → AreKept new old
+    → (r ≡ None → (k : ℕ) → is_due old k ≡ false)
+    → ((p : ℕ) → r ≡ Some p → (is_due old p ≡ true) × ((k : ℕ) → is_due old k ≡ true → p ≤ k) × ((k : ℕ) → is_due new k ≡ cond (is_at (nat_cmp p) k) false (is_due old k)) × (is_due new p ≡ false))
+    → IsTaken rs from old new r
+taken rs from old new None due kept back none some = none refl
+taken rs from old new (Some p) due kept back none some = record {
+  low = (due.within p there).0;
+  within = (due.within p there).1;
+  least = λ k l. false_from_ne_true (is_due old k) (λ h. let low = (s.1 k h) in omega (arith, l, low));
+  kept = kept;
+  there = there;
+  fewer = was;
+  due = record {
+    within = λ k h. (behind k (was k h) (other k h), (due.within k (was k h)).1);
+    threaded = after (classes_by by_thread rs) (has_class nat_eq old.threads) (has_class nat_eq new.threads) back.threads due.threaded;
+    run = after (classes_by by_exec rs) (has_class nat_eq old.execs) (has_class nat_eq new.execs) back.execs due.run;
+    gated = after (classes_by by_gate rs) (has_class nat_eq old.gates) (has_class nat_eq new.gates) back.gates due.gated;
+    keyed = after (classes_by by_key rs) (has_class nat_eq old.keys) (has_class nat_eq new.keys) back.keys due.keyed;
+    wrote = after (classes_by by_write rs) (has_class nat_eq old.writes) (has_class nat_eq new.writes) back.writes due.wrote;
+  };
+}
+  where
+    s : (is_due old p ≡ true) × ((k : ℕ) → is_due old k ≡ true → p ≤ k) × ((k : ℕ) → is_due new k ≡ cond (is_at (nat_cmp p) k) false (is_due old k)) × (is_due new p ≡ false)
+    s = some p refl
+
+    there : is_due old p ≡ true
+    there = s.0
+
+    was : (k : ℕ) → is_due new k ≡ true → is_due old k ≡ true
+    was k h = by (is_at (nat_cmp p) k) refl
+      where
+        by : (b : Bool) → is_at (nat_cmp p) k ≡ b → is_due old k ≡ true
+        by true e = absurd (let x : false ≡ true = sym (s.2 k ∙ ap (λ b. cond b false (is_due old k)) e) ∙ h in cc)
+        by false e = sym (s.2 k ∙ ap (λ b. cond b false (is_due old k)) e) ∙ h
+
+    other : (k : ℕ) → is_due new k ≡ true → k ≡ p → ⊥
+    other k h e = absurd (let x : false ≡ true = sym (ap (is_due new) e ∙ s.3) ∙ h in cc)
+
+    behind : (k : ℕ) → is_due old k ≡ true → (k ≡ p → ⊥) → p + 1 ≤ k
+    behind k h apart = let low = (s.1 k h) in omega (arith, low, apart)
+
+    stays : (k : ℕ) → p + 1 ≤ k → is_due old k ≡ true → is_due new k ≡ true
+    stays k l h = s.2 k ∙ by (is_at (nat_cmp p) k) refl
+      where
+        by : (b : Bool) → is_at (nat_cmp p) k ≡ b → cond b false (is_due old k) ≡ true
+        by true e = absurd (let x = same_place p k e in omega (arith, l, x))
+        by false e = h
+
+    after : (classes : List (Option ℕ)) (opened more : ℕ → Bool) → Keeps more opened → AllDue classes from (is_due old) opened → AllDue classes (p + 1) (is_due new) more
+    after classes opened more same all = λ k c l is o. stays k l (all k c (let low = (due.within p there).0 in omega (arith, l, low)) is (same c o))

@@ -1,0 +1,173 @@
+//! Which later places are due in a plan: those of the classes that were opened for the steps that it has found.
+
+ghost use Rattle.std.specs.Prelude.{◌≡◌, ◌<◌, ◌+◌, ℕ, true, false, List, nat_eq, Some, OnOk};
+ghost use Rattle.std.specs.BTreeSet.{contains as has_place};
+ghost use Rattle.std.specs.HashSet.{contains as has_class};
+ghost use Rattle.std.specs.Ordering.{nat_cmp};
+ghost use Rattle.linked_classes.specs.Places.{place_class};
+ghost use Rattle.saved_steps.specs.declared.record.StepRecord.{StepRecord as Kept};
+ghost use Rattle.step_index.specs.Due.{AllDue, AreDue, IsBehind, IsFurther, IsGrown, IsOpen, IsOpenByAccess, IsOpenByName, IsTaken, Keeps, is_due};
+ghost use Rattle.step_index.specs.Near.{shares, shares_by_access, shares_by_name};
+
+use crate::buckets::{exec_bucket, key_bucket, thread_bucket};
+use crate::looks::CountedRecords;
+use crate::records::makes_threads;
+use item_store::AccessMode;
+use linked_classes::ClassedPlaces;
+use saved_steps::Fact;
+use std::alloc::{AllocError, Global};
+use std::collections::{BTreeSet, HashSet};
+
+/// The later places of the classes that were opened, and these classes of each kind. A class is opened once: then its later places
+/// become due, and each is taken once, in their order.
+#[derive(Drop)]
+pub(crate) struct DuePlaces {
+    places: BTreeSet<usize>,
+    threads: HashSet<u32>,
+    execs: HashSet<u32>,
+    gates: HashSet<u32>,
+    keys: HashSet<u32>,
+    writes: HashSet<u32>,
+}
+
+impl DuePlaces {
+    /// None. Takes no memory.
+    pub(crate) fn new(alloc: Global) -> DuePlaces
+        ensures none { (k : ℕ) → is_due result k ≡ false }
+        ensures due { (rs : List Kept) (from : ℕ) → AreDue rs from result }
+    {
+        DuePlaces {
+            places: BTreeSet::new(alloc),
+            threads: HashSet::new(alloc),
+            execs: HashSet::new(alloc),
+            gates: HashSet::new(alloc),
+            keys: HashSet::new(alloc),
+            writes: HashSet::new(alloc),
+        }
+    }
+
+    /// Takes the least due place, if there is one.
+    pub(crate) fn take_first(&mut self) -> Option<usize>
+        ensures { (rs : List Kept) (from : ℕ) → AreDue rs from self.old → IsTaken rs from self.old self.new result }
+    {
+        self.places.pop_first()
+    }
+
+    /// Opens the classes in which each later step is that depends directly on the one at a place.
+    pub(crate) fn open(
+        &mut self,
+        records: &CountedRecords,
+        at: usize,
+        fact: &Fact,
+    ) -> Result<(), AllocError>
+        ensures opened { OnOk result (IsOpen self.new fact.now) }
+        ensures further { OnOk result (IsFurther (shares fact.now) records.now at self.old self.new) }
+    {
+        self.open_by_name(records, at, fact)?;
+        self.open_by_access(records, at, fact)
+    }
+
+    /// Opens those of the steps that depend on it by their names. Each of these is of its execution: if that is open, they are due.
+    fn open_by_name(
+        &mut self,
+        records: &CountedRecords,
+        at: usize,
+        fact: &Fact,
+    ) -> Result<(), AllocError>
+        ensures opened { OnOk result (IsOpenByName self.new fact.now) }
+        ensures further { OnOk result (IsFurther (shares_by_name fact.now) records.now at self.old self.new) }
+    {
+        let thread = &fact.name.thread;
+        let exec = exec_bucket(thread.exec());
+        if self.execs.contains(&exec) {
+            return Ok(());
+        }
+        if makes_threads(fact.kind) {
+            return open_class(&mut self.places, &mut self.execs, records.execs(), exec, at);
+        }
+        let own = thread_bucket(thread);
+        open_class(
+            &mut self.places,
+            &mut self.threads,
+            records.threads(),
+            own,
+            at,
+        )?;
+        open_class(&mut self.places, &mut self.gates, records.gates(), exec, at)
+    }
+
+    /// Opens those of the steps that depend on it for an item. Each of these accessed its key: if all accesses of that are open, they
+    /// are due.
+    fn open_by_access(
+        &mut self,
+        records: &CountedRecords,
+        at: usize,
+        fact: &Fact,
+    ) -> Result<(), AllocError>
+        ensures opened { OnOk result (IsOpenByAccess self.new fact.now.access) }
+        ensures further { OnOk result (IsFurther (shares_by_access fact.now.access) records.now at self.old self.new) }
+    {
+        let Some(access) = &fact.access else {
+            return Ok(());
+        };
+        let key = key_bucket(&access.key);
+        if self.keys.contains(&key) {
+            return Ok(());
+        }
+        match access.mode {
+            AccessMode::Write => {
+                open_class(&mut self.places, &mut self.keys, records.keys(), key, at)
+            }
+            AccessMode::Read => {
+                open_class(
+                    &mut self.places,
+                    &mut self.writes,
+                    records.writes(),
+                    key,
+                    at,
+                )
+            }
+        }
+    }
+}
+
+/// Makes the places of a class behind one due, unless it was opened before.
+fn open_class(
+    due: &mut BTreeSet<usize>,
+    opened: &mut HashSet<u32>,
+    steps: &ClassedPlaces,
+    class: u32,
+    at: usize,
+) -> Result<(), AllocError>
+    ensures has { OnOk result (has_class nat_eq opened.new class ≡ true) }
+    ensures kept { OnOk result (Keeps (has_class nat_eq opened.old) (has_class nat_eq opened.new)) }
+    ensures grown { OnOk result (IsGrown (IsBehind steps.now.classes class at) (has_place nat_cmp due.old) (has_place nat_cmp due.new)) }
+    ensures due { OnOk result (AllDue steps.now.classes (at + 1) (has_place nat_cmp due.old) (has_class nat_eq opened.old)
+        → AllDue steps.now.classes (at + 1) (has_place nat_cmp due.new) (has_class nat_eq opened.new)) }
+{
+    if !opened.insert(class)? {
+        return Ok(());
+    }
+    put_behind(due, steps, class, at)
+}
+
+/// Puts the places of a class behind one to those that are due.
+fn put_behind(
+    due: &mut BTreeSet<usize>,
+    steps: &ClassedPlaces,
+    class: u32,
+    at: usize,
+) -> Result<(), AllocError>
+    ensures all { OnOk result ((k : ℕ) → at < k → place_class steps.now k ≡ Some class → has_place nat_cmp due.new k ≡ true) }
+    ensures grown { OnOk result (IsGrown (IsBehind steps.now.classes class at) (has_place nat_cmp due.old) (has_place nat_cmp due.new)) }
+{
+    let mut last = steps.last(class);
+    while let Some(place) = last {
+        if place <= at {
+            return Ok(());
+        }
+        due.insert(place)?;
+        last = steps.before(place);
+    }
+    Ok(())
+}
