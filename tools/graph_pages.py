@@ -1,13 +1,14 @@
-"""Reads the pages of rollback_graph, and compares them with its pictures for Graphviz and with what a session tells. For graph_rows.py."""
+"""Reads the pages of rollback_graph, and compares them with its pictures for Graphviz and with what a session says. For graph_rows.py."""
+import base64
 import collections
+import hashlib
 import html.parser
 import json
-import re
 
 from drawn_steps import Difference
 
-VOID = ("meta", "input")
-LINE = re.compile(r"M\d+,\d+V\d+(?:H\d+V\d+H\d+)?")
+VOID = ("meta", "link")
+HEADS = ["Step", "Kind", "State", "Key", "Went to", "Depends on"]
 
 
 def ensure(holds, why):
@@ -26,16 +27,10 @@ class Reader(html.parser.HTMLParser):
         ensure(not self.open, f"not closed: {self.open}")
 
     def handle_starttag(self, tag, attributes):
-        element = {"tag": tag, "text": "", "within": [one["class"] for one in self.open], **dict(attributes)}
-        element.setdefault("class", "")
+        element = {"tag": tag, "text": "", **dict(attributes)}
         self.found.append(element)
         if tag not in VOID:
             self.open.append(element)
-
-    def handle_startendtag(self, tag, attributes):
-        self.handle_starttag(tag, attributes)
-        if tag not in VOID:
-            self.open.pop()
 
     def handle_endtag(self, tag):
         ensure(self.open and self.open[-1]["tag"] == tag, f"</{tag}> within {[one['tag'] for one in self.open]}")
@@ -47,125 +42,108 @@ class Reader(html.parser.HTMLParser):
 
 
 class Page:
-    """A page that was read: its boxes, lines and rows."""
+    """A page that was read: its data, and the rows of its table."""
 
     def __init__(self, text):
         elements = Reader(text).found
-        self.tags = collections.Counter(element["tag"] for element in elements)
-        self.boxes, self.lines, self.rows, self.subject = [], [], [], ""
-        for at, element in enumerate(elements):
-            classes = element["class"].split()
-            if "step" in classes:
-                self.boxes.append((element, elements[at + 1]["text"], classes))
-            elif "edge" in classes:
-                self.lines.append((element, elements[at + 1]["text"], classes, elements[at + 3]["d"]))
-            elif "row" in classes:
-                self.rows.append(([], []))
-            elif element["tag"] in ("th", "td") and element["within"] and element["within"][-1].startswith("row"):
-                self.rows[-1][0].append(element["text"])
-            elif element["tag"] == "li" and self.rows:
-                self.rows[-1][1].append(element["text"])
-            elif element["tag"] == "h1":
-                self.subject = element["text"]
-            self.look_at_links(element)
-        ensure(text.count("<script") == text.count("</script") == 1, "another script")
+        by_tag = collections.defaultdict(list)
+        for element in elements:
+            by_tag[element["tag"]].append(element)
+        ensure(text.startswith("<!DOCTYPE html>\n") and text.endswith("</body>\n</html>\n"), "no whole page")
+        ensure(len(by_tag["script"]) == 2 and len(by_tag["style"]) == 1, "another script or style")
+        book, script = by_tag["script"]
+        ensure(book.get("type") == "application/json" and book.get("id") == "book", "no data")
+        ensure("<" not in book["text"], "a tag in the data")
+        self.data, self.title = json.loads(book["text"]), by_tag["title"][0]["text"]
+        self.check_policy(by_tag["meta"], script["text"], by_tag["style"][0]["text"])
+        self.check_elements(elements)
+        cells = [element["text"] for element in by_tag["td"]]
+        ensure([element["text"] for element in by_tag["th"]] == HEADS, "other heads of the table")
+        self.rows = [cells[at : at + len(HEADS)] for at in range(0, len(cells), len(HEADS))]
 
     @staticmethod
-    def look_at_links(element):
-        """Nothing is loaded, and there is no script but the page's own."""
-        for name, value in element.items():
-            ensure(name != "src" and not name.startswith("on"), f"an attribute {name}")
-            ensure(name != "href" or re.fullmatch(r"#s\d+", value), f"a link to {value}")
-        ensure(element["tag"] not in ("link", "img", "iframe", "object", "a") or "href" in element, f"an element {element['tag']}")
+    def check_policy(metas, script, style):
+        """The page may run its own script and style alone, by their digests."""
+        (policy,) = (meta["content"] for meta in metas if meta.get("http-equiv") == "Content-Security-Policy")
+        for kind, text in (("script", script), ("style", style)):
+            digest = base64.b64encode(hashlib.sha256(text.encode()).digest()).decode()
+            ensure(f"{kind}-src 'sha256-{digest}'" in policy, f"another digest of the {kind}")
+        ensure(policy.startswith("default-src 'none';"), f"another policy: {policy}")
+
+    @staticmethod
+    def check_elements(elements):
+        """Nothing is loaded, and no text of a journal made an element."""
+        known = {"html", "head", "meta", "title", "link", "style", "body", "noscript", "h1", "table", "tr", "th", "td", "script"}
+        for element in elements:
+            ensure(element["tag"] in known, f"an element {element['tag']}")
+            for name, value in element.items():
+                ensure(name != "src" and not name.startswith("on"), f"an attribute {name}")
+                ensure(name != "href" or value == "data:,", f"a link to {value}")
 
 
-def check_boxes(page, graph):
-    """The boxes are the nodes of the picture for Graphviz, in a column for each thread and a row for each step."""
-    told = [title.split(" ", 1) for _, title, _ in page.boxes]
-    ensure(sorted(name for name, _ in told) == sorted(graph.nodes), "other boxes than nodes")
-    columns = {}
-    for at, ((name, kind), (box, _, classes)) in enumerate(zip(told, page.boxes)):
-        ensure(kind == graph.nodes[name], f"{name} is told as {kind}")
-        ensure(box["id"] == f"s{at}", f"{name} has the number {box['id']}")
-        ensure(("following" in classes or "asked" in classes) == (name in graph.marks), f"another mark of {name}")
-        ensure(("asked" in classes) == (name == graph.asked), f"another mark of {name}")
-        columns.setdefault(name.rpartition("#")[0], set()).add(int(box["x"]))
-    ensure(all(len(places) == 1 for places in columns.values()), "a thread in two columns")
-    ensure(len(set.union(set(), *columns.values())) == len(columns), "two threads in a column")
-    left = [min(columns[name]) for name in sorted(columns, key=thread_order)]
-    ensure(left == sorted(left), "columns in another order")
-    heights = [int(box["y"]) for box, _, _ in page.boxes]
-    ensure(all(upper + int(page.boxes[0][0]["height"]) < lower for upper, lower in zip(heights, heights[1:])), "rows overlap")
-    return [name for name, _ in told]
+def words_of(row):
+    """What a step is, as a picture has it."""
+    if row["access"] is None:
+        return row["kind"]
+    ((kind, text),) = ((kind, text) for value in row["key"].values() for kind, text in value.items())
+    return f"call {'writes' if row['access'] == 'write' else 'reads'} {json.dumps({kind: text}, separators=(',', ':'), ensure_ascii=False)}"
 
 
-def thread_order(name):
-    """Executions by their names, and the threads of one by their paths."""
-    execution, *path = name.split("/")
-    return execution, [tuple(int(part) for part in branch.split(".")) for branch in path]
+def cells_of(row):
+    outcome = row["outcome"]
+    went = [outcome["to"], *(str(outcome[name]) for name in ("state", "error", "branches") if name in outcome)]
+    key = "" if row["key"] is None else f"{row['access']} {json.dumps(row['key'], separators=(',', ':'), ensure_ascii=False)}"
+    causes = ", ".join(f"{cause['step']} ({cause['reason']})" for cause in row["on"])
+    return [row["step"], row["kind"], row["state"] or "", key, " ".join(went), causes]
 
 
-def check_lines(page, graph, names, because):
-    """The lines are the edges of the picture for Graphviz, each once with its reason."""
-    found = {}
-    for line, title, classes, path in page.lines:
-        pair = names[int(line["data-from"])], names[int(line["data-to"])]
-        ensure(pair not in found, f"a line twice: {pair}")
-        ensure(LINE.fullmatch(path), f"a line of another form: {path}")
-        found[pair] = title, classes[1]
-    ensure(set(found) == set(graph.edges), "other lines than edges")
-    for pair, (title, reason) in found.items():
-        ensure(graph.edges[pair].split(" ")[0] == reason, f"another reason of {pair}: {reason}")
-        ensure(title.startswith(pair[1] + " ") and title.endswith(" " + pair[0]), f"another sentence of {pair}: {title}")
-        if because is not None:
-            ensure(title == because(pair[1], pair[0]), f"another sentence of {pair}: {title}")
-    return found
-
-
-def check_rows(page, graph, names, lines):
-    """The table has a row for each box, with the sentences of the lines that lead to it."""
-    ensure([cells[0] for cells, _ in page.rows] == names, "other rows than boxes")
-    for cells, reasons in page.rows:
-        ensure(len(cells) == 8 and cells[1] == graph.nodes[cells[0]], f"another row of {cells[0]}")
-        wanted = sorted(title for (_, later), (title, _) in lines.items() if later == cells[0])
-        ensure(sorted(reasons) == wanted, f"another list of {cells[0]}: {reasons}")
-
-
-def check_page(text, graph, because=None):
-    """A page against the picture for Graphviz of the same words."""
+def check_page(text, graph, step=None):
+    """A page against the whole picture for Graphviz: the same steps and dependences, in the data and in the table."""
     page = Page(text)
-    names = check_boxes(page, graph)
-    lines = check_lines(page, graph, names, because)
-    check_rows(page, graph, names, lines)
-    wanted = f"{graph.asked}, its consequences, and what they hang on" if graph.asked else "What depends on what"
-    ensure(page.subject == wanted, f"another title: {page.subject}")
+    rows = page.data["steps"]["steps"]
+    ensure({row["step"]: words_of(row) for row in rows} == graph.nodes, "other steps than nodes")
+    found = {(cause["step"], row["step"]): cause["reason"] for row in rows for cause in row["on"]}
+    ensure(found == {pair: label.split(" ")[0] for pair, label in graph.edges.items()}, "other dependences than edges")
+    ensure(page.data["show"] == step, f"opens at {page.data['show']}")
+    ensure(page.title == (page.data["name"] if step is None else f"{page.data['name']}: {step}"), f"another title: {page.title}")
+    ensure(page.rows == [cells_of(row) for row in rows], "other rows of the table")
+    executions = {row["execution"] for row in page.data["list"]["executions"]}
+    ensure({name.partition("#")[0].partition("/")[0] for name in graph.nodes} <= executions, "an execution lacks")
     return page
 
 
-# ---- what stood before and after each step
+# ---- what was before and after each step
+
+
+def shown(frame):
+    """A frame as `show` answers it, but for a Map's or a Parallel's count of branches."""
+    if frame["phase"] == "done":
+        return f"done {json.dumps(frame['output'], separators=(',', ':'), ensure_ascii=False)}"
+    if frame["phase"] == "failed":
+        return f"failed {json.dumps(frame['error'], ensure_ascii=False)} {json.dumps(frame['cause'], ensure_ascii=False)}"
+    text = f"{frame['phase']} {json.dumps(frame['state'], ensure_ascii=False)} {frame['moves']}"
+    return f"{text} {frame['branches']}" if frame["phase"] == "parked" else text
 
 
 def check_changes(page, threads, items):
-    """What a whole page tells of frames and items: each begins as the step before it of that thread or key left it, and the last one left
+    """What a page says of frames and items: each begins as the step before it of that thread or key left it, and the last one left
     what the session shows."""
-    frames, stands = {}, {}
-    for cells, _ in page.rows:
-        name, kind, state, before, after, item_before, item_after = cells[:7]
-        thread = name.rpartition("#")[0]
+    frames, left = {}, {}
+    for row in page.data["steps"]["steps"]:
+        name, thread, before, after = row["step"], row["thread"], row["frames"]["before"], row["frames"]["after"]
         ensure(before == frames.get(thread, before), f"{name} begins otherwise than the step before it ended: {before}")
-        ensure((before == "not there") == (kind == "start"), f"before {name}: {before}")
-        ensure(after != "not there", f"after {name}: {after}")
-        ensure(state == ("" if kind == "start" else json.loads(before.split(" ")[1])), f"the state of {name}: {state}")
+        ensure((before is None) == (row["kind"] == "start"), f"before {name}: {before}")
+        ensure(row["state"] == (None if before is None else before["state"]), f"the state of {name}: {row['state']}")
         frames[thread] = after
-        if kind.startswith("call"):
-            _, mode, key = kind.split(" ", 2)
-            ensure(item_before == stands.get(key, item_before), f"{name} finds {item_before}, and {stands.get(key)} was left")
-            ensure(mode == "writes" or item_before == item_after, f"{name} reads {item_before} and leaves {item_after}")
-            stands[key] = item_after
-        else:
-            ensure(item_before == item_after == "", f"{name} has an item")
+        if row["key"] is None:
+            ensure(row["items"] is None, f"{name} has an item")
+            continue
+        key, item = json.dumps(row["key"], sort_keys=True), row["items"]
+        ensure(item["before"] == left.get(key, item["before"]), f"{name} finds {item['before']}, and {left.get(key)} was left")
+        ensure(row["access"] == "write" or item["before"] == item["after"], f"{name} reads {item['before']} and leaves {item['after']}")
+        left[key] = item["after"]
     for thread, frame in frames.items():
-        ensure(frame == threads[thread] if thread in threads else frame, f"{thread} stands at {frame}, shown {threads.get(thread)}")
-    for key, item in stands.items():
-        wanted = [text for text in items if json.dumps(json.loads(text)["id"], separators=(",", ":"), ensure_ascii=False) == key]
-        ensure(item == (wanted[0] if wanted else "not there"), f"{key} stands as {item}, wanted {wanted}")
+        ensure(thread not in threads or shown(frame) == threads[thread], f"{thread} is at {frame}, shown {threads.get(thread)}")
+    now = {json.dumps({"id": item["id"]}, sort_keys=True): item for item in map(json.loads, items)}
+    for key, item in left.items():
+        ensure(item == now.get(key), f"{key} is {item}, wanted {now.get(key)}")

@@ -16,9 +16,9 @@ from its definition, pair by pair. Then
 - --plan has to list the plan, each step with a direct dependence on another one of the plan; its last lines have to be the threads that
   `show` tells to be ready after the rollback, of those that stood elsewhere before;
 - --list has to tell each thread as `show` does, with its remaining steps counted;
-- --html has to show the nodes and edges of --dot with the same words, each once, in a table too; each step has to begin at the frame and the
-  item that the one before it left, and the last ones have to leave what `show` and `items` tell. Names and items have signs in them that mean
-  something in HTML, and no element may come of these.
+- --html has to have the nodes and edges of --dot with the same words, each once, in its data and in its table; each step has to begin at the
+  frame and the item that the one before it left, and the last ones have to leave what `show` and `items` answer. Names and items have signs in
+  them that mean something in HTML, and no element may come of these. The page's policy has to have the digests of its script and style.
 
 Where Graphviz's `dot` is there, it has to read each picture. The last line is `N passed, M failed`; the status is 1 where one failed, or
 none was run.
@@ -135,9 +135,9 @@ def other_page(graph, journal, place, text, status, words):
     """What of a page differs from the picture for Graphviz."""
     if "--html" not in words or status != 0:
         return []
-    drawn = answer(graph, journal, ["--dot" if word == "--html" else word for word in words])[0]
+    drawn = answer(graph, journal, ["FILE", "--dot"])[0]
     try:
-        check_page(text, Graph(drawn))
+        check_page(text, Graph(drawn), words[words.index("--from") + 1] if "--from" in words else None)
     except Difference as difference:
         return [f"{place}: {difference}"]
     return []
@@ -554,7 +554,7 @@ def check_session(program, graph, chance, count):
         shutil.copy(journal, kept)
         reference = Reference([drawn.facts[name] for name in names])
         whole = check_pictures(graph, journal, reference, chance)
-        check_pages(program, graph, journal, kept, reference, whole, drawn)
+        check_pages(program, graph, journal, kept, whole, drawn)
         check_chains(graph, journal, reference, chance)
         check_plans(program, graph, journal, kept, reference, chance, drawn)
         drawn.session = Session(str(program), ["--journal", kept])
@@ -578,15 +578,15 @@ def check_pictures(graph, journal, reference, chance):
         words = ["--from", reference.steps[at].name]
         part = picture(graph, journal, words)
         check_from(reference, whole, part, at)
-        check_page(answer(graph, journal, ["FILE", "--html", *words])[0], part)
+        if chance.random() < 0.3:
+            check_page(answer(graph, journal, ["FILE", "--html", *words])[0], whole, words[1])
     return whole
 
 
-def check_pages(program, graph, journal, kept, reference, whole, drawn):
-    by_name = {step.name: step for step in reference.steps}
+def check_pages(program, graph, journal, kept, whole, drawn):
     text, status, errors = answer(graph, journal, ["FILE", "--html"])
     ensure(status == 0 and errors == "", f"a page ends with {status} {errors}")
-    page = check_page(text, whole, lambda later, earlier: because(by_name[later], by_name[earlier]))
+    page = check_page(text, whole)
     drawn.session = Session(str(program), ["--journal", kept])
     check_changes(page, drawn.threads(), drawn.ask("items")[1:])
     drawn.close()

@@ -1,20 +1,19 @@
--- What a call does that writes HTML: where it succeeds it adds this text.
+-- What a call does that writes HTML: if it succeeds it adds this text.
 use Rattle.std.specs.Prelude.{◌≡◌, ℕ, List, ◌++◌, Result, OnOk, codes}
 use Rattle.std.specs.declared.alloc.AllocError.{AllocError}
-use Rattle.graph_text.specs.Writing.{text_on}
 use Rattle.graph_page.specs.declared.markup.Markup.{Markup}
 
 abbrev pub Adds : {T : Type 0} → Result T AllocError → Markup → Markup → List ℕ → Type 0
-Adds result old new text = OnOk result (text_on new.page ≡ text_on old.page ++ text)
+Adds result old new text = OnOk result (new.bytes.items ≡ old.bytes.items ++ text)
 
--- what stood there stands before what was added
+-- what was there is there before what was added
 pub record Extends (old new : List ℕ) : Type 0 where
   pub text : List ℕ
   pub is_added : new ≡ old ++ text
 
--- where a call succeeds it only adds
+-- if a call succeeds it only adds
 abbrev pub Grows : {T : Type 0} → Result T AllocError → Markup → Markup → Type 0
-Grows result old new = OnOk result (Extends (text_on old.page) (text_on new.page))
+Grows result old new = OnOk result (Extends old.bytes.items new.bytes.items)
 
 -- the text begins and ends as a page does
 pub record IsWhole (text : List ℕ) : Type 0 where

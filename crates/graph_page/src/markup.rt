@@ -1,98 +1,134 @@
 // HTML that is being written.
-ghost use Rattle.std.specs.Prelude.{◌≡◌, [], ◌++◌, decimal};
-ghost use Rattle.step_names.specs.Written.{step_text, thread_text};
-ghost use Rattle.graph_text.specs.Quoting.{html_text};
-ghost use Rattle.graph_text.specs.Writing.{text_on};
-ghost use Rattle.graph_page.specs.Markup.{Adds};
+ghost use Rattle.std.specs.Prelude.{◌≡◌, [], ◌∷◌, ◌++◌};
+ghost use Rattle.base64.specs.Engines.{standard};
+ghost use Rattle.base64.specs.GeneralPurpose.{encode_of};
+ghost use Rattle.json_tree.specs.View.{data_of};
+ghost use Rattle.json_tree.specs.Written.{text_of};
+ghost use Rattle.graph_page.specs.Markup.{Adds, Grows};
+ghost use Rattle.graph_page.specs.Quoting.{data_byte, data_text, html_byte, html_text};
 
-use graph_text::Page;
+use base64::engine::general_purpose::STANDARD;
+use json_tree::{Json, write_text};
+use sha2::{Digest, Sha256};
 use std::alloc::{AllocError, Global};
-use step_names::{StepName, ThreadName};
 
 /// HTML that is being written. Its tags are words of this program, which no journal has a part in; each text of a journal is
 /// escaped. Each growth may be refused; what was written then stays.
 #[derive(Drop)]
 pub(crate) struct Markup {
-    page: Page,
+    alloc: Global,
+    pub(crate) bytes: Vec<u8>,
 }
 
 impl Markup {
     /// Nothing. Takes no memory.
     pub(crate) fn new(alloc: Global) -> Markup
-        ensures { text_on result.page ≡ [] }
+        ensures { result.bytes.items ≡ [] }
     {
         Markup {
-            page: Page::new(alloc),
+            alloc,
+            bytes: Vec::new(alloc),
         }
     }
 
     /// What was written.
-    pub(crate) fn into_page(self) -> Page
-        ensures { result ≡ self.page }
+    pub(crate) fn into_bytes(self) -> Vec<u8>
+        ensures { result ≡ self.bytes }
     {
-        let Markup { page } = self;
-        page
+        let Markup { alloc: _, bytes } = self;
+        bytes
     }
 
     /// Adds words of the program as they are.
     pub(crate) fn tags(&mut self, words: &'static str) -> Result<(), AllocError>
         ensures { Adds result self.old self.new words.now }
     {
-        self.page.word(words)
+        self.bytes.extend_from_slice(words.as_bytes())
     }
 
-    /// Adds a number in digits.
-    pub(crate) fn number(&mut self, number: usize) -> Result<(), AllocError>
-        ensures { Adds result self.old self.new (decimal number) }
+    /// Adds several words of the program as they are, one behind the other.
+    pub(crate) fn all_tags(&mut self, parts: &[&'static str]) -> Result<(), AllocError>
+        ensures { Grows result self.old self.new }
     {
-        self.page.number(number as u64)
+        for part in parts {
+            self.tags(part)?;
+        }
+        Ok(())
     }
 
-    /// Adds a text, so that it neither begins nor ends a tag, nor ends the quotes that it stands in.
-    pub(crate) fn text(&mut self, text: &Page) -> Result<(), AllocError>
-        ensures { Adds result self.old self.new (html_text (text_on text.now)) }
+    /// Adds the SHA-256 digest of these words, one behind the other, in Base64, as a policy names a script or a style (Content Security
+    /// Policy Level 3, section 2.3.1).
+    pub(crate) fn digest(&mut self, parts: &[&'static str]) -> Result<(), AllocError>
+        ensures { Grows result self.old self.new }
     {
-        self.page.html(text)
+        let mut hasher = Sha256::new();
+        for part in parts {
+            hasher.update(part.as_bytes());
+        }
+        self.base64(hasher.finalize().as_slice())
     }
 
-    /// Adds the name of a step, as a text.
-    pub(crate) fn step(&mut self, alloc: Global, step: &StepName) -> Result<(), AllocError>
-        ensures { Adds result self.old self.new (html_text (step_text step.now)) }
+    fn base64(&mut self, bytes: &[u8]) -> Result<(), AllocError>
+        ensures { Adds result self.old self.new (encode_of standard bytes.now) }
     {
-        let mut text = Page::new(alloc);
-        text.step(alloc, step)?;
-        self.text(&text)
+        let text = STANDARD.encode(self.alloc, bytes)?;
+        self.bytes.extend_from_slice(text.as_bytes())
     }
 
-    /// Adds the name of a thread, as a text.
-    pub(crate) fn thread(&mut self, alloc: Global, thread: &ThreadName) -> Result<(), AllocError>
-        ensures { Adds result self.old self.new (html_text (thread_text thread.now)) }
+    // ---- texts of a journal
+
+    /// Adds a text, so that it neither begins nor ends a tag, nor ends the quotes that it is in.
+    pub(crate) fn text(&mut self, text: &[u8]) -> Result<(), AllocError>
+        ensures { Adds result self.old self.new (html_text text.now) }
     {
-        let mut text = Page::new(alloc);
-        text.thread(alloc, thread)?;
-        self.text(&text)
+        for byte in text {
+            self.html_byte(*byte)?;
+        }
+        Ok(())
     }
 
-    /// Adds the name of a thread's execution, as a text.
-    pub(crate) fn execution(&mut self, alloc: Global, name: &str) -> Result<(), AllocError>
-        ensures { Adds result self.old self.new (html_text name.now) }
+    fn html_byte(&mut self, byte: u8) -> Result<(), AllocError>
+        ensures { Adds result self.old self.new (html_byte byte) }
     {
-        let mut text = Page::new(alloc);
-        text.word(name)?;
-        self.text(&text)
+        match byte {
+            b'&' => self.tags("&amp;"),
+            b'<' => self.tags("&lt;"),
+            b'>' => self.tags("&gt;"),
+            b'"' => self.tags("&quot;"),
+            other => self.byte(other),
+        }
     }
 
-    /// Adds a number between words of the program, as a value of an attribute is.
-    pub(crate) fn between(
-        &mut self,
-        before: &'static str,
-        number: usize,
-        after: &'static str,
-    ) -> Result<(), AllocError>
-        ensures { Adds result self.old self.new (before.now ++ (decimal number ++ after.now)) }
+    /// Adds a value as JSON, so that no tag begins in it.
+    pub(crate) fn data(&mut self, json: &Json) -> Result<(), AllocError>
+        ensures { Adds result self.old self.new (data_text (text_of (data_of json.now))) }
     {
-        self.tags(before)?;
-        self.number(number)?;
-        self.tags(after)
+        let text = write_text(self.alloc, json)?;
+        self.data_bytes(text.as_bytes())
+    }
+
+    fn data_bytes(&mut self, text: &[u8]) -> Result<(), AllocError>
+        ensures { Adds result self.old self.new (data_text text.now) }
+    {
+        for byte in text {
+            self.data_byte(*byte)?;
+        }
+        Ok(())
+    }
+
+    fn data_byte(&mut self, byte: u8) -> Result<(), AllocError>
+        ensures { Adds result self.old self.new (data_byte byte) }
+    {
+        match byte {
+            b'<' => self.tags("\\u003c"),
+            other => self.byte(other),
+        }
+    }
+
+    fn byte(&mut self, byte: u8) -> Result<(), AllocError>
+        ensures { Adds result self.old self.new (byte ∷ []) }
+    {
+        self.bytes.push(byte)?;
+        Ok(())
     }
 }

@@ -1,147 +1,163 @@
-// The steps as a table, which needs no script. What the page shows at a click stands in it.
+// The steps as a table, for who has no script.
 ghost use Rattle.graph_page.specs.Markup.{Grows};
 
-use crate::after::{After, frame_before};
-use crate::detail::{write_frame, write_item, write_state};
-use crate::layout::Cell;
 use crate::markup::Markup;
-use crate::svg::{write_kind, write_reason};
-use crate::view::View;
-use graph_text::books::StepRecord;
-use graph_text::books::turns::Frame;
-use graph_text::record_at;
+use json_tree::{Json, write_text};
 use std::alloc::{AllocError, Global};
-use step_graph::Edge;
-use step_names::StepName;
 
 const HEAD: &str =
-    "<section id=\"table\">\n<h2>Steps</h2>\n<table>\n<thead><tr><th>Step</th><th>Kind</th><th>State</th><th>Thread before</th><th>Thread after</th><th>Item before</th><th>Item after</th><th>Hangs on</th></tr></thead>\n<tbody>\n";
+    "<table>\n<tr><th>Step</th><th>Kind</th><th>State</th><th>Key</th><th>Went to</th><th>Depends on</th></tr>\n";
 
-const FOOT: &str = "</tbody>\n</table>\n</section>\n";
-
-/// A row for each step that is shown. Takes time in what is shown.
-pub(crate) fn write_table(
-    html: &mut Markup,
-    alloc: Global,
-    view: &View<'_>,
-) -> Result<(), AllocError>
+/// The steps of an answer, one in a row.
+pub(crate) fn write_table(html: &mut Markup, alloc: Global, steps: &Json) -> Result<(), AllocError>
     ensures { Grows result html.old html.new }
 {
     html.tags(HEAD)?;
-    write_rows(html, alloc, view)?;
-    html.tags(FOOT)
+    write_rows(html, alloc, list_in(steps, "steps"))?;
+    html.tags("</table>\n")
 }
 
-fn write_rows(html: &mut Markup, alloc: Global, view: &View<'_>) -> Result<(), AllocError>
+fn write_rows(html: &mut Markup, alloc: Global, rows: &[Json]) -> Result<(), AllocError>
     ensures { Grows result html.old html.new }
 {
-    for place in view.layout.cells.keys() {
-        write_row(html, alloc, view, *place)?;
+    for row in rows {
+        write_row(html, alloc, row)?;
     }
     Ok(())
 }
 
-fn write_row(
-    html: &mut Markup,
-    alloc: Global,
-    view: &View<'_>,
-    place: usize,
-) -> Result<(), AllocError>
+fn write_row(html: &mut Markup, alloc: Global, row: &Json) -> Result<(), AllocError>
     ensures { Grows result html.old html.new }
 {
-    let (Some(kept), Some(cell), Some(after)) = (
-        record_at(view.records, place),
-        view.layout.cell(place),
-        view.afters.get(&place),
-    ) else {
-        return Ok(());
-    };
-    begin_row(html, alloc, view, place, &kept.fact.name, cell)?;
-    write_kind(html, alloc, &kept.fact)?;
-    write_changes(html, alloc, kept, after)?;
-    write_befores(html, alloc, view, place)?;
+    html.tags("<tr><td>")?;
+    write_name(html, alloc, row)?;
+    write_key(html, alloc, row)?;
+    write_outcome(html, alloc, field(row, "outcome"))?;
+    write_causes(html, alloc, list_in(row, "on"))?;
     html.tags("</td></tr>\n")
 }
 
-/// The beginning of a row, up to its second cell.
-fn begin_row(
-    html: &mut Markup,
-    alloc: Global,
-    view: &View<'_>,
-    place: usize,
-    name: &StepName,
-    cell: Cell,
-) -> Result<(), AllocError>
+/// The cells of a step's name, kind and state.
+fn write_name(html: &mut Markup, alloc: Global, row: &Json) -> Result<(), AllocError>
     ensures { Grows result html.old html.new }
 {
-    html.between("<tr id=\"t", cell.row, "\" class=\"row")?;
-    html.tags(view.look_class(place))?;
-    html.between("\"><th><a href=\"#s", cell.row, "\">")?;
-    html.step(alloc, name)?;
-    html.tags("</a></th><td>")
+    write_cell(html, alloc, row, "step")?;
+    write_cell(html, alloc, row, "kind")?;
+    write_cell(html, alloc, row, "state")
 }
 
-/// The cells of what stood before and after a step.
-fn write_changes(
-    html: &mut Markup,
-    alloc: Global,
-    kept: &StepRecord,
-    after: &After<'_>,
-) -> Result<(), AllocError>
+/// A field, up to the next cell.
+fn write_cell(html: &mut Markup, alloc: Global, row: &Json, name: &str) -> Result<(), AllocError>
     ensures { Grows result html.old html.new }
 {
-    write_frames(html, alloc, frame_before(kept), after.frame)?;
-    html.tags("</td><td>")?;
-    write_item(html, alloc, &kept.fact, after.item_before)?;
-    html.tags("</td><td>")?;
-    write_item(html, alloc, &kept.fact, after.item)
+    write_value(html, alloc, field(row, name))?;
+    html.tags("</td><td>")
 }
 
-fn write_frames(
-    html: &mut Markup,
-    alloc: Global,
-    before: Option<&Frame>,
-    after: Option<&Frame>,
-) -> Result<(), AllocError>
+/// The cell of what a call did to which key.
+fn write_key(html: &mut Markup, alloc: Global, row: &Json) -> Result<(), AllocError>
     ensures { Grows result html.old html.new }
 {
-    html.tags("</td><td>")?;
-    write_state(html, alloc, before)?;
-    html.tags("</td><td>")?;
-    write_frame(html, alloc, before, "not there")?;
-    html.tags("</td><td>")?;
-    write_frame(html, alloc, after, "not there")
+    match field(row, "key") {
+        None | Some(Json::Null) => html.tags(""),
+        Some(key) => write_access(html, alloc, row, key),
+    }
 }
 
-/// The cell of the dependences of the step at a place, each with its reason.
-fn write_befores(
-    html: &mut Markup,
-    alloc: Global,
-    view: &View<'_>,
-    place: usize,
-) -> Result<(), AllocError>
+fn write_access(html: &mut Markup, alloc: Global, row: &Json, key: &Json) -> Result<(), AllocError>
     ensures { Grows result html.old html.new }
 {
-    let Some(edges) = view.layout.befores.get(&place) else {
-        return html.tags("</td><td>");
-    };
-    html.tags("</td><td><ul>")?;
-    write_reasons(html, alloc, view, edges.as_slice())?;
-    html.tags("</ul>")
+    write_value(html, alloc, field(row, "access"))?;
+    html.tags(" ")?;
+    write_value(html, alloc, Some(key))
 }
 
-fn write_reasons(
-    html: &mut Markup,
-    alloc: Global,
-    view: &View<'_>,
-    edges: &[Edge],
-) -> Result<(), AllocError>
+/// The cell of what a step went on to.
+fn write_outcome(html: &mut Markup, alloc: Global, outcome: Option<&Json>) -> Result<(), AllocError>
     ensures { Grows result html.old html.new }
 {
-    for edge in edges {
-        html.tags("<li>")?;
-        write_reason(html, alloc, view, *edge)?;
-        html.tags("</li>")?;
+    html.tags("</td><td>")?;
+    match outcome {
+        Some(outcome) => write_going(html, alloc, outcome)?,
+        None => html.tags("")?,
+    }
+    html.tags("</td><td>")
+}
+
+fn write_going(html: &mut Markup, alloc: Global, outcome: &Json) -> Result<(), AllocError>
+    ensures { Grows result html.old html.new }
+{
+    write_value(html, alloc, field(outcome, "to"))?;
+    match detail_of(outcome) {
+        Some(detail) => write_detail(html, alloc, detail),
+        None => html.tags(""),
+    }
+}
+
+/// The state, the error or the number of branches.
+fn detail_of(outcome: &Json) -> Option<&Json> {
+    match field(outcome, "state") {
+        Some(state) => Some(state),
+        None => match field(outcome, "error") {
+            Some(error) => Some(error),
+            None => field(outcome, "branches"),
+        },
+    }
+}
+
+fn write_detail(html: &mut Markup, alloc: Global, detail: &Json) -> Result<(), AllocError>
+    ensures { Grows result html.old html.new }
+{
+    html.tags(" ")?;
+    write_value(html, alloc, Some(detail))
+}
+
+/// The steps on which one depends, each with its reason.
+fn write_causes(html: &mut Markup, alloc: Global, causes: &[Json]) -> Result<(), AllocError>
+    ensures { Grows result html.old html.new }
+{
+    for (place, cause) in causes.iter().enumerate() {
+        html.tags(if place == 0 { "" } else { ", " })?;
+        write_cause(html, alloc, cause)?;
     }
     Ok(())
+}
+
+fn write_cause(html: &mut Markup, alloc: Global, cause: &Json) -> Result<(), AllocError>
+    ensures { Grows result html.old html.new }
+{
+    write_value(html, alloc, field(cause, "step"))?;
+    html.tags(" (")?;
+    write_value(html, alloc, field(cause, "reason"))?;
+    html.tags(")")
+}
+
+/// A text as it is, another value as JSON, and nothing of `null`.
+fn write_value(html: &mut Markup, alloc: Global, value: Option<&Json>) -> Result<(), AllocError>
+    ensures { Grows result html.old html.new }
+{
+    match value {
+        None | Some(Json::Null) => html.tags(""),
+        Some(Json::Text(text)) => html.text(text.as_str().as_bytes()),
+        Some(value) => {
+            let text = write_text(alloc, value)?;
+            html.text(text.as_bytes())
+        }
+    }
+}
+
+// ---- fields
+
+fn field<'a>(json: &'a Json, name: &str) -> Option<&'a Json> {
+    match json {
+        Json::Fields(fields) => fields.get(name),
+        _ => None,
+    }
+}
+
+fn list_in<'a>(json: &'a Json, name: &str) -> &'a [Json] {
+    match field(json, name) {
+        Some(Json::List(list)) => list.as_slice(),
+        _ => &[],
+    }
 }

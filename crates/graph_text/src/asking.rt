@@ -141,7 +141,7 @@ fn tell_dot(
 }
 
 /// The place of a step; or a sentence that says why it doesn't remain.
-pub fn find(
+fn find(
     page: &mut Page,
     alloc: Global,
     book: Option<&Book>,

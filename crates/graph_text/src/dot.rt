@@ -1,4 +1,5 @@
 // A picture as Graphviz reads it.
+use crate::cutting::{is_longer, shown};
 use crate::page::Page;
 use crate::picture::{Look, Picture};
 use crate::words::{reason_word, record_at};
@@ -9,6 +10,10 @@ use step_names::ThreadName;
 
 const HEAD: &str =
     "digraph rollback {\n  newrank=true;\n  node [shape=box, fontname=\"monospace\"];\n  edge [fontname=\"monospace\", fontsize=10];\n";
+
+/// The most characters of a key in a label, and in what is shown to who points at one: Graphviz takes no longer texts.
+const LABEL: usize = 200;
+const TOOLTIP: usize = 4_000;
 
 /// The picture of these steps. Takes time in what is shown.
 pub(crate) fn write_dot(
@@ -93,15 +98,23 @@ fn write_node(
     page.step(alloc, &kept.fact.name)?;
     page.word("\\n")?;
     write_kind(page, alloc, &kept.fact)?;
-    page.word("\"")?;
     page.word(look_words(picture.look(place)))?;
     page.word("];\n")
 }
 
+/// What a step is, and the end of the quotes; if that is too long for a label, more of it for who points there.
 fn write_kind(page: &mut Page, alloc: Global, fact: &Fact) -> Result<(), AllocError> {
     let mut kind = Page::new(alloc);
     kind.kind(alloc, fact)?;
-    page.dot(&kind)
+    let text = kind.as_text();
+    page.dot(shown(alloc, text, LABEL)?.as_str())?;
+    page.word("\"")?;
+    if is_longer(text, LABEL) {
+        page.word(", tooltip=\"")?;
+        page.dot(shown(alloc, text, TOOLTIP)?.as_str())?;
+        page.word("\"")?;
+    }
+    Ok(())
 }
 
 fn look_words(look: Look) -> &'static str {
@@ -146,7 +159,7 @@ fn write_reason(
             let mut key = Page::new(alloc);
             key.key(alloc, &access.key)?;
             page.word(" ")?;
-            page.dot(&key)
+            page.dot(shown(alloc, key.as_text(), LABEL)?.as_str())
         }
         _ => Ok(()),
     }

@@ -3,6 +3,7 @@
 //! What operators read of a book's dependences: lists, plans with their reasons, chains, and pictures.
 mod asking;
 mod chain;
+mod cutting;
 mod dot;
 mod listing;
 mod page;
@@ -10,8 +11,5 @@ mod picture;
 mod planned;
 mod words;
 
-pub use asking::{Answer, Question, ask, find};
+pub use asking::{Answer, Question, ask};
 pub use page::Page;
-pub use picture::{Look, Picture};
-pub use rollback_book as books;
-pub use words::{kind_word, reason_word, record_at};

@@ -3,7 +3,7 @@ ghost use Rattle.std.specs.Prelude.{◌≡◌, [], ◌∷◌, decimal};
 ghost use Rattle.json_tree.specs.View.{data_of};
 ghost use Rattle.json_tree.specs.Written.{quoted, text_of};
 ghost use Rattle.step_names.specs.Written.{step_text, thread_text};
-ghost use Rattle.graph_text.specs.Quoting.{dot_byte, dot_text, html_byte, html_text};
+ghost use Rattle.graph_text.specs.Quoting.{dot_byte, dot_text};
 ghost use Rattle.graph_text.specs.Writing.{Writes};
 
 use itoa::Buffer;
@@ -34,6 +34,14 @@ impl Page {
         self.bytes.as_slice()
     }
 
+    /// The text so far; an empty one if it isn't UTF-8, which it always is.
+    pub(crate) fn as_text(&self) -> &str {
+        match str::from_utf8(self.bytes.as_slice()) {
+            Ok(text) => text,
+            Err(_) => "",
+        }
+    }
+
     /// Adds a text as it is.
     pub fn word(&mut self, word: &str) -> Result<(), AllocError>
         ensures { Writes result self.old self.new word.now }
@@ -41,15 +49,8 @@ impl Page {
         self.bytes.extend_from_slice(word.as_bytes())
     }
 
-    /// Adds another page.
-    pub(crate) fn page(&mut self, other: &Page) -> Result<(), AllocError>
-        ensures { Writes result self.old self.new other.now.bytes.items }
-    {
-        self.bytes.extend_from_slice(other.as_bytes())
-    }
-
     /// Adds a number in digits.
-    pub fn number(&mut self, number: u64) -> Result<(), AllocError>
+    pub(crate) fn number(&mut self, number: u64) -> Result<(), AllocError>
         ensures { Writes result self.old self.new (decimal number) }
     {
         let mut digits = Buffer::new();
@@ -57,7 +58,7 @@ impl Page {
     }
 
     /// Adds the name of a step.
-    pub fn step(&mut self, alloc: Global, step: &StepName) -> Result<(), AllocError>
+    pub(crate) fn step(&mut self, alloc: Global, step: &StepName) -> Result<(), AllocError>
         ensures { Writes result self.old self.new (step_text step.now) }
     {
         let text = step.write_text(alloc)?;
@@ -65,7 +66,7 @@ impl Page {
     }
 
     /// Adds the name of a thread.
-    pub fn thread(&mut self, alloc: Global, thread: &ThreadName) -> Result<(), AllocError>
+    pub(crate) fn thread(&mut self, alloc: Global, thread: &ThreadName) -> Result<(), AllocError>
         ensures { Writes result self.old self.new (thread_text thread.now) }
     {
         let text = thread.write_text(alloc)?;
@@ -89,11 +90,11 @@ impl Page {
 
     // ---- texts within quotes
 
-    /// Adds a page so that it may stand in the double quotes of a text of Graphviz.
-    pub(crate) fn dot(&mut self, other: &Page) -> Result<(), AllocError>
-        ensures { Writes result self.old self.new (dot_text other.now.bytes.items) }
+    /// Adds a text so that it may be between the double quotes of a text of Graphviz.
+    pub(crate) fn dot(&mut self, text: &str) -> Result<(), AllocError>
+        ensures { Writes result self.old self.new (dot_text text.now) }
     {
-        for byte in other.as_bytes() {
+        for byte in text.as_bytes() {
             self.dot_byte(*byte)?;
         }
         Ok(())
@@ -106,28 +107,6 @@ impl Page {
             b'"' => self.word("\\\""),
             b'\\' => self.word("\\\\"),
             b'&' => self.word("&amp;"),
-            other => self.byte(other),
-        }
-    }
-
-    /// Adds a page so that it may stand in the text of HTML, and there in double quotes.
-    pub fn html(&mut self, other: &Page) -> Result<(), AllocError>
-        ensures { Writes result self.old self.new (html_text other.now.bytes.items) }
-    {
-        for byte in other.as_bytes() {
-            self.html_byte(*byte)?;
-        }
-        Ok(())
-    }
-
-    fn html_byte(&mut self, byte: u8) -> Result<(), AllocError>
-        ensures { Writes result self.old self.new (html_byte byte) }
-    {
-        match byte {
-            b'&' => self.word("&amp;"),
-            b'<' => self.word("&lt;"),
-            b'>' => self.word("&gt;"),
-            b'"' => self.word("&quot;"),
             other => self.byte(other),
         }
     }

@@ -8,7 +8,7 @@ use step_names::ThreadName;
 
 /// How a step stands in a picture.
 #[derive(Clone, Copy, Debug, PartialEq, Eq)]
-pub enum Look {
+pub(crate) enum Look {
     /// It is the step that was asked for.
     Asked,
     /// It is a consequence of that step.
@@ -19,11 +19,11 @@ pub enum Look {
 
 /// The steps that are shown, by their places in their threads, and the dependences among them. Contracts say nothing of it.
 #[derive(Drop)]
-pub struct Picture {
+pub(crate) struct Picture {
     /// The places of the shown steps of each thread, which ascend.
-    pub threads: BTreeMap<ThreadName, Vec<usize>>,
+    pub(crate) threads: BTreeMap<ThreadName, Vec<usize>>,
     /// By the later step, and then by the earlier one.
-    pub edges: Vec<Edge>,
+    pub(crate) edges: Vec<Edge>,
     from: Option<usize>,
     marks: Option<Marks>,
 }
@@ -31,7 +31,7 @@ pub struct Picture {
 impl Picture {
     /// All steps, or the one at a place with its consequences and the steps on which these hang directly. Takes time in the number of
     /// records and, logarithms aside, of what is shown; memory for each step and dependence shown, and each thread and key.
-    pub fn new(
+    pub(crate) fn new(
         alloc: Global,
         records: &StepRecords,
         from: Option<usize>,
@@ -55,7 +55,7 @@ impl Picture {
     }
 
     /// Whether a place is that of the step that was asked for or of a consequence.
-    pub fn is_marked(&self, place: usize) -> bool {
+    pub(crate) fn is_marked(&self, place: usize) -> bool {
         match &self.marks {
             Some(marks) => marks.has(place),
             None => false,
@@ -63,7 +63,7 @@ impl Picture {
     }
 
     /// How the step at a place stands in it.
-    pub fn look(&self, place: usize) -> Look {
+    pub(crate) fn look(&self, place: usize) -> Look {
         if self.from == Some(place) {
             return Look::Asked;
         }

@@ -8,7 +8,7 @@ use std::alloc::{AllocError, Global};
 use step_graph::Reason;
 
 /// The record at a place, if there is one.
-pub fn record_at(records: &StepRecords, place: usize) -> Option<&StepRecord> {
+pub(crate) fn record_at(records: &StepRecords, place: usize) -> Option<&StepRecord> {
     if place < records.len() {
         Some(records.get(place))
     } else {
@@ -17,7 +17,7 @@ pub fn record_at(records: &StepRecords, place: usize) -> Option<&StepRecord> {
 }
 
 /// The name of a kind, as `history` tells it.
-pub fn kind_word(kind: Kind) -> &'static str {
+pub(crate) fn kind_word(kind: Kind) -> &'static str {
     match kind {
         Kind::Start => "start",
         Kind::Plain => "plain",
@@ -29,7 +29,7 @@ pub fn kind_word(kind: Kind) -> &'static str {
 }
 
 /// The name of a reason, as it stands at an edge.
-pub fn reason_word(reason: Reason) -> &'static str {
+pub(crate) fn reason_word(reason: Reason) -> &'static str {
     match reason {
         Reason::Thread => "thread",
         Reason::Start => "start",
@@ -69,13 +69,13 @@ impl Page {
     }
 
     /// An item: each of its attributes as an attribute value.
-    pub fn item(&mut self, alloc: Global, item: &Item) -> Result<(), AllocError> {
+    pub(crate) fn item(&mut self, alloc: Global, item: &Item) -> Result<(), AllocError> {
         let json = write_item(alloc, item)?;
         self.json(alloc, &json)
     }
 
     /// What a step is: its kind, and of a call the key that it touched.
-    pub fn kind(&mut self, alloc: Global, fact: &Fact) -> Result<(), AllocError> {
+    pub(crate) fn kind(&mut self, alloc: Global, fact: &Fact) -> Result<(), AllocError> {
         self.word(kind_word(fact.kind))?;
         match &fact.access {
             Some(access) => {
@@ -87,7 +87,7 @@ impl Page {
     }
 
     /// A frame, as `show` tells it.
-    pub fn frame(&mut self, alloc: Global, frame: &Frame) -> Result<(), AllocError> {
+    pub(crate) fn frame(&mut self, alloc: Global, frame: &Frame) -> Result<(), AllocError> {
         match &frame.phase {
             Phase::Ready => {
                 self.word("ready ")?;
@@ -128,7 +128,7 @@ impl Page {
     }
 
     /// Why the later of two steps depends directly on the earlier one, as a sentence without its point.
-    pub fn because(
+    pub(crate) fn because(
         &mut self,
         alloc: Global,
         earlier: &Fact,

@@ -1,6 +1,6 @@
-use Rattle.graph_text.specs.Writing.{text_on}
 use Rattle.graph_page.specs.Markup.{Extends}
 use Rattle.graph_page.proofs.table.write_rows.Given as goal
 
-abbrev pub invariant-loop-place : goal.invariant-loop-place
-invariant-loop-place l = Extends (text_on l.fn.html.page) (text_on l.html.page)
+-- what was there is there before the rows so far
+abbrev pub invariant-loop-row : goal.invariant-loop-row
+invariant-loop-row l = Extends l.initial.html.bytes.items l.html.bytes.items

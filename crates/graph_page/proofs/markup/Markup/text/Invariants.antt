@@ -1,0 +1,7 @@
+use Rattle.std.proofs.Common.{◌≡◌, ◌++◌, take}
+use Rattle.graph_page.specs.Quoting.{html_text}
+use Rattle.graph_page.proofs.markup.Markup.text.Given as goal
+
+-- the bytes so far are quoted behind what was there
+abbrev pub invariant-loop-byte : goal.invariant-loop-byte
+invariant-loop-byte l = l.self.bytes.items ≡ l.initial.self.bytes.items ++ html_text (take l.byte-index l.text)
