@@ -24,6 +24,11 @@ LINES = (
     ("refused lines", TABLE + b"= step a\n= undo a#0\n= start a m 1\n" + TABLE, [b"ok", b"no 5", b"no 7", b"no 1", b"no 22"]),
     ("a line without its end", TABLE + b"= settle", [b"ok", b"ok"]),
     ("a line that ends as in DOS", b"= table items id:S []\r\n", [b"ok"]),
+    (
+        "answers as text",
+        TABLE + b"? text machines\n? text show a\n? text what\n",
+        [b"ok", b'{"entries":1,"rollback_graph":1,"text":""}', b'{"error":"a is no execution","rollback_graph":1}', b"NO"],
+    ),
     ("before a table", b"= settle\n? machines\n", [b"no 21", b'{"entries":0,"machines":[],"more":false,"rollback_graph":1}']),
 )
 NO_QUESTION = b'{"error":"no question","rollback_graph":1}'

@@ -8,7 +8,8 @@ refused. Both are given each line, and answer the same, but that the plain book 
 both show each thread, the items and the history alike. Rows of threads that are kept by `threads since` alone are those of all threads.
 If rollback_graph can follow (--graph, else the one that the gate leaves), it is fed the same lines, and answers drawn questions of all kinds
 as the plain book does: `causes`, `plan`, `why`, `item`, `show`, `list`, `threads`, `log`, `steps`, `find`, and of `explain` whether something
-is said, of which state, error and step, and which path picks nothing of what.
+is said, of which state, error and step, and which path picks nothing of what. In one session of fifty it is asked the same about a journal of the
+same lines, without following, and answers the same, in JSON and as text.
 
 Session I of seed S is the same each time. The last line is `N passed, M failed`.
 """
@@ -18,6 +19,7 @@ import os
 import random
 import subprocess
 import sys
+import tempfile
 
 sys.dont_write_bytecode = True
 from drawn import PROGRAM, Drawer  # noqa: E402: beside this file
@@ -101,7 +103,7 @@ class Followed:
 
     def __init__(self, graph):
         self.process = subprocess.Popen([graph, "--serve"], stdin=subprocess.PIPE, stdout=subprocess.PIPE, text=True)
-        self.compared = 0
+        self.graph, self.compared, self.accepted = graph, 0, []
 
     def ask(self, line):
         self.process.stdin.write(line + "\n")
@@ -116,6 +118,8 @@ class Followed:
         found = self.ask(f"= {line}")
         if found != wanted:
             raise Difference(f"= {line}: the follower answers {found}, and {wanted} is right")
+        if wanted == "ok":
+            self.accepted.append(line)
 
     def compare(self, book, question):
         """Asks the follower and the plain book."""
@@ -126,6 +130,25 @@ class Followed:
         if json.dumps(json.loads(found), separators=(",", ":"), ensure_ascii=False, sort_keys=True) != found:
             raise Difference(f"? {question}: another spelling: {found}")
         self.compared += 1
+
+    def compare_at_once(self, program, questions):
+        """Asks about a journal of the same lines, without following, in JSON and as text."""
+        with tempfile.TemporaryDirectory() as folder:
+            journal = os.path.join(folder, "journal.db")
+            lines = "".join(line + "\n" for line in self.accepted)
+            subprocess.run([program, "--journal", journal], input=lines, text=True, stdout=subprocess.DEVNULL, check=True)
+            for question in questions:
+                head, _, rest = question.partition(" ")
+                words = [self.graph, journal, f"--{head}", *([rest] if rest else [])]
+                found = subprocess.run([*words, "--json"], capture_output=True, text=True, check=False)
+                wanted = self.ask(f"? {question}")
+                if found.stdout != wanted + "\n" or found.returncode != ("error" in json.loads(wanted) and "entries" not in json.loads(wanted)):
+                    raise Difference(f"{question} at once: {found.stdout} {found.stderr}, the follower answers {wanted}")
+                text = json.loads(self.ask(f"? text {question}")).get("text")
+                if text is not None and head not in ("list", "plan", "why"):
+                    found = subprocess.run(words, capture_output=True, text=True, check=False)
+                    if found.stdout != text:
+                        raise Difference(f"{question} as text, at once: {found.stdout}, the follower answers {text}")
 
     def close(self):
         self.process.stdin.close()
@@ -178,6 +201,9 @@ def check(program, graph, seed, number, count):
         if followed:
             for question in drawn_questions(asking, both.book):
                 followed.compare(both.book, question)
+            if number % 50 == 0:
+                questions = [question for question in drawn_questions(asking, both.book) if question != "nothing"]
+                followed.compare_at_once(program, questions)
             followed.close()
         both.end()
     except Difference as difference:

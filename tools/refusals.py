@@ -31,6 +31,7 @@ TOP = rows.TOP
 REFERENCE = "docs/REFERENCE.md"
 MEMORY = "11"
 GROWTHS = "tools/refused-growths.sh"
+FOLLOWER = "tools/follower_ends.py"
 UNREAD = "no command"
 CALLS = (
     "define", "table", "start", "step", "drive", "work", "undo", "plan", "rollback", "show", "items", "history", "settle", "hold", "held",
@@ -83,11 +84,15 @@ def picture(line):
     return ("picture", line)
 
 
+def follower(text):
+    """By tools/follower_ends.py, where it has this text."""
+    return ("follower", text)
+
+
 def never(why):
     return ("never", why)
 
 
-UNFOLLOWED = "can't come up yet: no program follows (docs/QUESTIONS.md); tools/follower_ends.py tries one that does"
 FOREIGN = "can't come up: a pass of another book has another type (crates/shared_book/README.md)"
 VALIDATION = 'ok failed "DynamoDB.ValidationException" ""'
 
@@ -127,9 +132,14 @@ WAYS = {
     "book_rounds::RoundFault::NotBegun": ("growths",),
     "book_rounds::RoundFault::Lost": ("growths",),
     "command_lines::CommandFault::BadLine": line("20"),
-    "graph_follower::FollowFault::Read": never(UNFOLLOWED),
-    "graph_follower::FollowFault::Write": never(UNFOLLOWED),
-    "graph_follower::FollowFault::Followed": never(UNFOLLOWED),
+    "graph_follower::FollowFault::Read": follower("rollback: input"),
+    "graph_follower::FollowFault::Write": follower("rollback: output"),
+    "graph_follower::FollowFault::Refused": never("comes up only for a journal that another program wrote; opening answers it as damaged then"),
+    "graph_follower::FollowFault::NoQuestion": never("can't come up: the words are read as a question before"),
+    "graph_follower::FollowFault::Followed": ("growths",),
+    "journal_copy::CopyFault::Unread": picture("$ (none) nowhere.db --machines"),
+    "journal_copy::CopyFault::Moving": never("needs a session that empties its log a hundred times while it is read"),
+    "journal_copy::CopyFault::Memory": ("growths",),
     "graph_run::AskRefusal::Shown": picture("$ (none) --help"),
     "graph_run::AskRefusal::Usage": picture("$ --nothing"),
     "item_store::CallFault::Malformed": session("calls-of-no-form", VALIDATION),
@@ -147,7 +157,7 @@ WAYS = {
     "operator_line::ServeFault::Read": end("rollback: input"),
     "operator_line::ServeFault::Write": test("session_tests", r"Err\(ServeFault::Write\)"),
     "operator_line::ServeFault::Journal": test("session_tests", r"Err\(ServeFault::Journal\)"),
-    "question_answers::QuestionFault::NoQuestion": never(UNFOLLOWED),
+    "question_answers::QuestionFault::NoQuestion": follower("no questions"),
     "ref_paths::FillFault::NoSuchNode": value("fill", "no such node"),
     "ref_paths::PathFault::BadPath": value("path", r"bad at \d+"),
     "ref_paths::PickRefusal::CannotPlace": value("pick_placed", "cannot place"),
@@ -375,6 +385,8 @@ class Places:
             return of_pictures(*words)
         if kind == "value":
             return of_values(*words)
+        if kind == "follower":
+            return FOLLOWER if words[0] in (TOP / FOLLOWER).read_text() else None
         if kind == "test":
             crate, pattern = words
             return self.tests.setdefault(crate, Tests(crate)).first(pattern)

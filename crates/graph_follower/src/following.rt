@@ -13,6 +13,10 @@ pub enum FollowFault {
     Read,
     /// The writer refused, or took nothing.
     Write,
+    /// The line at this place of a journal isn't accepted.
+    Refused(usize),
+    /// A text that was asked is no question.
+    NoQuestion,
     /// The follower can't go on.
     Followed(Followed),
 }

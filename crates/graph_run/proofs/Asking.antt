@@ -8,7 +8,7 @@ use Rattle.clap.specs.declared.parser.matches.Found.{Found}
 use Rattle.clap.specs.declared.error.Error.{Error}
 use Rattle.clap.specs.declared.error.kind.ErrorKind.{ErrorKind}
 use Rattle.clap.specs.declared.error.kind.ErrorKind.TheVariants as kind
-use Rattle.graph_page.specs.declared.asking.Question.{Question}
+use Rattle.graph_run.specs.declared.asked.Question.{Question}
 use Rattle.graph_run.specs.declared.asked.Asked.{Asked}
 use Rattle.graph_run.specs.declared.asked.Asked.TheVariants.{Question as Ask, Serve}
 use Rattle.graph_run.specs.declared.asked.AskRefusal.{AskRefusal}

@@ -10,8 +10,8 @@ use Rattle.rollback_run.specs.Log.{Log}
 use Rattle.rollback_run.specs.Opening.{OpensTo, RefusesOpen}
 use Rattle.rollback_run.specs.OpenFault.{OpenFault}
 use Rattle.journaled_book.specs.Changes.{IsRead}
-use Rattle.graph_page.specs.Answer.{Answer}
-use Rattle.graph_page.specs.Writing.{text_on}
+use Rattle.graph_text.specs.declared.asking.Answer.{Answer}
+use Rattle.graph_text.specs.Writing.{text_on}
 use Rattle.rollback_run.specs.Faults.{of_journal, of_open, IsBegun, IsTold}
 use Rattle.rollback_run.specs.Status.{IsShown}
 use Rattle.rollback_run.specs.declared.fault.ExitCause.{ExitCause}
@@ -77,7 +77,7 @@ module _ {Held : Type 0} (show : Held → State) where
 -- ---- words that ask for nothing
 
 abbrev pub usage_text : List ℕ
-usage_text = codes "usage: rollback_graph FILE (--list | --plan STEP | --why STEP CONSEQUENCE | (--dot | --html) [--from STEP]), or rollback_graph [FILE] --serve\n"
+usage_text = codes "usage: rollback_graph FILE QUESTION [--json], or rollback_graph [FILE] --serve; rollback_graph --help lists the questions\n"
 
 -- the status, what is shown, and what is told on standard error
 abbrev pub IsRefusal : AskRefusal → ℕ → Option (List ℕ) → Option (List ℕ) → Option (List ℕ) → Option (List ℕ) → Type 0

@@ -4,9 +4,9 @@ use Rattle.std.specs.Borrow.{Bor}
 use Rattle.clap.specs.Words.{Row, Text, all_of, first_of, one_of}
 use Rattle.step_names.specs.Grammar.{read_step}
 use Rattle.step_names.specs.declared.step.StepName.{StepName}
-use Rattle.graph_page.specs.Question.TheVariants as lines
-use Rattle.graph_page.specs.declared.asking.Question.{Question}
-use Rattle.graph_page.specs.declared.asking.Question.TheVariants.{Lines, Html}
+use Rattle.graph_text.specs.declared.asking.Question.TheVariants as lines
+use Rattle.graph_run.specs.declared.asked.Question.{Question}
+use Rattle.graph_run.specs.declared.asked.Question.TheVariants.{Lines, Html}
 use Rattle.graph_run.specs.declared.asked.Asked.{Asked}
 use Rattle.graph_run.specs.declared.asked.Asked.TheVariants.{Question as Ask, Serve}
 use Rattle.graph_run.specs.declared.asked.AskRefusal.{AskRefusal}

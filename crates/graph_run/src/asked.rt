@@ -8,18 +8,38 @@ ghost use Rattle.graph_run.specs.Questions.{from_of, plan_of, why_of, list_of, d
 
 use clap::error::ErrorKind;
 use clap::{Arg, ArgAction, ArgMatches, Command, Error};
-use graph_page::{Question, texts};
+use graph_text as texts;
 use std::alloc::{AllocError, Global};
 use std::io;
 use step_names::{NameFault, StepName};
 
 const ABOUT: &str =
-    "Shows on which steps the remaining steps of a journal depend, and why. It reads the journal of a file as rollback --check does, and changes nothing.";
+    "Answers questions about a journal's book: on which steps the remaining ones depend and why, items, executions, and why one failed. It reads the journal of a file as rollback --check does, and changes nothing.
+
+Besides the options below, these are questions, in lines or, with --json, as JSON (docs/QUESTIONS.md):
+  FILE --causes STEP [--writes]       on which steps it depends
+  FILE --item [KEY]                   who accessed an item; all items
+  FILE --show NAME                    an execution, a thread or a step
+  FILE --explain THREAD               why it failed, or why its next step would fail
+  FILE --list --failed|--open|--done|--machine NAME|--since N
+  FILE --threads ready|since N|THREAD where threads are
+  FILE --find TEXT                    steps by name, state, error or key
+  FILE --steps FROM COUNT, --log FROM COUNT, --machines, --machine NAME --definition
+rollback_graph --viewer script|style writes what shows a page.";
 
 /// As CHANGELOG.md counts them.
 const VERSION: &str = "0.1.0";
 
 const WHY_NAMES: &[&str] = &["STEP", "CONSEQUENCE"];
+
+/// A question of the book of a journal.
+#[derive(Debug, Drop)]
+pub enum Question {
+    /// What is answered in lines.
+    Lines(texts::Question),
+    /// The dependences as a page for a browser, which opens at a step if one is named.
+    Html(Option<StepName>),
+}
 
 /// What is asked of the book of a journal's file.
 #[derive(Debug, Drop)]

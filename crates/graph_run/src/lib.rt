@@ -2,10 +2,17 @@
 
 //! What the program `rollback_graph` does: what its words ask for, and how it answers then, over any streams and any store.
 mod asked;
+mod following;
+mod lines;
+mod paging;
 mod running;
-mod serving;
+mod spoken;
+mod telling;
 
-pub use asked::{AskRefusal, Asked, asked_of, unread_words};
+pub use asked::{AskRefusal, Asked, Question, asked_of, unread_words};
+pub use following::serve;
+pub use paging::{Subject, Viewer, write_page};
 pub use rollback_run::{ExitCause, FAILED};
-pub use running::{ABSENT, refuse, run, status_of};
-pub use serving::serve;
+pub use running::{ABSENT, refuse, run, show_parts, status_of};
+pub use spoken::{Part, Spoken, Wanted, wanted_of};
+pub use telling::tell;

@@ -9,8 +9,7 @@ ghost use Rattle.graph_run.specs.Status.{IsTold, status_of};
 
 use crate::asked::AskRefusal;
 use book_journal::{Journal, JournalFault};
-use graph_page::texts::Answer;
-use graph_page::{Question, ask};
+use graph_text::{Answer, Question, ask};
 use journaled_book::{JournaledBook, OpenFault};
 use rollback_run::lines::{ServeFault, flush, write_all};
 use rollback_run::{ExitCause, ModeRefusal, USAGE, finish};
@@ -22,7 +21,7 @@ use std::io::Write;
 pub const ABSENT: u8 = 1;
 
 const USAGE_TEXT: &[u8] =
-    b"usage: rollback_graph FILE (--list | --plan STEP | --why STEP CONSEQUENCE | (--dot | --html) [--from STEP]), or rollback_graph [FILE] --serve\n";
+    b"usage: rollback_graph FILE QUESTION [--json], or rollback_graph [FILE] --serve; rollback_graph --help lists the questions\n";
 
 /// Answers a question from the journal of this connection, and tells whether there was what was asked. The journal's lines stay as they are.
 /// Takes what opening it takes, and what [`ask`] takes.
@@ -97,6 +96,34 @@ pub fn refuse<W: Write, E: Write>(refusal: AskRefusal, writer: &mut W, faults: &
             USAGE
         }
         AskRefusal::Memory => rollback_run::refuse(ModeRefusal::Memory, writer, faults),
+    }
+}
+
+/// Writes texts of the program's own, one behind the other, and says that they are there.
+///
+/// # Errors
+///
+/// `Output` if they can't be written.
+pub fn show_parts<W: Write>(parts: &[&'static str], writer: &mut W) -> Result<bool, ExitCause> {
+    for part in parts {
+        if write_all(writer, part.as_bytes()).is_err() {
+            return Err(ExitCause::Output);
+        }
+    }
+    show_bytes(b"", b"", writer)?;
+    Ok(true)
+}
+
+/// Writes a text and its end.
+pub(crate) fn show_bytes<W: Write>(
+    text: &[u8],
+    end: &[u8],
+    writer: &mut W,
+) -> Result<(), ExitCause> {
+    if write_all(writer, text).is_ok() && show(writer, end).is_ok() {
+        Ok(())
+    } else {
+        Err(ExitCause::Output)
     }
 }
 

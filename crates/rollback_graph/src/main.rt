@@ -3,33 +3,33 @@
 //! `rollback_graph`: answers questions about the dependences among the remaining steps of a journal.
 
 use graph_run::{
-    AskRefusal, Asked, ExitCause, asked_of, refuse, run, serve, status_of, unread_words,
+    AskRefusal, Asked, ExitCause, Part, Question, Spoken, Subject, Viewer, Wanted, refuse, run, serve, show_parts,
+    status_of, tell, unread_words, wanted_of, write_page,
 };
-use sqlite::{Connection, Error, ErrorCode, File, FileStore, MemStore};
+use journal_copy::open_at;
+use sqlite::{Connection, Error, ErrorCode, MemStore};
 use std::alloc::AllocError;
+use std::env;
 use std::io::{BufReader, BufWriter, Write};
 use std::process::ExitCode;
 use std::sync::Wait;
 use std::thread::Threads;
-use std::{env, fs};
+use step_names::StepName;
 
-fn read_words(rt: &HostRuntime) -> Result<Asked, AskRefusal> {
+const VIEWER: Viewer<'static> = Viewer {
+    script: graph_viewer::SCRIPT,
+    style: graph_viewer::STYLE,
+};
+
+fn read_words(rt: &HostRuntime) -> Result<Wanted, AskRefusal> {
     let alloc = rt.alloc();
     let arguments = match env::args(rt) {
         Ok(arguments) => arguments,
         Err(error) => return Err(unread_words(&error)),
     };
     match arguments.collect::<Vec<String>>(alloc) {
-        Ok(words) => asked_of(alloc, words.as_slice()),
+        Ok(words) => wanted_of(alloc, words.as_slice()),
         Err(_) => Err(AskRefusal::Memory),
-    }
-}
-
-/// The connection to a file that is there: none is made.
-fn to_existing(rt: &HostRuntime, file: &str) -> Result<Connection<FileStore<File>>, Error> {
-    match fs::exists(rt, file) {
-        Ok(true) => Connection::open(rt, file),
-        Ok(false) | Err(_) => Err(Error::SqliteFailure(ErrorCode::CannotOpen)),
     }
 }
 
@@ -48,7 +48,7 @@ fn run_served<T: Threads + Wait + Sync, W: Write>(
     writer: &mut W,
 ) -> Result<bool, ExitCause> {
     let file = match file {
-        Some(file) => Some(to_existing(rt, file)),
+        Some(file) => Some(open_at(rt, file)),
         None => None,
     };
     let Ok(mut reader) = BufReader::new(rt.alloc(), rt.stdin()) else {
@@ -68,29 +68,76 @@ fn run_served<T: Threads + Wait + Sync, W: Write>(
     }
 }
 
-fn run_asked<T: Threads + Wait + Sync, W: Write>(
+/// Answers a question in words.
+fn run_spoken<T: Threads + Wait + Sync, W: Write>(
     rt: &HostRuntime,
     threads: &T,
-    asked: Result<Asked, AskRefusal>,
+    spoken: &Spoken,
     writer: &mut W,
-) -> u8 {
+) -> Result<bool, ExitCause> {
+    let file = open_at(rt, spoken.file.as_str());
+    tell(threads, rt.alloc(), spoken, file, in_memory(rt), writer)
+}
+
+/// Writes a page of a file's journal.
+fn run_page<T: Threads + Wait + Sync, W: Write>(
+    rt: &HostRuntime,
+    threads: &T,
+    path: &str,
+    from: Option<&StepName>,
+    writer: &mut W,
+) -> Result<bool, ExitCause> {
+    let name = match path.rsplit_once('/') {
+        Some((_folder, name)) => name,
+        None => path,
+    };
+    let subject = Subject { name, from };
+    let file = open_at(rt, path);
+    write_page(threads, rt.alloc(), subject, VIEWER, file, in_memory(rt), writer)
+}
+
+fn run_question<T: Threads + Wait + Sync, W: Write>(
+    rt: &HostRuntime,
+    threads: &T,
+    asked: &Asked,
+    writer: &mut W,
+) -> Result<bool, ExitCause> {
     match asked {
-        Ok(Asked::Question { file, question }) => {
-            let connection = to_existing(rt, file.as_str());
-            let outcome = run(rt.alloc(), &question, connection, writer);
-            status_of(outcome, &mut rt.stderr())
-        }
-        Ok(Asked::Serve { file }) => {
-            let outcome = run_served(rt, threads, file.as_deref(), writer);
-            status_of(outcome, &mut rt.stderr())
-        }
-        Err(refusal) => refuse(refusal, writer, &mut rt.stderr()),
+        Asked::Question { file, question } => match question {
+            Question::Lines(question) => {
+                run(rt.alloc(), question, open_at(rt, file.as_str()), writer)
+            }
+            Question::Html(from) => {
+                run_page(rt, threads, file.as_str(), from.as_ref(), writer)
+            }
+        },
+        Asked::Serve { file } => run_served(rt, threads, file.as_deref(), writer),
+    }
+}
+
+fn run_wanted<T: Threads + Wait + Sync, W: Write>(
+    rt: &HostRuntime,
+    threads: &T,
+    wanted: &Wanted,
+    writer: &mut W,
+) -> Result<bool, ExitCause> {
+    match wanted {
+        Wanted::Asked(asked) => run_question(rt, threads, asked, writer),
+        Wanted::Spoken(spoken) => run_spoken(rt, threads, spoken, writer),
+        Wanted::Viewer(Part::Script) => show_parts(VIEWER.script, writer),
+        Wanted::Viewer(Part::Style) => show_parts(VIEWER.style, writer),
     }
 }
 
 fn main(rt: HostRuntime) -> ExitCode {
     let status = match BufWriter::new(rt.alloc(), rt.stdout()) {
-        Ok(mut writer) => run_asked(&rt, &rt, read_words(&rt), &mut writer),
+        Ok(mut writer) => match read_words(&rt) {
+            Ok(wanted) => {
+                let outcome = run_wanted(&rt, &rt, &wanted, &mut writer);
+                status_of(outcome, &mut rt.stderr())
+            }
+            Err(refusal) => refuse(refusal, &mut writer, &mut rt.stderr()),
+        },
         Err(_) => refuse(AskRefusal::Memory, &mut rt.stdout(), &mut rt.stderr()),
     };
     ExitCode::from(status)
