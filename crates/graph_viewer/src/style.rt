@@ -95,7 +95,7 @@ table { border-collapse: separate; border-spacing: 0; }
 .rows td { height: 32px; max-height: 32px; padding: 0 10px; border-bottom: 1px solid var(--sunk); overflow: hidden; text-overflow: ellipsis; white-space: nowrap; }
 .rows tr:hover td { background: var(--raised); }
 .rows .space td { padding: 0; border: 0; height: 0; max-height: none; background: none; }
-.rows .name { font-weight: 500; }
+.rows td.name { font-weight: 500; }
 .rows .number { text-align: right; width: 92px; font-variant-numeric: tabular-nums; }
 .rows .time { width: 150px; font-variant-numeric: tabular-nums; color: var(--quiet); }
 .rows .status-cell { width: 96px; }

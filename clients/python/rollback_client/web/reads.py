@@ -3,7 +3,7 @@ from __future__ import annotations
 
 import json
 import os
-from typing import TYPE_CHECKING, Any, Dict, Optional
+from typing import TYPE_CHECKING, Any, Dict, List
 
 from aiohttp import web
 
@@ -93,10 +93,10 @@ class Reads:
 
 
 def _number(request: web.Request, name: str, without: int) -> int:
-    texts = request.query.getall(name, [])
+    texts: List[str] = request.query.getall(name, [])
     if not texts:
         return without
-    text: Optional[str] = single(texts)
+    text = single(texts)
     if text is None or not (text.isascii() and text.isdecimal() and len(text) < 10):
         raise Refused(400, f"{name} is a whole number")
     return int(text)

@@ -121,6 +121,7 @@ class ConeView {
     }
 
     async news(news) {
+        if (news.isPausing) this.drawHead();
         if (!news.all && !news.entries) return;
         const before = this.rows.map((row) => row.step).join(" ");
         try {
@@ -228,7 +229,7 @@ function addBand(scene, group, far, step) {
         });
         scene.height = Math.max(scene.height, y + BOX.h);
     }
-    scene.heads.push({ x: left, w: width + 20, text: group.name, draw: () => executionLink(group.name) });
+    scene.heads.push({ x: left, w: width + 20, text: group.name, draw: () => put(executionLink(group.name), { tabindex: "-1" }, []) });
     scene.bands.push({ x: left, y: 4, w: width + 20, h: 0 });
     scene.width = left + width + 20 + BOX.gapX;
 }
