@@ -3,7 +3,7 @@ from __future__ import annotations
 
 import pathlib
 import subprocess
-from typing import Dict, Tuple
+from typing import Dict, List, Tuple
 
 from aiohttp import web
 
@@ -38,9 +38,10 @@ class Pages:
 
     def read(self) -> None:
         """Reads them once. A program that has no viewer is a `ValueError`."""
+        script, style = self._viewer()
         self._files = {
-            "/viewer.js": (self._viewer("script"), "js"),
-            "/viewer.css": (self._viewer("style"), "css"),
+            "/viewer.js": (script, "js"),
+            "/viewer.css": (style, "css"),
             "/console.js": (_own("js"), "js"),
             "/console.css": (_own("css"), "css"),
         }
@@ -61,16 +62,25 @@ class Pages:
     async def _file(self, request: web.Request) -> web.StreamResponse:
         return _response(*self._files[request.path])
 
-    def _viewer(self, part: str) -> str:
+    def _viewer(self) -> List[str]:
+        """The viewer's script and style, asked for side by side."""
+        asked = []
         try:
-            done = subprocess.run(
-                [self._graph, "--viewer", part], stdin=subprocess.DEVNULL, capture_output=True, timeout=_PATIENCE
-            )
+            for part in ("script", "style"):
+                command = [self._graph, "--viewer", part]
+                asked.append(
+                    subprocess.Popen(
+                        command, stdin=subprocess.DEVNULL, stdout=subprocess.PIPE, stderr=subprocess.DEVNULL
+                    )
+                )
+            said = [process.communicate(timeout=_PATIENCE)[0] for process in asked]
         except (OSError, subprocess.TimeoutExpired) as fault:
-            raise ValueError(f"{self._graph} --viewer {part} can't be asked: {fault}") from fault
-        if done.returncode != 0:
+            for process in asked:
+                process.kill()
+            raise ValueError(f"{self._graph} --viewer can't be asked: {fault}") from fault
+        if any(process.returncode != 0 for process in asked):
             raise ValueError(f"{self._graph} has no viewer: --http needs a rollback_graph that has --viewer")
-        return done.stdout.decode()
+        return [text.decode() for text in said]
 
 
 def _own(kind: str) -> str:

@@ -20,7 +20,7 @@ function drawnStep(row, word, more) {
         el("span", { class: "step-name" }, el("bdi", null, row.step)),
         el("span", { class: "state" }, el("bdi", null, short(stateName(row), 60))),
         el("span", { class: "about" },
-            word ? el("b", { class: "word" }, word) : null,
+            word ? [el("b", { class: "word" }, word), " "] : null,
             row.key ? el("bdi", { class: "key" }, callText(row)) : el("span", { class: "kind" }, kindText(row))));
 }
 
