@@ -6,7 +6,7 @@ const AROUND = 250;
 const MOST_DRAWN = 1200;
 const MOST_LINES = 2000;
 const LONG = 16 * BUCKET;
-const LEAST_ZOOM = 0.04;
+const FAR_ZOOM = 0.12;
 const MOST_ZOOM = 2;
 const READABLE = 0.75;
 const HEAD_HEIGHT = 26;
@@ -89,7 +89,7 @@ class Picture {
         this.headLayer.hidden = !scene.heads.length;
         this.lineLayer.setAttribute("width", Math.max(1, scene.width));
         this.lineLayer.setAttribute("height", Math.max(1, scene.height));
-        this.percent.textContent = Math.round(zoom * 100) + " %";
+        this.percent.textContent = zoom < 0.01 ? "< 1 %" : Math.round(zoom * 100) + " %";
         scene.heads.forEach((head, place) => {
             const drawn = this.headLayer.children[place];
             drawn.style.left = head.x * zoom + this.room.x + "px";
@@ -122,7 +122,7 @@ class Picture {
         const sight = this.sight();
         const around = { x: sight.x - AROUND, y: sight.y - AROUND, w: sight.w + 2 * AROUND, h: sight.h + 2 * AROUND };
         let wanted = inBuckets(this.buckets, around).filter((box) => meets(box, around));
-        const isFar = wanted.length > MOST_DRAWN;
+        const isFar = wanted.length > MOST_DRAWN || this.zoom < FAR_ZOOM;
         this.drawSilhouette(isFar);
         if (isFar) wanted = wanted.filter((box) => box.id === this.selected);
         this.keep(this.boxes, wanted.map((box) => [box.id, box]), (box) => this.drawBox(box), this.boxLayer);
@@ -227,7 +227,7 @@ class Picture {
     zoomBy(factor, at) {
         const { scroller } = this;
         const place = at || { x: scroller.clientWidth / 2, y: scroller.clientHeight / 2 };
-        const zoom = Math.min(MOST_ZOOM, Math.max(LEAST_ZOOM, this.zoom * factor));
+        const zoom = Math.min(MOST_ZOOM, Math.max(Math.min(READABLE, this.fitting()), this.zoom * factor));
         const x = (scroller.scrollLeft - this.room.x + place.x) / this.zoom;
         const y = (scroller.scrollTop - this.room.y + place.y) / this.zoom;
         this.zoom = zoom;
