@@ -260,7 +260,7 @@ function collapsedBox(group) {
         id: "execution:" + group.name,
         w: COLLAPSED.w,
         h: COLLAPSED.h,
-        label: group.name + ", " + text + ", closed",
+        label: () => group.name + ", " + text + ", closed",
         draw: () => el("div", { class: "box collapsed", title: group.name + ": " + text + ". A click shows them." },
             el("span", { class: "step-name" }, el("bdi", null, group.name)), el("span", { class: "about" }, text)),
     };

@@ -73,7 +73,7 @@ class ExecutionView {
 
     // The first step that failed, which is what an operator looks for.
     failed() {
-        const found = this.picture.scene.boxes.find((box) => box.label.endsWith(", failed"));
+        const found = this.picture.scene.boxes.find((box) => box.word === "failed");
         return found ? found.id : null;
     }
 

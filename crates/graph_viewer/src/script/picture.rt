@@ -11,8 +11,8 @@ const MOST_ZOOM = 2;
 const READABLE = 0.75;
 const HEAD_HEIGHT = 26;
 
-// A scene has `width`, `height`, `boxes` (each with `id`, `x`, `y`, `w`, `h`, `kind`, `draw()` and `label`), `lines` (each with `from` and
-// `to`, ids of boxes, and `reason`), `heads` (each with `x`, `w` and `text`) and `bands` (each with `x`, `y`, `w` and `h`).
+// A scene has `width`, `height`, `boxes` (each with `id`, `x`, `y`, `w`, `h`, `kind`, `draw()` and `label()`), `lines` (each with `from` and
+// `to`, ids of boxes, `reason` and `title()`), `heads` (each with `x`, `w` and `text`) and `bands` (each with `x`, `y`, `w` and `h`).
 class Picture {
     constructor(label, chosen) {
         this.chosen = chosen;
@@ -158,7 +158,7 @@ class Picture {
 
     drawBox(box) {
         const element = box.draw();
-        put(element, { id: "box-" + box.id, role: "option", "aria-label": box.label, "aria-selected": String(box.id === this.selected) }, []);
+        put(element, { id: "box-" + box.id, role: "option", "aria-label": box.label(), "aria-selected": String(box.id === this.selected) }, []);
         element.dataset.id = box.id;
         element.style.left = box.x + "px";
         element.style.top = box.y + "px";
@@ -170,7 +170,7 @@ class Picture {
     drawLine(line) {
         const [from, to] = [this.byId.get(line.from), this.byId.get(line.to)];
         const isNear = line.from === this.selected || line.to === this.selected;
-        return svg("path", { class: "line " + line.reason + (isNear ? " near" : ""), d: curve(from, to) }, svg("title", null, line.title || line.reason));
+        return svg("path", { class: "line " + line.reason + (isNear ? " near" : ""), d: curve(from, to) }, svg("title", null, line.title()));
     }
 
     // All boxes as one path, if they are too many to be drawn each.
