@@ -33,6 +33,7 @@ SHORT = (
     "CONTRIBUTING.md",
     "README.md",
     "docs/CLUSTER.md",
+    "docs/CONSOLE.md",
     "docs/GLOSSARY.md",
     "docs/GUARANTEES.md",
     "docs/INTERNALS.md",

@@ -102,11 +102,11 @@ class InFolder(unittest.TestCase):
 class Server:
     """A server of lines over a Unix socket, with its process."""
 
-    def __init__(self, room, *words, journal="orders.db", program=PROGRAM, address=None, **more):
+    def __init__(self, room, *words, journal="orders.db", program=PROGRAM, address=None, python=sys.executable, **more):
         self.journal = journal and os.path.join(room, journal)
         self.address = address or os.path.join(room, "socket")
         of_journal = ("--journal", self.journal) if journal else ()
-        command = [sys.executable, "-m", "rollback_client.serve", "--program", program, *of_journal, *words]
+        command = [python, "-m", "rollback_client.serve", "--program", program, *of_journal, *words]
         command += ("--socket", self.address) if "--listen" not in words else ()
         more = {"stdout": subprocess.PIPE, "stderr": subprocess.PIPE, **more}
         self.process = subprocess.Popen(command, text=True, cwd=TOP / "clients/python", **more)
@@ -156,9 +156,9 @@ class Served(InFolder):
             book.define("p", machine)
         return server
 
-    def refused(self, *words, program=PROGRAM, seconds=60):
+    def refused(self, *words, program=PROGRAM, seconds=60, python=sys.executable):
         """The status of a server that doesn't serve, and what it says on standard error."""
-        command = [sys.executable, "-m", "rollback_client.serve", "--program", program, *words]
+        command = [python, "-m", "rollback_client.serve", "--program", program, *words]
         done = subprocess.run(
             command,
             stdout=subprocess.PIPE,

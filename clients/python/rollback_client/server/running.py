@@ -19,10 +19,13 @@ from .runners import NO_RUNNER, Answer, Runners
 from .speaking import say, say_bytes
 from .turns import Turns
 from .unread import Unread
+from .within import Lines
 from .words import Words
 
 if TYPE_CHECKING:
     import ssl
+
+    from ..web.serving import Web
 
 BACKLOG = 512  # callers that wait to be taken
 ENDING = (signal.SIGTERM, signal.SIGINT, signal.SIGQUIT)
@@ -44,6 +47,8 @@ class Server:
         self._copies: Set[asyncio.Task[None]] = set()
         self._follower: Optional[Follower] = None
         self._runners: Optional[Runners] = None
+        self.lines = Lines(self, self.turns)
+        self._web: Optional[Web] = None
 
     # ---- callers
 
@@ -134,10 +139,13 @@ class Server:
         try:
             await self._begin_follower()
             self._begin_runner(ClockFile(None if self.words.journal is None else f"{self.words.journal}-clock", say))
+            await self._begin_web()
             listening = await self._listen()
         except (OSError, ValueError):
             if self._place:
                 self._place.remove()
+            if self._web is not None:
+                await self._web.end()
             self._program.end_input()
             await self._program.status()
             raise
@@ -191,6 +199,7 @@ class Server:
         follower = self._follower = Follower(self.turns, graph_beside(words.program, words.graph), words.journal)
         await follower.begin()
         self.turns.follow = follower.follow
+        self.lines.follower = follower
 
     def _begin_runner(self, clock_file: ClockFile, answer: Optional[Answer] = None) -> None:
         words, follower = self.words, self._follower
@@ -200,6 +209,14 @@ class Server:
         if words.run:
             self._runners.inside = InsideRunner(self, self.turns, follower, words.runner_options(), clock_file)
             self._runners.inside.begin()
+
+    async def _begin_web(self) -> None:
+        if self.words.http is None or self._follower is None:
+            return
+        from ..web.serving import Web  # who serves no pages needs no aiohttp
+
+        self._web = Web(self, self.words, self._follower, self._runners)
+        await self._web.begin()
 
     async def _listen(self) -> asyncio.AbstractServer:
         loop = asyncio.get_running_loop()
@@ -221,6 +238,8 @@ class Server:
             os.write(1, b"serving on %s\n" % name)
         except OSError:
             pass  # nobody hears it
+        if self._web is not None:
+            self._web.say_where()
         return listening
 
     def _new_caller(self) -> Caller:
@@ -245,6 +264,8 @@ class Server:
         ends = self.time() + self.words.grace
         self.is_ending = self.turns.is_ending = True
         listening.close()
+        if self._web is not None:
+            self._web.stop()
         if self._runners is not None and self._runners.inside is not None:
             await self._runners.inside.end()
         if self._place:
@@ -252,9 +273,13 @@ class Server:
         for caller in list(self.callers):
             caller.stop()
             self.turns.end_pieces(caller)
+        self.lines.stop()
         await self._until(self._is_answered, ends)
         for caller in self.callers:
             caller.drop_lines()
+        self.lines.end()
+        if self._web is not None:
+            await self._web.end()
         await self._until(lambda: not self.turns.given, None)
         self._program.end_input()
         await self._program.status()
@@ -270,7 +295,8 @@ class Server:
             task.cancel()
 
     def _is_answered(self) -> bool:
-        return self._program.ended.is_set() or not any(caller.owed for caller in self.callers) and not self.turns.given
+        is_owed = self.lines.is_owed or any(caller.owed for caller in self.callers)
+        return self._program.ended.is_set() or not is_owed and not self.turns.given
 
     def _have_read(self) -> bool:
         for caller in list(self.callers):

@@ -2,7 +2,7 @@
 from __future__ import annotations
 
 import argparse
-from typing import Any, Callable, Optional, Sequence, TypeVar
+from typing import Any, Callable, List, Optional, Sequence, TypeVar
 
 from ..runner.running import Options
 from ..runner.words import add_runner_words, options_of
@@ -34,6 +34,11 @@ class Words(argparse.Namespace):
     ask: bool
     graph: Optional[str]
     run: bool
+    http: Optional[str]  # the further words are those of `..web.words`
+    token: List[str]
+    new_tokens: bool
+    no_link: bool
+    read_only: bool
 
     def runner_options(self) -> Options:
         """What the runner is told."""
@@ -79,6 +84,31 @@ def _add_cluster(parser: argparse.ArgumentParser) -> None:
     add("--cluster-status", action="store_true", help="asks who leads and how far the others are, and ends")
 
 
+def _add_web(parser: argparse.ArgumentParser) -> None:
+    """The words of the console, which `..web.words` looks at."""
+    add = parser.add_argument_group("a console in the browser").add_argument
+    add("--http", metavar="HOST:PORT", help="serves it at a port of the loopback, or at a Unix socket, a path with a /")
+    add(
+        "--token",
+        action="append",
+        default=[],
+        metavar="NAME",
+        help="a person who gets a link (console); may be given again",
+    )
+    add("--new-tokens", action="store_true", help="makes new links, and the old ones are refused")
+    add("--no-link", action="store_true", help="says in which file the links are, and shows none")
+    add("--read-only", action="store_true", help="the console gives no line")
+
+
+def _look_at_web(parser: argparse.ArgumentParser, words: Words) -> None:
+    if words.http is not None:
+        from ..web.words import look_at
+
+        look_at(parser, words)
+    elif words.token or words.new_tokens or words.no_link or words.read_only:
+        parser.error("--token, --new-tokens, --no-link and --read-only are words of --http")
+
+
 def _of_cluster(parser: argparse.ArgumentParser, words: Words) -> Words:
     """The words as they count: with --cluster as that package has them, and without it none of these."""
     if words.cluster is not None:
@@ -119,6 +149,7 @@ def read_words(given: Optional[Sequence[str]] = None) -> Words:
     add("--graph", metavar="PATH", help="rollback_graph; beside the program or on the path if it is left out")
     add("--run", action="store_true", help="runs the book: steps by turns and clocks; answers questions, too")
     add_runner_words(parser)
+    _add_web(parser)
     _add_cluster(parser)
     words = parser.parse_args(given, Words())
     if not words.run and words.runner_options() != Options():
@@ -131,4 +162,5 @@ def read_words(given: Optional[Sequence[str]] = None) -> Words:
     if words.socket == "":
         parser.error("--socket is a path, and not empty")
     words.mode = 0o600 if words.mode is None else words.mode
+    _look_at_web(parser, words)
     return _of_cluster(parser, words)

@@ -121,6 +121,7 @@ class ConeView {
     }
 
     async news(news) {
+        if (news.isPausing) this.drawHead();
         if (!news.all && !news.entries) return;
         const before = this.rows.map((row) => row.step).join(" ");
         try {
@@ -228,7 +229,7 @@ function addBand(scene, group, far, step) {
         });
         scene.height = Math.max(scene.height, y + BOX.h);
     }
-    scene.heads.push({ x: left, w: width + 20, text: group.name, draw: () => executionLink(group.name) });
+    scene.heads.push({ x: left, w: width + 20, text: group.name, draw: () => put(executionLink(group.name), { tabindex: "-1" }, []) });
     scene.bands.push({ x: left, y: 4, w: width + 20, h: 0 });
     scene.width = left + width + 20 + BOX.gapX;
 }
@@ -259,7 +260,7 @@ function collapsedBox(group) {
         id: "execution:" + group.name,
         w: COLLAPSED.w,
         h: COLLAPSED.h,
-        label: group.name + ", " + text + ", closed",
+        label: () => group.name + ", " + text + ", closed",
         draw: () => el("div", { class: "box collapsed", title: group.name + ": " + text + ". A click shows them." },
             el("span", { class: "step-name" }, el("bdi", null, group.name)), el("span", { class: "about" }, text)),
     };

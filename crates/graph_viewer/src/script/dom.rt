@@ -49,6 +49,8 @@ function busyButton(text, does, attributes) {
         made.setAttribute("aria-disabled", "true");
         try {
             await does(made);
+        } catch (fault) {
+            notice("Nothing was done: " + fault.message + ".", "fault");
         } finally {
             made.removeAttribute("aria-disabled");
         }

@@ -9,7 +9,11 @@ addView("execution", {
     key: executionName,
     open: async (params) => {
         const view = new ExecutionView(executionName(params));
-        await view.load();
+        try {
+            await view.load();
+        } catch (fault) {
+            throw params.has("step") && fault instanceof NoAnswer ? new NoAnswer(params.get("step") + " is no remaining step") : fault;
+        }
         view.choose(params);
         return view;
     },
@@ -53,7 +57,7 @@ class ExecutionView {
 
     choose(params) {
         const step = params.get("step");
-        if (step && !this.steps.has(step)) throw new Error(step + " is no remaining step");
+        if (step && !this.steps.has(step)) throw new NoAnswer(step + " is no remaining step");
         this.step = step || null;
     }
 
@@ -69,7 +73,7 @@ class ExecutionView {
 
     // The first step that failed, which is what an operator looks for.
     failed() {
-        const found = this.picture.scene.boxes.find((box) => box.label.endsWith(", failed"));
+        const found = this.picture.scene.boxes.find((box) => box.word === "failed");
         return found ? found.id : null;
     }
 
@@ -92,7 +96,7 @@ class ExecutionView {
     }
 
     async news(news) {
-        if (!news.all && !news.executions.has(this.name)) return;
+        if (!news.all && !news.isPausing && !news.executions.has(this.name)) return;
         try {
             await this.load();
             if (this.step && !this.steps.has(this.step)) throw new Error("gone");

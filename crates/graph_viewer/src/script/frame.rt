@@ -151,6 +151,7 @@ async function route() {
     if (app.controller && key === app.key && app.controller.update) {
         app.controller.update(params);
     } else if (!(await openView(view, params, key))) {
+        if (app.controller && app.controller.isMissing) closePanel(true);
         return;
     }
     if (!params.has("step")) closePanel(true);
@@ -165,7 +166,7 @@ async function openView(view, params, key) {
     try {
         controller = await view.open(params);
     } catch (fault) {
-        controller = { element: await missing(fault, params) };
+        controller = { element: await missing(fault, params), isMissing: true, news: () => route() };
     }
     if (number !== app.opened) return false;
     app.main.removeAttribute("aria-busy");
@@ -174,7 +175,7 @@ async function openView(view, params, key) {
     app.key = controller.isMissing ? null : key;
     fill(app.main, controller.element);
     if (controller.opened) controller.opened();
-    return !(controller.element && controller.element.classList.contains("missing"));
+    return !controller.isMissing;
 }
 
 async function missing(fault, params) {
@@ -186,7 +187,6 @@ async function missing(fault, params) {
 // What moved is handed to the view that is open, and to the panel.
 function tellNews(news) {
     if (app.controller && app.controller.news) app.controller.news(news);
-    else if (app.controller && !app.controller.element.isConnected) route();
     if (!app.panel.hidden) refreshPanel(news);
 }
 

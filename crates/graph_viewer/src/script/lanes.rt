@@ -9,7 +9,8 @@ function stepBox(row, more) {
         id: row.step,
         w: BOX.w,
         h: BOX.h,
-        label: boxLabel(row),
+        word,
+        label: () => boxLabel(row),
         draw: () => drawnStep(row, word, more),
     };
 }
@@ -20,14 +21,14 @@ function drawnStep(row, word, more) {
         el("span", { class: "step-name" }, el("bdi", null, row.step)),
         el("span", { class: "state" }, el("bdi", null, short(stateName(row), 60))),
         el("span", { class: "about" },
-            word ? el("b", { class: "word" }, word) : null,
+            word ? [el("b", { class: "word" }, word), " "] : null,
             row.key ? el("bdi", { class: "key" }, callText(row)) : el("span", { class: "kind" }, kindText(row))));
 }
 
 function linesOf(rows) {
     const found = [];
     for (const row of rows) {
-        for (const on of row.on) found.push({ from: on.step, to: row.step, reason: on.reason, title: lineTitle(on, row) });
+        for (const on of row.on) found.push({ from: on.step, to: row.step, reason: on.reason, title: () => lineTitle(on, row) });
     }
     return found;
 }

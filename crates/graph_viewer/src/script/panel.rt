@@ -50,7 +50,7 @@ function panelOf(answer, open) {
             button("\u00d7", () => closePanel(), { class: "small close", "aria-label": "Close the panel (Esc)", title: "Close (Esc)" })),
         el("p", { class: "panel-kind" }, el("span", { class: "chip kind-" + row.kind }, kindText(row)), " ",
             el("b", null, el("bdi", null, stateName(row))), row.type && row.kind !== "plain" ? " (" + row.type + ")" : "",
-            word ? el("b", { class: "word " + word }, " " + word) : null),
+            word ? [" ", el("b", { class: "word " + word }, word)] : null),
         row.outcome ? el("p", null, "It " + (row.kind === "start" ? "starts " + execution + ", which " : "") + outcomeText(row.outcome) + ".") : null,
         row.key ? el("p", null, ACCESSES[row.access] + " ", itemLink(row.key)) : null,
         el("p", { class: "acts" },

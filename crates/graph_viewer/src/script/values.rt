@@ -79,6 +79,24 @@ function keyText(key) {
         .join(", ");
 }
 
+// Keys in the order of the table: texts by their characters, numbers by their size.
+function compareKeys(one, other) {
+    for (const name of Object.keys(one)) {
+        const [[type, a]] = Object.entries(one[name]);
+        const b = (other[name] || {})[type];
+        if (a === b || b === undefined) continue;
+        return type === "N" ? Number(a) - Number(b) : compareTexts(a, b);
+    }
+    return 0;
+}
+
+function compareTexts(one, other) {
+    const [a, b] = [[...one], [...other]];
+    const place = a.findIndex((sign, number) => sign !== b[number]);
+    if (place < 0) return a.length - b.length;
+    return place >= b.length ? 1 : a[place].codePointAt(0) - b[place].codePointAt(0);
+}
+
 // A key as a question and an address have it.
 function keyWord(key) {
     const names = Object.keys(key);
