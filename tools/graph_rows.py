@@ -476,6 +476,13 @@ def check_why(reference, found, first, last):
 def check_plan(reference, text, at):
     steps, plan = reference.steps, reference.plan(at)
     lines = text.split("\n")[:-1]
+    executions = sorted({steps[place].name.partition("#")[0].partition("/")[0] for place in plan})
+    count = lambda number, thing: f"{number} {thing}{'' if number == 1 else 's'}"  # noqa: E731
+    ensure(lines[0] == f"{count(len(plan), 'step')} of {count(len(executions), 'execution')}: {', '.join(executions)}", f"the head: {lines[0]}")
+    keys = sorted({steps[place].access[0] for place in plan if steps[place].access and steps[place].access[1]})
+    changes = lines[1 : 1 + len(keys)]
+    ensure([line.partition(": ")[0] for line in changes] == [f"item {key_text(key)}" for key in keys], f"other items change: {changes}")
+    lines = lines[1 + len(keys) :]
     told = lines[: len(plan)]
     ensure([line.split(" ")[0] for line in told] == [steps[place].name for place in plan], "another plan")
     ensure(lines[len(plan) : len(plan) + 1] == ["ready again afterwards:"], "no line of what is ready again")
@@ -507,8 +514,20 @@ def check_ready(copy, lines, name):
         ensure(after.get(thread) == told, f"told to be ready: {line}")
 
 
+def end_of(shown):
+    """How an execution is, by what `show` answers of it."""
+    return shown.split(" ")[0] if shown.split(" ")[0] in ("done", "failed") else "open"
+
+
 def check_list(drawn, text, steps):
     threads, lines = drawn.threads(), text.split("\n")[:-1]
+    whole = collections.Counter(end_of(shown) for name, shown in threads.items() if "/" not in name)
+    ensure(lines[0] == f"executions: {whole['done']} done, {whole['failed']} failed, {whole['open']} open", lines[0])
+    machines = [re.fullmatch(r"machine (\S+): (\d+) done, (\d+) failed, (\d+) open", line) for line in lines[1 : 1 + drawn.machines]]
+    ensure([found[1] for found in machines] == sorted(f"m{number}" for number in range(drawn.machines)), f"other machines: {lines[1:4]}")
+    sums = [sum(int(found[at]) for found in machines) for at in (2, 3, 4)]
+    ensure(sums == [whole["done"], whole["failed"], whole["open"]], f"other sums: {sums}")
+    lines = lines[1 + drawn.machines :]
     ensure(lines[0] == f"remaining steps: {len(steps)} of 65536", lines[0])
     counts = collections.Counter(drawn.thread_of(step) for step in steps)
     told = {}

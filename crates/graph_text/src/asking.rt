@@ -74,7 +74,7 @@ fn tell_plan_of(
     let Some(at) = find(page, alloc, book, records, step)? else {
         return Ok(false);
     };
-    tell_plan(page, alloc, records, at)?;
+    tell_plan(page, alloc, book, records, at)?;
     Ok(true)
 }
 

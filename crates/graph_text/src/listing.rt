@@ -1,5 +1,6 @@
 // A book's executions and threads, and how near it is to its limits.
 use crate::page::Page;
+use json_tree::Text;
 use rollback_book::turns::{Frame, Phase};
 use rollback_book::{Book, Entry, Readiness, Refusal};
 use std::alloc::{AllocError, Global};
@@ -29,6 +30,7 @@ enum Progress {
 pub(crate) fn tell_book(page: &mut Page, alloc: Global, book: &Book) -> Result<(), AllocError> {
     let (_, entries) = book.entries();
     let steps = book.history().len();
+    tell_executions(page, alloc, book)?;
     tell_sizes(page, steps as u64, entries.len() as u64)?;
     tell_hold(page, alloc, book)?;
     let mut counts = BTreeMap::new(alloc);
@@ -63,6 +65,91 @@ fn tell_hold(page: &mut Page, alloc: Global, book: &Book) -> Result<(), AllocErr
     page.word("; left: ")?;
     page.number(book.held_left() as u64)?;
     page.word("\n")
+}
+
+// ---- how many executions are done, failed and open
+
+#[derive(Clone, Copy)]
+struct Ends {
+    done: u64,
+    failed: u64,
+    open: u64,
+}
+
+impl Ends {
+    fn none() -> Ends {
+        Ends {
+            done: 0,
+            failed: 0,
+            open: 0,
+        }
+    }
+
+    /// These and one more, whose own thread has this frame.
+    fn with(self, frame: &Frame) -> Ends {
+        let mut ends = self;
+        match &frame.phase {
+            Phase::Done(_) => ends.done = ends.done.saturating_add(1),
+            Phase::Failed(_) => ends.failed = ends.failed.saturating_add(1),
+            _ => ends.open = ends.open.saturating_add(1),
+        }
+        ends
+    }
+}
+
+/// How many executions are done, failed and open: of all, and of each machine.
+fn tell_executions(page: &mut Page, alloc: Global, book: &Book) -> Result<(), AllocError> {
+    let mut machines = BTreeMap::new(alloc);
+    let mut started = BTreeMap::new(alloc);
+    let (_, entries) = book.entries();
+    for entry in entries {
+        match entry {
+            Entry::Define { name, .. } => {
+                machines.insert(name.copy()?, Ends::none())?;
+            }
+            Entry::Start { exec, machine, .. } => {
+                // (a name whose start was taken back may be started again)
+                started.insert(exec.copy()?, machine)?;
+            }
+            _ => {}
+        }
+    }
+    let all = count_ends(book, &started, &mut machines);
+    page.word("executions")?;
+    tell_ends(page, all)?;
+    for (name, ends) in machines.iter() {
+        page.word("machine ")?;
+        page.word(name.as_str())?;
+        tell_ends(page, *ends)?;
+    }
+    Ok(())
+}
+
+fn count_ends(
+    book: &Book,
+    started: &BTreeMap<ThreadName, &Text>,
+    machines: &mut BTreeMap<Text, Ends>,
+) -> Ends {
+    let mut all = Ends::none();
+    for (exec, machine) in started.iter() {
+        if let Some(frame) = frame_of(book, exec) {
+            all = all.with(frame);
+            if let Some(ends) = machines.get_mut(*machine) {
+                *ends = ends.with(frame);
+            }
+        }
+    }
+    all
+}
+
+fn tell_ends(page: &mut Page, ends: Ends) -> Result<(), AllocError> {
+    page.word(": ")?;
+    page.number(ends.done)?;
+    page.word(" done, ")?;
+    page.number(ends.failed)?;
+    page.word(" failed, ")?;
+    page.number(ends.open)?;
+    page.word(" open\n")
 }
 
 // ---- which threads there are

@@ -57,6 +57,14 @@ impl Page {
         self.word(digits.format(number))
     }
 
+    /// Adds a number of things: `1 step`, `2 steps`.
+    pub(crate) fn count(&mut self, number: u64, thing: &str) -> Result<(), AllocError> {
+        self.number(number)?;
+        self.word(" ")?;
+        self.word(thing)?;
+        self.word(if number == 1 { "" } else { "s" })
+    }
+
     /// Adds the name of a step.
     pub(crate) fn step(&mut self, alloc: Global, step: &StepName) -> Result<(), AllocError>
         ensures { Writes result self.old self.new (step_text step.now) }

@@ -2,9 +2,10 @@
 use crate::page::Page;
 use crate::picture::Picture;
 use crate::words::record_at;
+use attr_values::{Item, Key};
 use item_store::AccessMode;
 use rollback_book::turns::{Frame, Phase};
-use rollback_book::{Fact, Saved, StepRecord, StepRecords};
+use rollback_book::{Book, Fact, Saved, StepRecord, StepRecords};
 use std::alloc::{AllocError, Global};
 use std::collections::BTreeMap;
 use step_graph::{Edge, closed_threads, thread_above};
@@ -13,11 +14,18 @@ use step_names::ThreadName;
 /// The threads that a rollback gives back or takes away, with the frames that they have then.
 type Frames<'a> = BTreeMap<ThreadName, Option<&'a Frame>>;
 
+/// The most executions that the head of a plan names.
+const MOST_NAMED: usize = 20;
+
+/// The items that a plan gives back: each key with the item now and the one that was there before.
+type Changes<'a> = BTreeMap<Key, (Option<&'a Item>, Option<&'a Item>)>;
+
 /// The plan of the step at a place. Takes time in the number of records and, logarithms aside, of the plan's steps and of what they
-/// hang on.
+/// depend on.
 pub(crate) fn tell_plan(
     page: &mut Page,
     alloc: Global,
+    book: Option<&Book>,
     records: &StepRecords,
     at: usize,
 ) -> Result<(), AllocError> {
@@ -27,6 +35,7 @@ pub(crate) fn tell_plan(
     let plan = records.plan(alloc, at)?;
     let picture = Picture::new(alloc, records, Some(at))?;
     let reasons = nearest(alloc, &picture)?;
+    tell_head(page, alloc, book, records, plan.places())?;
     let mut frames = BTreeMap::new(alloc);
     for place in plan.places() {
         tell_step(page, alloc, records, *place, reasons.get(place).copied())?;
@@ -45,6 +54,90 @@ fn nearest(alloc: Global, picture: &Picture) -> Result<BTreeMap<usize, Edge>, Al
         }
     }
     Ok(reasons)
+}
+
+// ---- the head
+
+/// How many steps of which executions, and what becomes of which items.
+fn tell_head(
+    page: &mut Page,
+    alloc: Global,
+    book: Option<&Book>,
+    records: &StepRecords,
+    plan: &[usize],
+) -> Result<(), AllocError> {
+    let mut executions = BTreeMap::new(alloc);
+    let mut changes = BTreeMap::new(alloc);
+    for place in plan {
+        if let Some(kept) = record_at(records, *place) {
+            executions.insert(thread_above(alloc, &kept.fact.name.thread, 0)?, ())?;
+            note_change(&mut changes, book, kept)?;
+        }
+    }
+    page.count(plan.len() as u64, "step")?;
+    page.word(" of ")?;
+    page.count(executions.len() as u64, "execution")?;
+    tell_names(page, alloc, &executions)?;
+    for (key, (now, then)) in changes.iter() {
+        tell_change(page, alloc, key, *now, *then)?;
+    }
+    Ok(())
+}
+
+/// The names of executions, some of them if they are many.
+fn tell_names(
+    page: &mut Page,
+    alloc: Global,
+    executions: &BTreeMap<ThreadName, ()>,
+) -> Result<(), AllocError> {
+    let mut named = 0usize;
+    for (name, ()) in executions.iter() {
+        if named >= MOST_NAMED {
+            page.word(" and ")?;
+            page.number((executions.len() as u64).saturating_sub(named as u64))?;
+            page.word(" more")?;
+            break;
+        }
+        page.word(if named == 0 { ": " } else { ", " })?;
+        page.thread(alloc, name)?;
+        named += 1;
+    }
+    page.word("\n")
+}
+
+/// Notes what a write gives back. The earliest write of a key comes last, and decides.
+fn note_change<'a>(
+    changes: &mut Changes<'a>,
+    book: Option<&'a Book>,
+    kept: &'a StepRecord,
+) -> Result<(), AllocError> {
+    let Some(access) = &kept.fact.access else {
+        return Ok(());
+    };
+    if let (AccessMode::Write, Saved::Called { slot, old, .. }) = (access.mode, &kept.saved) {
+        let now = match book {
+            Some(book) => book.item_in(*slot),
+            None => None,
+        };
+        changes.insert(access.key.copy()?, (now, old.as_ref()))?;
+    }
+    Ok(())
+}
+
+fn tell_change(
+    page: &mut Page,
+    alloc: Global,
+    key: &Key,
+    now: Option<&Item>,
+    then: Option<&Item>,
+) -> Result<(), AllocError> {
+    page.word("item ")?;
+    page.key(alloc, key)?;
+    page.word(": ")?;
+    page.item_or_none(alloc, now)?;
+    page.word(" becomes ")?;
+    page.item_or_none(alloc, then)?;
+    page.word("\n")
 }
 
 // ---- a step

@@ -74,6 +74,18 @@ impl Page {
         self.json(alloc, &json)
     }
 
+    /// An item, or that there is none.
+    pub(crate) fn item_or_none(
+        &mut self,
+        alloc: Global,
+        item: Option<&Item>,
+    ) -> Result<(), AllocError> {
+        match item {
+            Some(item) => self.item(alloc, item),
+            None => self.word("none"),
+        }
+    }
+
     /// What a step is: its kind, and of a call the key that it touched.
     pub(crate) fn kind(&mut self, alloc: Global, fact: &Fact) -> Result<(), AllocError> {
         self.word(kind_word(fact.kind))?;
