@@ -19,8 +19,9 @@ use Rattle.step_index.specs.Finding.{AreFound, IsFree, IsNextDue, IsNextDueAt, p
 use Rattle.step_index.specs.Near.{is_near, shares, shares_at}
 use Rattle.step_index.specs.Walks.{needed_by}
 use Rattle.step_index.specs.declared.found.FoundSteps.{FoundSteps}
-use Rattle.step_index.proofs.Opened.{due_if_needed, open_kept, or_true}
+use Rattle.step_index.proofs.Opened.{due_if_needed, open_kept}
 use Rattle.step_index.proofs.Listed.{there}
+use Rattle.step_index.proofs.Queued.{or_true}
 use Rattle.step_index.proofs.Following.{IsPassedOn, any_none, facts, finished, found_from, passed_on, skipped}
 
 -- ---- the records at some places

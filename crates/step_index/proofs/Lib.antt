@@ -7,6 +7,7 @@ pub mod Dependents
 pub mod Following
 pub mod Left
 pub mod Needed
+pub mod Queued
 pub mod Opening
 pub mod Opened
 pub mod Finding

@@ -1,28 +1,26 @@
 -- Classes that are opened for a step, one after another; and that each later step which depends directly on it is due.
-use Rattle.std.proofs.Common.{◌≡◌, ◌<◌, ◌≤◌, ◌+◌, arith, ℕ, Bool, true, false, cond, List, [], Option, None, Some, length, eq-eqb, refl, ap, sym, subst, ◌∙◌, inl, inr}
+use Rattle.std.proofs.Common.{◌≡◌, ◌==◌, ◌≤◌, ◌+◌, arith, ℕ, Bool, true, false, cond, List, [], Option, None, Some, eqb-true, refl, ap, sym, subst, ◌∙◌, inl, inr}
 use Rattle.std.specs.Prelude.{◌||◌, nat_eq, option_map, slice_get}
-use Rattle.std.specs.BTreeMap.{is_at}
+use Rattle.std.specs.BinaryHeap.{heap_items}
 use Rattle.std.specs.HashSet.{contains as has_class}
 use Rattle.std.specs.List.{list_any}
-use Rattle.std.specs.Ordering.{nat_cmp}
-use Rattle.std.proofs.lemmas.Bool.{false_from_ne_true}
-use Rattle.std.proofs.lemmas.List.{length-map}
+use Rattle.std.proofs.lemmas.Bool.{eqb-false, false_from_ne_true}
 use Rattle.linked_classes.specs.Cells.{cell_at}
 use Rattle.linked_classes.specs.Places.{Places}
-use Rattle.saved_steps.specs.Steps.{is_fork, is_write}
 use Rattle.saved_steps.specs.declared.fact.Access.{Access}
 use Rattle.saved_steps.specs.declared.fact.Fact.{Fact}
 use Rattle.saved_steps.specs.declared.record.StepRecord.{StepRecord}
-use Rattle.depends.specs.Dependence.{conflicts, is_start}
-use Rattle.step_index.specs.Buckets.{by_thread, by_exec, by_gate, by_key, by_write, exec_bucket, key_bucket, thread_bucket}
-use Rattle.step_index.specs.Due.{AllDue, AreDue, AreKept, IsBehind, IsFurther, IsGrown, IsOpen, IsOpenByAccess, IsOpenByName, IsTaken, Keeps, is_due}
-use Rattle.step_index.specs.Near.{is_class, shares_by_access, shares_by_name}
+use Rattle.depends.specs.Dependence.{conflicts}
+use Rattle.step_index.specs.Buckets.{by_thread, by_exec, by_gate, by_key, by_write, exec_bucket, key_bucket}
+use Rattle.step_index.specs.Due.{AllDue, AreDue, AreKept, IsFurther, IsOpen, IsOpenByAccess, IsOpenByName, IsTaken, Keeps, is_due}
+use Rattle.step_index.specs.Queue.{IsLeast}
 use Rattle.step_index.specs.Records.{classes_by}
 use Rattle.step_index.specs.Walks.{names_need, needs}
 use Rattle.step_index.specs.declared.due.DuePlaces.{DuePlaces}
 use Rattle.step_index.proofs.Listed.{class_there}
 use Rattle.step_index.proofs.Meeting.{by_name_or_item, meet_in_exec, meet_in_key, meet_in_thread_or_gate, meet_in_write}
-use Rattle.step_index.proofs.Opening.{all_due_grown, grown_more, grown_same, grown_trans, same_place}
+use Rattle.step_index.proofs.Opening.{grown_more, grown_trans}
+use Rattle.step_index.proofs.Queued.{or_true}
 
 -- ---- none
 
@@ -31,16 +29,9 @@ none_has keys test e h = absurd (let x : false ≡ true = sym (ap (list_any test
 
 -- ---- one after another
 
-pub or_true : (a b : Bool) → b ≡ true → (a || b) ≡ true
-or_true true b h = refl
-or_true false b h = h
-
 -- the step at a place passes a test
 abbrev pub Pass : (Fact → Bool) → List StepRecord → ℕ → Type 0
 Pass test rs k = (g : StepRecord) → slice_get rs k ≡ Some g → test g.fact ≡ true
-
-pub kept_same : (d : DuePlaces) → AreKept d d
-kept_same d = record { threads = λ c h. h; execs = λ c h. h; gates = λ c h. h; keys = λ c h. h; writes = λ c h. h }
 
 pub kept_trans : (a b c : DuePlaces) → AreKept a b → AreKept b c → AreKept a c
 kept_trans a b c f g = record {
@@ -50,9 +41,6 @@ kept_trans a b c f g = record {
   keys = λ k h. g.keys k (f.keys k h);
   writes = λ k h. g.writes k (f.writes k h);
 }
-
-pub further_same : (test : Fact → Bool) (rs : List StepRecord) (at : ℕ) (d : DuePlaces) → IsFurther test rs at d d
-further_same test rs at d = record { kept = kept_same d; grown = grown_same (Pass test rs) (is_due d); due = λ h. h }
 
 -- for two reasons
 pub further_both : (one other : Fact → Bool) (rs : List StepRecord) (at : ℕ) (a b c : DuePlaces) → IsFurther one rs at a b → IsFurther other rs at b c → IsFurther (λ g. one g || other g) rs at a c
@@ -107,74 +95,19 @@ module _ (rs : List StepRecord) (from : ℕ) (d : DuePlaces) (due : AreDue rs fr
   pub due_if_needed : (f : StepRecord) → IsOpen d f.fact → needs f g ≡ true → is_due d k ≡ true
   due_if_needed f o need = elim (by_name_or_item f.fact g.fact need) [ inl x ↦ due_by_name f.fact o.named x | inr x ↦ due_by_access f.fact o.accessed x ]
 
--- ---- one class is opened
-
--- the classes of a kind are those of records; places of one class came to those that are due
-module _ (by : Fact → Option ℕ) (rs : List StepRecord) (classes : List (Option ℕ)) (are : classes ≡ classes_by by rs) (class at : ℕ) (old new : ℕ → Bool) (grown : IsGrown (IsBehind classes class at) old new) where
-  in_class : (k : ℕ) → cell_at classes k ≡ Some class → (g : StepRecord) → slice_get rs k ≡ Some g → by g.fact ≡ Some class
-  in_class k there g is =
-      let v : Places = record { classes = classes; width = 0; has_room = false } in
-      sym (class_there by v rs are k g is) ∙ there
-
-  pub grown_by : (test : Fact → Bool) → ((g : Fact) → by g ≡ Some class → test g ≡ true) → IsGrown (Pass test rs) old new
-  grown_by test passes = grown_more (IsBehind classes class at) (Pass test rs) old new (λ k b g is. passes g.fact (in_class k b.2 g is)) grown
-
-  pub within_by : ((k : ℕ) → old k ≡ true → (at + 1 ≤ k) × (k < length rs)) → (k : ℕ) → new k ≡ true → (at + 1 ≤ k) × (k < length rs)
-  within_by before k is = elim (grown.others k is) [
-    | inl x ↦ before k x
-    | inr x ↦ (let l = x.0 in omega (arith, l), let l = x.1 in let n = ap length are ∙ length-map rs (λ (r : StepRecord). by r.fact) in omega (arith, l, n))
-  ]
-
-  -- those of the other classes are due as before
-  pub still : (others : List (Option ℕ)) (opened : ℕ → Bool) → AllDue others (at + 1) old opened → AllDue others (at + 1) new opened
-  still others opened = all_due_grown (IsBehind classes class at) others (at + 1) old new opened grown
-
-  pub due_by : (opened more : ℕ → Bool) → (AllDue classes (at + 1) old opened → AllDue classes (at + 1) new more) → AllDue (classes_by by rs) (at + 1) old opened → AllDue (classes_by by rs) (at + 1) new more
-  due_by opened more = subst (λ cs. AllDue cs (at + 1) old opened → AllDue cs (at + 1) new more) are
-
--- ---- a class that is opened is one that a later step shares
-
-own_class : (c : ℕ) (o : Option ℕ) → o ≡ Some c → is_class c o ≡ true
-own_class c o e = ap (is_class c) e ∙ eq-eqb c c refl
-
-pub shares_exec : (f g : Fact) → (is_start f.kind || is_fork f.kind) ≡ true → by_exec g ≡ Some (exec_bucket f.name.thread.exec) → shares_by_name f g ≡ true
-shares_exec f g makes e =
-    ap (λ b. cond b (is_class (exec_bucket f.name.thread.exec) (by_exec g)) (is_class (thread_bucket f.name.thread) (by_thread g) || is_class (exec_bucket f.name.thread.exec) (by_gate g))) makes
-    ∙ own_class (exec_bucket f.name.thread.exec) (by_exec g) e
-
-module _ (f g : Fact) (none : (is_start f.kind || is_fork f.kind) ≡ false) where
-  other_name : shares_by_name f g ≡ (is_class (thread_bucket f.name.thread) (by_thread g) || is_class (exec_bucket f.name.thread.exec) (by_gate g))
-  other_name = ap (λ b. cond b (is_class (exec_bucket f.name.thread.exec) (by_exec g)) (is_class (thread_bucket f.name.thread) (by_thread g) || is_class (exec_bucket f.name.thread.exec) (by_gate g))) none
-
-  pub shares_thread : by_thread g ≡ Some (thread_bucket f.name.thread) → shares_by_name f g ≡ true
-  shares_thread e = other_name ∙ ap (λ b. b || is_class (exec_bucket f.name.thread.exec) (by_gate g)) (own_class (thread_bucket f.name.thread) (by_thread g) e)
-
-  pub shares_gate : by_gate g ≡ Some (exec_bucket f.name.thread.exec) → shares_by_name f g ≡ true
-  shares_gate e = other_name ∙ or_true (is_class (thread_bucket f.name.thread) (by_thread g)) (is_class (exec_bucket f.name.thread.exec) (by_gate g)) (own_class (exec_bucket f.name.thread.exec) (by_gate g) e)
-
-module _ (a : Access) (g : Fact) where
-  pub shares_key : is_write a.mode ≡ true → by_key g ≡ Some (key_bucket a.key) → shares_by_access (Some a) g ≡ true
-  shares_key wrote e = ap (λ b. is_class (key_bucket a.key) (cond b (by_key g) (by_write g))) wrote ∙ own_class (key_bucket a.key) (by_key g) e
-
-  pub shares_write : is_write a.mode ≡ false → by_write g ≡ Some (key_bucket a.key) → shares_by_access (Some a) g ≡ true
-  shares_write read e = ap (λ b. is_class (key_bucket a.key) (cond b (by_key g) (by_write g))) read ∙ own_class (key_bucket a.key) (by_write g) e
-
 -- ---- the least due place is taken
 
-pub taken : (rs : List StepRecord) (from : ℕ) (old new : DuePlaces) (r : Option ℕ) → AreDue rs from old → AreKept old new → AreKept new old
-    → (r ≡ None → (k : ℕ) → is_due old k ≡ false)
-    → ((p : ℕ) → r ≡ Some p → (is_due old p ≡ true) × ((k : ℕ) → is_due old k ≡ true → p ≤ k) × ((k : ℕ) → is_due new k ≡ cond (is_at (nat_cmp p) k) false (is_due old k)) × (is_due new p ≡ false))
-    → IsTaken rs from old new r
-taken rs from old new None due kept back none some = none refl
-taken rs from old new (Some p) due kept back none some = record {
-  low = (due.within p there).0;
-  within = (due.within p there).1;
-  least = λ k l. false_from_ne_true (is_due old k) (λ h. let low = (s.1 k h) in omega (arith, l, low));
+pub taken : (rs : List StepRecord) (from : ℕ) (old new : DuePlaces) (r : Option ℕ) → AreDue rs from old → AreKept old new → AreKept new old → IsLeast (heap_items old.places.heap) (heap_items new.places.heap) r → IsTaken rs from old new r
+taken rs from old new None due kept back none = none
+taken rs from old new (Some p) due kept back first = record {
+  low = (due.within p first.there).0;
+  within = (due.within p first.there).1;
+  least = λ k l. false_from_ne_true (is_due old k) (λ h. let low = (first.least k h) in omega (arith, l, low));
   kept = kept;
-  there = there;
-  fewer = was;
+  there = first.there;
+  fewer = λ k h. (was k h).1;
   due = record {
-    within = λ k h. (behind k (was k h) (other k h), (due.within k (was k h)).1);
+    within = λ k h. let w = was k h in (behind k w.1 w.0, (due.within k w.1).1);
     threaded = after (classes_by by_thread rs) (has_class nat_eq old.threads) (has_class nat_eq new.threads) back.threads due.threaded;
     run = after (classes_by by_exec rs) (has_class nat_eq old.execs) (has_class nat_eq new.execs) back.execs due.run;
     gated = after (classes_by by_gate rs) (has_class nat_eq old.gates) (has_class nat_eq new.gates) back.gates due.gated;
@@ -183,31 +116,22 @@ taken rs from old new (Some p) due kept back none some = record {
   };
 }
   where
-    s : (is_due old p ≡ true) × ((k : ℕ) → is_due old k ≡ true → p ≤ k) × ((k : ℕ) → is_due new k ≡ cond (is_at (nat_cmp p) k) false (is_due old k)) × (is_due new p ≡ false)
-    s = some p refl
-
-    there : is_due old p ≡ true
-    there = s.0
-
-    was : (k : ℕ) → is_due new k ≡ true → is_due old k ≡ true
-    was k h = by (is_at (nat_cmp p) k) refl
+    was : (k : ℕ) → is_due new k ≡ true → ((p == k) ≡ false) × (is_due old k ≡ true)
+    was k h = by (p == k) refl
       where
-        by : (b : Bool) → is_at (nat_cmp p) k ≡ b → is_due old k ≡ true
-        by true e = absurd (let x : false ≡ true = sym (s.2 k ∙ ap (λ b. cond b false (is_due old k)) e) ∙ h in cc)
-        by false e = sym (s.2 k ∙ ap (λ b. cond b false (is_due old k)) e) ∙ h
+        by : (b : Bool) → (p == k) ≡ b → ((p == k) ≡ false) × (is_due old k ≡ true)
+        by true e = absurd (let x : false ≡ true = sym (first.taken k ∙ ap (λ b. cond b false (is_due old k)) e) ∙ h in cc)
+        by false e = (e, sym (first.taken k ∙ ap (λ b. cond b false (is_due old k)) e) ∙ h)
 
-    other : (k : ℕ) → is_due new k ≡ true → k ≡ p → ⊥
-    other k h e = absurd (let x : false ≡ true = sym (ap (is_due new) e ∙ s.3) ∙ h in cc)
-
-    behind : (k : ℕ) → is_due old k ≡ true → (k ≡ p → ⊥) → p + 1 ≤ k
-    behind k h apart = let low = (s.1 k h) in omega (arith, low, apart)
+    behind : (k : ℕ) → is_due old k ≡ true → (p == k) ≡ false → p + 1 ≤ k
+    behind k h apart = let low = (first.least k h) in let other = eqb-false p k apart in omega (arith, low, other)
 
     stays : (k : ℕ) → p + 1 ≤ k → is_due old k ≡ true → is_due new k ≡ true
-    stays k l h = s.2 k ∙ by (is_at (nat_cmp p) k) refl
+    stays k l h = first.taken k ∙ by (p == k) refl
       where
-        by : (b : Bool) → is_at (nat_cmp p) k ≡ b → cond b false (is_due old k) ≡ true
-        by true e = absurd (let x = same_place p k e in omega (arith, l, x))
+        by : (b : Bool) → (p == k) ≡ b → cond b false (is_due old k) ≡ true
+        by true e = absurd (let x = eqb-true p k e in omega (arith, l, x))
         by false e = h
 
     after : (classes : List (Option ℕ)) (opened more : ℕ → Bool) → Keeps more opened → AllDue classes from (is_due old) opened → AllDue classes (p + 1) (is_due new) more
-    after classes opened more same all = λ k c l is o. stays k l (all k c (let low = (due.within p there).0 in omega (arith, l, low)) is (same c o))
+    after classes opened more same all = λ k c l is o. stays k l (all k c (let low = (due.within p first.there).0 in omega (arith, l, low)) is (same c o))

@@ -1,20 +1,17 @@
 -- A class is opened: the walk back through it puts its later places to those that are due.
-use Rattle.std.proofs.Common.{◌≡◌, ◌<◌, ◌≤◌, arith, ℕ, Bool, true, false, cond, List, Option, None, Some, eqb-true, length, refl, ap, sym, subst, ◌∙◌, inl, inr, ◌⊎◌}
-use Rattle.std.specs.Prelude.{nat_eq, IfSome}
-use Rattle.std.specs.BTreeMap.{is_at}
-use Rattle.std.specs.Ordering.{nat_cmp}
-use Rattle.std.proofs.lemmas.Map.Lookups.{exact_unsigned}
-use Rattle.std.proofs.lemmas.Map.Views.{tells_apart}
+use Rattle.std.proofs.Common.{◌≡◌, ◌==◌, ◌<◌, ◌≤◌, arith, ℕ, Bool, true, false, cond, List, Option, None, Some, eq-eqb, eqb-true, length, refl, ap, sym, subst, ◌∙◌, inl, inr, ◌⊎◌}
+use Rattle.std.specs.Prelude.{◌||◌, IfSome}
 use Rattle.std.proofs.lemmas.Option.{IfSome_then}
 use Rattle.linked_classes.specs.Cells.{cell_at}
 use Rattle.linked_classes.specs.Linked.{IsBefore, IsLast}
-use Rattle.step_index.specs.Due.{AllDue, IsBehind, IsGrown, Keeps}
+use Rattle.step_index.specs.Due.{IsBehind, IsGrown, Keeps}
 use Rattle.step_index.proofs.Sought.{IsAbove, between, has_class}
 
 -- ---- sets of places
 
-pub same_place : (n k : ℕ) → is_at (nat_cmp n) k ≡ true → k ≡ n
-same_place n k h = sym (tells_apart exact_unsigned n k h)
+pub or_cond : (a b : Bool) → (a || b) ≡ cond a true b
+or_cond true b = refl
+or_cond false b = refl
 
 pub grown_same : (P : ℕ → Type 0) (due : ℕ → Bool) → IsGrown P due due
 grown_same P due = record { kept = λ k h. h; others = λ k h. inl h }
@@ -30,9 +27,6 @@ grown_more P Q a b more g = record {
   kept = g.kept;
   others = λ k h. elim (g.others k h) [ inl x ↦ inl x | inr x ↦ inr (more k x) ];
 }
-
-pub all_due_grown : (P : ℕ → Type 0) (classes : List (Option ℕ)) (from : ℕ) (due more opened : ℕ → Bool) → IsGrown P due more → AllDue classes from due opened → AllDue classes from more opened
-all_due_grown P classes from due more opened g all = λ k c l is o. g.kept k (all k c l is o)
 
 -- what a set has after one more came
 module _ (n : ℕ) (test old new : ℕ → Bool) (updated : (k : ℕ) → new k ≡ cond (test k) true (old k)) where
@@ -70,25 +64,17 @@ module _ (classes : List (Option ℕ)) (c at : ℕ) (old : ℕ → Bool) where
   pub put_beyond : (n : ℕ) (due : ℕ → Bool) → n ≤ at → IsPut classes c at (Some n) old due → (k : ℕ) → at < k → cell_at classes k ≡ Some c → due k ≡ true
   put_beyond n due w h = λ k l is. h.passed k l is (omega (arith, w, l))
 
-  pub put_more : (n : ℕ) (due more : ℕ → Bool) (last : Option ℕ) → at < n → IsPut classes c at (Some n) old due → ((k : ℕ) → more k ≡ cond (is_at (nat_cmp n) k) true (due k)) → more n ≡ true
+  pub put_more : (n : ℕ) (due more : ℕ → Bool) (last : Option ℕ) → at < n → IsPut classes c at (Some n) old due → ((k : ℕ) → more k ≡ (n == k || due k))
       → IsBefore (cell_at classes) c n last → IfSome last (λ k. k < n) → IsPut classes c at last old more
-  put_more n due more last far h updated came before earlier = record {
+  put_more n due more last far h updated before earlier = record {
     here = has_class (cell_at classes) c n last before;
     within = IfSome_then last earlier (λ k l. let w = h.within in omega (arith, l, w));
-    passed = λ k l is a. elim (between (cell_at classes) c n last before k is a) [ inl e ↦ ap more e ∙ came | inr w ↦ came_kept n (is_at (nat_cmp n)) due more updated k (h.passed k l is w) ];
+    passed = λ k l is a. elim (between (cell_at classes) c n last before k is a) [ inl e ↦ ap more e ∙ updated n ∙ ap (λ b. b || due n) (eq-eqb n n refl) | inr w ↦ came_kept n (λ k. n == k) due more as_cond k (h.passed k l is w) ];
     grown = grown_trans (IsBehind classes c at) old due more h.grown (record {
-      kept = came_kept n (is_at (nat_cmp n)) due more updated;
-      others = λ k l. elim (came_or_was n (is_at (nat_cmp n)) due more updated k l) [ inl e ↦ inr (subst (IsBehind classes c at) (sym (same_place n k e)) (far, h.within, h.here)) | inr x ↦ inl x ];
+      kept = came_kept n (λ k. n == k) due more as_cond;
+      others = λ k l. elim (came_or_was n (λ k. n == k) due more as_cond k l) [ inl e ↦ inr (subst (IsBehind classes c at) (eqb-true n k e) (far, h.within, h.here)) | inr x ↦ inl x ];
     });
   }
-
--- ---- the classes that are open
-
-module _ (classes : List (Option ℕ)) (from class : ℕ) (opened more : ℕ → Bool) (updated : (c : ℕ) → more c ≡ cond (nat_eq class c) true (opened c)) where
-  -- one that was open
-  pub due_as_before : (due : ℕ → Bool) → opened class ≡ true → AllDue classes from due opened → AllDue classes from due more
-  due_as_before due was all = λ k c l is o. elim (came_or_was class (nat_eq class) opened more updated c o) [ inl e ↦ all k c l is (ap opened (sym (eqb-true class c e)) ∙ was) | inr x ↦ all k c l is x ]
-
-  -- one whose later places came to those that are due
-  pub due_besides : (due now : ℕ → Bool) → Keeps due now → ((k : ℕ) → from ≤ k → cell_at classes k ≡ Some class → now k ≡ true) → AllDue classes from due opened → AllDue classes from now more
-  due_besides due now kept here all = λ k c l is o. elim (came_or_was class (nat_eq class) opened more updated c o) [ inl e ↦ here k l (is ∙ ap Some (sym (eqb-true class c e))) | inr x ↦ kept k (all k c l is x) ]
+    where
+      as_cond : (k : ℕ) → more k ≡ cond (n == k) true (due k)
+      as_cond k = updated k ∙ or_cond (n == k) (due k)

@@ -1,8 +1,7 @@
 -- Which later places are due in a plan, and which classes were opened for a step.
 use Rattle.std.specs.Prelude.{◌≡◌, ◌<◌, ◌≤◌, ◌+◌, ◌||◌, ◌⊎◌, ℕ, Bool, true, false, List, Option, None, Some, length, nat_eq, slice_get}
-use Rattle.std.specs.BTreeSet.{contains as has_place}
+use Rattle.std.specs.BinaryHeap.{heap_items}
 use Rattle.std.specs.HashSet.{contains as has_class}
-use Rattle.std.specs.Ordering.{nat_cmp}
 use Rattle.linked_classes.specs.Cells.{cell_at}
 use Rattle.saved_steps.specs.Steps.{is_fork, is_write}
 use Rattle.saved_steps.specs.declared.fact.Access.{Access}
@@ -10,6 +9,7 @@ use Rattle.saved_steps.specs.declared.fact.Fact.{Fact}
 use Rattle.saved_steps.specs.declared.record.StepRecord.{StepRecord}
 use Rattle.depends.specs.Dependence.{is_start}
 use Rattle.step_index.specs.Buckets.{by_thread, by_exec, by_gate, by_key, by_write, exec_bucket, thread_bucket, key_bucket}
+use Rattle.step_index.specs.Queue.{has_place}
 use Rattle.step_index.specs.Records.{classes_by}
 use Rattle.step_index.specs.declared.due.DuePlaces.{DuePlaces}
 
@@ -31,7 +31,7 @@ abbrev pub IsBehind : List (Option ℕ) → ℕ → ℕ → ℕ → Type 0
 IsBehind classes class at k = (at < k) × (k < length classes) × (cell_at classes k ≡ Some class)
 
 abbrev pub is_due : DuePlaces → ℕ → Bool
-is_due d = has_place nat_cmp d.places
+is_due d = has_place (heap_items d.places.heap)
 
 -- the due places are places of these records from one on, and each such place of an opened class is due
 pub record AreDue (rs : List StepRecord) (from : ℕ) (d : DuePlaces) : Type 0 where

@@ -3,6 +3,7 @@ pub mod Walks
 pub mod Records
 pub mod Held
 pub mod Near
+pub mod Queue
 pub mod Due
 pub mod Finding
 pub mod Gathered

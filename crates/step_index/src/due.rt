@@ -1,28 +1,29 @@
 //! Which later places are due in a plan: those of the classes that were opened for the steps that it has found.
 
 ghost use Rattle.std.specs.Prelude.{◌≡◌, ◌<◌, ◌+◌, ℕ, true, false, List, nat_eq, Some, OnOk};
-ghost use Rattle.std.specs.BTreeSet.{contains as has_place};
+ghost use Rattle.std.specs.BinaryHeap.{heap_items};
 ghost use Rattle.std.specs.HashSet.{contains as has_class};
-ghost use Rattle.std.specs.Ordering.{nat_cmp};
 ghost use Rattle.linked_classes.specs.Places.{place_class};
 ghost use Rattle.saved_steps.specs.declared.record.StepRecord.{StepRecord as Kept};
 ghost use Rattle.step_index.specs.Due.{AllDue, AreDue, IsBehind, IsFurther, IsGrown, IsOpen, IsOpenByAccess, IsOpenByName, IsTaken, Keeps, is_due};
 ghost use Rattle.step_index.specs.Near.{shares, shares_by_access, shares_by_name};
+ghost use Rattle.step_index.specs.Queue.{has_place};
 
 use crate::buckets::{exec_bucket, key_bucket, thread_bucket};
 use crate::looks::CountedRecords;
+use crate::queue::PlaceQueue;
 use crate::records::makes_threads;
 use item_store::AccessMode;
 use linked_classes::ClassedPlaces;
 use saved_steps::Fact;
 use std::alloc::{AllocError, Global};
-use std::collections::{BTreeSet, HashSet};
+use std::collections::HashSet;
 
 /// The later places of the classes that were opened, and these classes of each kind. A class is opened once: then its later places
 /// become due, and each is taken once, in their order.
 #[derive(Drop)]
 pub(crate) struct DuePlaces {
-    places: BTreeSet<usize>,
+    places: PlaceQueue,
     threads: HashSet<u32>,
     execs: HashSet<u32>,
     gates: HashSet<u32>,
@@ -37,7 +38,7 @@ impl DuePlaces {
         ensures due { (rs : List Kept) (from : ℕ) → AreDue rs from result }
     {
         DuePlaces {
-            places: BTreeSet::new(alloc),
+            places: PlaceQueue::new(alloc),
             threads: HashSet::new(alloc),
             execs: HashSet::new(alloc),
             gates: HashSet::new(alloc),
@@ -50,7 +51,7 @@ impl DuePlaces {
     pub(crate) fn take_first(&mut self) -> Option<usize>
         ensures { (rs : List Kept) (from : ℕ) → AreDue rs from self.old → IsTaken rs from self.old self.new result }
     {
-        self.places.pop_first()
+        self.places.pop()
     }
 
     /// Opens the classes in which each later step is that depends directly on the one at a place.
@@ -133,7 +134,7 @@ impl DuePlaces {
 
 /// Makes the places of a class behind one due, unless it was opened before.
 fn open_class(
-    due: &mut BTreeSet<usize>,
+    due: &mut PlaceQueue,
     opened: &mut HashSet<u32>,
     steps: &ClassedPlaces,
     class: u32,
@@ -141,9 +142,9 @@ fn open_class(
 ) -> Result<(), AllocError>
     ensures has { OnOk result (has_class nat_eq opened.new class ≡ true) }
     ensures kept { OnOk result (Keeps (has_class nat_eq opened.old) (has_class nat_eq opened.new)) }
-    ensures grown { OnOk result (IsGrown (IsBehind steps.now.classes class at) (has_place nat_cmp due.old) (has_place nat_cmp due.new)) }
-    ensures due { OnOk result (AllDue steps.now.classes (at + 1) (has_place nat_cmp due.old) (has_class nat_eq opened.old)
-        → AllDue steps.now.classes (at + 1) (has_place nat_cmp due.new) (has_class nat_eq opened.new)) }
+    ensures grown { OnOk result (IsGrown (IsBehind steps.now.classes class at) (has_place (heap_items due.old.heap)) (has_place (heap_items due.new.heap))) }
+    ensures due { OnOk result (AllDue steps.now.classes (at + 1) (has_place (heap_items due.old.heap)) (has_class nat_eq opened.old)
+        → AllDue steps.now.classes (at + 1) (has_place (heap_items due.new.heap)) (has_class nat_eq opened.new)) }
 {
     if !opened.insert(class)? {
         return Ok(());
@@ -153,20 +154,20 @@ fn open_class(
 
 /// Puts the places of a class behind one to those that are due.
 fn put_behind(
-    due: &mut BTreeSet<usize>,
+    due: &mut PlaceQueue,
     steps: &ClassedPlaces,
     class: u32,
     at: usize,
 ) -> Result<(), AllocError>
-    ensures all { OnOk result ((k : ℕ) → at < k → place_class steps.now k ≡ Some class → has_place nat_cmp due.new k ≡ true) }
-    ensures grown { OnOk result (IsGrown (IsBehind steps.now.classes class at) (has_place nat_cmp due.old) (has_place nat_cmp due.new)) }
+    ensures all { OnOk result ((k : ℕ) → at < k → place_class steps.now k ≡ Some class → has_place (heap_items due.new.heap) k ≡ true) }
+    ensures grown { OnOk result (IsGrown (IsBehind steps.now.classes class at) (has_place (heap_items due.old.heap)) (has_place (heap_items due.new.heap))) }
 {
     let mut last = steps.last(class);
     while let Some(place) = last {
         if place <= at {
             return Ok(());
         }
-        due.insert(place)?;
+        due.push(place)?;
         last = steps.before(place);
     }
     Ok(())

@@ -9,6 +9,7 @@ mod gathered;
 mod held;
 mod looks;
 mod plans;
+mod queue;
 mod records;
 mod walks;
 
