@@ -1,5 +1,5 @@
 -- What a follower's lines do to the book that answers: a fed line is given to it by itself, and nothing else changes it.
-use Rattle.std.specs.Prelude.{◌≡◌, ◌⊎◌, ℕ, List, ◌++◌, [], Option, Some, Result, codes}
+use Rattle.std.specs.Prelude.{◌≡◌, ◌⊎◌, ℕ, List, ◌++◌, [], Some, Result, codes}
 use Rattle.operator_line.specs.Serving.{Serves}
 use Rattle.operator_line.specs.Sessions.{Sitting, session_log}
 use Rattle.operator_line.specs.declared.serving.ServeFault.{ServeFault}

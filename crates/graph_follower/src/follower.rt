@@ -1,5 +1,5 @@
 // A book with what questions need beside it.
-ghost use Rattle.std.specs.Prelude.{◌≡◌, false, codes, IfOk};
+ghost use Rattle.std.specs.Prelude.{◌≡◌, false};
 ghost use Rattle.graph_follower.specs.Following.{Feeds, Follows, IsGiven};
 
 use crate::giving::give_line;
