@@ -1,7 +1,9 @@
 //! In which class a step is, by the hash of a part of its fact.
 
-ghost use Rattle.std.specs.Prelude.{◌≡◌, ◌<◌, ◌≤◌, ◌%◌, IfSome, Some, length};
+ghost use Rattle.std.specs.Prelude.{◌≡◌, ◌<◌, ◌≤◌, ◌%◌, ◌||◌, IfSome, Some, length};
 ghost use Rattle.std.specs.Hash.FoldHasher.{finish};
+ghost use Rattle.depends.specs.Dependence.{is_start};
+ghost use Rattle.saved_steps.specs.Steps.{is_fork};
 ghost use Rattle.step_index.specs.Buckets.{above, by_home, by_name, by_thread, by_exec, by_gate, by_key, by_write, name_bucket, thread_bucket, exec_bucket, key_bucket, is_gate};
 
 use attr_values::Key;
@@ -92,6 +94,13 @@ pub(crate) fn is_gate(fact: &Fact) -> bool
         Kind::Join | Kind::Terminate => true,
         Kind::Start | Kind::Plain | Kind::Call | Kind::Fork => fact.bound != 0,
     }
+}
+
+/// Whether threads are there by a step of this kind.
+pub(crate) fn makes_threads(kind: Kind) -> bool
+    ensures { result ≡ (is_start kind || is_fork kind) }
+{
+    matches!(kind, Kind::Start | Kind::Fork)
 }
 
 /// The class of the key that a step touched.

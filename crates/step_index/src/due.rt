@@ -9,10 +9,9 @@ ghost use Rattle.step_index.specs.Due.{AllDue, AreDue, IsBehind, IsFurther, IsGr
 ghost use Rattle.step_index.specs.Near.{shares, shares_by_access, shares_by_name};
 ghost use Rattle.step_index.specs.Queue.{has_place};
 
-use crate::buckets::{exec_bucket, key_bucket, thread_bucket};
+use crate::buckets::{exec_bucket, key_bucket, makes_threads, thread_bucket};
 use crate::looks::CountedRecords;
 use crate::queue::PlaceQueue;
-use crate::records::makes_threads;
 use item_store::AccessMode;
 use linked_classes::ClassedPlaces;
 use saved_steps::Fact;

@@ -1,10 +1,8 @@
 //! The records, and the classes of their places.
 
-ghost use Rattle.std.specs.Prelude.{◌≡◌, ◌<◌, ◌≤◌, ◌+◌, ◌-◌, ◌==◌, ◌||◌, [], ◌∷◌, ◌++◌, true, drop, length, map, position, slice_get, Some, IfOk, OnOk};
+ghost use Rattle.std.specs.Prelude.{◌≡◌, ◌<◌, ◌≤◌, ◌+◌, ◌-◌, ◌==◌, [], ◌∷◌, ◌++◌, true, drop, length, map, position, slice_get, Some, IfOk, OnOk};
 ghost use Rattle.std.specs.List.{count_by, remove};
 ghost use Rattle.depends.specs.Plans as plans;
-ghost use Rattle.depends.specs.Dependence.{is_start};
-ghost use Rattle.saved_steps.specs.Steps.{is_fork};
 ghost use Rattle.saved_steps.specs.World.{is_same_step};
 ghost use Rattle.saved_steps.specs.declared.record.StepRecord.{StepRecord as Kept};
 ghost use Rattle.step_index.specs.Gathered.{accesses, is_of, places_where};
@@ -12,8 +10,8 @@ ghost use Rattle.step_index.specs.Near.{is_near};
 ghost use Rattle.step_index.specs.Walks.{ConflictsAt, IsFirstFrom, NeedsByName, needs};
 
 use crate::buckets::{
-    BUCKETS, access_bucket, exec_bucket, gate_bucket, key_bucket, name_bucket, thread_bucket,
-    write_bucket,
+    BUCKETS, access_bucket, exec_bucket, gate_bucket, key_bucket, makes_threads, name_bucket,
+    thread_bucket, write_bucket,
 };
 use crate::gathered::{gathered_accesses, gathered_of};
 use crate::looks::{CountedRecords, Looks};
@@ -23,7 +21,7 @@ use attr_values::Key;
 use depends::Plan;
 use item_store::AccessMode;
 use linked_classes::{ClassedPlaces, NumberedVec};
-use saved_steps::{Kind, StepRecord};
+use saved_steps::StepRecord;
 use std::alloc::{AllocError, Global};
 use std::marker::Model;
 use std::mem;
@@ -229,9 +227,9 @@ impl StepRecords {
         plan_of(alloc, &self.counted(), at)
     }
 
-    /// The same, with its looks at records added to a count. One pass over the later steps: each is looked at once at most, and only
-    /// where one that was found is in the class of its execution or of its key. Takes memory for the marks of each step that was
-    /// found, and for each record that is looked at a few look-ups among these.
+    /// The same, with its looks at records added to a count. A later step is looked at once, and only if it is in a class that was
+    /// opened for one that was found. Takes memory for the marks of each step that was found, for the opened classes and for their
+    /// later places, and for each record that is looked at a few look-ups among the marks.
     pub fn plan_with_looks(
         &self,
         alloc: Global,
@@ -276,11 +274,4 @@ impl StepRecords {
         let closing = first_needing_in(records, &self.gates, class, at);
         earlier(first_needing(records, &self.threads, at), closing)
     }
-}
-
-/// Whether threads are there by a step of this kind.
-pub(crate) fn makes_threads(kind: Kind) -> bool
-    ensures { result ≡ (is_start kind || is_fork kind) }
-{
-    matches!(kind, Kind::Start | Kind::Fork)
 }
