@@ -25,6 +25,7 @@ from .words import Words
 if TYPE_CHECKING:
     import ssl
 
+    from ..aws.serving import Amazon
     from ..web.serving import Web
 
 BACKLOG = 512  # callers that wait to be taken
@@ -49,6 +50,7 @@ class Server:
         self._runners: Optional[Runners] = None
         self.lines = Lines(self, self.turns)
         self._web: Optional[Web] = None
+        self._amazon: Optional[Amazon] = None
 
     # ---- callers
 
@@ -216,6 +218,12 @@ class Server:
         from ..web.serving import Web  # who serves no pages needs no aiohttp
 
         self._web = Web(self, self.words)
+        if self.words.aws:
+            from ..aws.serving import Amazon
+
+            self._amazon = Amazon(self, self.words)
+            await self._amazon.begin()
+            self._web.amazon = self._amazon.handle
         await self._web.begin()
 
     async def _listen(self) -> asyncio.AbstractServer:
@@ -281,6 +289,8 @@ class Server:
         if self._web is not None:
             await self._web.end()
         await self._until(lambda: not self.turns.given, None)
+        if self._amazon is not None:
+            self._amazon.end()
         self._program.end_input()
         await self._program.status()
         if self._follower is not None:

@@ -1,0 +1,52 @@
+"""Histories of executions, kept for the next page as long as no line is accepted."""
+from __future__ import annotations
+
+import asyncio
+import json
+from collections import OrderedDict
+from typing import Any, Callable, Dict, List
+
+from .book import Book
+from .events import Events, Machine
+from .names import Arns
+
+MOST_KEPT = 8
+Answer = Dict[str, Any]
+
+
+class History:
+    """Makes them."""
+
+    def __init__(self, book: Book, arns: Arns, role: Callable[[str], str]):
+        self._book, self._arns, self._role = book, arns, role
+        self._kept: OrderedDict[str, Any] = OrderedDict()
+
+    async def events(self, shown: Answer, input: str) -> List[Answer]:
+        """The events of an execution that was shown, from the first one on."""
+        name, entries = shown["execution"], shown["entries"]
+        kept = self._kept.get(name)
+        if kept is not None and kept[0] == entries:
+            found: List[Answer] = kept[1]
+            return found
+        found = await self._made(shown, input)
+        self._kept[name] = (entries, found)
+        self._kept.move_to_end(name)
+        while len(self._kept) > MOST_KEPT:
+            self._kept.popitem(last=False)
+        return found
+
+    async def _made(self, shown: Answer, input: str) -> List[Answer]:
+        store, name = self._book.store, shown["execution"]
+        definition = await self._book.definition(shown["machine"])
+        machine = Machine(json.loads(definition or "{}"), shown["threads"])
+        calls = [
+            step["step"]
+            for thread in shown["threads"]
+            for step in thread["steps"]
+            if step["access"] in ("read", "write")
+        ]
+        told = await asyncio.gather(*(self._book.ask(f"show {step}") for step in calls))
+        # a step that was taken back meanwhile has no answer
+        items = {step: answer["step"]["items"]["before"] for step, answer in zip(calls, told) if "step" in answer}
+        events = Events(shown, machine, self._arns.region, store.moment, items)
+        return events.make(input, self._role(shown["machine"]), store.moment(store.start_entry(name)))
