@@ -89,14 +89,11 @@ class Executions:
             "status": _STATUS[status],
             "startDate": self._started(name),
             "redriveCount": 0,
+            "redriveStatus": "NOT_REDRIVABLE",
+            "redriveStatusReason": "An execution here is never redriven: a rollback takes its steps back.",
         }
         if status != "open":
-            found["stopDate"] = self._stopped(_last_entry(shown), name)
-            found["redriveStatus"] = "NOT_REDRIVABLE"
-            found["redriveStatusReason"] = "An execution here is never redriven: a rollback takes its steps back."
-        else:
-            found["redriveStatus"] = "NOT_REDRIVABLE"
-            found["redriveStatusReason"] = "Execution is RUNNING and cannot be redriven"
+            found["stopDate"] = self._stopped(await self._last_entry(shown), name)
         if members.choice("includedData", _INCLUDED, "ALL_DATA") == "ALL_DATA":
             found.update(self._data(shown))
         return found
@@ -118,6 +115,15 @@ class Executions:
             return given if given is not None and canonical(json.loads(given)) == own else own
         except (ValueError, RecursionError):
             return own
+
+    async def _last_entry(self, shown: Answer) -> Optional[int]:
+        """The line of an execution's last step, which may be settled."""
+        entries = [step["entry"] for thread in shown["threads"] for step in thread["steps"]]
+        if entries:
+            return max(entries)
+        rows = (await self._book.ask(f"threads {shown['execution']}")).get("threads") or [{}]
+        found: Optional[int] = rows[0].get("entry")
+        return found
 
     def _stopped(self, entry: Optional[int], name: str) -> float:
         return max(round(self._book.store.moment(entry), 3), self._started(name))
@@ -200,12 +206,6 @@ def _without_data(event: Answer) -> Answer:
             }
         found[name] = value
     return found
-
-
-def _last_entry(shown: Answer) -> Optional[int]:
-    """The line of an execution's last step, if one remains."""
-    entries = [step["entry"] for thread in shown["threads"] for step in thread["steps"]]
-    return max(entries, default=None)
 
 
 def _input_of(text: str) -> Any:
