@@ -120,7 +120,7 @@ class Executions:
         """The line of an execution's last step, which may be settled."""
         entries = [step["entry"] for thread in shown["threads"] for step in thread["steps"]]
         if entries:
-            return max(entries)
+            return int(max(entries))
         rows = (await self._book.ask(f"threads {shown['execution']}")).get("threads") or [{}]
         found: Optional[int] = rows[0].get("entry")
         return found

@@ -200,10 +200,8 @@ class KeyCondition:
 def key_condition_of(text: str, given: Substitutions, key: Tuple[Tuple[str, str], ...]) -> KeyCondition:
     """A key condition: the partition key equal to a value, and perhaps one test of the sort key."""
     words = Words("KeyConditionExpression", text)
-    tests = [_test(words, given)]
-    while words.next:
-        words.take("AND")
-        tests.append(_test(words, given))
+    tests = _tests(words, given)
+    words.end()
     named = dict(tests)
     if len(tests) > 2 or len(named) != len(tests):
         raise invalid(words.kind, "KeyConditionExpressions must only contain one condition per key")
@@ -228,13 +226,23 @@ def key_condition_of(text: str, given: Substitutions, key: Tuple[Tuple[str, str]
 Test = Tuple[str, List[Item]]
 
 
+def _tests(words: Words, given: Substitutions) -> List[Tuple[str, Test]]:
+    """Tests that all have to hold, each with the name that it is of."""
+    found: List[Tuple[str, Test]] = []
+    while True:
+        if words.next == "(":
+            words.take()
+            found += _tests(words, given)
+            words.take(")")
+        else:
+            found.append(_test(words, given))
+        if words.next.upper() != "AND":
+            return found
+        words.take()
+
+
 def _test(words: Words, given: Substitutions) -> Tuple[str, Test]:
     """One test, with the name that it is of."""
-    if words.next == "(":
-        words.take()
-        found = _test(words, given)
-        words.take(")")
-        return found
     if words.next == "begins_with":
         words.take()
         words.take("(")

@@ -18,7 +18,7 @@ from .wire import Call, Fault
 
 MOST_REQUESTS = 25
 HEADER = "x-rollback-step"
-TRIES = 3
+MOST_NAMES = 100
 _FULL = "the book is full: settle its steps (rollback-shell, or rollback-serve --settle-at N), or begin another one"
 _CONDITION_TEXT = "The conditional request failed"
 Answer = Dict[str, Any]
@@ -33,10 +33,10 @@ class Write:
     condition: Optional[str] = None
 
     @property
-    def machine(self) -> str:
-        """The machine that makes it."""
-        kind = "put" if self.call == "putItem" else "delete"
-        return f"{OWN}{kind}" if self.condition is None else f"{OWN}{kind}-if"
+    def kind(self) -> str:
+        """How the name of the machine that makes it begins."""
+        word = "put" if self.call == "putItem" else "delete"
+        return f"{OWN}{word}" if self.condition is None else f"{OWN}{word}-if"
 
     @property
     def input(self) -> Answer:
@@ -78,6 +78,7 @@ class Writes:
 
     def __init__(self, book: Book):
         self._book = book
+        self._machines: Dict[str, str] = {}  # by kind, those that are known to be the server's own
 
     async def put(self, caller: str, call: Call) -> Answer:
         """PutItem."""
@@ -145,27 +146,34 @@ class Writes:
 
     async def _made(self, caller: str, table: Table, write: Write) -> Written:
         """Starts and steps the execution of a write. If it can't be stepped, its start is undone, so nothing is left."""
-        for _ in range(TRIES):
-            name = f"{write.machine}-{uuid.uuid4().hex[:16]}"
-            text = json.dumps(write.input, separators=(",", ":"), ensure_ascii=False)
+        machine = self._machines.get(write.kind) or await self._machine_for(caller, table, write)
+        text = json.dumps(write.input, separators=(",", ":"), ensure_ascii=False)
+        while True:
+            name = f"{write.kind}-{uuid.uuid4().hex[:16]}"
             start, step, show = await self._book.give(
-                caller, f"start {name} {write.machine} {text}", f"step {name}", f"show {name}"
+                caller, f"start {name} {machine} {text}", f"step {name}", f"show {name}"
             )
             code = refusal_of(start)
-            if code == 1:
-                await self._define(caller, table, write)
-            elif code is None:
+            if code is None:
                 return await self._came(caller, name, step, show)
-            elif code != 4:
+            if code != 4:
                 raise _start_fault(code, start)
-        raise Fault("InternalServerError", "the book takes no machine of the server's own", 500)
 
-    async def _define(self, caller: str, table: Table, write: Write) -> None:
-        definition = json.dumps(write.definition(table), separators=(",", ":"), ensure_ascii=False)
-        (reply,) = await self._book.give(caller, f"define {write.machine} {definition}")
-        code = refusal_of(reply)
-        if code not in (None, 2):
-            raise _start_fault(code or 0, reply)
+    async def _machine_for(self, caller: str, table: Table, write: Write) -> str:
+        """The machine that makes such a write. If another one has its name, it has the next name."""
+        wanted = write.definition(table)
+        text = json.dumps(wanted, separators=(",", ":"), ensure_ascii=False)
+        for number in range(1, MOST_NAMES):
+            name = write.kind if number == 1 else f"{write.kind}-{number}"
+            (reply,) = await self._book.give(caller, f"define {name} {text}")
+            code = refusal_of(reply)
+            if code not in (None, 2):
+                raise _start_fault(code or 0, reply)
+            there = wanted if code is None else json.loads(await self._book.definition(name) or "{}")
+            if there == wanted:
+                self._machines[write.kind] = name
+                return name
+        raise Fault("LimitExceededException", f"the book's own machines have all names from {write.kind} on")
 
     async def _came(self, caller: str, name: str, step: str, show: str) -> Written:
         words = show.split(" ", 3)
