@@ -376,7 +376,7 @@ class Histories(WithAmazon):
         )
         wanted = ["ExecutionStarted", *self.CALL, *choice, *self.CALL, *succeed, "ExecutionSucceeded"]
         self.assertEqual(self.kinds(events), wanted)
-        self.assertEqual([event["previousEventId"] for event in events], list(range(len(events))))
+        self.assertEqual([event["previousEventId"] for event in events], [0, 0, *range(2, len(events))])
         entered, scheduled, started, succeeded, exited = events[1:6]
         self.assertEqual(entered["stateEnteredEventDetails"]["name"], "LookUp")
         self.assertEqual(json.loads(entered["stateEnteredEventDetails"]["input"]), {"product": "widget", "order": "o"})

@@ -79,11 +79,7 @@ PLAN = (
     (
         f"{TABLES}.DescribeContinuousBackups",
         {"TableName": "orders"},
-        {
-            "ContinuousBackupsDescription": {
-                "PointInTimeRecoveryDescription": {"PointInTimeRecoveryStatus": "DISABLED"}
-            }
-        },
+        {"ContinuousBackupsDescription": {"PointInTimeRecoveryDescription": {"PointInTimeRecoveryStatus": "DISABLED"}}},
     ),
     (
         f"{TABLES}.DescribeTimeToLive",

@@ -69,6 +69,8 @@ class Events:
         self._time = started
         details = {"input": input, "inputDetails": {"truncated": False}, "roleArn": role}
         self._add("ExecutionStarted", name, None, executionStartedEventDetails=details)
+        # the first state has none before it, as at Amazon
+        self._last[name] = 0
         steps = [step for thread in self._shown["threads"] for step in thread["steps"]]
         for step in sorted(steps, key=lambda step: int(step["entry"])):
             if step["kind"] == "start":
