@@ -1,9 +1,13 @@
 """DynamoDB by boto3: the table, reads, and writes that are steps. The wanted answers are those of Amazon's documents."""
+import re
+import subprocess
+import sys
 import time
 from decimal import Decimal
 
 from rollback_client import Book, Done
 from tests.amazon import HASH_ID, WithAmazon, client_of, error_of, plain_answer, request_of, session
+from tests.program import TOP
 from tests.runners import chain, get
 
 STEP = "x-rollback-step"
@@ -602,3 +606,23 @@ class Shapes(OfTable):
                 self.look_at(below, shape.member, where)
         elif shape.enum if shape.type_name == "string" else None:
             self.assertIn(value, shape.enum, where)
+
+
+class Guide(OfTable):
+    def test_the_lines_of_the_readme(self):
+        """The four lines of boto3 in README.md, with this server's address in the place of the one that they name."""
+        text = (TOP / "README.md").read_text(encoding="utf-8")
+        lines = re.search(r"(?m)^    import boto3\n(?:    .*\n)+", text)[0].replace("    ", "")
+        self.assertEqual(len(lines.splitlines()), 4)
+        self.server.end()
+        self.begin(table=("orders", "id:S"), journal="tried.db")
+        done = subprocess.run(
+            [sys.executable, "-c", lines.replace("http://127.0.0.1:8000", self.server.url)],
+            stdout=subprocess.PIPE,
+            text=True,
+            timeout=60,
+            check=True,
+        )
+        step = done.stdout.strip()
+        self.assertEqual([str(name) for name in self.book().rollback(step)], [step])
+        self.assertEqual(self.tables.scan(TableName="orders")["Count"], 0)
