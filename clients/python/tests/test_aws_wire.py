@@ -2,6 +2,8 @@
 import json
 import random
 import subprocess
+import sys
+import unittest
 import zlib
 
 from rollback_client.aws.refused import STATES as REFUSED_STATES
@@ -244,3 +246,17 @@ class Drawn(WithAmazon):
         _, said = server.end()
         self.assertNotIn("Traceback", said)
         self.assertNotIn("has failed", said)
+
+
+class Alone(unittest.TestCase):
+    def test_nothing_of_it_is_imported_without_the_word(self):
+        block = (
+            "import sys\n"
+            "from rollback_client.server.words import read_words\n"
+            "import rollback_client.server.running, rollback_client.serve\n"
+            "read_words(['--socket', 'x'])\n"
+            "print([name for name in sys.modules if name.startswith('rollback_client.aws')])\n"
+        )
+        command = [sys.executable, "-c", block]
+        done = subprocess.run(command, stdout=subprocess.PIPE, text=True, cwd=TOP / "clients/python", check=True)
+        self.assertEqual(done.stdout, "[]\n")

@@ -20,46 +20,9 @@ class Actions:
     """The calls of both services that a book answers."""
 
     def __init__(self, book: Book, arns: Arns):
-        machines = Machines(book, arns)
-        executions = Executions(book, arns, machines)
-        tables, items, writes = Tables(book, arns), Items(book), Writes(book)
-        states: Mapping[str, Action] = {
-            "CreateStateMachine": machines.create,
-            "DescribeStateMachine": machines.describe,
-            "ListStateMachines": machines.list,
-            "ValidateStateMachineDefinition": machines.validate,
-            "ListTagsForResource": machines.list_tags,
-            "TagResource": machines.tag,
-            "UntagResource": machines.untag,
-            "ListStateMachineVersions": machines.no_versions,
-            "ListStateMachineAliases": machines.no_aliases,
-            "ListActivities": _no_activities,
-            "DescribeStateMachineForExecution": executions.machine_for,
-            "StartExecution": executions.start,
-            "DescribeExecution": executions.describe,
-            "ListExecutions": executions.list,
-            "GetExecutionHistory": executions.history,
-        }
-        of_tables: Mapping[str, Action] = {
-            "CreateTable": tables.create,
-            "DescribeTable": tables.describe,
-            "ListTables": tables.list,
-            "DescribeTimeToLive": tables.time_to_live,
-            "DescribeContinuousBackups": tables.continuous_backups,
-            "ListTagsOfResource": tables.list_tags,
-            "TagResource": tables.tag,
-            "UntagResource": tables.untag,
-            "GetItem": items.get,
-            "BatchGetItem": items.batch_get,
-            "Query": items.query,
-            "Scan": items.scan,
-            "PutItem": writes.put,
-            "DeleteItem": writes.delete,
-            "BatchWriteItem": writes.batch,
-        }
         self._actions: Dict[Tuple[Service, str], Action] = {
-            **{(Service.STATES, name): action for name, action in states.items()},
-            **{(Service.TABLES, name): action for name, action in of_tables.items()},
+            **{(Service.STATES, name): action for name, action in _of_states(book, arns).items()},
+            **{(Service.TABLES, name): action for name, action in _of_tables(book, arns).items()},
         }
 
     async def answer(self, caller: str, call: Call) -> Dict[str, Any]:
@@ -73,3 +36,46 @@ class Actions:
 async def _no_activities(caller: str, call: Call) -> Dict[str, Any]:
     """ListActivities: a book has none."""
     return {"activities": []}
+
+
+def _of_states(book: Book, arns: Arns) -> Mapping[str, Action]:
+    machines = Machines(book, arns)
+    executions = Executions(book, arns, machines)
+    return {
+        "CreateStateMachine": machines.create,
+        "DescribeStateMachine": machines.describe,
+        "ListStateMachines": machines.list,
+        "ValidateStateMachineDefinition": machines.validate,
+        "ListTagsForResource": machines.list_tags,
+        "TagResource": machines.tag,
+        "UntagResource": machines.untag,
+        "ListStateMachineVersions": machines.no_versions,
+        "ListStateMachineAliases": machines.no_aliases,
+        "ListActivities": _no_activities,
+        "DescribeStateMachineForExecution": executions.machine_for,
+        "StartExecution": executions.start,
+        "DescribeExecution": executions.describe,
+        "ListExecutions": executions.list,
+        "GetExecutionHistory": executions.history,
+    }
+
+
+def _of_tables(book: Book, arns: Arns) -> Mapping[str, Action]:
+    tables, items, writes = Tables(book, arns), Items(book), Writes(book)
+    return {
+        "CreateTable": tables.create,
+        "DescribeTable": tables.describe,
+        "ListTables": tables.list,
+        "DescribeTimeToLive": tables.time_to_live,
+        "DescribeContinuousBackups": tables.continuous_backups,
+        "ListTagsOfResource": tables.list_tags,
+        "TagResource": tables.tag,
+        "UntagResource": tables.untag,
+        "GetItem": items.get,
+        "BatchGetItem": items.batch_get,
+        "Query": items.query,
+        "Scan": items.scan,
+        "PutItem": writes.put,
+        "DeleteItem": writes.delete,
+        "BatchWriteItem": writes.batch,
+    }

@@ -5,7 +5,7 @@ import asyncio
 import json
 import time
 from dataclasses import dataclass
-from typing import Any, Callable, Dict, List, Optional, Protocol, Tuple
+from typing import Any, Callable, Dict, List, Optional, Protocol, Set, Tuple
 
 from ..server.follower import accepted
 from .store import Store
@@ -53,6 +53,7 @@ class Watch:
     def __init__(self, store: Store, entries: int, now: Callable[[], float] = time.time):
         self._store, self.entries, self._now = store, entries, now
         self.table: Optional[Table] = None
+        self.known: Set[str] = set()  # executions whose start was heard of, so what the store has of it is theirs
 
     def follow(self, line: bytes, reply: bytes) -> None:
         """Takes a line with its reply, as the follower does."""
@@ -62,17 +63,20 @@ class Watch:
         moment = self._now()
         for at in range(len(lines)):
             self._store.accepted(self.entries + at, moment)
-        words = lines[0].split(b" ", 3)
-        if words[0] == b"start":
-            self._store.started(words[1].decode(), self.entries)
-        elif words[0] == b"define":
-            name = words[1].decode()
-            machine = self._store.machine(name)
+        words = lines[0].decode().split(" ", 3)
+        if words[0] == "start":
+            self._store.started(words[1], self.entries, words[3])
+            self.known.add(words[1])
+        elif words[0] == "define":
+            machine = self._store.machine(words[1])
             machine.moment = moment
-            self._store.keep_machine(name, machine)
-        elif words[0] == b"table":
+            self._store.keep_machine(words[1], machine)
+        elif words[0] == "table":
             self.table = Table.of_line(lines[0].decode())
             self._store.keep_fact("created", moment)
+        elif words[0] in ("undo", "rollback"):
+            undone = words[1:] if words[0] == "undo" else reply.decode().split("\n")[1:-1]
+            self.known.difference_update(name[:-2] for name in undone if name.endswith("#0"))
         self.entries += len(lines)
 
 
@@ -97,7 +101,8 @@ class Book:
         entries = self.watch.entries
         if self._items[0] != entries:
             (reply,) = await self.give(caller, "items")
-            rows = [json.loads(line) for line in reply.split("\n")[1:]] if reply.startswith("ok") else []
+            # many are read beside other callers' lines
+            rows = await asyncio.get_running_loop().run_in_executor(None, _rows_of, reply)
             if self.watch.entries == entries:
                 self._items = (entries, rows)
             return rows
@@ -132,6 +137,11 @@ class Book:
         answer = await self.ask(f"show {execution}")
         return answer if "execution" in answer else None
 
+    async def thread(self, execution: str) -> Optional[Answer]:
+        """Where an execution's own thread is, or nothing if there is none of this name. Its `state` is null once it has ended."""
+        rows = (await self.ask(f"threads {execution}")).get("threads")
+        return rows[0] if rows else None
+
     async def executions(self) -> List[Answer]:
         """The rows of all executions of machines that the server doesn't define itself, the latest start first."""
         entries = self.watch.entries
@@ -154,6 +164,10 @@ class Book:
     def start_of(self, execution: str) -> int:
         """The line of an execution's start, or 0 if it isn't known."""
         return self.store.start_entry(execution) or 0
+
+
+def _rows_of(reply: str) -> List[Answer]:
+    return [json.loads(line) for line in reply.split("\n")[1:]] if reply.startswith("ok") else []
 
 
 def refusal_of(reply: str) -> Optional[int]:

@@ -78,11 +78,29 @@ class Executions:
         return found
 
     async def describe(self, caller: str, call: Call) -> Answer:
-        """DescribeExecution."""
+        """DescribeExecution. Of one that goes on, which is asked for again and again, no steps are read."""
         members = Members(call.body)
-        shown = await self._shown(members.text("executionArn"))
-        name, machine, status = shown["execution"], shown["machine"], shown["status"]
-        found: Answer = {
+        arn = members.text("executionArn")
+        has_data = members.choice("includedData", _INCLUDED, "ALL_DATA") == "ALL_DATA"
+        machine, name = execution_of(arn)
+        row = await self._book.thread(name)
+        if (
+            row is not None
+            and row["machine"] == machine
+            and row["state"] is not None
+            and name in self._book.watch.known
+        ):
+            input = self._book.store.input(name)
+            data = {"input": input, "inputDetails": {"included": True}}
+            return {**self._described(machine, name, "open"), **(data if has_data else {})}
+        shown = await self._shown(arn)
+        found = self._described(machine, name, shown["status"])
+        if shown["status"] != "open":
+            found["stopDate"] = self._stopped(None if row is None else row["entry"], name)
+        return {**found, **(self._data(shown) if has_data else {})}
+
+    def _described(self, machine: str, name: str, status: str) -> Answer:
+        return {
             "executionArn": self._arns.execution(machine, name),
             "stateMachineArn": self._arns.machine(machine),
             "name": name,
@@ -92,11 +110,6 @@ class Executions:
             "redriveStatus": "NOT_REDRIVABLE",
             "redriveStatusReason": "An execution here is never redriven: a rollback takes its steps back.",
         }
-        if status != "open":
-            found["stopDate"] = self._stopped(await self._last_entry(shown), name)
-        if members.choice("includedData", _INCLUDED, "ALL_DATA") == "ALL_DATA":
-            found.update(self._data(shown))
-        return found
 
     def _data(self, shown: Answer) -> Answer:
         """What an execution was given, and what came of it."""
@@ -115,15 +128,6 @@ class Executions:
             return given if given is not None and canonical(json.loads(given)) == own else own
         except (ValueError, RecursionError):
             return own
-
-    async def _last_entry(self, shown: Answer) -> Optional[int]:
-        """The line of an execution's last step, which may be settled."""
-        entries = [step["entry"] for thread in shown["threads"] for step in thread["steps"]]
-        if entries:
-            return int(max(entries))
-        rows = (await self._book.ask(f"threads {shown['execution']}")).get("threads") or [{}]
-        found: Optional[int] = rows[0].get("entry")
-        return found
 
     def _stopped(self, entry: Optional[int], name: str) -> float:
         return max(round(self._book.store.moment(entry), 3), self._started(name))
@@ -162,17 +166,10 @@ class Executions:
         return (-self._book.start_of(row["execution"]), row["execution"])
 
     def _row(self, row: Answer) -> Answer:
-        name, machine = row["execution"], row["machine"]
-        found = {
-            "executionArn": self._arns.execution(machine, name),
-            "stateMachineArn": self._arns.machine(machine),
-            "name": name,
-            "status": _STATUS[row["status"]],
-            "startDate": self._started(name),
-            "redriveCount": 0,
-        }
+        found = self._described(row["machine"], row["execution"], row["status"])
+        found = {name: value for name, value in found.items() if not name.startswith("redriveStatus")}
         if row["status"] != "open":
-            found["stopDate"] = self._stopped(row["entry"], name)
+            found["stopDate"] = self._stopped(row["entry"], row["execution"])
         return found
 
     async def history(self, caller: str, call: Call) -> Answer:

@@ -4,7 +4,7 @@ from __future__ import annotations
 import asyncio
 import json
 from collections import OrderedDict
-from typing import Any, Callable, Dict, List
+from typing import Any, Callable, Dict, List, Mapping
 
 from .book import Book
 from .events import Events, Machine
@@ -43,10 +43,17 @@ class History:
             step["step"]
             for thread in shown["threads"]
             for step in thread["steps"]
-            if step["access"] in ("read", "write")
+            if step["access"] in ("read", "write") and _answers_item(machine.state(thread["thread"], step["state"]))
         ]
         told = await asyncio.gather(*(self._book.ask(f"show {step}") for step in calls))
         # a step that was taken back meanwhile has no answer
         items = {step: answer["step"]["items"]["before"] for step, answer in zip(calls, told) if "step" in answer}
         events = Events(shown, machine, self._arns.region, store.moment, items)
         return events.make(input, self._role(shown["machine"]), store.moment(store.start_entry(name)))
+
+
+def _answers_item(state: Mapping[str, Any]) -> bool:
+    """Whether the answer of a state's call may have the item that was there."""
+    parameters = state.get("Parameters")
+    is_put = str(state.get("Resource", "")).endswith(("putItem", "deleteItem"))
+    return not (is_put and isinstance(parameters, dict) and not any(name.startswith("ReturnV") for name in parameters))

@@ -6,7 +6,16 @@ import zlib
 from typing import Any, Dict, List, Optional, Sequence, Tuple
 
 from .book import Book, Table, canonical
-from .expressions import Path, Substitutions, key_condition_of, no_other, ordered, projected, projection_of
+from .expressions import (
+    KeyCondition,
+    Path,
+    Substitutions,
+    key_condition_of,
+    no_other,
+    ordered,
+    projected,
+    projection_of,
+)
 from .members import Members
 from .tables import MOST_NAME, table_for
 from .values import Item, item_of, size_of
@@ -125,15 +134,23 @@ class Items:
             )
         condition = key_condition_of(text, page.substitutions, table.key)
         page.substitutions.look_at_unused(True)
-        (name, kind), sort = table.key[0], table.key[1][0] if len(table.key) > 1 else None
-        wanted = ordered(condition.partition)
-        found = [
-            item
-            for item in await self._book.items(caller)
-            if ordered(item[name]) == wanted and (sort is None or condition.holds(item[sort]))
-        ]
+        found = await self._of_partition(caller, table, condition)
         is_forward = members.flag("ScanIndexForward", True)
         return page.answer(found if is_forward else found[::-1], is_forward)
+
+    async def _of_partition(self, caller: str, table: Table, condition: KeyCondition) -> List[Item]:
+        """The items of a query. Without a sort key it is one at most, which needs no list of all."""
+        name = table.key[0][0]
+        if len(table.key) == 1:
+            look_at_key({name: condition.partition}, table)
+            found = await self._now({name: condition.partition})
+            return [] if found is None else [found]
+        sort, wanted = table.key[1][0], ordered(condition.partition)
+        return [
+            item
+            for item in await self._book.items(caller)
+            if ordered(item[name]) == wanted and condition.holds(item[sort])
+        ]
 
     async def scan(self, caller: str, call: Call) -> Answer:
         """Scan. Items come in the order of their keys, and in segments by a sum of their partition key."""

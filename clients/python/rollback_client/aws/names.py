@@ -11,7 +11,7 @@ OWN = "aws-"  # with which the names of the machines begin that the server defin
 REGION, ACCOUNT = "us-east-1", "000000000000"
 MOST_NAME = 64
 _NAME = re.compile(r"[A-Za-z0-9_-]{1,64}")
-_TABLE = re.compile(r"[A-Za-z0-9_.-]{3,255}")
+_TABLE = re.compile(r"[A-Za-z0-9_.-]{1,255}")
 _ARN = re.compile(r"arn:aws[a-z-]*:(states|dynamodb):([a-z0-9-]+):([0-9]{12}):(.+)", re.DOTALL)
 RULE = "a name has 1 to 64 letters of ASCII, digits, _ and -"
 
@@ -90,6 +90,6 @@ def table_of(text: str) -> str:
     if name is None or _TABLE.fullmatch(name) is None:
         raise Fault(
             "ValidationException",
-            "a table is named by 3 to 255 letters of ASCII, digits, _, - and points, or by its ARN: " f"{text[:100]!r}",
+            f"a table is named by letters of ASCII, digits, _, - and points, 255 at most, or by its ARN: {text[:100]!r}",
         )
     return name

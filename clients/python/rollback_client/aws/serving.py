@@ -107,6 +107,9 @@ class Amazon:
             reply = reply_of(await self._actions.answer(caller, call), call.headers, identity)
         except Fault as fault:
             reply = reply_of_fault(call.service, fault, call.headers, identity)
+        except RecursionError:
+            too_deep = Fault("SerializationException", "the request nests too deep")
+            reply = reply_of_fault(call.service, too_deep, call.headers, identity)
         except Ended:
             raise
         except Exception as fault:

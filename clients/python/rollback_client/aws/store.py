@@ -14,7 +14,7 @@ from typing import Any, Callable, Dict, Iterator, List, Optional, Tuple
 
 _TABLES = (
     "CREATE TABLE IF NOT EXISTS machine(name TEXT PRIMARY KEY, moment REAL, given TEXT NOT NULL) STRICT",
-    "CREATE TABLE IF NOT EXISTS execution(name TEXT PRIMARY KEY, entry INTEGER NOT NULL, input TEXT) STRICT",
+    "CREATE TABLE IF NOT EXISTS execution(name TEXT PRIMARY KEY, entry INTEGER NOT NULL, input TEXT NOT NULL) STRICT",
     "CREATE TABLE IF NOT EXISTS moment(entry INTEGER PRIMARY KEY, moment REAL NOT NULL) STRICT",
     "CREATE TABLE IF NOT EXISTS fact(name TEXT PRIMARY KEY, given TEXT NOT NULL) STRICT",
 )
@@ -49,7 +49,7 @@ class Store:
         self._unwritten: Dict[str, Dict[Any, Tuple[Any, ...]]] = {}
         self._moments = array("d")
         self._entries: Dict[str, int] = {}  # of the starts of executions
-        self._inputs: Dict[str, Optional[str]] = {}  # that aren't in the file
+        self._inputs: Dict[str, str] = {}  # that aren't in the file
         self._machines: Dict[str, Machine] = {}
         self._facts: Dict[str, Any] = {}
         self.begun = now
@@ -165,11 +165,11 @@ class Store:
 
     # ---- executions
 
-    def started(self, name: str, entry: int) -> None:
-        """Keeps the line of an execution's start."""
+    def started(self, name: str, entry: int, input: str) -> None:
+        """Keeps the line of an execution's start, and its input."""
         self._entries[name] = entry
-        self._inputs[name] = None
-        self._write("execution", name, (entry, None))
+        self._inputs[name] = input
+        self._write("execution", name, (entry, input))
 
     def keep_input(self, name: str, text: str) -> None:
         """Keeps an input as it was given."""
@@ -188,7 +188,7 @@ class Store:
         if self._file is not None:
             with self._minding():
                 found = self._file.execute("SELECT input FROM execution WHERE name = ?", (name,)).fetchone()
-                return None if found is None else found[0]
+                return None if found is None else str(found[0])
         return None
 
     # ---- machines and the table

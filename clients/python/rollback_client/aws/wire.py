@@ -67,7 +67,17 @@ def body_of(data: bytes) -> Dict[str, Any]:
         raise Fault("SerializationException", f"the request is no JSON: {fault}") from None
     if not isinstance(found, dict):
         raise Fault("SerializationException", "the request has to be a JSON object")
+    if b"\\ud" in data.lower():
+        _look_at_surrogates(found)
     return found
+
+
+def _look_at_surrogates(value: Any) -> None:
+    """Refuses a text with half of a pair of surrogates, which no UTF-8 has."""
+    try:
+        json.dumps(value, ensure_ascii=False).encode()
+    except UnicodeEncodeError:
+        raise Fault("SerializationException", "the request has a text with a lone surrogate") from None
 
 
 def _no_constant(text: str) -> None:

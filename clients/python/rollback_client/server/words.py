@@ -112,6 +112,7 @@ def _look_at_web(parser: argparse.ArgumentParser, words: Words) -> None:
         look_at(parser, words)
     elif words.token or words.new_tokens or words.no_link or words.read_only:
         parser.error("--token, --new-tokens, --no-link and --read-only are words of --http")
+    _look_at_aws(parser, words)
 
 
 def _add_aws(parser: argparse.ArgumentParser) -> None:
@@ -188,5 +189,4 @@ def read_words(given: Optional[Sequence[str]] = None) -> Words:
         parser.error("--socket is a path, and not empty")
     words.mode = 0o600 if words.mode is None else words.mode
     _look_at_web(parser, words)
-    _look_at_aws(parser, words)
     return _of_cluster(parser, words)
