@@ -1,7 +1,9 @@
 #!/usr/bin/env python3
-"""The plain book as a follower, which stands in for `rollback_graph` where only `--serve` is asked of it.
+"""The plain book as a follower, which stands in for `rollback_graph` where only these are asked of it.
 
 usage: plain_follower.py [FILE] --serve
+       plain_follower.py --viewer script|style
+       plain_follower.py FILE --html [--from STEP]
 """
 import os
 import sys

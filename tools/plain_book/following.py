@@ -52,8 +52,23 @@ def follow(lines: IO[bytes], out: IO[bytes], book: Book) -> None:
         out.flush()
 
 
+def show(words: Sequence[str]) -> bool:
+    """Writes the viewer, or a page, if the words ask for one: `--viewer script|style`, or `FILE --html [--from STEP]`."""
+    from .viewer import named, page, viewer
+
+    if len(words) == 2 and words[0] == "--viewer" and words[1] in ("script", "style"):
+        sys.stdout.write(viewer(words[1]))
+        return True
+    if len(words) in (2, 4) and words[1] == "--html" and (len(words) == 2 or words[2] == "--from"):
+        sys.stdout.write(page(opened(words[0]), named(words[0]), words[3] if len(words) == 4 else None))
+        return True
+    return False
+
+
 def main(words: Sequence[str]) -> int:
-    """Follows as the words say: `[FILE] --serve`, in either order."""
+    """Follows as the words say: `[FILE] --serve`, in either order; or shows what `show` can."""
+    if show(words):
+        return 0
     files = [word for word in words if word != "--serve"]
     if "--serve" not in words or len(files) > 1:
         print("usage: plain_book [FILE] --serve", file=sys.stderr)

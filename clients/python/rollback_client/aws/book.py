@@ -55,11 +55,11 @@ class Watch:
         self.table: Optional[Table] = None
         self.known: Set[str] = set()  # executions whose start was heard of, so what the store has of it is theirs
 
-    def follow(self, line: bytes, reply: bytes) -> None:
-        """Takes a line with its reply, as the follower does."""
+    def follow(self, line: bytes, reply: bytes) -> int:
+        """Takes a line with its reply, as the follower does, and says how many lines were accepted."""
         lines = accepted(line, reply)
         if not lines:
-            return
+            return 0
         moment = self._now()
         for at in range(len(lines)):
             self._store.accepted(self.entries + at, moment)
@@ -78,6 +78,7 @@ class Watch:
             undone = words[1:] if words[0] == "undo" else reply.decode().split("\n")[1:-1]
             self.known.difference_update(name[:-2] for name in undone if name.endswith("#0"))
         self.entries += len(lines)
+        return len(lines)
 
 
 class Book:

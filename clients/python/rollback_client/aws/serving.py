@@ -50,12 +50,11 @@ class Amazon:
             self._watch.table = table_of_journal(self._words.journal)
         follow = self._server.turns.follow
 
-        def both(line: bytes, reply: bytes) -> None:
+        def both(line: bytes, reply: bytes) -> int:
             # the moment is kept before anything is answered
-            self._watch.follow(line, reply)
-            if follow is not None:
-                follow(line, reply)
+            count = self._watch.follow(line, reply)
             self._flush_soon()
+            return follow(line, reply) if follow is not None else count
 
         self._server.turns.follow = both
         if self._credentials is None:

@@ -9,7 +9,7 @@ import socket
 import struct
 import termios
 from collections import deque
-from typing import TYPE_CHECKING, Any, Callable, Deque, Optional, Union, cast
+from typing import TYPE_CHECKING, Any, Callable, Deque, List, Optional, Tuple, Union, cast
 
 from ..lines import MOST_BYTES
 from .pieces import Pieces, pieces_of
@@ -25,12 +25,16 @@ OWN = re.compile(rb"!copy|!runner|!waits|!(?:pause|resume)(?: (?:execution|machi
 
 
 class Asked:
-    """A line that came whole. `line` is given as it is, and `own` is the server's own reply, if it isn't given."""
+    """A line that came whole. `line` is given as it is, and `own` is the server's own reply, if it isn't given.
 
-    __slots__ = ("line", "head", "length", "since", "own")
+    `entries` has the lines of the journal that it became, if somebody counts them: the first one's number, and how many.
+    """
+
+    __slots__ = ("line", "head", "length", "since", "own", "entries")
 
     def __init__(self, line: bytes, head: bytes, length: int, since: float, own: Optional[bytes] = None):
         self.line, self.head, self.length, self.since, self.own = line, head, length, since, own
+        self.entries: List[Tuple[int, int]] = []
 
     @property
     def is_for_server(self) -> bool:

@@ -61,20 +61,28 @@ class Follower:
         self.count = 0  # lines that were accepted since the beginning
         self.heard: Callable[[], None] = lambda: None  # something was accepted
         self.begun: Callable[[], None] = lambda: None  # it was begun again
+        self.moved: Callable[[], None] = lambda: None  # any of both, or it was lost: pages look again
 
     # ---- lines and questions
 
-    def follow(self, line: bytes, reply: bytes) -> None:
-        """Feeds the accepted lines of a line that the program has answered so."""
+    @property
+    def is_there(self) -> bool:
+        """Whether it answers questions now."""
+        return self._process is not None
+
+    def follow(self, line: bytes, reply: bytes) -> int:
+        """Feeds the accepted lines of a line that the program has answered so, and says how many these are."""
         lines = accepted(line, reply)
         if not lines:
-            return
+            return 0
         self.count += len(lines)
         if self._process is not None:
             self._feed(lines)
         elif self._since is not None:
             self._since += lines
         self.heard()
+        self.moved()
+        return len(lines)
 
     def _feed(self, lines: List[bytes]) -> None:
         if not self._unsent:
@@ -206,6 +214,7 @@ class Follower:
         elif not self._is_ending:
             say(f"the follower is begun again: {why}")
             self._is_lost.set()
+        self.moved()
 
     async def _keep_up(self) -> None:
         """Begins it again whenever it is lost."""
@@ -236,6 +245,7 @@ class Follower:
         if self._process is not None:
             self._feed(since or [])
             self.begun()
+            self.moved()
 
     def _spawn(self, work: Coroutine[Any, Any, None]) -> None:
         task = asyncio.ensure_future(work)

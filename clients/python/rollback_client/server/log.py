@@ -89,5 +89,6 @@ def _line_of(entry: Entry) -> bytes:
         "reply": reply[: reply.index(b"\n")][:HEAD].decode(errors="replace"),
         "length": asked.length,
         "milliseconds": round((now - asked.since) * 1000, 3),
+        **({"entries": asked.entries} if asked.entries else {}),
     }
     return json.dumps(taken, ensure_ascii=False).encode() + b"\n"

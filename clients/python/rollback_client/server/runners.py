@@ -64,6 +64,7 @@ class Runners:
     def __init__(self, clock_file: ClockFile, answer: Answer):
         self._clock_file, self._answer = clock_file, answer
         self.inside: Optional[InsideRunner] = None
+        self.changed: Callable[[], None] = lambda: None  # what is paused, or who runs
         self._outside: List[OutsideRunner] = []  # the first one runs, if there is none inside
         self._turn = asyncio.Lock()
 
@@ -79,6 +80,7 @@ class Runners:
             verb, whom = _meant(asked.head)
             (self._clock_file.pause if verb == b"!pause" else self._clock_file.resume)(whom)
             await self._tell_pauses()
+            self.changed()
             self._answer(caller, asked, b"ok\n")
 
     def paused(self) -> bytes:
@@ -100,15 +102,23 @@ class Runners:
         elif self._outside:
             await self._outside[0].ask(b"paused " + self.paused())
 
-    async def _waits(self) -> bytes:
+    @property
+    def is_there(self) -> bool:
+        """Whether a runner takes steps."""
+        return self.inside is not None or bool(self._outside)
+
+    async def waits(self) -> Optional[List[bytes]]:
+        """What waits, a line of JSON for each; nothing if no runner runs."""
         if self.inside is not None:
             running = self.inside.running
-            told = [wait_line(*wait).encode() for wait in running.schedule.waits(running.now())]
-        else:
-            found = await self._outside[0].ask(b"waits") if self._outside else None
-            if found is None:
-                return NO_RUNNER
-            told = found[1:]
+            return [wait_line(*wait).encode() for wait in running.schedule.waits(running.now())]
+        found = await self._outside[0].ask(b"waits") if self._outside else None
+        return None if found is None else found[1:]
+
+    async def _waits(self) -> bytes:
+        told = await self.waits()
+        if told is None:
+            return NO_RUNNER
         return b"".join(line + b"\n" for line in (b"ok %d" % len(told), *told))
 
     # ---- callers that run
@@ -117,6 +127,7 @@ class Runners:
         runner = OutsideRunner(caller)
         caller.takes = runner.take
         self._outside.append(runner)
+        self.changed()
         if self.inside is None and len(self._outside) == 1:
             return b"ok run " + self.paused() + b"\n"
         return b"ok stand\n"
@@ -128,6 +139,7 @@ class Runners:
                 was_first = runner is self._outside[0]
                 self._outside.remove(runner)
                 runner.has_gone()
+                self.changed()
                 if was_first and self._outside and self.inside is None:
                     self._outside[0].push(b"run " + self.paused())
                 return

@@ -213,11 +213,11 @@ class Server:
             self._runners.inside.begin()
 
     async def _begin_web(self) -> None:
-        if self.words.http is None:
+        if self.words.http is None or self._follower is None:
             return
         from ..web.serving import Web  # who serves no pages needs no aiohttp
 
-        self._web = Web(self, self.words)
+        self._web = Web(self, self.words, self._follower, self._runners)
         if self.words.aws:
             from ..aws.serving import Amazon
 

@@ -33,7 +33,9 @@ class Turns:
         self._quiet: Deque[Callable[[], None]] = deque()  # what waits until no line is with the program
         self._is_quiet = False  # one of these is under way
         # takes each line with its reply, before the reply is handed on
-        self.follow: Optional[Callable[[bytes, bytes], None]] = None
+        self.follow: Optional[Callable[[bytes, bytes], int]] = None
+        # hears how many lines of the journal one that was given became
+        self.kept: Optional[Callable[[Given, int], None]] = None
         self.is_stopped = False  # no line is given
         self.is_ending = False  # no further piece is given
         self.log: Optional[Log] = None
@@ -106,8 +108,9 @@ class Turns:
 
     def _replied(self, given: Given, reply: bytes) -> None:
         """Hears of each reply of the program, also to a piece. A server of a cluster keeps what was accepted."""
-        if self.follow is not None:
-            self.follow(given.line, reply)
+        count = self.follow(given.line, reply) if self.follow is not None else 0
+        if count and self.kept is not None:
+            self.kept(given, count)
 
     def _has_nothing_at_hand(self) -> bool:
         return not self._given

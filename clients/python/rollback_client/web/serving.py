@@ -1,21 +1,26 @@
 """The application: where it listens, what each request goes through, and its end.
 
-Another part adds its routes in `Web._routes`. A handler finds the caller's name for the log in `request["caller"]`. It gives lines and asks
-questions by `server.lines`. `amazon`, if it is set before `begin`, takes each POST of `/`: it has no token and no Origin.
+A handler finds the caller's name for the log in `request["caller"]`. It gives lines and asks questions by `server.lines`. `amazon`, if it
+is set before `begin`, takes each POST of `/`: it has no token and no Origin.
 """
 from __future__ import annotations
 
 import asyncio
 import hashlib
+import json
 import os
-from typing import TYPE_CHECKING, Optional
+import time
+from typing import TYPE_CHECKING, List, Optional
 
 from aiohttp import web
 
 from ..links import host_and_port
+from ..server.follower import Follower, graph_beside
 from ..server.places import UnixPlace
-from ..server.speaking import say
+from ..server.runners import Runners
 from ..server.within import Ended
+from .events import Events
+from .gives import Gives
 from .guards import (
     Handler,
     Refused,
@@ -26,7 +31,10 @@ from .guards import (
     look_at_site,
     single,
 )
-from .requests import MOST_BODY, answer_reply, json_reply, line_of, read_body, text_of
+from .pages import Pages
+from .reads import Reads
+from .requests import MOST_BODY, json_reply
+from .seen import Seen
 from .tokens import Tokens
 from .words import is_path
 
@@ -40,10 +48,13 @@ PATIENCE = 1.0  # seconds that a request at hand has at the server's end
 class Web:
     """The console of a server of lines."""
 
-    def __init__(self, server: Server, words: Words):
-        self.server, self.words = server, words
+    def __init__(self, server: Server, words: Words, follower: Follower, runners: Optional[Runners]):
+        self.server, self.words, self.follower, self.runners = server, words, follower, runners
         self.amazon: Optional[Handler] = None
-        self.is_ending = asyncio.Event()
+        self.is_ending = False
+        self.seen: Seen
+        self.events = Events(self)
+        self._pages = Pages(graph_beside(words.program, words.graph))
         self._place = UnixPlace(words.http, 0o600, None) if words.http and is_path(words.http) else None
         self._cookie = "rollback"
         self._address = ""
@@ -58,6 +69,8 @@ class Web:
         words = self.words
         beside = words.socket or words.journal
         self._tokens = Tokens(words.token, f"{beside}.token" if beside else None, words.new_tokens)
+        self._pages.read()
+        await self._see()
         application = web.Application(client_max_size=MOST_BODY, middlewares=[self._guard])
         application.on_response_prepare.append(header_setter())
         self._routes(application.router)
@@ -66,6 +79,17 @@ class Web:
         assert self._runner.server is not None
         await self._listen(self._runner.server)
         self._tokens.keep(self._address)
+
+    async def _see(self) -> None:
+        """Notes from now on who gives what, and when."""
+        told = json.loads(await self.server.lines.ask(b"? log 0 0"))
+        self.seen = Seen(told.get("entries", 0), time.time)
+        if self.words.log is not None:
+            self.seen.read(self.words.log)
+        self.server.turns.kept = self.seen.kept
+        self.follower.moved = self.events.news
+        if self.runners is not None:
+            self.runners.changed = self.events.news
 
     async def _listen(self, factory: web.Server) -> None:
         loop = asyncio.get_running_loop()
@@ -97,7 +121,8 @@ class Web:
 
     def stop(self) -> None:
         """Takes no further request, and ends what streams."""
-        self.is_ending.set()
+        self.is_ending = True
+        self.events.news()
         if self._listening is not None:
             self._listening.close()
         if self._place is not None:
@@ -114,10 +139,21 @@ class Web:
 
     # ---- requests
 
+    def paused(self) -> List[List[str]]:
+        """What is paused: pairs of a kind and a name."""
+        found: List[List[str]] = json.loads(self.runners.paused()) if self.runners is not None else []
+        return found
+
+    def runs(self) -> bool:
+        """Whether a runner takes steps."""
+        return self.runners is not None and self.runners.is_there
+
     def _routes(self, router: web.UrlDispatcher) -> None:
         router.add_get("/", self._page)
-        router.add_get("/ask", self._ask)
-        router.add_post("/line", self._line)
+        router.add_get("/events", self.events.stream)
+        self._pages.add_to(router)
+        Reads(self).add_to(router)
+        Gives(self).add_to(router)
 
     @web.middleware
     async def _guard(self, request: web.Request, handler: Handler) -> web.StreamResponse:
@@ -127,7 +163,7 @@ class Web:
                 look_at_no_origin(request)
                 return await self.amazon(request)
             look_at_origin(request)
-            if request.path not in OPEN:
+            if not self._pages.is_open(request.path):
                 look_at_site(request)
                 request["caller"] = self._caller_of(request)
             return await handler(request)
@@ -160,7 +196,7 @@ class Web:
     async def _page(self, request: web.Request) -> web.StreamResponse:
         if "token" in request.query:
             return self._take_token(request)
-        return web.Response(text="<!doctype html><title>rollback</title>", content_type="text/html")
+        return self._pages.page()
 
     def _take_token(self, request: web.Request) -> web.StreamResponse:
         """Keeps the token of a link as a cookie, and goes to the page without it."""
@@ -170,20 +206,3 @@ class Web:
         found = web.Response(status=303, headers={"Location": "/"})
         found.set_cookie(self._cookie, token, httponly=True, samesite="Strict", path="/")
         return found
-
-    async def _ask(self, request: web.Request) -> web.StreamResponse:
-        question = single(request.query.getall("q", []))
-        if question is None:
-            raise Refused(400, "a question is asked as /ask?q=list")
-        return answer_reply(await self.server.lines.ask(b"? " + line_of(question)))
-
-    async def _line(self, request: web.Request) -> web.StreamResponse:
-        line = line_of(text_of(await read_body(request), "line"))
-        if self.words.read_only:
-            raise Refused(403, "the console gives no line: the server was begun with --read-only")
-        reply = await self.server.lines.give(request["caller"], line)
-        is_refused = reply.startswith(b"no ")
-        return json_reply({"reply": reply.decode(errors="replace")}, 409 if is_refused else 200)
-
-
-OPEN = ("/",)  # what has nothing of the book, and needs no token
