@@ -321,6 +321,19 @@ class Executions(WithAmazon):
         self.assertEqual(plain_answer(self.states.describe_execution(executionArn=made)), plain_answer(found))
         self.assertEqual(self.states.get_execution_history(executionArn=made)["events"], events)
 
+    def test_a_new_book_beside_an_old_file(self):
+        arn = self.created(self.states, "p", PASS, tags=[{"key": "a", "value": "b"}])
+        self.run_to_end(self.states, arn, {}, name="e")
+        self.server.end()
+        for end in ("", "-wal", "-clock"):
+            if os.path.exists(self.server.journal + end):
+                os.remove(self.server.journal + end)
+        states, _ = self.clients(self.amazon())
+        self.created(states, "p", PASS)
+        self.assertEqual(states.list_tags_for_resource(resourceArn=arn)["tags"], [])
+        self.assertEqual(states.list_executions(stateMachineArn=arn)["executions"], [])
+        self.assertEqual(self.run_to_end(states, arn, {"other": 1}, name="e")["input"], '{"other": 1}')
+
     def test_a_lost_or_damaged_file(self):
         arn = self.created(self.states, "echo", ECHO)
         made = self.states.start_execution(stateMachineArn=arn, name="e", input='{ "a": 1 }')["executionArn"]
@@ -417,6 +430,23 @@ class Histories(WithAmazon):
         self.assertEqual(self.kinds(events), ["ExecutionStarted", "TaskStateEntered", *failed, *passed])
         output = json.loads(events[5]["stateExitedEventDetails"]["output"])
         self.assertEqual(output["error"]["Error"], "DynamoDB.ConditionalCheckFailedException")
+
+    def test_calls_that_fail(self):
+        """A call of another table, and one that is malformed, as their retries and their ends tell it."""
+        again = [{"ErrorEquals": ["States.ALL"], "IntervalSeconds": 0, "MaxAttempts": 1}]
+        server = self.amazon()
+        states, _ = self.clients(server)
+        for name, call, error in (
+            ("other", {"TableName": "others", "Key": {"id": {"S": "k"}}}, "DynamoDB.ResourceNotFoundException"),
+            ("bad", {"TableName": "items", "Key": {}}, "DynamoDB.ValidationException"),
+        ):
+            task = {"Type": "Task", "Resource": "arn:aws:states:::dynamodb:getItem", "Parameters": call, "Retry": again}
+            machine = {"StartAt": "G", "States": {"G": {**task, "End": True}}}
+            found = self.run_to_end(states, self.created(states, name, machine), {})
+            self.assertEqual(found["error"], error)
+            events = states.get_execution_history(executionArn=found["executionArn"])["events"]
+            told = [event["taskFailedEventDetails"]["error"] for event in events if event["type"] == "TaskFailed"]
+            self.assertEqual(told, [error, error])
 
     def test_map(self):
         events = self.events("map", {"lines": [{"id": "a"}, {"id": "b"}]})

@@ -1,14 +1,15 @@
 """DynamoDB by boto3: the table, reads, and writes that are steps. The wanted answers are those of Amazon's documents."""
+import contextlib
 import re
 import subprocess
 import sys
 import time
 from decimal import Decimal
 
-from rollback_client import Book, Done
+from rollback_client import Book, Done, Ready
 from tests.amazon import HASH_ID, WithAmazon, client_of, error_of, plain_answer, request_of, session
-from tests.program import TOP
-from tests.runners import chain, get
+from tests.program import TOP, Served, follower
+from tests.runners import chain, get, running
 
 STEP = "x-rollback-step"
 
@@ -606,6 +607,25 @@ class Shapes(OfTable):
                 self.look_at(below, shape.member, where)
         elif shape.enum if shape.type_name == "string" else None:
             self.assertIn(value, shape.enum, where)
+
+
+class Runners(Served):
+    """No runner steps a machine that the server defines for writes, within the server or beside it."""
+
+    def test_within_and_beside(self):
+        for words in (("--run",), ("--ask",)):
+            server = self.begun(
+                *words, "--graph", follower(), journal=f"{words[0][2:]}.db", address=self.path(words[0][2:])
+            )
+            with Book.connect(server.address, timeout=60) as book:
+                book.define("aws-put", chain({"Type": "Pass"}))
+                book.start("aws-put-1", "aws-put", {})
+                book.start("e", "p", {})
+                with contextlib.ExitStack() as stack:
+                    if words[0] == "--ask":
+                        stack.enter_context(running(server.address)).rest()
+                    self.until(lambda: book.show("e") == Done(7))
+                    self.assertEqual(book.show("aws-put-1"), Ready("S0", 0))
 
 
 class Guide(OfTable):

@@ -1,6 +1,7 @@
 """The events of one execution, made of its remaining steps."""
 from __future__ import annotations
 
+from dataclasses import dataclass
 from typing import Any, Callable, Dict, List, Mapping, Optional, Tuple
 
 from .book import canonical
@@ -48,13 +49,20 @@ def _object(value: Any) -> Mapping[str, Any]:
     return value if isinstance(value, dict) else {}
 
 
-class Events:
-    """Makes events one after another. `moment` gives a line's moment, and `items` what calls found before them, by their steps."""
+@dataclass(frozen=True)
+class Setting:
+    """What a history has from elsewhere: the region, the table's name, and the moment of each line."""
 
-    def __init__(
-        self, shown: Answer, machine: Machine, region: str, moment: Callable[[int], float], items: Mapping[str, Any]
-    ):
-        self._shown, self._machine, self._region, self._moment, self._items = shown, machine, region, moment, items
+    region: str
+    table: Optional[str]
+    moment: Callable[[int], float]
+
+
+class Events:
+    """Makes events one after another. `items` has what calls found before them, by their steps."""
+
+    def __init__(self, shown: Answer, machine: Machine, setting: Setting, items: Mapping[str, Any]):
+        self._shown, self._machine, self._setting, self._items = shown, machine, setting, items
         self._threads = {thread["thread"]: thread for thread in shown["threads"]}
         self._entered: Dict[str, str] = {}  # the state in which a thread is
         self._begun: Dict[str, Tuple[str, int]] = {}  # branches of Maps: their Map's name and their index
@@ -82,7 +90,7 @@ class Events:
 
     def _add(self, kind: str, thread: str, entry: Optional[int], **details: Any) -> None:
         if entry is not None:
-            self._time = max(self._time, self._moment(entry))
+            self._time = max(self._time, self._setting.moment(entry))
         number = len(self.events) + 1
         before = self._last.get(thread, self._last.get(thread.rpartition("/")[0], 0))
         self.events.append(
@@ -215,7 +223,7 @@ class Events:
         except PicksNothing:
             return
         resource = {"resourceType": "dynamodb", "resource": str(state.get("Resource", "")).rpartition(":")[2] or "call"}
-        scheduled = {**resource, "region": self._region, "parameters": canonical(parameters)}
+        scheduled = {**resource, "region": self._setting.region, "parameters": canonical(parameters)}
         self._add("TaskScheduled", thread, entry, taskScheduledEventDetails=scheduled)
         self._add("TaskStarted", thread, entry, taskStartedEventDetails=resource)
         if step["access"] in ("read", "write"):
@@ -239,8 +247,9 @@ class Events:
             return CONDITION
         if step["outcome"]["to"] == "failed":
             return str(step["outcome"]["error"])
-        caught = _object(step["output"]).get("Error") if step["outcome"]["to"] == "caught" else None
-        return caught if isinstance(caught, str) else "DynamoDB.ValidationException"
+        named = _object(parameters).get("TableName")
+        is_other = isinstance(named, str) and named != self._setting.table
+        return f"DynamoDB.{'ResourceNotFoundException' if is_other else 'ValidationException'}"
 
     # ---- what no step tells
 

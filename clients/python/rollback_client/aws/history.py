@@ -7,7 +7,7 @@ from collections import OrderedDict
 from typing import Any, Callable, Dict, List, Mapping
 
 from .book import Book
-from .events import Events, Machine
+from .events import Events, Machine, Setting
 from .names import Arns
 
 MOST_KEPT = 8
@@ -48,7 +48,9 @@ class History:
         told = await asyncio.gather(*(self._book.ask(f"show {step}") for step in calls))
         # a step that was taken back meanwhile has no answer
         items = {step: answer["step"]["items"]["before"] for step, answer in zip(calls, told) if "step" in answer}
-        events = Events(shown, machine, self._arns.region, store.moment, items)
+        table = self._book.watch.table
+        setting = Setting(self._arns.region, None if table is None else table.name, store.moment)
+        events = Events(shown, machine, setting, items)
         return events.make(input, self._role(shown["machine"]), store.moment(store.start_entry(name)))
 
 

@@ -136,7 +136,9 @@ class Store:
     # ---- times
 
     def forget_from(self, entries: int) -> None:
-        """Forgets what is of lines that the journal hasn't, as of another book's file."""
+        """Forgets what is of lines that the journal hasn't, as of another book's file; of a new book all."""
+        if not entries:
+            self._forget_names()
         if len(self._moments) <= entries:
             return
         del self._moments[entries:]
@@ -145,6 +147,15 @@ class Store:
             with self._minding():
                 self._file.execute("DELETE FROM moment WHERE entry >= ?", (entries,))
                 self._file.execute("DELETE FROM execution WHERE entry >= ?", (entries,))
+
+    def _forget_names(self) -> None:
+        self._machines.clear()
+        self._entries.clear()
+        self._facts = {"begun": self.begun}
+        if self._file is not None:
+            with self._minding():
+                for table in ("machine", "execution", "fact"):
+                    self._file.execute(f"DELETE FROM {table}")
 
     def accepted(self, entry: int, moment: float) -> None:
         """Keeps when a line was accepted."""

@@ -8,7 +8,6 @@ from enum import Enum
 from typing import Any, Dict, Mapping, Tuple
 
 CONTENT_TYPE = "application/x-amz-json-1.0"
-MOST_BODY = 16 << 20  # bytes, as of Amazon's largest request
 # errors of the protocol itself, which no model of a service lists
 _COMMON = frozenset(("ValidationException", "SerializationException", "UnknownOperationException"))
 
