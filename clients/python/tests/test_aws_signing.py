@@ -73,6 +73,24 @@ class Published(unittest.TestCase):
             self.assertEqual(caught.exception.name, "InvalidSignatureException")
 
 
+def clock_of_boto3(seconds):
+    """Has boto3 sign as of this moment. Newer versions of it ask another function for the time."""
+    import botocore.auth
+
+    moment = datetime.datetime.fromtimestamp(seconds, datetime.timezone.utc).replace(tzinfo=None)
+    if hasattr(botocore.auth, "get_current_datetime"):
+        return mock.patch("botocore.auth.get_current_datetime", lambda *given, **more: moment)
+
+    class Late(datetime.datetime):
+        """The datetime that the signer looks at."""
+
+        @classmethod
+        def utcnow(cls):
+            return moment
+
+    return mock.patch("botocore.auth.datetime", mock.Mock(datetime=Late))
+
+
 class Checked(WithAmazon):
     def credentials(self, text, mode=0o600):
         path = self.path("credentials")
@@ -127,31 +145,13 @@ class Checked(WithAmazon):
         listed = self.listed()
         listed()
         for minutes, error in ((4, None), (-4, None), (6, "expired"), (-6, "not yet current")):
-            moment = datetime.datetime.fromtimestamp(time.time() - minutes * 60, datetime.timezone.utc)
-
-            class Late(datetime.datetime):
-                """The client's clock."""
-
-                @classmethod
-                def now(cls, tz=None):
-                    return moment if tz else moment.replace(tzinfo=None)
-
-                @classmethod
-                def utcnow(cls):
-                    return moment.replace(tzinfo=None)
-
-            patches = [mock.patch("botocore.auth.datetime", mock.Mock(datetime=Late))]
-            import botocore.auth
-
-            if hasattr(botocore.auth, "get_current_datetime"):
-                patches = [mock.patch("botocore.auth.get_current_datetime", lambda remove_tzinfo=True: Late.utcnow())]
-            with patches[0]:
+            with clock_of_boto3(time.time() - minutes * 60):
                 if error is None:
                     self.assertEqual(listed()["TableNames"], ["items"])
-                else:
-                    name, message, status, _ = error_of(listed)
-                    self.assertEqual((name, status), ("InvalidSignatureException", 400))
-                    self.assertIn(error, message)
+                    continue
+                name, message, status, _ = error_of(listed)
+            self.assertEqual((name, status), ("InvalidSignatureException", 400))
+            self.assertIn(error, message)
 
     def test_nothing_is_said_of_unchecked_signatures(self):
         _, said = self.server.end()

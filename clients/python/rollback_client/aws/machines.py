@@ -17,7 +17,7 @@ from .store import Machine
 from .wire import Call, Fault
 
 MOST_DEFINITION = 1 << 20
-MOST_TOLD = 10  # faults that a message lists
+MOST_TOLD = 100  # faults that a message lists
 _MORE = ("loggingConfiguration", "tracingConfiguration", "encryptionConfiguration")
 _OTHERWISE = {
     "loggingConfiguration": {"level": "OFF", "includeExecutionData": False},
