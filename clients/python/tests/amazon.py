@@ -11,7 +11,7 @@ import unittest
 import urllib.error
 import urllib.request
 
-from tests.pages import WithPages
+from tests.pages import WithPages, python_with
 
 MISSING = "no boto3 (on Debian the package python3-boto3, for /usr/bin/python3)"
 REGION, ACCOUNT = "us-east-1", "000000000000"
@@ -30,12 +30,14 @@ AUTHORIZATION = (
 
 @functools.lru_cache(maxsize=None)
 def has(module, package):
-    """Whether a module is there. On a fresh machine root installs Debian's package for it, for the system's Python."""
-    if importlib.util.find_spec(module) is None and os.geteuid() == 0 and shutil.which("apt-get"):
+    """Whether a module is there. On a machine where no Python has it, root installs Debian's package, for the system's."""
+    is_absent = importlib.util.find_spec(module) is None and python_with(module) is None
+    if is_absent and os.geteuid() == 0 and shutil.which("apt-get"):
         with contextlib.suppress(subprocess.SubprocessError):
             command = ["apt-get", "install", "-y", "--no-install-recommends", package]
             subprocess.run(command, stdout=subprocess.DEVNULL, stderr=subprocess.DEVNULL, timeout=300, check=False)
         importlib.invalidate_caches()
+        python_with.cache_clear()
     return importlib.util.find_spec(module) is not None
 
 

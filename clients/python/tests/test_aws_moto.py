@@ -1,13 +1,14 @@
 """A book beside moto: the same calls, and the answers field by field. Where they differ, Amazon's documents decide, as it is said here."""
+import importlib.util
 import json
 import subprocess
+import sys
 import unittest
 
 from rollback_client import plain
 from tests.amazon import WithAmazon
 from tests.amazon_calls import BAD_Q, CALLS, OTHER_P, TAGS_OF_Q, K, T, answer_of, executed
 from tests.amazon_machines import TRIALS, WIDGET
-from tests.pages import python_with
 from tests.program import TOP
 
 UNTAKEN = {"error": "ValidationException"}
@@ -49,11 +50,12 @@ BESIDE = (
 LACKING = ("type", "includeExecutionData")
 
 
-@unittest.skipUnless(python_with("moto", "boto3"), "no Python with moto")
+@unittest.skipIf(importlib.util.find_spec("moto") is None, "this Python has no moto")
 class Beside(WithAmazon):
     @classmethod
     def setUpClass(cls):
-        command = [python_with("moto", "boto3"), "-m", "tests.moto_answers"]
+        # by the same boto3, whose models say which members there are
+        command = [sys.executable, "-m", "tests.moto_answers"]
         done = subprocess.run(
             command,
             stdout=subprocess.PIPE,

@@ -15,7 +15,33 @@ ORDERS = {"id": {"S": "o-1"}, "n": {"N": "1.5"}, "tags": {"SS": ["b", "a"]}, "m"
 BINARY = {"id": {"S": "photo"}, "data": {"B": b"\0\1"}}
 
 
-class WithAccount(WithAmazon):
+class WithCommands(WithAmazon):
+    """A test of the two commands, with an account."""
+
+    url = None
+
+    def command(self, name, *words, url=None):
+        """The status of a command, and what it says."""
+        done = subprocess.run(
+            [sys.executable, "-m", f"rollback_client.{name}", *words, "--endpoint-url", url or self.url],
+            env={
+                **os.environ,
+                "AWS_ACCESS_KEY_ID": "a",
+                "AWS_SECRET_ACCESS_KEY": "b",
+                "AWS_DEFAULT_REGION": "us-east-1",
+            },
+            stdout=subprocess.PIPE,
+            stderr=subprocess.STDOUT,
+            text=True,
+            cwd=TOP / "clients/python",
+            timeout=120,
+            check=False,
+        )
+        self.assertNotIn("Traceback", done.stdout)
+        return done.returncode, done.stdout
+
+
+class WithAccount(WithCommands):
     """A test with an account, which moto is."""
 
     def setUp(self):
@@ -40,26 +66,6 @@ class WithAccount(WithAmazon):
         self.tables.create_table(TableName=name, **HASH_ID)
         for item in items:
             self.tables.put_item(TableName=name, Item=item)
-
-    def command(self, name, *words, url=None):
-        """The status of a command, and what it says."""
-        done = subprocess.run(
-            [sys.executable, "-m", f"rollback_client.{name}", *words, "--endpoint-url", url or self.url],
-            env={
-                **os.environ,
-                "AWS_ACCESS_KEY_ID": "a",
-                "AWS_SECRET_ACCESS_KEY": "b",
-                "AWS_DEFAULT_REGION": "us-east-1",
-            },
-            stdout=subprocess.PIPE,
-            stderr=subprocess.STDOUT,
-            text=True,
-            cwd=TOP / "clients/python",
-            timeout=120,
-            check=False,
-        )
-        self.assertNotIn("Traceback", done.stdout)
-        return done.returncode, done.stdout
 
     def pull(self, *words, **more):
         return self.command("pull", "--journal", self.path("orders.db"), "--program", PROGRAM, *words, **more)
@@ -136,23 +142,14 @@ class Pull(WithAccount):
             status, said = self.pull(*words)
             self.assertEqual(status, 2)
             self.assertIn(why, said)
-        self.table("a")
-        self.table("b")
-        self.assertIn("there are a, b", self.pull()[1])
+        self.table("first")
+        self.table("second")
+        self.assertIn("there are first, second", self.pull()[1])
         with open(self.path("orders.db"), "w", encoding="utf-8"):
             pass
-        self.assertIn("a new book is made", self.pull("--table", "a")[1])
-        status, said = self.pull("--table", "a", url="http://127.0.0.1:1")
+        self.assertIn("a new book is made", self.pull("--table", "first")[1])
+        status, said = self.pull("--table", "first", url="http://127.0.0.1:1")
         self.assertEqual(status, 2)
-
-    def test_from_a_book(self):
-        """A book that answers Amazon's tools is an account, too."""
-        server = self.amazon()
-        states, tables = self.clients(server)
-        tables.put_item(TableName="items", Item={"id": {"S": "k"}})
-        self.created(states, "p", PASS)
-        status, said = self.command("pull", "--journal", self.path("new.db"), "--program", PROGRAM, url=server.url)
-        self.assertEqual((status, said), (0, "table items: 1 items\nmachine p: defined, 0 warnings\n"))
 
 
 class Push(WithAccount):
@@ -238,6 +235,33 @@ class Push(WithAccount):
         status, said = self.command("push", self.journal, "others", "--journal", "--program", PROGRAM)
         self.assertEqual(status, 2)
         self.assertIn("another key", said)
+
+
+class OfABook(WithCommands):
+    """A book that answers Amazon's tools is an account, too."""
+
+    def setUp(self):
+        super().setUp()
+        server = self.amazon()
+        self.url = server.url
+        states, self.tables = self.clients(server)
+        self.tables.put_item(TableName="items", Item={"id": {"S": "k"}, "n": {"N": "1"}})
+        self.created(states, "p", PASS)
+
+    def test_pull_and_plan(self):
+        new = self.path("new.db")
+        status, said = self.command("pull", "--journal", new, "--program", PROGRAM)
+        self.assertEqual((status, said), (0, "table items: 1 items\nmachine p: defined, 0 warnings\n"))
+        words = ("push", new, "items", "--journal", "--program", PROGRAM)
+        self.assertEqual(self.command(*words), (0, "0 written, 0 not written, 1 the same\n"))
+        self.tables.put_item(TableName="items", Item={"id": {"S": "k"}, "n": {"N": "2"}})
+        self.tables.put_item(TableName="items", Item={"id": {"S": "other"}})
+        wanted = 'replace {"id":{"S":"k"}}\ndelete {"id":{"S":"other"}}\n2 to be written, 0 the same\n'
+        self.assertEqual(self.command(*words, "--plan"), (0, wanted))
+        # a condition on values is none that a book takes
+        status, said = self.command(*words)
+        self.assertEqual(status, 2)
+        self.assertIn("attribute_exists(NAME) or attribute_not_exists(NAME)", said)
 
 
 class WithoutBoto3(unittest.TestCase):

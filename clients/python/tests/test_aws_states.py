@@ -4,7 +4,7 @@ import os
 import time
 
 from rollback_client import Book, Full
-from tests.amazon import ROLE, WithAmazon, error_of, plain_answer
+from tests.amazon import ROLE, STATES, WithAmazon, error_of, plain_answer, request_of
 from tests.amazon_machines import MACHINES, TRIALS, WIDGET
 from tests.program import ECHO, LOOP, PASS
 
@@ -82,9 +82,10 @@ class Machines(WithAmazon):
     def test_kinds_that_are_left_out(self):
         create, text = self.states.create_state_machine, json.dumps(PASS)
         self.refused_by("StateMachineTypeNotSupported", create, name="e", definition=text, roleArn=ROLE, type="EXPRESS")
-        self.refused_by(
-            "ValidationException", create, "no versions", name="e", definition=text, roleArn=ROLE, publish=True
-        )
+        given = {"name": "e", "definition": text, "roleArn": ROLE, "publish": True}
+        status, _, answer = request_of(self.server.url, f"{STATES}.CreateStateMachine", given)
+        self.assertEqual((status, answer["__type"]), (400, "ValidationException"))
+        self.assertIn("no versions", answer["message"])
 
     def test_before_there_is_a_table(self):
         states, tables = self.clients(self.amazon(table=None, journal="other.db", address=self.path("other")))
@@ -123,8 +124,11 @@ class Machines(WithAmazon):
         self.refused_by("ResourceNotFound", listed, resourceArn=ARN + "stateMachine:none")
 
     def test_validation(self):
-        validate = self.states.validate_state_machine_definition
-        found = plain_answer(validate(definition=json.dumps(POOR)))
+        def validate(**given):
+            # older versions of boto3 have no such call
+            return request_of(self.server.url, f"{STATES}.ValidateStateMachineDefinition", given)[2]
+
+        found = validate(definition=json.dumps(POOR))
         self.assertEqual((found["result"], found["truncated"]), ("FAIL", False))
         rows = {(row["severity"], row["location"], row["code"]) for row in found["diagnostics"]}
         self.assertIn(("ERROR", "/States/A/Nxt", "UNKNOWN_FIELD"), rows)
@@ -135,7 +139,7 @@ class Machines(WithAmazon):
         self.assertEqual((len(cut["diagnostics"]), cut["truncated"]), (1, True))
         warned = {**PASS, "TimeoutSeconds": 5}
         self.assertEqual(
-            plain_answer(validate(definition=json.dumps(warned))),
+            validate(definition=json.dumps(warned)),
             {"result": "OK", "diagnostics": [], "truncated": False},
         )
         (row,) = validate(definition=json.dumps(warned), severity="WARNING")["diagnostics"]
@@ -159,7 +163,7 @@ class Executions(WithAmazon):
             self.assertEqual(found["executionArn"], f"{ARN}execution:{name}:e{number}")
             self.assertEqual(found["input"], json.dumps(input))
             self.assertEqual(found["inputDetails"], {"included": True})
-            self.assertEqual(found["redriveCount"], 0)
+            self.assertEqual(found.get("redriveCount", 0), 0)
             start, stop = found["startDate"].timestamp(), found["stopDate"].timestamp()
             self.assertTrue(began - 1 <= start <= stop <= time.time() + 1, name)
             if status == "SUCCEEDED" and wanted is not None:

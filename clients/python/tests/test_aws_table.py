@@ -78,7 +78,7 @@ class Tables(OfTable):
             {"KeySchema": [{"AttributeName": "id", "KeyType": "RANGE"}]},
         ):
             self.refused_by("ValidationException", create, TableName="orders", **{**HASH_ID, **more})
-        self.refused_by("ValidationException", create, TableName="o!", **HASH_ID)
+        self.refused_by("ValidationException", create, TableName="or!ders", **HASH_ID)
         self.assertEqual(self.tables.list_tables()["TableNames"], [])
         create(TableName="orders", StreamSpecification={"StreamEnabled": False}, **HASH_ID)
 
@@ -278,6 +278,8 @@ class Shapes(OfTable):
         arn = self.created(self.states, "p", chain({"Type": "Pass"}))
         made = self.run_to_end(self.states, arn, {})["executionArn"]
         models = {name: client_of(name, self.server.url).meta.service_model for name in ("stepfunctions", "dynamodb")}
+        if "ValidateStateMachineDefinition" not in models["stepfunctions"].operation_names:
+            self.skipTest("this boto3 is older than some calls of Step Functions")
         key = {"TableName": "items", "Key": {"id": {"S": "k"}}}
         for service, prefix, action, body in (
             ("stepfunctions", "AWSStepFunctions", "DescribeStateMachine", {"stateMachineArn": arn}),

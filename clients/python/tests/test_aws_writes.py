@@ -6,7 +6,7 @@ import sys
 from decimal import Decimal
 
 from rollback_client import Book, Done, Ready
-from tests.amazon import plain_answer, request_of
+from tests.amazon import TABLES, plain_answer, request_of
 from tests.amazon_table import STEP, OfTable, step_of
 from tests.program import TOP, Served, follower
 from tests.runners import chain, get, running
@@ -95,19 +95,19 @@ class Writes(OfTable):
 
         table = self.resource().Table("items")
         table.put_item(Item={"id": "k", "v": 1}, ConditionExpression=Attr("id").not_exists())
-        found = self.refused_by(
-            "ConditionalCheckFailedException",
-            self.tables.put_item,
-            "The conditional request failed",
-            TableName="items",
-            Item={"id": {"S": "k"}},
-            ConditionExpression="attribute_not_exists(#i)",
-            ExpressionAttributeNames={"#i": "id"},
-            ReturnValuesOnConditionCheckFailure="ALL_OLD",
-        )
-        self.assertEqual(found["Item"], {"id": {"S": "k"}, "v": {"N": "1"}})
+        given = {
+            "TableName": "items",
+            "Item": {"id": {"S": "k"}},
+            "ConditionExpression": "attribute_not_exists(#i)",
+            "ExpressionAttributeNames": {"#i": "id"},
+            "ReturnValuesOnConditionCheckFailure": "ALL_OLD",
+        }
+        status, headers, answer = request_of(self.server.url, f"{TABLES}.PutItem", given)
+        self.assertEqual((status, answer["__type"].rpartition("#")[2]), (400, "ConditionalCheckFailedException"))
+        self.assertEqual(answer["message"], "The conditional request failed")
+        self.assertEqual(answer["Item"], {"id": {"S": "k"}, "v": {"N": "1"}})
         # what it read is a step, which depends on what it read
-        read = found["ResponseMetadata"]["HTTPHeaders"][STEP]
+        read = headers[STEP]
         self.assertIn("#1", read)
         (first, *_) = self.book().history()
         self.assertIn(read, [str(step) for step in self.book().plan(first)])
