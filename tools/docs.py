@@ -34,6 +34,7 @@ SHORT = (
     "README.md",
     "docs/AWS.md",
     "docs/CLUSTER.md",
+    "docs/CONSOLE.md",
     "docs/GLOSSARY.md",
     "docs/GUARANTEES.md",
     "docs/INTERNALS.md",

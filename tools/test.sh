@@ -1,7 +1,8 @@
 #!/bin/sh
 # All tests: `rt ci`, which proves every crate and leaves the programs in crates/*/out, and then what runs on these programs, in two lanes
-# side by side. Each part shows what it prints and how many seconds it took, and ends with a line `N passed, M failed`; so does this, with
-# their sums. The status is 1 if a part failed, or passed nothing. docs/TESTING.md says what each part is for, and how it is run alone.
+# side by side. Each part shows what it prints and how many seconds it took, and ends with a line `N passed, M failed`, with `, K skipped`
+# if the machine lacks something; so does this, with their sums. The status is 1 if a part failed, or neither passed nor skipped anything.
+# docs/TESTING.md says what each part is for, and how it is run alone.
 #
 #     sh tools/test.sh
 set -u
@@ -23,12 +24,13 @@ part() {
         echo "test: that part gave no counts" >&2
         set -- 0 passed, 0 failed
     fi
-    wrong=0 failed=$3
-    if [ "$status" -ne 0 ] || [ "$1" -eq 0 ] || [ "$failed" -ne 0 ]; then
+    wrong=0 failed=$3 skipped=${5:-0}
+    # a part that only skipped isn't wrong: it has said what it lacks
+    if [ "$status" -ne 0 ] || [ "$failed" -ne 0 ] || [ $(($1 + skipped)) -eq 0 ]; then
         wrong=1
         [ "$failed" -ne 0 ] || failed=1
     fi
-    echo "$1 $failed $wrong" >>"$room/counts"
+    echo "$1 $failed $wrong $skipped" >>"$room/counts"
 }
 
 part sh tools/docs.sh --names
@@ -40,6 +42,7 @@ part python3 tools/gate_costs.py rt ci
 
 {
     part python3 clients/python/tests
+    part python3 clients/python/tests/browser
     part sh tools/docs.sh --replies
     part python3 tools/release.py check
 } >"$room/lane" 2>&1 &
@@ -55,4 +58,5 @@ part python3 tools/drawn.py --sessions 400
 part python3 tools/plain_rows.py --sessions 300
 wait
 cat "$room/lane"
-awk '{ passed += $1; failed += $2; wrong += $3 } END { print passed " passed, " failed " failed"; exit wrong != 0 }' "$room/counts"
+awk '{ passed += $1; failed += $2; wrong += $3; skipped += $4 }
+    END { print passed " passed, " failed " failed" (skipped ? ", " skipped " skipped" : ""); exit wrong != 0 }' "$room/counts"

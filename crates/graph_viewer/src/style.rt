@@ -168,7 +168,7 @@ summary { cursor: pointer; }
 .kind-terminate { border-left-color: var(--terminate); }
 .collapsed { border-style: dashed; border-left-style: solid; }
 .picture:focus-visible { outline-offset: -2px; }
-.minimap { position: absolute; right: 22px; bottom: 62px; width: 172px; height: 122px; padding: 6px; background: var(--raised); border: 1px solid var(--line); border-radius: 8px; opacity: 0.94; cursor: crosshair; touch-action: none; z-index: 4; }
+.minimap { position: absolute; right: 22px; bottom: 62px; padding: 6px; line-height: 0; background: var(--raised); border: 1px solid var(--line); border-radius: 8px; opacity: 0.94; cursor: crosshair; touch-action: none; z-index: 4; }
 .minimap .marks { fill: var(--quiet); }
 .minimap .sight { fill: var(--accent); fill-opacity: 0.15; stroke: var(--accent); stroke-width: 1.5; }
 .zoom { position: absolute; right: 22px; bottom: 20px; display: flex; gap: 4px; align-items: center; background: var(--raised); border: 1px solid var(--line); border-radius: 8px; padding: 3px 6px; z-index: 4; }

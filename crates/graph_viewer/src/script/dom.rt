@@ -49,6 +49,8 @@ function busyButton(text, does, attributes) {
         made.setAttribute("aria-disabled", "true");
         try {
             await does(made);
+        } catch (fault) {
+            notice("Nothing was done: " + fault.message + ".", "fault");
         } finally {
             made.removeAttribute("aria-disabled");
         }
@@ -106,6 +108,24 @@ function nextFrame(does) {
             asked = false;
             does();
         });
+    };
+}
+
+// Does something that takes its time: at once, and again if it is asked for meanwhile, but never without a pause as long as it took.
+function steadily(does) {
+    let [running, again] = [false, false];
+    return async function run() {
+        again = true;
+        if (running) return;
+        running = true;
+        while (again) {
+            again = false;
+            const began = performance.now();
+            await does();
+            const took = performance.now() - began;
+            if (took > 100) await new Promise((done) => setTimeout(done, took));
+        }
+        running = false;
     };
 }
 

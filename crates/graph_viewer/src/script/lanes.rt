@@ -9,7 +9,8 @@ function stepBox(row, more) {
         id: row.step,
         w: BOX.w,
         h: BOX.h,
-        label: boxLabel(row),
+        word,
+        label: () => boxLabel(row),
         draw: () => drawnStep(row, word, more),
     };
 }
@@ -27,7 +28,7 @@ function drawnStep(row, word, more) {
 function linesOf(rows) {
     const found = [];
     for (const row of rows) {
-        for (const on of row.on) found.push({ from: on.step, to: row.step, reason: on.reason, title: lineTitle(on, row) });
+        for (const on of row.on) found.push({ from: on.step, to: row.step, reason: on.reason, title: () => lineTitle(on, row) });
     }
     return found;
 }

@@ -20,6 +20,8 @@ class Minimap {
     show(scene) {
         this.scene = scene;
         this.scale = Math.min(MAP_WIDTH / Math.max(1, scene.width), MAP_HEIGHT / Math.max(1, scene.height));
+        this.drawing.setAttribute("width", Math.max(24, Math.round(scene.width * this.scale)));
+        this.drawing.setAttribute("height", Math.max(24, Math.round(scene.height * this.scale)));
         this.marks.setAttribute("d", cellsOf(scene.boxes, this.scale));
     }
 

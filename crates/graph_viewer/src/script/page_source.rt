@@ -108,7 +108,7 @@ class PageBook {
             const now = this.now(word);
             if (!sameValue(now, item)) found.push({ key, now, then: item });
         }
-        return found.reverse();
+        return found.sort((one, other) => compareKeys(one.key, other.key));
     }
 
     causes(step) {
@@ -195,7 +195,7 @@ class PageBook {
             const writer = rows.filter((row) => row.access === "write").pop();
             return { item: this.now(word), key: rows[0].key, writer: writer ? writer.step : null };
         });
-        items.sort((one, other) => (keyText(one.key) < keyText(other.key) ? -1 : 1));
+        items.sort((one, other) => compareKeys(one.key, other.key));
         return { items, more: false };
     }
 

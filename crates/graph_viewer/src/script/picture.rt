@@ -6,13 +6,13 @@ const AROUND = 250;
 const MOST_DRAWN = 1200;
 const MOST_LINES = 2000;
 const LONG = 16 * BUCKET;
-const LEAST_ZOOM = 0.04;
+const FAR_ZOOM = 0.12;
 const MOST_ZOOM = 2;
 const READABLE = 0.75;
 const HEAD_HEIGHT = 26;
 
-// A scene has `width`, `height`, `boxes` (each with `id`, `x`, `y`, `w`, `h`, `kind`, `draw()` and `label`), `lines` (each with `from` and
-// `to`, ids of boxes, and `reason`), `heads` (each with `x`, `w` and `text`) and `bands` (each with `x`, `y`, `w` and `h`).
+// A scene has `width`, `height`, `boxes` (each with `id`, `x`, `y`, `w`, `h`, `kind`, `draw()` and `label()`), `lines` (each with `from` and
+// `to`, ids of boxes, `reason` and `title()`), `heads` (each with `x`, `w` and `text`) and `bands` (each with `x`, `y`, `w` and `h`).
 class Picture {
     constructor(label, chosen) {
         this.chosen = chosen;
@@ -89,7 +89,7 @@ class Picture {
         this.headLayer.hidden = !scene.heads.length;
         this.lineLayer.setAttribute("width", Math.max(1, scene.width));
         this.lineLayer.setAttribute("height", Math.max(1, scene.height));
-        this.percent.textContent = Math.round(zoom * 100) + " %";
+        this.percent.textContent = zoom < 0.01 ? "< 1 %" : Math.round(zoom * 100) + " %";
         scene.heads.forEach((head, place) => {
             const drawn = this.headLayer.children[place];
             drawn.style.left = head.x * zoom + this.room.x + "px";
@@ -122,7 +122,7 @@ class Picture {
         const sight = this.sight();
         const around = { x: sight.x - AROUND, y: sight.y - AROUND, w: sight.w + 2 * AROUND, h: sight.h + 2 * AROUND };
         let wanted = inBuckets(this.buckets, around).filter((box) => meets(box, around));
-        const isFar = wanted.length > MOST_DRAWN;
+        const isFar = wanted.length > MOST_DRAWN || this.zoom < FAR_ZOOM;
         this.drawSilhouette(isFar);
         if (isFar) wanted = wanted.filter((box) => box.id === this.selected);
         this.keep(this.boxes, wanted.map((box) => [box.id, box]), (box) => this.drawBox(box), this.boxLayer);
@@ -158,7 +158,7 @@ class Picture {
 
     drawBox(box) {
         const element = box.draw();
-        put(element, { id: "box-" + box.id, role: "option", "aria-label": box.label, "aria-selected": String(box.id === this.selected) }, []);
+        put(element, { id: "box-" + box.id, role: "option", "aria-label": box.label(), "aria-selected": String(box.id === this.selected) }, []);
         element.dataset.id = box.id;
         element.style.left = box.x + "px";
         element.style.top = box.y + "px";
@@ -170,7 +170,7 @@ class Picture {
     drawLine(line) {
         const [from, to] = [this.byId.get(line.from), this.byId.get(line.to)];
         const isNear = line.from === this.selected || line.to === this.selected;
-        return svg("path", { class: "line " + line.reason + (isNear ? " near" : ""), d: curve(from, to) }, svg("title", null, line.title || line.reason));
+        return svg("path", { class: "line " + line.reason + (isNear ? " near" : ""), d: curve(from, to) }, svg("title", null, line.title()));
     }
 
     // All boxes as one path, if they are too many to be drawn each.
@@ -227,7 +227,7 @@ class Picture {
     zoomBy(factor, at) {
         const { scroller } = this;
         const place = at || { x: scroller.clientWidth / 2, y: scroller.clientHeight / 2 };
-        const zoom = Math.min(MOST_ZOOM, Math.max(LEAST_ZOOM, this.zoom * factor));
+        const zoom = Math.min(MOST_ZOOM, Math.max(Math.min(READABLE, this.fitting()), this.zoom * factor));
         const x = (scroller.scrollLeft - this.room.x + place.x) / this.zoom;
         const y = (scroller.scrollTop - this.room.y + place.y) / this.zoom;
         this.zoom = zoom;

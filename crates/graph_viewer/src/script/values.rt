@@ -31,6 +31,11 @@ function written(value, indent, before) {
     return open + "\n" + inner + parts.join(",\n" + inner) + "\n" + before + close;
 }
 
+// What an answer says, but for the number of lines that it speaks of. If it is as before, the page stays as it is.
+function said(answer) {
+    return jsonText({ ...answer, entries: null });
+}
+
 // ---- texts
 
 const HIDDEN = /[\u0000-\u0008\u000b-\u001f\u007f-\u009f\u061c\u200b-\u200f\u2028-\u202e\u2060-\u2069\ufeff]/g;
@@ -77,6 +82,24 @@ function keyText(key) {
     return Object.keys(key)
         .map((name) => (needsType(name, key[name]) ? jsonText(key[name]) : key[name].S))
         .join(", ");
+}
+
+// Keys in the order of the table: texts by their characters, numbers by their size.
+function compareKeys(one, other) {
+    for (const name of Object.keys(one)) {
+        const [[type, a]] = Object.entries(one[name]);
+        const b = (other[name] || {})[type];
+        if (a === b || b === undefined) continue;
+        return type === "N" ? Number(a) - Number(b) : compareTexts(a, b);
+    }
+    return 0;
+}
+
+function compareTexts(one, other) {
+    const [a, b] = [[...one], [...other]];
+    const place = a.findIndex((sign, number) => sign !== b[number]);
+    if (place < 0) return a.length - b.length;
+    return place >= b.length ? 1 : a[place].codePointAt(0) - b[place].codePointAt(0);
 }
 
 // A key as a question and an address have it.

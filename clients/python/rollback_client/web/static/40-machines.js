@@ -101,6 +101,7 @@ addView("machines", {
 class MachinesView {
     constructor() {
         this.list = el("div", { class: "flow" });
+        this.again = rollback.steadily(() => this.load().catch(() => {}));
         this.element = el("section", { class: "view machines" },
             el("div", { class: "bar" }, el("h1", null, "Machines"), canGive() ? link("#define", "Define a machine", { class: "pill" }) : null), this.list);
     }
@@ -108,6 +109,9 @@ class MachinesView {
     async load() {
         const { machines } = await app.source.ask("machines");
         const counts = app.source.machineCounts;
+        const drawn = JSON.stringify([machines, counts]);
+        if (drawn === this.drawn) return;
+        this.drawn = drawn;
         const rows = machines.map((name) => {
             const of = counts[name] || {};
             return el("tr", null, el("th", { scope: "row" }, slots.machineLink(name)),
@@ -120,7 +124,7 @@ class MachinesView {
     }
 
     news(news) {
-        if (news.entries || news.all) this.load().catch(() => {});
+        if (news.entries || news.all) this.again();
     }
 }
 
@@ -190,12 +194,12 @@ function addLevel(scene, level, before, title, states) {
     scene.width = left + width * 200 + 28;
     for (const name of far.keys()) {
         for (const [next, why] of nextOf(level.States[name])) {
-            scene.lines.push({ from: before + name, to: before + next, reason: why === "Catch" ? "bound" : "thread", title: name + " to " + next + ": " + why });
+            scene.lines.push({ from: before + name, to: before + next, reason: why === "Catch" ? "bound" : "thread", title: () => name + " to " + next + ": " + why });
         }
         innerOf(level.States[name]).forEach((inner, number, all) => {
             const own = before + name + "/" + number + "/";
             addLevel(scene, inner, own, name + (all.length > 1 ? ", branch " + number : ""), states);
-            scene.lines.push({ from: before + name, to: own + inner.StartAt, reason: "fork", title: "branch " + number + " of " + name });
+            scene.lines.push({ from: before + name, to: own + inner.StartAt, reason: "fork", title: () => "branch " + number + " of " + name });
         });
     }
 }
@@ -233,7 +237,7 @@ function stateBox(id, name, state) {
     const more = [state.Type, state.Resource ? String(state.Resource).split(":").pop() : "", state.Retry ? "retries" : ""].filter(Boolean).join(", ");
     const kind = state.Type === "Task" ? "call" : ["Parallel", "Map"].includes(state.Type) ? "fork" : "plain";
     return {
-        id, w: 180, h: 52, label: name + ", " + more,
+        id, w: 180, h: 52, label: () => name + ", " + more,
         draw: () => el("div", { class: "box kind-" + kind + (state.Type === "Fail" ? " failed" : ""), title: name },
             el("span", { class: "state" }, el("bdi", null, short(name, 60))), el("span", { class: "about" }, more)),
     };
