@@ -32,6 +32,7 @@ TESTS = ("docs/GUARANTEES.md", "docs/MAP.md")
 SHORT = (
     "CONTRIBUTING.md",
     "README.md",
+    "docs/AWS.md",
     "docs/CLUSTER.md",
     "docs/CONSOLE.md",
     "docs/GLOSSARY.md",

@@ -35,6 +35,9 @@ SIGTERM, SIGINT, SIGQUIT and, without a log, SIGHUP end the server: it takes no 
 journal, and waits `--grace SECONDS` for its replies to be read. Its status is then the program's. A second signal ends the waiting. If
 the program ends by itself, each caller's connection ends, and so does the server, with status 1 at least.
 
+With `--aws` it answers calls of Amazon's Step Functions and DynamoDB at `--http` (`rollback_client.aws`). FILE-aws, beside the journal, keeps
+texts, roles, tags and times as they were given.
+
 Without `--ask` and `--run` it keeps nothing of its own.
 """
 from __future__ import annotations

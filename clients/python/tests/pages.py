@@ -4,6 +4,7 @@ import http.client
 import json
 import os
 import re
+import shutil
 import socket
 import subprocess
 import sys
@@ -17,9 +18,9 @@ JSON = "application/json"
 
 @functools.lru_cache(maxsize=None)
 def python_with(*modules):
-    """A Python that has these modules, or nothing: this one, else the system's."""
-    for python in (sys.executable, "/usr/bin/python3"):
-        if os.access(python, os.X_OK):
+    """A Python that has these modules, or nothing: this one, else that of the path, or the system's."""
+    for python in (sys.executable, shutil.which("python3"), "/usr/bin/python3"):
+        if python is not None and os.access(python, os.X_OK):
             done = subprocess.run(
                 [python, "-c", "import sys, " + ", ".join(modules)], stderr=subprocess.DEVNULL, check=False
             )

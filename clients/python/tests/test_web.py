@@ -1,10 +1,12 @@
 """The console's requests: who may ask and give, and what comes back."""
+import http.client
 import json
 import os
 import stat
 
 from rollback_client import Book
-from tests.pages import JSON, WithPages
+from tests.pages import JSON, WithPages, python_with
+from tests.program import follower
 
 
 class Guards(WithPages):
@@ -75,6 +77,8 @@ class Guards(WithPages):
         self.assertEqual(self.who.get("/nothing").status, 404)
         found = self.who.ask("POST", "/", {"Content-Type": JSON}, b"{}")
         self.assertEqual((found.status, found.headers["Allow"]), (405, "GET,HEAD"))
+        for path in ("/events", "/ask?q=list"):
+            self.assertEqual(self.who.ask("HEAD", path).status, 405)
 
 
 class Gives(WithPages):
@@ -129,6 +133,24 @@ class Gives(WithPages):
         found = self.who.line("drive 1000").value["reply"]
         self.assertEqual(found.split("\n")[0], "ok 1000")
         self.assertEqual(len(found.split("\n")), 1002)
+
+    def test_a_drive_that_nobody_waits_for(self):
+        """It ends with the piece at hand, as that of a caller of the socket who disconnects."""
+        self.who.line("table items id:S []")
+        self.who.line("define loop " + json.dumps({"StartAt": "A", "States": {"A": {"Type": "Pass", "Next": "A"}}}))
+        self.who.line("start one loop {}")
+        connection = http.client.HTTPConnection(self.who.host, timeout=60)
+        headers = {"Content-Type": JSON, "Cookie": self.who.cookie, "Origin": f"http://{self.who.host}"}
+        connection.request("POST", "/line", b'{"line":"drive 65000"}', {**headers, "Sec-Fetch-Site": "same-origin"})
+        with Book.connect(self.server.address, timeout=60) as book:
+            self.until(lambda: book.show("one").moves > 0)
+            connection.close()
+            self.until(lambda: self.log_has("drive 65000"))
+            self.assertLess(book.show("one").moves, 60_000)
+
+    def log_has(self, line):
+        with open(self.log, encoding="utf-8") as file:
+            return any(json.loads(entry)["line"] == line for entry in file)
 
     def test_questions(self):
         self.assertEqual(self.who.get("/ask").status, 400)
@@ -186,9 +208,6 @@ class Tokens(WithPages):
             (os.rmdir if make == "folder" else os.unlink)(path)
 
     def refused_with(self, words):
-        from tests.pages import python_with
-        from tests.program import follower
-
         python = python_with("aiohttp")
         if python is None:
             self.skipTest("no Python with aiohttp")
@@ -200,8 +219,6 @@ class Words(WithPages):
     """Words that can't be served."""
 
     def test_words(self):
-        from tests.test_web import Tokens
-
         path = self.path("socket")
         for words, sentence in (
             (("--http", "127.0.0.1:0"), "--ask or --run"),
@@ -209,6 +226,7 @@ class Words(WithPages):
             (("--http", "127.0.0.1:70000", "--ask"), "127.0.0.1"),
             (("--http", "127.0.0.1:0", "--ask", "--token", "a b"), "--token"),
             (("--read-only",), "--http"),
+            (("--http", "127.0.0.1:0", "--ask", "--cluster", "http://127.0.0.1:1"), "--cluster"),
         ):
             status, said = Tokens.refused_with(self, ("--socket", path) + words)
             self.assertEqual(status, 2)

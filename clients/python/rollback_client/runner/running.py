@@ -16,6 +16,7 @@ PAGE = 250  # rows of one answer
 FIRST_PAUSE, LONGEST_PAUSE = 1.0, 60.0  # seconds before it tries again, if the journal takes no line
 AGAIN = 0.2  # seconds before it asks a follower again that isn't there, and looks at a hold
 SMOOTH = 0.02  # seconds over which a rate is kept
+OF_WRITES = "aws-"  # with which the names of machines begin that a server defines for writes from outside
 
 
 @dataclass(frozen=True)
@@ -28,7 +29,9 @@ class Options:
     settle_at: Optional[int] = None
 
     def takes(self, machine: str) -> bool:
-        """Whether it steps executions of a machine."""
+        """Whether it steps executions of a machine. Those of a write from outside are stepped by who writes."""
+        if machine.startswith(OF_WRITES):
+            return False
         return (not self.only or machine in self.only) and machine not in self.exceptions
 
 

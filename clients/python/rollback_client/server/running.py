@@ -25,6 +25,7 @@ from .words import Words
 if TYPE_CHECKING:
     import ssl
 
+    from ..aws.serving import Amazon
     from ..web.serving import Web
 
 BACKLOG = 512  # callers that wait to be taken
@@ -49,6 +50,7 @@ class Server:
         self._runners: Optional[Runners] = None
         self.lines = Lines(self, self.turns)
         self._web: Optional[Web] = None
+        self._amazon: Optional[Amazon] = None
 
     # ---- callers
 
@@ -138,6 +140,7 @@ class Server:
             return await self._status()
         try:
             await self._begin_follower()
+            await self._begin_amazon()
             self._begin_runner(ClockFile(None if self.words.journal is None else f"{self.words.journal}-clock", say))
             await self._begin_web()
             listening = await self._listen()
@@ -201,6 +204,14 @@ class Server:
         self.turns.follow = follower.follow
         self.lines.follower = follower
 
+    async def _begin_amazon(self) -> None:
+        """Learns what the book has, before any line is given."""
+        if self.words.aws:
+            from ..aws.serving import Amazon  # nor does who answers no tools of Amazon's need theirs
+
+            self._amazon = Amazon(self, self.words)
+            await self._amazon.begin()
+
     def _begin_runner(self, clock_file: ClockFile, answer: Optional[Answer] = None) -> None:
         words, follower = self.words, self._follower
         if follower is None:
@@ -216,6 +227,8 @@ class Server:
         from ..web.serving import Web  # who serves no pages needs no aiohttp
 
         self._web = Web(self, self.words, self._follower, self._runners)
+        if self._amazon is not None:
+            self._web.amazon = self._amazon.handle
         await self._web.begin()
 
     async def _listen(self) -> asyncio.AbstractServer:
@@ -281,6 +294,8 @@ class Server:
         if self._web is not None:
             await self._web.end()
         await self._until(lambda: not self.turns.given, None)
+        if self._amazon is not None:
+            self._amazon.end()
         self._program.end_input()
         await self._program.status()
         if self._follower is not None:

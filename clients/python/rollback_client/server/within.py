@@ -4,7 +4,7 @@ from __future__ import annotations
 import asyncio
 import contextlib
 import time
-from typing import TYPE_CHECKING, AsyncIterator, Iterator, Optional, Set
+from typing import TYPE_CHECKING, AsyncIterator, Callable, Iterator, Optional, Set
 
 from ..lines import MOST_BYTES
 from .callers import HEAD, OWN, Asked, Caller
@@ -24,9 +24,10 @@ class Ended(Exception):
 class NamedCaller(Caller):
     """Gives one line, or one after the other, and counts for no place."""
 
-    def __init__(self, server: Server, name: str):
+    def __init__(self, server: Server, name: str, has_left: Callable[[], bool]):
         super().__init__(server)
         self.peer = name
+        self._has_left = has_left
         self._reply: Optional[asyncio.Future[bytes]] = None
 
     def expect(self) -> asyncio.Future[bytes]:
@@ -47,7 +48,7 @@ class NamedCaller(Caller):
 
     def has_gone(self) -> bool:
         """Whether nobody waits for the reply any more."""
-        return self.is_gone
+        return self.is_gone or self._has_left()
 
     def leave(self) -> None:
         """Gives up: whether its line is done isn't known."""
@@ -82,10 +83,13 @@ class Lines:
         self._callers: Set[NamedCaller] = set()
         self.follower: Optional[Follower] = None
 
-    async def give(self, name: str, line: bytes) -> bytes:
-        """Gives a line at its turn, and answers the reply. A long drive is given in pieces, and `!pause` goes to the runner."""
+    async def give(self, name: str, line: bytes, has_left: Callable[[], bool] = lambda: False) -> bytes:
+        """Gives a line at its turn, and answers the reply. A long drive is given in pieces, and `!pause` goes to the runner.
+
+        `has_left` says whether nobody waits for the reply any more: a drive ends then with the piece at hand.
+        """
         _look_at(line)
-        with self._called(name) as caller:
+        with self._called(name, has_left) as caller:
             reply = caller.expect()
             caller.take(line)
             self._turns.want(caller)
@@ -128,10 +132,10 @@ class Lines:
             caller.leave()
 
     @contextlib.contextmanager
-    def _called(self, name: str) -> Iterator[NamedCaller]:
+    def _called(self, name: str, has_left: Callable[[], bool] = lambda: False) -> Iterator[NamedCaller]:
         if self._turns.is_ending:
             raise Ended()
-        caller = NamedCaller(self._server, name)
+        caller = NamedCaller(self._server, name, has_left)
         self._callers.add(caller)
         try:
             yield caller

@@ -39,6 +39,11 @@ class Words(argparse.Namespace):
     new_tokens: bool
     no_link: bool
     read_only: bool
+    aws: bool  # the further words are those of `..aws.words`
+    credentials: Optional[str]
+    region: Any
+    account: Any
+    table: Any
 
     def runner_options(self) -> Options:
         """What the runner is told."""
@@ -107,6 +112,26 @@ def _look_at_web(parser: argparse.ArgumentParser, words: Words) -> None:
         look_at(parser, words)
     elif words.token or words.new_tokens or words.no_link or words.read_only:
         parser.error("--token, --new-tokens, --no-link and --read-only are words of --http")
+    _look_at_aws(parser, words)
+
+
+def _add_aws(parser: argparse.ArgumentParser) -> None:
+    """The words for Amazon's tools, which `..aws.words` looks at."""
+    add: Callable[..., Any] = parser.add_argument_group("calls of Step Functions and DynamoDB").add_argument
+    add("--aws", action="store_true", help="answers them at --http, with --run: boto3, the aws command, Terraform")
+    add("--credentials", metavar="FILE", help="checks signatures by this file of lines KEY SECRET, of mode 0600")
+    add("--region", help="the region in ARNs (us-east-1)")
+    add("--account", help="the account in ARNs (000000000000)")
+    add("--table", nargs="+", metavar="WORD", help="NAME KEY:TYPE [KEY:TYPE]: begins a book that has no table")
+
+
+def _look_at_aws(parser: argparse.ArgumentParser, words: Words) -> None:
+    if words.aws:
+        from ..aws.words import look_at
+
+        look_at(parser, words)
+    elif words.credentials or words.region or words.account or words.table:
+        parser.error("--credentials, --region, --account and --table are words of --aws")
 
 
 def _of_cluster(parser: argparse.ArgumentParser, words: Words) -> Words:
@@ -150,6 +175,7 @@ def read_words(given: Optional[Sequence[str]] = None) -> Words:
     add("--run", action="store_true", help="runs the book: steps by turns and clocks; answers questions, too")
     add_runner_words(parser)
     _add_web(parser)
+    _add_aws(parser)
     _add_cluster(parser)
     words = parser.parse_args(given, Words())
     if not words.run and words.runner_options() != Options():

@@ -35,7 +35,7 @@ class Gives:
         """Gives a line as it is."""
         line = line_of(text_of(await read_body(request), "line"))
         self._look_at_rights()
-        reply = await self._console.server.lines.give(request["caller"], line)
+        reply = await self._console.server.lines.give(request["caller"], line, lambda: request.transport is None)
         return _replied(line.decode(), reply)
 
     async def _rollback(self, request: web.Request) -> web.StreamResponse:

@@ -49,7 +49,7 @@ class Pages:
     def add_to(self, router: web.UrlDispatcher) -> None:
         """Adds their routes."""
         for path in self._files:
-            router.add_get(path, self._file)
+            router.add_get(path, self._file, allow_head=False)
 
     def page(self) -> web.Response:
         """The page, which asks for all else."""

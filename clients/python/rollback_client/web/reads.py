@@ -27,12 +27,12 @@ class Reads:
 
     def add_to(self, router: web.UrlDispatcher) -> None:
         """Adds their routes."""
-        router.add_get("/ask", self._ask)
-        router.add_get("/book", self._book)
-        router.add_get("/entries", self._entries)
-        router.add_get("/taken", self._taken)
-        router.add_get("/times", self._times)
-        router.add_get("/waits", self._waits)
+        router.add_get("/ask", self._ask, allow_head=False)
+        router.add_get("/book", self._book, allow_head=False)
+        router.add_get("/entries", self._entries, allow_head=False)
+        router.add_get("/taken", self._taken, allow_head=False)
+        router.add_get("/times", self._times, allow_head=False)
+        router.add_get("/waits", self._waits, allow_head=False)
 
     async def _ask(self, request: web.Request) -> web.StreamResponse:
         question = single(request.query.getall("q", []))

@@ -150,7 +150,7 @@ class Web:
 
     def _routes(self, router: web.UrlDispatcher) -> None:
         router.add_get("/", self._page)
-        router.add_get("/events", self.events.stream)
+        router.add_get("/events", self.events.stream, allow_head=False)
         self._pages.add_to(router)
         Reads(self).add_to(router)
         Gives(self).add_to(router)

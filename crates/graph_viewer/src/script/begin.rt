@@ -14,7 +14,7 @@ async function begin(source) {
 window.rollback = {
     ACCESSES, KINDS, NoAnswer, REASONS, RowTable, Picture, STATUSES,
     addView, addressOf, app, begin, busyButton, button, copyButton, counted, el, executionLink, executionOf, fill, go, itemLink, jsonText,
-    keyText, later, link, notice, put, readJson, route, short, showDialog, shown, slots, statusMark, stepAddress, stepLink, svg, tellNews,
+    keyText, later, link, notice, put, readJson, route, said, short, showDialog, shown, slots, statusMark, stepAddress, stepLink, steadily, svg, tellNews,
     timeText, valueBlock,
 };
 

@@ -21,7 +21,7 @@ class ConeView {
         this.step = step;
         this.isPlan = isPlan;
         this.open = new Set();
-        this.outcomes = new Map();
+        this.again = steadily(() => this.look());
         this.head = el("div", { class: "about-cone" });
         const label = isPlan ? "What depends on " + step : "What " + step + " depends on";
         this.picture = new Picture(label, (id, isPressed) => this.chosen(id, isPressed));
@@ -32,6 +32,7 @@ class ConeView {
         const { source } = app;
         const answer = await source.ask((this.isPlan ? "plan " : "causes ") + this.step);
         this.answer = answer;
+        this.said = said(answer);
         const own = this.isPlan ? [] : [(await source.ask("show " + this.step)).step];
         this.rows = [...own, ...(this.isPlan ? answer.steps : answer.causes)].reverse();
         this.isLarge = this.rows.length > MOST_OPEN;
@@ -120,19 +121,20 @@ class ConeView {
         this.findOutcomes();
     }
 
-    async news(news) {
+    news(news) {
         if (news.isPausing) this.drawHead();
-        if (!news.all && !news.entries) return;
-        const before = this.rows.map((row) => row.step).join(" ");
+        if (news.all || news.entries) this.again();
+    }
+
+    async look() {
         try {
             const answer = await app.source.ask((this.isPlan ? "plan " : "causes ") + this.step);
-            const rows = this.isPlan ? answer.steps : answer.causes;
-            const now = [...rows.map((row) => row.step)].reverse().join(" ") + (this.isPlan ? "" : " " + this.step);
-            if (before !== now) await this.load();
-            if (before !== now) this.picture.select(this.boxOf(this.at), false);
+            if (said(answer) === this.said) return;
+            await this.load();
+            this.picture.select(this.boxOf(this.at), false);
         } catch (fault) {
             app.key = null;
-            route();
+            if (this.element.isConnected) route();
         }
     }
 }

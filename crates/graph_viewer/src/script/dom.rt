@@ -111,6 +111,24 @@ function nextFrame(does) {
     };
 }
 
+// Does something that takes its time: at once, and again if it is asked for meanwhile, but never without a pause as long as it took.
+function steadily(does) {
+    let [running, again] = [false, false];
+    return async function run() {
+        again = true;
+        if (running) return;
+        running = true;
+        while (again) {
+            again = false;
+            const began = performance.now();
+            await does();
+            const took = performance.now() - began;
+            if (took > 100) await new Promise((done) => setTimeout(done, took));
+        }
+        running = false;
+    };
+}
+
 function counted(count, one, many) {
     return count.toLocaleString("en") + " " + (count === 1 ? one : many || one + "s");
 }

@@ -26,13 +26,19 @@ class ExecutionView {
         this.picture = new Picture("Steps of " + name, (step, isPressed) => this.chosen(step, isPressed));
         this.element = el("section", { class: "view execution" }, this.head, this.picture.element);
         this.step = null;
+        this.again = steadily(() => this.look());
     }
 
-    async load() {
-        const { threads, ...about } = await app.source.ask("show " + this.name);
+    async load(isAnew) {
+        const answer = await app.source.ask("show " + this.name);
+        const { threads, ...about } = answer;
+        if (!isAnew && this.said === said(answer)) return;
+        this.said = said(answer);
         this.steps = new Set(threads.flatMap((thread) => thread.steps.map((row) => row.step)));
         this.drawHead(about, threads);
+        const chosen = this.picture.selected;
         this.picture.show(lanesScene(threads));
+        if (chosen) this.picture.select(chosen, false);
     }
 
     drawHead(about, threads) {
@@ -95,15 +101,21 @@ class ExecutionView {
         go({ step }, !isPressed);
     }
 
-    async news(news) {
-        if (!news.all && !news.isPausing && !news.executions.has(this.name)) return;
+    news(news) {
+        this.isAnew = this.isAnew || Boolean(news.isPausing);
+        if (news.all || news.isPausing || news.executions.has(this.name)) this.again();
+    }
+
+    async look() {
         try {
-            await this.load();
-            if (this.step && !this.steps.has(this.step)) throw new Error("gone");
-            if (this.step) this.picture.select(this.step, false);
+            const isAnew = this.isAnew;
+            this.isAnew = false;
+            await this.load(isAnew);
+            if (this.step && !this.steps.has(this.step)) throw new NoAnswer("gone");
+            if (this.step && this.picture.selected !== this.step) this.picture.select(this.step, false);
         } catch (fault) {
             app.key = null;
-            route();
+            if (this.element.isConnected) route();
         }
     }
 }

@@ -42,6 +42,7 @@ async function allItems() {
 class ItemsView {
     constructor() {
         this.items = [];
+        this.again = steadily(() => this.load().catch(() => {}));
         this.field = el("input", {
             type: "text", placeholder: "Key or value has", "aria-label": "Key or value has", spellcheck: "false", autocomplete: "off",
             input: later(120, () => this.filter()),
@@ -81,7 +82,7 @@ class ItemsView {
     }
 
     news(news) {
-        if (news.entries || news.all) this.load().catch(() => {});
+        if (news.entries || news.all) this.again();
     }
 }
 
@@ -89,10 +90,13 @@ class ItemView {
     constructor(word) {
         this.word = word;
         this.element = el("section", { class: "view item" });
+        this.again = steadily(() => this.look());
     }
 
     async load() {
         const answer = await app.source.ask("item " + this.word);
+        if (this.said === said(answer)) return;
+        this.said = said(answer);
         const text = jsonText(answer.key);
         const rows = answer.accesses.map((row) => el("tr", { class: "access-" + row.access },
             el("th", { scope: "row" }, stepLink(row.step)),
@@ -112,11 +116,16 @@ class ItemView {
     }
 
     news(news) {
-        if (!news.entries && !news.all) return;
-        this.load().catch(() => {
+        if (news.entries || news.all) this.again();
+    }
+
+    async look() {
+        try {
+            await this.load();
+        } catch (fault) {
             app.key = null;
-            route();
-        });
+            if (this.element.isConnected) route();
+        }
     }
 }
 "####;

@@ -12,6 +12,8 @@ async function showPanel(step) {
         return;
     }
     if (app.panelStep !== step) return;
+    if (!isNew && !app.panel.hidden && app.panelSaid === said(answer)) return;
+    app.panelSaid = said(answer);
     const top = isNew ? 0 : app.panel.scrollTop;
     const open = [...app.panel.querySelectorAll("details[open]")].map((made) => made.dataset.name);
     const had = app.panel.contains(document.activeElement) ? document.activeElement.textContent : null;
@@ -35,9 +37,12 @@ function closePanel(isQuiet) {
     (picture ? picture.scroller : app.main).focus();
 }
 
-async function refreshPanel(news) {
-    const step = app.panelStep;
-    if (step && (news.all || news.executions.has(executionOf(step)) || news.entries)) await showPanel(step);
+const lookAtPanel = steadily(async () => {
+    if (app.panelStep && !app.panel.hidden) await showPanel(app.panelStep);
+});
+
+function refreshPanel(news) {
+    if (news.all || news.entries) lookAtPanel();
 }
 
 function panelOf(answer, open) {

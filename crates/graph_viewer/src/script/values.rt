@@ -31,6 +31,11 @@ function written(value, indent, before) {
     return open + "\n" + inner + parts.join(",\n" + inner) + "\n" + before + close;
 }
 
+// What an answer says, but for the number of lines that it speaks of. If it is as before, the page stays as it is.
+function said(answer) {
+    return jsonText({ ...answer, entries: null });
+}
+
 // ---- texts
 
 const HIDDEN = /[\u0000-\u0008\u000b-\u001f\u007f-\u009f\u061c\u200b-\u200f\u2028-\u202e\u2060-\u2069\ufeff]/g;

@@ -103,6 +103,7 @@ class TakenView {
     constructor(step) {
         this.step = step;
         this.ready = el("div", { class: "ready" });
+        this.again = rollback.steadily(() => this.drawReady());
         this.element = el("section", { class: "view taken" });
     }
 
@@ -121,8 +122,12 @@ class TakenView {
     }
 
     async drawReady() {
+        const names = this.executions.slice(0, 100);
+        const drawn = JSON.stringify(names.map((name) => app.source.rowOf.get(name) || null));
+        if (drawn === this.drawn) return;
+        this.drawn = drawn;
         const rows = [];
-        for (const name of this.executions.slice(0, 100)) {
+        for (const name of names) {
             if (!app.source.rowOf.has(name)) {
                 rows.push(el("tr", null, el("td", null, el("bdi", null, name)), el("td", { colspan: "2", class: "empty" }, "is gone: its start was taken back")));
                 continue;
@@ -136,7 +141,7 @@ class TakenView {
     }
 
     news(news) {
-        if (news.all || this.executions.some((name) => news.executions.has(name))) this.drawReady();
+        if (news.all || this.executions.some((name) => news.executions.has(name))) this.again();
     }
 }
 

@@ -101,6 +101,7 @@ addView("machines", {
 class MachinesView {
     constructor() {
         this.list = el("div", { class: "flow" });
+        this.again = rollback.steadily(() => this.load().catch(() => {}));
         this.element = el("section", { class: "view machines" },
             el("div", { class: "bar" }, el("h1", null, "Machines"), canGive() ? link("#define", "Define a machine", { class: "pill" }) : null), this.list);
     }
@@ -108,6 +109,9 @@ class MachinesView {
     async load() {
         const { machines } = await app.source.ask("machines");
         const counts = app.source.machineCounts;
+        const drawn = JSON.stringify([machines, counts]);
+        if (drawn === this.drawn) return;
+        this.drawn = drawn;
         const rows = machines.map((name) => {
             const of = counts[name] || {};
             return el("tr", null, el("th", { scope: "row" }, slots.machineLink(name)),
@@ -120,7 +124,7 @@ class MachinesView {
     }
 
     news(news) {
-        if (news.entries || news.all) this.load().catch(() => {});
+        if (news.entries || news.all) this.again();
     }
 }
 

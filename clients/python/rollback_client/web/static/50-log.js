@@ -20,6 +20,7 @@ class LogView {
     constructor() {
         this.rows = [];
         this.first = null;
+        this.again = rollback.steadily(() => this.look());
         this.field = el("input", {
             type: "text", placeholder: "Line or caller has", "aria-label": "Line or caller has", spellcheck: "false", autocomplete: "off",
             input: rollback.later(120, () => this.draw()),
@@ -70,10 +71,16 @@ class LogView {
         this.table.draw();
     }
 
-    async news(news) {
-        if (!news.entries && !news.all) return;
+    news(news) {
+        this.isAnew = this.isAnew || news.all;
+        if (news.entries || news.all) this.again();
+    }
+
+    async look() {
+        const isAnew = this.isAnew;
+        this.isAnew = false;
         const known = this.rows.length ? this.rows[0].entry + 1 : 0;
-        if (news.all || app.source.entries - known > 1000) {
+        if (isAnew || app.source.entries - known > 1000) {
             this.rows = [];
             this.first = null;
             await this.load().catch(() => {});
