@@ -139,7 +139,7 @@ class Installed(unittest.TestCase):
 
 class Unit(unittest.TestCase):
     def units(self):
-        guide = "".join((TOP / f"docs/{name}.md").read_text(encoding="utf-8") for name in ("USER_GUIDE", "CLUSTER"))
+        guide = "".join((TOP / f"docs/{name}.md").read_text(encoding="utf-8") for name in ("SERVER", "CLUSTER"))
         found = re.findall(r"(?m)^    \[Unit\]\n(?:    .*\n|\n)*?    WantedBy=.*\n", guide)
         return ["\n".join(line[4:] for line in unit.splitlines()) + "\n" for unit in found]
 
