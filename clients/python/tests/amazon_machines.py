@@ -1,4 +1,4 @@
-"""Ten machines of the kinds that Amazon's documents show, over one table, with the inputs that are tried and how each ends."""
+"""Machines of the kinds that Amazon's documents show, over one table, with the inputs that are tried and how each ends."""
 
 TABLE = "items"
 RESOURCE = "arn:aws:states:::dynamodb:"
@@ -199,6 +199,62 @@ TRANSFORM = {
     },
 }
 
+ONE_AT_A_TIME = {
+    "StartAt": "Each",
+    "States": {
+        "Each": {
+            "Type": "Map",
+            "MaxConcurrency": 1,
+            "ItemsPath": "$.elements",
+            "ItemProcessor": {"StartAt": "P", "States": {"P": {"Type": "Pass", "End": True}}},
+            "End": True,
+        }
+    },
+}
+
+CAUGHT_MAP = {
+    "StartAt": "Each",
+    "States": {
+        "Each": {
+            "Type": "Map",
+            "ItemsPath": "$.elements",
+            "ItemProcessor": {
+                "StartAt": "IsTwo",
+                "States": {
+                    "IsTwo": {
+                        "Type": "Choice",
+                        "Choices": [{"Variable": "$", "NumericEquals": 2, "Next": "Later"}],
+                        "Default": "Good",
+                    },
+                    # so that the others have ended by then
+                    "Later": {"Type": "Pass", "Next": "Fails"},
+                    "Fails": {"Type": "Fail", "Error": "Two", "Cause": "is bad"},
+                    "Good": {"Type": "Succeed"},
+                },
+            },
+            "Catch": [{"ErrorEquals": ["States.ALL"], "ResultPath": "$.error", "Next": "Caught"}],
+            "End": True,
+        },
+        "Caught": {"Type": "Pass", "End": True},
+    },
+}
+
+RETRIED_PARALLEL = {
+    "StartAt": "Both",
+    "States": {
+        "Both": {
+            "Type": "Parallel",
+            "Branches": [
+                {"StartAt": "Fails", "States": {"Fails": {"Type": "Fail", "Error": "Broken", "Cause": "always"}}}
+            ],
+            "Retry": [{"ErrorEquals": ["States.ALL"], "IntervalSeconds": 1, "MaxAttempts": 1}],
+            "Catch": [{"ErrorEquals": ["States.ALL"], "Next": "Caught"}],
+            "End": True,
+        },
+        "Caught": {"Type": "Pass", "End": True},
+    },
+}
+
 # name, machine, input, status, and the output or the error and its cause
 TRIALS = (
     ("order", ORDER, {"product": "widget", "order": "o-1"}, "SUCCEEDED", None),
@@ -220,6 +276,16 @@ TRIALS = (
     ("catch", CATCH, {}, "SUCCEEDED", "taken"),
     ("lock", LOCK, {"who": "ann"}, "SUCCEEDED", {"who": "ann"}),
     ("failing", FAILING_BRANCH, {}, "FAILED", ("Broken", "on purpose")),
+    ("one-at-a-time", ONE_AT_A_TIME, {"elements": [1, 2]}, "SUCCEEDED", [1, 2]),
+    ("empty", ONE_AT_A_TIME, {"elements": []}, "SUCCEEDED", []),
+    (
+        "caught-map",
+        CAUGHT_MAP,
+        {"elements": [1, 2]},
+        "SUCCEEDED",
+        {"elements": [1, 2], "error": {"Error": "Two", "Cause": "is bad"}},
+    ),
+    ("retried-parallel", RETRIED_PARALLEL, {}, "SUCCEEDED", {"Error": "Broken", "Cause": "always"}),
     ("transform", TRANSFORM, {"order": {"customer": "ann"}}, "SUCCEEDED", {"name": "ann", "kind": "order"}),
 )
 WIDGET = {"id": {"S": "widget"}, "count": {"N": "1"}}

@@ -12,7 +12,7 @@ from tests.amazon_machines import TRIALS, WIDGET
 from tests.program import TOP
 
 UNTAKEN = {"error": "ValidationException"}
-BRANCHING = ("map", "parallel", "failing")
+BRANCHING = ("map", "parallel", "failing", "one-at-a-time", "empty", "caught-map", "retried-parallel")
 ITEMS = ("Item", "Attributes", "item")
 # Calls that moto answers otherwise than Amazon's documents say: by their place among CALLS what a book answers, and why.
 OTHER = {

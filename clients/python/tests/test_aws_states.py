@@ -1,4 +1,4 @@
-"""Step Functions by boto3: state machines, executions and their histories. The wanted answers are those of Amazon's documents."""
+"""Step Functions by boto3: state machines and executions. The wanted answers are those of Amazon's documents."""
 import json
 import os
 import time
@@ -55,6 +55,24 @@ class Machines(WithAmazon):
             "another name",
             name="p",
             definition=json.dumps(ECHO),
+            roleArn=ROLE,
+        )
+
+    def test_same_as_one_of_the_shell(self):
+        """Of a machine that another caller has defined, role and configuration are those that are given first."""
+        with Book.connect(self.server.address) as book:
+            book.define("p", PASS)
+        logging = {"level": "ERROR"}
+        arn = self.created(self.states, "p", PASS, loggingConfiguration=logging, tags=[{"key": "a", "value": "b"}])
+        found = self.states.describe_state_machine(stateMachineArn=arn)
+        self.assertEqual((found["roleArn"], found["loggingConfiguration"]["level"]), (ROLE, "ERROR"))
+        self.assertEqual(self.states.list_tags_for_resource(resourceArn=arn)["tags"], [{"key": "a", "value": "b"}])
+        self.created(self.states, "p", PASS, loggingConfiguration={"level": "ERROR", "includeExecutionData": False})
+        self.refused_by(
+            "StateMachineAlreadyExists",
+            self.states.create_state_machine,
+            name="p",
+            definition=json.dumps(PASS),
             roleArn=ROLE,
         )
 
@@ -152,7 +170,7 @@ class Executions(WithAmazon):
         self.server = self.amazon()
         self.states, self.tables = self.clients(self.server)
 
-    def test_ten_machines(self):
+    def test_machines_of_all_kinds(self):
         self.tables.put_item(TableName="items", Item=WIDGET)
         began = time.time()
         for number, (name, machine, input, status, wanted) in enumerate(TRIALS):
@@ -367,130 +385,3 @@ class Executions(WithAmazon):
         self.refused_by("ExecutionLimitExceeded", self.states.start_execution, "settle", stateMachineArn=arn)
         self.refused_by("LimitExceededException", self.tables.put_item, "settle", TableName="items", Item=WIDGET)
         self.assertEqual(self.tables.scan(TableName="items")["Count"], 0)
-
-
-class Histories(WithAmazon):
-    """Events against histories that Amazon's documents show."""
-
-    def events(self, name, input):
-        server = self.amazon()
-        states, tables = self.clients(server)
-        tables.put_item(TableName="items", Item=WIDGET)
-        arn = self.created(states, name, MACHINES[name])
-        made = self.run_to_end(states, arn, input)["executionArn"]
-        return states.get_execution_history(executionArn=made)["events"]
-
-    def kinds(self, events):
-        return [event["type"] for event in events]
-
-    CALL = ["TaskStateEntered", "TaskScheduled", "TaskStarted", "TaskSucceeded", "TaskStateExited"]
-
-    def test_tasks_and_choices(self):
-        events = self.events("order", {"product": "widget", "order": "o"})
-        choice, succeed = (
-            ["ChoiceStateEntered", "ChoiceStateExited"],
-            ["SucceedStateEntered", "SucceedStateExited"],
-        )
-        wanted = ["ExecutionStarted", *self.CALL, *choice, *self.CALL, *succeed, "ExecutionSucceeded"]
-        self.assertEqual(self.kinds(events), wanted)
-        self.assertEqual([event["previousEventId"] for event in events], [0, 0, *range(2, len(events))])
-        entered, scheduled, started, succeeded, exited = events[1:6]
-        self.assertEqual(entered["stateEnteredEventDetails"]["name"], "LookUp")
-        self.assertEqual(json.loads(entered["stateEnteredEventDetails"]["input"]), {"product": "widget", "order": "o"})
-        details = scheduled["taskScheduledEventDetails"]
-        self.assertEqual(
-            (details["resourceType"], details["resource"], details["region"]), ("dynamodb", "getItem", "us-east-1")
-        )
-        self.assertEqual(json.loads(details["parameters"]), {"TableName": "items", "Key": {"id": {"S": "widget"}}})
-        self.assertEqual(started["taskStartedEventDetails"], {"resourceType": "dynamodb", "resource": "getItem"})
-        self.assertEqual(json.loads(succeeded["taskSucceededEventDetails"]["output"]), {"Item": WIDGET})
-        self.assertEqual(
-            json.loads(exited["stateExitedEventDetails"]["output"]),
-            {"product": "widget", "order": "o", "stock": {"Item": WIDGET}},
-        )
-
-    def test_fail(self):
-        events = self.events("order", {"product": "none", "order": "o"})
-        self.assertEqual(self.kinds(events)[-3:], ["ChoiceStateExited", "FailStateEntered", "ExecutionFailed"])
-        self.assertEqual(events[-1]["executionFailedEventDetails"], {"error": "OutOfStock", "cause": "nothing is left"})
-
-    def test_retries(self):
-        events = self.events("retry", {})
-        again = ["TaskScheduled", "TaskStarted", "TaskFailed"]
-        self.assertEqual(
-            self.kinds(events), ["ExecutionStarted", "TaskStateEntered", *again, *again, "ExecutionFailed"]
-        )
-        for event in events:
-            if event["type"] == "TaskFailed":
-                details = event["taskFailedEventDetails"]
-                self.assertEqual(details["error"], "DynamoDB.ConditionalCheckFailedException")
-        waited = events[5]["timestamp"] - events[4]["timestamp"]
-        self.assertGreaterEqual(waited.total_seconds(), 0.99)
-
-    def test_caught(self):
-        events = self.events("catch", {"a": 1})
-        failed = ["TaskScheduled", "TaskStarted", "TaskFailed", "TaskStateExited"]
-        passed = ["PassStateEntered", "PassStateExited", "ExecutionSucceeded"]
-        self.assertEqual(self.kinds(events), ["ExecutionStarted", "TaskStateEntered", *failed, *passed])
-        output = json.loads(events[5]["stateExitedEventDetails"]["output"])
-        self.assertEqual(output["error"]["Error"], "DynamoDB.ConditionalCheckFailedException")
-
-    def test_calls_that_fail(self):
-        """A call of another table, and one that is malformed, as their retries and their ends tell it."""
-        again = [{"ErrorEquals": ["States.ALL"], "IntervalSeconds": 0, "MaxAttempts": 1}]
-        server = self.amazon()
-        states, _ = self.clients(server)
-        for name, call, error in (
-            ("other", {"TableName": "others", "Key": {"id": {"S": "k"}}}, "DynamoDB.ResourceNotFoundException"),
-            ("bad", {"TableName": "items", "Key": {}}, "DynamoDB.ValidationException"),
-        ):
-            task = {"Type": "Task", "Resource": "arn:aws:states:::dynamodb:getItem", "Parameters": call, "Retry": again}
-            machine = {"StartAt": "G", "States": {"G": {**task, "End": True}}}
-            found = self.run_to_end(states, self.created(states, name, machine), {})
-            self.assertEqual(found["error"], error)
-            events = states.get_execution_history(executionArn=found["executionArn"])["events"]
-            told = [event["taskFailedEventDetails"]["error"] for event in events if event["type"] == "TaskFailed"]
-            self.assertEqual(told, [error, error])
-
-    def test_map(self):
-        events = self.events("map", {"lines": [{"id": "a"}, {"id": "b"}]})
-        kinds = self.kinds(events)
-        self.assertEqual(kinds[:3], ["ExecutionStarted", "MapStateEntered", "MapStateStarted"])
-        self.assertEqual(events[2]["mapStateStartedEventDetails"], {"length": 2})
-        for kind in ("Started", "Succeeded"):
-            rows = [
-                event[f"mapIteration{kind}EventDetails"] for event in events if event["type"] == f"MapIteration{kind}"
-            ]
-            self.assertEqual(rows, [{"name": "Each", "index": 0}, {"name": "Each", "index": 1}])
-        self.assertEqual(kinds[-3:], ["MapStateSucceeded", "MapStateExited", "ExecutionSucceeded"])
-        # the events of each iteration follow one another
-        number = {event["id"]: event for event in events}
-        for event in events:
-            if event["type"] == "MapIterationSucceeded":
-                chain = [event]
-                while chain[-1]["type"] != "MapIterationStarted":
-                    chain.append(number[chain[-1]["previousEventId"]])
-                self.assertEqual(self.kinds(chain[::-1])[1:-1], self.CALL)
-                self.assertEqual(
-                    chain[-1]["mapIterationStartedEventDetails"], event["mapIterationSucceededEventDetails"]
-                )
-
-    def test_parallel(self):
-        kinds = self.kinds(self.events("parallel", {"id": "b"}))
-        self.assertEqual(kinds[:3], ["ExecutionStarted", "ParallelStateEntered", "ParallelStateStarted"])
-        self.assertEqual(kinds.count("TaskStateEntered"), 2)
-        self.assertEqual(kinds[-3:], ["ParallelStateSucceeded", "ParallelStateExited", "ExecutionSucceeded"])
-
-    def test_a_branch_that_fails(self):
-        events = self.events("failing", {})
-        self.assertEqual(self.kinds(events)[-2:], ["ParallelStateFailed", "ExecutionFailed"])
-        self.assertEqual(events[-1]["executionFailedEventDetails"], {"error": "Broken", "cause": "on purpose"})
-
-    def test_without_data(self):
-        server = self.amazon()
-        states, _ = self.clients(server)
-        made = self.run_to_end(states, self.created(states, "p", PASS), {})["executionArn"]
-        for event in states.get_execution_history(executionArn=made, includeExecutionData=False)["events"]:
-            for details in event.values():
-                if isinstance(details, dict):
-                    self.assertFalse({"input", "output"} & set(details))

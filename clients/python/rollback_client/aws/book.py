@@ -3,6 +3,7 @@ from __future__ import annotations
 
 import asyncio
 import json
+import re
 import time
 from dataclasses import dataclass
 from typing import Any, Callable, Dict, List, Optional, Protocol, Set, Tuple
@@ -14,6 +15,7 @@ from .wire import Fault
 PATIENCE = 20.0  # seconds for a follower that is begun again
 AGAIN = 0.05
 PAGE = 1000  # rows of one answer
+_KEY = re.compile(r"[^ :\[][^ :]*:[SN]")
 Answer = Dict[str, Any]
 
 
@@ -39,7 +41,7 @@ class Table:
         """That of a `table` line which the book has accepted."""
         words = line.split(" ", 4)
         name, first = words[1], words[2]
-        keys = [first, *(words[3:4] if not words[3].startswith("[") else [])]
+        keys = [first, *(words[3:4] if _KEY.fullmatch(words[3]) else [])]
         return Table(name, tuple((key.rpartition(":")[0], key.rpartition(":")[2]) for key in keys))
 
     def key_of(self, item: Answer) -> Answer:

@@ -209,8 +209,9 @@ class Events:
                 if branch in self._begun and branch not in self._ended:
                     self._iteration("Aborted", branch, step["entry"])
         self._last[thread] = max([self._last.get(thread, 0), *(self._last[branch] for branch in own)])
-        word = "Succeeded" if step["kind"] == "join" else "Failed"
-        self._add(f"{step['type']}State{word}", thread, step["entry"])
+        if step["outcome"]["to"] != "retry":
+            word = "Succeeded" if step["kind"] == "join" else "Failed"
+            self._add(f"{step['type']}State{word}", thread, step["entry"])
 
     # ---- calls
 

@@ -18,10 +18,10 @@ from .wire import Call, Fault
 
 MOST_DEFINITION = 1 << 20
 MOST_TOLD = 100  # faults that a message lists
-_MORE = ("loggingConfiguration", "tracingConfiguration", "encryptionConfiguration")
-_OTHERWISE = {
+_CONFIGURATIONS: Dict[str, Any] = {
     "loggingConfiguration": {"level": "OFF", "includeExecutionData": False},
     "tracingConfiguration": {"enabled": False},
+    "encryptionConfiguration": {"type": "AWS_OWNED_KEY"},
 }
 NO_ROLE = "arn:aws:iam::000000000000:role/none"
 NO_TABLE = (
@@ -45,7 +45,7 @@ class Machines:
         given = Machine(definition=definition, role=members.text("roleArn"))
         _look_at_kind(members)
         given.tags = tags.with_more({}, tags.tags_of(members.listed("tags"), "key", "value", "tags"), "TooManyTags")
-        given.more = {member: call.body[member] for member in _MORE if members.fields(member) is not None}
+        given.more = {member: call.body[member] for member in _CONFIGURATIONS if members.fields(member) is not None}
         if name.startswith(OWN):
             raise Fault("InvalidName", f"Invalid Name: '{name}': names that begin with {OWN} are the server's own")
         if self._book.watch.table is None:
@@ -75,14 +75,19 @@ class Machines:
         return lint_text(definition, "", None if table is None else LintTable(table.name, table.key))
 
     async def _look_at_same(self, name: str, given: Machine) -> None:
-        """Takes the same definition again, whatever its role and its tags are."""
+        """Takes the same definition again, whatever its role and its tags are. They are kept if none are known."""
         there = await self._book.definition(name)
         known = self._book.store.machine(name)
-        if there is not None and json.loads(there) == json.loads(given.definition or "") and known.more == given.more:
-            return
+        if there is not None and json.loads(there) == json.loads(given.definition or ""):
+            if known.definition is None:
+                given.moment = known.moment
+                self._book.store.keep_machine(name, given)
+                return
+            if _configured(known.more) == _configured(given.more):
+                return
         raise Fault(
             "StateMachineAlreadyExists",
-            f"State Machine Already Exists: '{self._arns.machine(name)}': it has another definition, and "
+            f"State Machine Already Exists: '{self._arns.machine(name)}': it has another definition or configuration, and "
             "a machine can't be changed: give the new one another name",
         )
 
@@ -117,8 +122,7 @@ class Machines:
             "name": name,
             "definition": "{}" if included == "METADATA_ONLY" else definition,
             "roleArn": self.role(name),
-            **{member: known.more.get(member, otherwise) for member, otherwise in _OTHERWISE.items()},
-            "encryptionConfiguration": known.more.get("encryptionConfiguration", {"type": "AWS_OWNED_KEY"}),
+            **_configured(known.more),
         }
 
     def role(self, name: str) -> str:
@@ -213,6 +217,11 @@ class Machines:
     async def _look_for(self, arn: str) -> None:
         if await self._book.definition(machine_of(arn)) is None:
             raise Fault("StateMachineDoesNotExist", f"State Machine Does Not Exist: '{arn}'")
+
+
+def _configured(more: Dict[str, Any]) -> Answer:
+    """The three configurations as they were given, and else as Amazon has them."""
+    return {member: {**otherwise, **more.get(member, {})} for member, otherwise in _CONFIGURATIONS.items()}
 
 
 def _look_at_kind(members: Members) -> None:
