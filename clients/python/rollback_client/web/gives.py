@@ -6,7 +6,7 @@ from typing import TYPE_CHECKING, Any, Dict, List
 from aiohttp import web
 
 from .. import lines
-from ..faults import RollbackError, refusal_of
+from ..faults import BadLine, RollbackError, refusal_of
 from ..lint import lint_text
 from ..shell.refusing import Names, explained
 from .guards import Refused
@@ -83,7 +83,10 @@ def _replied(line: str, reply: bytes) -> web.Response:
     if not text.startswith("no "):
         return json_reply({"reply": text})
     try:
-        sentence = str(explained(refusal_of(text.rstrip("\n"), line), line, _NOBODY))
+        refusal = refusal_of(text.rstrip("\n"), line)
+        sentence = str(explained(refusal, line, _NOBODY))
+        if refusal.code == BadLine.code and len(line.encode()) <= lines.MOST_BYTES:
+            sentence = f"there is no line {lines.short(line.split(' ', 1)[0], 40)} of this form: docs/REFERENCE.md has all of them"
     except (RollbackError, ValueError):
         sentence = "it is refused, and nothing was changed"
     return json_reply({"reply": text, "sentence": sentence}, 409)

@@ -35,10 +35,10 @@ class Refusals(InBrowser):
             ("step order-1", "no 6 done", "order-1 is done and has no step left"),
             ("undo order-9#1", "no 7", "no step order-9#1 remains"),
             ("undo billing-7#2", "no 8 order-2#1", "undo order-2#1 first"),
-            ("nonsense", "no 20", "this program has no line nonsense of this form"),
+            ("nonsense", "no 20", "there is no line nonsense of this form"),
             ("table t id:S []", "no 22", "a book has one table"),
             ("start x order {", "no 25", "this isn't JSON"),
-            ("!copy", "no 20", "no line !copy"),
+            ("!copy", "no 20", "there is no line !copy of this form"),
             ("!waits", "no 31", "no runner"),
         ):
             said = self.give(line)

@@ -39,14 +39,15 @@ class Picture {
         this.scroller.addEventListener("scroll", this.redraw, { passive: true });
         new ResizeObserver(() => this.resized()).observe(this.scroller);
         this.room = { x: 0, y: 0 };
+        this.isFitted = false;
         this.show({ width: 0, height: 0, boxes: [], lines: [], heads: [], bands: [] });
     }
 
     tools() {
         return el("div", { class: "zoom", role: "group", "aria-label": "Zoom" },
-            button("\u2212", () => this.zoomBy(1 / 1.25), { "aria-label": "Zoom out", title: "Zoom out (-)" }),
+            button("\u2212", () => this.zoomByHand(1 / 1.25), { "aria-label": "Zoom out", title: "Zoom out (-)" }),
             this.percent,
-            button("+", () => this.zoomBy(1.25), { "aria-label": "Zoom in", title: "Zoom in (+)" }),
+            button("+", () => this.zoomByHand(1.25), { "aria-label": "Zoom in", title: "Zoom in (+)" }),
             button("Fit", () => this.fit(), { title: "Show all of it (0)" }));
     }
 
@@ -97,9 +98,13 @@ class Picture {
         });
     }
 
-    // The window is another one: what was in its middle stays there.
+    // The window is another one: what was in its middle stays there, and a picture that was fitted is fitted again.
     resized() {
         const { scroller, room } = this;
+        if (this.isFitted) {
+            this.fitIfReadable();
+            return;
+        }
         const [x, y] = [scroller.scrollLeft - room.x, scroller.scrollTop - room.y];
         this.resize();
         if (room.x !== this.room.x) scroller.scrollLeft = x + this.room.x;
@@ -224,6 +229,11 @@ class Picture {
 
     // ---- zoom
 
+    zoomByHand(factor, at) {
+        this.isFitted = false;
+        this.zoomBy(factor, at);
+    }
+
     zoomBy(factor, at) {
         const { scroller } = this;
         const place = at || { x: scroller.clientWidth / 2, y: scroller.clientHeight / 2 };
@@ -252,14 +262,16 @@ class Picture {
     // Shows all of it, if that can still be read.
     fitIfReadable() {
         const zoom = this.fitting();
-        if (zoom >= READABLE && zoom < 1) this.fit();
+        this.isFitted = zoom >= READABLE;
+        if (this.isFitted) this.fit();
+        else this.redraw();
     }
 
     wheeled(event) {
         if (!event.ctrlKey && !event.metaKey) return;
         event.preventDefault();
         const place = this.scroller.getBoundingClientRect();
-        this.zoomBy(event.deltaY < 0 ? 1.15 : 1 / 1.15, { x: event.clientX - place.left, y: event.clientY - place.top });
+        this.zoomByHand(event.deltaY < 0 ? 1.15 : 1 / 1.15, { x: event.clientX - place.left, y: event.clientY - place.top });
     }
 
     // ---- keys
@@ -272,8 +284,8 @@ class Picture {
             ArrowLeft: () => this.beside(-1),
             ArrowRight: () => this.beside(1),
             Enter: () => this.selected && this.chosen(this.selected, true),
-            "+": () => this.zoomBy(1.25),
-            "-": () => this.zoomBy(1 / 1.25),
+            "+": () => this.zoomByHand(1.25),
+            "-": () => this.zoomByHand(1 / 1.25),
             0: () => this.fit(),
         }[event.key];
         if (!does) return;
