@@ -118,7 +118,11 @@ class Book:
         ends = time.monotonic() + PATIENCE
         while True:
             answer = json.loads(await self._lines.ask(f"? {question}".encode()))
-            if answer.get("error") != "no follower" or "entries" in answer:
+            # an answer with entries may have the error of an execution
+            why = None if "entries" in answer else answer.get("error")
+            if why == "out of memory":
+                raise Fault("InternalServerError", "the book's follower is out of memory", 500)
+            if why != "no follower":
                 assert isinstance(answer, dict)
                 return answer
             if time.monotonic() >= ends:
