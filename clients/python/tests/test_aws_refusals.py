@@ -61,6 +61,17 @@ class Questions(unittest.TestCase):
         ):
             self.assertEqual(self.asked(told), told)
 
+    def test_a_list_that_is_refused(self):
+        for said, status in (("no 11", 500), ("no 21", None)):
+            store = Store(None, 0.0, print)
+            book = Book(Program(items=[said]), store, Watch(store, 1))
+            if status is None:
+                self.assertEqual(asyncio.run(book.items("aws ann")), [])
+                continue
+            with self.assertRaises(Fault) as caught:
+                asyncio.run(book.items("aws ann"))
+            self.assertEqual((caught.exception.name, caught.exception.status), ("InternalServerError", status))
+
     def test_no_follower(self):
         with mock.patch("rollback_client.aws.book.PATIENCE", 0.1), self.assertRaises(Fault) as caught:
             self.asked({"error": "no follower", "rollback_graph": 1})

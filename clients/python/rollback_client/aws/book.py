@@ -104,6 +104,8 @@ class Book:
         entries = self.watch.entries
         if self._items[0] != entries:
             (reply,) = await self.give(caller, "items")
+            if refusal_of(reply) not in (None, 21):
+                raise own_fault(reply)
             # many are read beside other callers' lines
             rows = await asyncio.get_running_loop().run_in_executor(None, _rows_of, reply)
             if self.watch.entries == entries:
