@@ -9,7 +9,7 @@ from dataclasses import dataclass
 from typing import Any, Callable, Dict, List, Optional, Protocol, Set, Tuple
 
 from ..server.follower import accepted
-from .store import Store
+from .store import Machine, Store
 from .wire import Fault
 
 PATIENCE = 20.0  # seconds for a follower that is begun again
@@ -70,9 +70,8 @@ class Watch:
             self._store.started(words[1], self.entries, words[3])
             self.known.add(words[1])
         elif words[0] == "define":
-            machine = self._store.machine(words[1])
-            machine.moment = moment
-            self._store.keep_machine(words[1], machine)
+            # what is known of this name is of another book
+            self._store.keep_machine(words[1], Machine(moment))
         elif words[0] == "table":
             self.table = Table.of_line(lines[0].decode())
             self._store.keep_fact("created", moment)
