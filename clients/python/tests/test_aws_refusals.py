@@ -3,6 +3,7 @@ import asyncio
 import json
 import re
 import unittest
+from unittest import mock
 
 from rollback_client.aws.book import Book, Table, Watch
 from rollback_client.aws.store import Store
@@ -32,7 +33,49 @@ class Program:
         return f"{usual[word]}\n".encode()
 
     async def ask(self, question):
-        return json.dumps({"entries": 1, "rollback_graph": 1, "why": None}).encode()
+        return json.dumps(self.told).encode()
+
+    told = {"entries": 1, "rollback_graph": 1, "why": None}
+
+
+class Questions(unittest.TestCase):
+    """What the follower says instead of an answer."""
+
+    def asked(self, told):
+        program = Program()
+        program.told = told
+        store = Store(None, 0.0, print)
+        return asyncio.run(Book(program, store, Watch(store, 1)).ask("item k"))
+
+    def test_out_of_memory(self):
+        with self.assertRaises(Fault) as caught:
+            self.asked({"error": "out of memory", "rollback_graph": 1})
+        self.assertEqual((caught.exception.name, caught.exception.status), ("InternalServerError", 500))
+
+    def test_what_is_not_there(self):
+        for told in (
+            {"error": "k is no item", "rollback_graph": 1},
+            # an execution that has failed by errors of these names
+            {"entries": 9, "error": "out of memory", "rollback_graph": 1},
+            {"entries": 9, "error": "no follower", "rollback_graph": 1},
+        ):
+            self.assertEqual(self.asked(told), told)
+
+    def test_a_list_that_is_refused(self):
+        for said, status in (("no 11", 500), ("no 21", None)):
+            store = Store(None, 0.0, print)
+            book = Book(Program(items=[said]), store, Watch(store, 1))
+            if status is None:
+                self.assertEqual(asyncio.run(book.items("aws ann")), [])
+                continue
+            with self.assertRaises(Fault) as caught:
+                asyncio.run(book.items("aws ann"))
+            self.assertEqual((caught.exception.name, caught.exception.status), ("InternalServerError", status))
+
+    def test_no_follower(self):
+        with mock.patch("rollback_client.aws.book.PATIENCE", 0.1), self.assertRaises(Fault) as caught:
+            self.asked({"error": "no follower", "rollback_graph": 1})
+        self.assertEqual((caught.exception.name, caught.exception.status), ("ServiceUnavailable", 503))
 
 
 class Refusals(unittest.TestCase):

@@ -1,5 +1,6 @@
 """The protocol of Amazon's services: requests, errors, checksums, and that nothing that is sent is an error of the server."""
 import json
+import os
 import random
 import subprocess
 import sys
@@ -13,6 +14,7 @@ from tests.pages import python_with
 from tests.program import PASS, PROGRAM, TOP, follower
 
 PREFIXES = {"stepfunctions": STATES, "dynamodb": TABLES}
+DRAWS = int(os.environ.get("ROLLBACK_AWS_DRAWS", "25"))  # requests of each action
 # errors that each service has beside those of its model
 COMMON = ("ValidationException", "SerializationException", "UnknownOperationException", "InvalidAction")
 
@@ -216,6 +218,23 @@ class Drawn(WithAmazon):
         "arn:aws:states:us-east-1:000000000000:execution:p:e",
         "items",
         "#a = :v",
+        "id = :v",
+        "((((",
+        "attribute_not_exists(#a)",
+        "a.b[0].c, id",
+        "attribute_exists(" * 200,
+        {"id": {"N": "1e99999"}},
+        {"id": {"S": "k"}, "v": {"L": [{"M": {"x": {"NS": ["1", "01"]}}}]}},
+        {"id": {"S": "\x00"}},
+        {":v": {"B": "AAA"}},
+        [{"key": "a", "value": None}],
+        [{"AttributeName": "id", "KeyType": "HASH"}],
+        [{"AttributeName": None, "AttributeType": []}],
+        {"items": {"Keys": [[]], "ProjectionExpression": 5}},
+        {"items": [{"PutRequest": None, "DeleteRequest": {"Key": 5}}]},
+        {"items": [5, None]},
+        "W10=",
+        "WzEsMl0=",
         "attribute_exists(id)",
         {"items": [{"PutRequest": {"Item": {"id": {"S": "k"}}}}]},
         {"items": {"Keys": [{"id": {"S": "k"}}]}},
@@ -233,7 +252,7 @@ class Drawn(WithAmazon):
             if name in REFUSED_STATES or name in REFUSED_TABLES or model.input_shape is None:
                 continue
             members = list(model.input_shape.members)
-            for _ in range(25):
+            for _ in range(DRAWS):
                 chosen = draw.sample(members, draw.randint(0, len(members)))
                 body = {member: draw.choice(self.VALUES) for member in [*model.input_shape.required_members, *chosen]}
                 if "TableName" in body and draw.random() < 0.8:

@@ -9,7 +9,7 @@ from dataclasses import dataclass
 from typing import Any, Callable, Dict, List, Optional, Protocol, Set, Tuple
 
 from ..server.follower import accepted
-from .store import Store
+from .store import Machine, Store
 from .wire import Fault
 
 PATIENCE = 20.0  # seconds for a follower that is begun again
@@ -70,9 +70,8 @@ class Watch:
             self._store.started(words[1], self.entries, words[3])
             self.known.add(words[1])
         elif words[0] == "define":
-            machine = self._store.machine(words[1])
-            machine.moment = moment
-            self._store.keep_machine(words[1], machine)
+            # what is known of this name is of another book
+            self._store.keep_machine(words[1], Machine(moment))
         elif words[0] == "table":
             self.table = Table.of_line(lines[0].decode())
             self._store.keep_fact("created", moment)
@@ -104,6 +103,8 @@ class Book:
         entries = self.watch.entries
         if self._items[0] != entries:
             (reply,) = await self.give(caller, "items")
+            if refusal_of(reply) not in (None, 21):
+                raise own_fault(reply)
             # many are read beside other callers' lines
             rows = await asyncio.get_running_loop().run_in_executor(None, _rows_of, reply)
             if self.watch.entries == entries:
@@ -118,7 +119,11 @@ class Book:
         ends = time.monotonic() + PATIENCE
         while True:
             answer = json.loads(await self._lines.ask(f"? {question}".encode()))
-            if answer.get("error") != "no follower" or "entries" in answer:
+            # an answer with entries may have the error of an execution
+            why = None if "entries" in answer else answer.get("error")
+            if why == "out of memory":
+                raise Fault("InternalServerError", "the book's follower is out of memory", 500)
+            if why != "no follower":
                 assert isinstance(answer, dict)
                 return answer
             if time.monotonic() >= ends:

@@ -1,6 +1,7 @@
 """Reads of items, which are no steps: GetItem, BatchGetItem, Query and Scan."""
 from __future__ import annotations
 
+import asyncio
 import json
 import zlib
 from typing import Any, Dict, List, Optional, Sequence, Tuple
@@ -116,7 +117,7 @@ class Items:
         keys = [key_of(key, table) for key in listed]
         if len({canonical(key) for key in keys}) != len(keys):
             raise Fault("ValidationException", "Provided list of item keys contains duplicates")
-        found = [await self._now(key) for key in keys]
+        found = await asyncio.gather(*(self._now(key) for key in keys))
         items = [projected(item, paths) for item in found if item is not None]
         return {"Responses": {named: items}, "UnprocessedKeys": {}}
 
