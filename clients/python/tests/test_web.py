@@ -181,6 +181,17 @@ class Tokens(WithPages):
         new = self.served("--token", "bob", "--new-tokens")
         self.assertNotEqual(new.links["bob"].split("=")[1], links["bob"].split("=")[1])
 
+    def test_beside_a_port(self):
+        """With --listen the file is beside the journal; a book in memory has none there."""
+        server = self.served("--listen", "127.0.0.1:0")
+        self.assertEqual(stat.S_IMODE(os.stat(server.journal + ".token").st_mode), 0o600)
+        self.assertEqual(self.page(server).question("list")["entries"], 0)
+        server.end()
+        before = sorted(os.listdir(self.room))
+        memory = self.served("--listen", "127.0.0.1:0", "--no-link", journal=None)
+        self.assertEqual(self.page(memory).get("/book").value["file"], None)
+        self.assertEqual(sorted(os.listdir(self.room)), before)
+
     def test_no_link(self):
         server = self.served("--no-link")
         self.assertIn(server.address + ".token", server.said_last)

@@ -298,6 +298,22 @@ class Runs(WithPages):
         self.assertEqual(who.line("!resume").status, 200)
         self.assertEqual(who.get("/book").value["paused"], [])
 
+    def test_a_runner_that_is_at_work_from_the_beginning(self):
+        """Numbers of lines are right, though the runner gave some before the console began."""
+        server = self.served()
+        with Book.connect(server.address, timeout=60) as book:
+            book.table("items", {"id": "S"})
+            book.define("loop", LOOP)
+            for number in range(5):
+                book.start(f"e{number}", "loop", {})
+        self.assertEqual(server.end()[0], 0)
+        who = self.page(self.served("--rate", "500", asks="--run"))
+        self.until(lambda: who.get("/book").value["entries"] > 50)
+        who.line("!pause")
+        self.assertEqual(who.get("/book").value["entries"], who.question("log 0 0")["entries"])
+        rows = who.get("/entries", count=20).value["log"]
+        self.assertEqual({(row["command"], row["who"]) for row in rows}, {("step", "runner")})
+
     def test_no_runner(self):
         who = self.page(self.served())
         self.assertIsNone(who.get("/waits").value["waits"])

@@ -31,6 +31,7 @@ p { margin: 4px 0; }
 a { color: var(--accent); text-decoration: none; }
 a:hover { text-decoration: underline; }
 :focus-visible { outline: 2px solid var(--focus); outline-offset: 1px; }
+main:focus-visible, #panel:focus-visible { outline: none; }
 [hidden] { display: none !important; }
 .unseen { position: fixed; left: -999px; }
 
@@ -173,6 +174,14 @@ summary { cursor: pointer; }
 .minimap .sight { fill: var(--accent); fill-opacity: 0.15; stroke: var(--accent); stroke-width: 1.5; }
 .zoom { position: absolute; right: 22px; bottom: 20px; display: flex; gap: 4px; align-items: center; background: var(--raised); border: 1px solid var(--line); border-radius: 8px; padding: 3px 6px; z-index: 4; }
 .zoom button { padding: 0 9px; }
+.legend { position: absolute; left: 12px; bottom: 20px; z-index: 4; background: var(--raised); border: 1px solid var(--line); border-radius: 8px; padding: 3px 10px; font-size: 12px; opacity: 0.96; }
+.legend ul { list-style: none; margin: 4px 0; padding: 0; display: grid; grid-template-columns: auto auto; gap: 2px 14px; }
+.legend li { display: flex; align-items: center; gap: 6px; }
+.sample { width: 14px; height: 12px; border: 1px solid var(--line); border-left: 5px solid var(--plain); border-radius: 3px; background: var(--box); }
+.sample.kind-start { border-left-color: var(--start); }
+.sample.kind-call { border-left-color: var(--call); }
+.sample.kind-fork, .sample.kind-join { border-left-color: var(--fork); }
+.sample.kind-terminate { border-left-color: var(--terminate); }
 .percent { min-width: 46px; text-align: center; font-size: 12px; color: var(--quiet); font-variant-numeric: tabular-nums; }
 
 /* ---- the panel */

@@ -1,6 +1,7 @@
 """What a page gives: each is a POST with a body of JSON."""
 from __future__ import annotations
 
+import asyncio
 from typing import TYPE_CHECKING, Any, Dict, List
 
 from aiohttp import web
@@ -62,7 +63,7 @@ class Gives:
     async def _lint(self, request: web.Request) -> web.StreamResponse:
         """Looks at a definition, and gives nothing."""
         text = text_of(await read_body(request), "definition")
-        found = lint_text(text)
+        found = await asyncio.get_running_loop().run_in_executor(None, lint_text, text)
         return json_reply({"count": len(found), "findings": [finding.as_json() for finding in found[:MOST_FINDINGS]]})
 
     def _look_at_rights(self) -> None:

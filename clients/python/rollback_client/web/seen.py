@@ -37,6 +37,7 @@ class Seen:
         self.entries = entries
         self._now = now
         self._kept: List[Kept] = []
+        self._firsts: List[int] = []  # of each of them
 
     def kept(self, given: Given, count: int) -> None:
         """Notes that so many lines were accepted by one that was given."""
@@ -52,8 +53,10 @@ class Seen:
                 last.count += found.count
                 return
         self._kept.append(found)
+        self._firsts.append(found.first)
         if len(self._kept) > MOST_KEPT:
             del self._kept[: MOST_KEPT // 2]
+            del self._firsts[: MOST_KEPT // 2]
 
     def read(self, path: str) -> None:
         """Takes what the log says of lines before. What isn't a line of it is passed over."""
@@ -70,7 +73,7 @@ class Seen:
 
     def of(self, entry: int) -> Optional[Kept]:
         """Who gave a line of the journal, and when, if it is known."""
-        place = bisect.bisect_right([kept.first for kept in self._kept], entry) - 1
+        place = bisect.bisect_right(self._firsts, entry) - 1
         return self._kept[place] if place >= 0 and entry < self._kept[place].end else None
 
     def add_to(self, rows: List[Dict[str, Any]]) -> None:

@@ -42,6 +42,7 @@ if TYPE_CHECKING:
     from ..server.running import Server
     from ..server.words import Words
 
+TRIES, PAUSE = 100, 0.1  # seconds between two tries to learn how long the journal is
 PATIENCE = 1.0  # seconds that a request at hand has at the server's end
 
 
@@ -82,14 +83,23 @@ class Web:
 
     async def _see(self) -> None:
         """Notes from now on who gives what, and when."""
-        told = json.loads(await self.server.lines.ask(b"? log 0 0"))
-        self.seen = Seen(told.get("entries", 0), time.time)
+        self.seen = Seen(await self._entries(), time.time)
         if self.words.log is not None:
             self.seen.read(self.words.log)
         self.server.turns.kept = self.seen.kept
         self.follower.moved = self.events.news
         if self.runners is not None:
             self.runners.changed = self.events.news
+
+    async def _entries(self) -> int:
+        """How many lines the journal has now. A runner may give some while that is asked."""
+        for _ in range(TRIES):
+            counted = self.follower.count
+            told = json.loads(await self.server.lines.ask(b"? log 0 0"))
+            if "entries" in told:
+                return int(told["entries"]) + self.follower.count - counted
+            await asyncio.sleep(PAUSE)
+        raise ValueError("the follower gives no answers")
 
     async def _listen(self, factory: web.Server) -> None:
         loop = asyncio.get_running_loop()

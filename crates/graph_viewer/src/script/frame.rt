@@ -170,12 +170,20 @@ async function openView(view, params, key) {
     }
     if (number !== app.opened) return false;
     app.main.removeAttribute("aria-busy");
+    const isFirst = !app.controller;
     if (app.controller && app.controller.close) app.controller.close();
     app.controller = controller;
     app.key = controller.isMissing ? null : key;
     fill(app.main, controller.element);
     if (controller.opened) controller.opened();
+    if (!isFirst && document.activeElement === document.body) focusView();
     return !controller.isMissing;
+}
+
+// The focus goes to the view if it was on something that is gone.
+function focusView() {
+    const { picture } = app.controller;
+    (picture ? picture.scroller : app.main).focus({ preventScroll: true });
 }
 
 async function missing(fault, params) {

@@ -33,8 +33,7 @@ function closePanel(isQuiet) {
     app.panelStep = null;
     if (isQuiet) return;
     app.wantsPanel = false;
-    const picture = app.controller && app.controller.picture;
-    (picture ? picture.scroller : app.main).focus();
+    focusView();
 }
 
 const lookAtPanel = steadily(async () => {

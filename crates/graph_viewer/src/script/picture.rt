@@ -34,7 +34,7 @@ class Picture {
         }, this.sizer);
         this.mini = new Minimap(this);
         this.percent = el("span", { class: "percent" }, "100 %");
-        this.element = el("div", { class: "pictured" }, this.scroller, this.mini.element, this.tools());
+        this.element = el("div", { class: "pictured" }, this.scroller, this.mini.element, this.tools(), drawnLegend());
         this.redraw = nextFrame(() => this.draw());
         this.scroller.addEventListener("scroll", this.redraw, { passive: true });
         new ResizeObserver(() => this.resized()).observe(this.scroller);
@@ -370,6 +370,15 @@ function curve(from, to) {
     if (x === u) return "M" + x + " " + y + "V" + v;
     const bend = Math.max(14, Math.min(60, (v - y) / 2));
     return "M" + x + " " + y + "C" + x + " " + (y + bend) + " " + u + " " + (v - bend) + " " + u + " " + v;
+}
+
+// What the colours mean.
+function drawnLegend() {
+    const kinds = ["start", "plain", "call", "fork", "join", "terminate"].map((kind) =>
+        el("li", null, el("i", { class: "sample kind-" + kind }), kind === "plain" ? "state" : kind));
+    const reasons = [["thread", "thread"], ["item", "item"], ["fork", "start, fork, join"], ["bound", "bound of a Map"]].map(([reason, text]) =>
+        el("li", null, svg("svg", { width: 26, height: 8 }, svg("path", { class: "line " + reason, d: "M0 4H26" })), text));
+    return el("details", { class: "legend" }, el("summary", null, "Colours"), el("ul", null, kinds, reasons));
 }
 
 function drawnBand(band) {

@@ -25,7 +25,7 @@ const REASONS = {
     item: "the same item",
     bound: "it waited for that branch",
 };
-const ACCESSES = { read: "reads", write: "writes", refused: "is refused at" };
+const ACCESSES = { read: "reads", write: "writes", refused: "refused at" };
 
 // What of a step is to be seen at once: that it failed, was caught, or is tried again.
 function outcomeWord(row) {
