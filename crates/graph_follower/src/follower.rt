@@ -228,12 +228,7 @@ impl<S: Alter> Follower<S> {
     /// `NoQuestion` if the text is none, and `Memory`.
     pub fn value_of(&self, question: &str) -> Result<Answer, QuestionFault> {
         let question = Question::read(self.alloc, question)?;
-        match ask(
-            self.alloc,
-            self.session.book(),
-            &self.index,
-            &question,
-        ) {
+        match ask(self.alloc, self.session.book(), &self.index, &question) {
             Ok(answer) => Ok(answer),
             Err(AllocError) => Err(QuestionFault::Memory),
         }

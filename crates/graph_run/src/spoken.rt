@@ -89,7 +89,9 @@ fn is_spoken(words: &[String]) -> bool {
     match words {
         [] => false,
         [head, rest @ ..] => {
-            has_json(words) || is_head(head.as_str()) || head.as_str() == "--list" && !rest.is_empty()
+            has_json(words)
+                || is_head(head.as_str())
+                || head.as_str() == "--list" && !rest.is_empty()
         }
     }
 }

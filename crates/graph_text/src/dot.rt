@@ -13,6 +13,7 @@ const HEAD: &str =
 
 /// The most characters of a key in a label, and in what is shown to who points at one: Graphviz takes no longer texts.
 const LABEL: usize = 200;
+
 const TOOLTIP: usize = 4_000;
 
 /// The picture of these steps. Takes time in what is shown.

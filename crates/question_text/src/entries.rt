@@ -20,11 +20,7 @@ pub(crate) fn add_entry(lines: &mut Lines, entry: &Json) -> Result<(), AllocErro
 }
 
 /// Some names behind a word; nothing if there are none.
-pub(crate) fn add_names(
-    lines: &mut Lines,
-    word: &str,
-    names: &[Json],
-) -> Result<(), AllocError> {
+pub(crate) fn add_names(lines: &mut Lines, word: &str, names: &[Json]) -> Result<(), AllocError> {
     if names.is_empty() {
         return Ok(());
     }

@@ -5,7 +5,11 @@ use json_tree::{Field, Json};
 use std::alloc::AllocError;
 
 /// One line: where, and what is wrong there.
-pub(crate) fn add_why(lines: &mut Lines, thread: &str, why: Option<&Json>) -> Result<(), AllocError> {
+pub(crate) fn add_why(
+    lines: &mut Lines,
+    thread: &str,
+    why: Option<&Json>,
+) -> Result<(), AllocError> {
     let Some(why) = why else {
         return lines.all(&[
             "nothing of ",

@@ -112,4 +112,3 @@ pub(crate) fn add_item(lines: &mut Lines, item: Option<&Json>) -> Result<(), All
         None => lines.add("none"),
     }
 }
-

@@ -3,8 +3,8 @@
 //! `rollback_graph`: answers questions about the dependences among the remaining steps of a journal.
 
 use graph_run::{
-    AskRefusal, Asked, ExitCause, Part, Question, Spoken, Subject, Viewer, Wanted, refuse, run, serve, show_parts,
-    status_of, tell, unread_words, wanted_of, write_page,
+    AskRefusal, Asked, ExitCause, Part, Question, Spoken, Subject, Viewer, Wanted, refuse, run,
+    serve, show_parts, status_of, tell, unread_words, wanted_of, write_page,
 };
 use journal_copy::open_at;
 use sqlite::{Connection, Error, ErrorCode, MemStore};
@@ -93,7 +93,15 @@ fn run_page<T: Threads + Wait + Sync, W: Write>(
     };
     let subject = Subject { name, from };
     let file = open_at(rt, path);
-    write_page(threads, rt.alloc(), subject, VIEWER, file, in_memory(rt), writer)
+    write_page(
+        threads,
+        rt.alloc(),
+        subject,
+        VIEWER,
+        file,
+        in_memory(rt),
+        writer,
+    )
 }
 
 fn run_question<T: Threads + Wait + Sync, W: Write>(
@@ -107,9 +115,7 @@ fn run_question<T: Threads + Wait + Sync, W: Write>(
             Question::Lines(question) => {
                 run(rt.alloc(), question, open_at(rt, file.as_str()), writer)
             }
-            Question::Html(from) => {
-                run_page(rt, threads, file.as_str(), from.as_ref(), writer)
-            }
+            Question::Html(from) => { run_page(rt, threads, file.as_str(), from.as_ref(), writer) }
         },
         Asked::Serve { file } => run_served(rt, threads, file.as_deref(), writer),
     }

@@ -6,11 +6,11 @@ use journal_copy::open_at;
 use rollback_run::{Mode, ModeRefusal, finish, mode_of, refuse, run, unread_words};
 use sqlite::{Connection, Error, ErrorCode, File, FileStore, MemStore};
 use std::alloc::{AllocError, Global};
+use std::env;
 use std::io::{BufWriter, Write};
 use std::process::ExitCode;
 use std::sync::Wait;
 use std::thread::Threads;
-use std::env;
 
 fn asked(rt: &HostRuntime) -> Result<Mode, ModeRefusal> {
     let alloc = rt.alloc();
