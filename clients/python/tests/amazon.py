@@ -29,16 +29,20 @@ AUTHORIZATION = (
 
 
 @functools.lru_cache(maxsize=None)
-def has(module, package):
-    """Whether a module is there. On a machine where no Python has it, root installs Debian's package, for the system's."""
-    is_absent = importlib.util.find_spec(module) is None and python_with(module) is None
-    if is_absent and os.geteuid() == 0 and shutil.which("apt-get"):
+def provide(module):
+    """On a machine where no Python has a module, root installs Debian's package for it, for the system's Python."""
+    if python_with(module) is None and os.geteuid() == 0 and shutil.which("apt-get"):
+        command = ["apt-get", "install", "-y", "--no-install-recommends", f"python3-{module}"]
         with contextlib.suppress(subprocess.SubprocessError):
-            command = ["apt-get", "install", "-y", "--no-install-recommends", package]
             subprocess.run(command, stdout=subprocess.DEVNULL, stderr=subprocess.DEVNULL, timeout=300, check=False)
-        importlib.invalidate_caches()
         python_with.cache_clear()
-    return importlib.util.find_spec(module) is not None
+        importlib.invalidate_caches()
+
+
+def has_boto3():
+    """Whether this Python has boto3."""
+    provide("boto3")
+    return importlib.util.find_spec("boto3") is not None
 
 
 @functools.lru_cache(maxsize=None)
@@ -97,8 +101,9 @@ class WithAmazon(WithPages):
     """A test with servers that answer Amazon's tools."""
 
     def setUp(self):
-        if not has("boto3", "python3-boto3"):
+        if not has_boto3():
             self.skipTest(MISSING)
+        provide("aiohttp")
         super().setUp()
 
     def amazon(self, *words, table=("items", "id:S"), **more):

@@ -5,7 +5,7 @@ import subprocess
 import sys
 import unittest
 
-from tests.amazon import MISSING, has
+from tests.amazon import MISSING, has_boto3
 from tests.pages import python_with
 
 FOLDER = pathlib.Path(__file__).resolve().parent
@@ -13,7 +13,7 @@ FOLDER = pathlib.Path(__file__).resolve().parent
 
 class Elsewhere(unittest.TestCase):
     def test_in_a_python_with_boto3(self):
-        if has("boto3", "python3-boto3"):
+        if has_boto3():
             self.skipTest("this Python has boto3, so the tests are run by it")
         python = python_with("boto3")
         if python is None:

@@ -180,6 +180,12 @@ class Actions(WithAmazon):
                 if name in names[service] and error not in COMMON:
                     self.assertIn(error, names[service][name], name)
 
+    def test_a_refusal_says_what_to_do(self):
+        states, _ = self.clients(self.amazon())
+        arn = "arn:aws:states:us-east-1:000000000000:execution:order:order-1"
+        self.refused_by("ValidationException", states.stop_execution, "a rollback of order-1#0", executionArn=arn)
+        self.refused_by("ValidationException", states.stop_execution, "a rollback of NAME#0", executionArn="x y")
+
     def test_each_action_is_answered_or_refused_by_name(self):
         server = self.amazon()
         for service, name, _ in operations():

@@ -3,6 +3,7 @@ from __future__ import annotations
 
 from typing import Dict, Tuple
 
+from .names import is_name
 from .wire import Call, Fault, Service
 
 Refusal = Tuple[str, str]  # the error and the message
@@ -138,4 +139,7 @@ def refusal_of(call: Call) -> Fault:
         name = {Service.STATES: "Step Functions", Service.TABLES: "DynamoDB"}[call.service]
         return Fault("UnknownOperationException", f"{name} has no action {call.action[:60]!r} that is known here")
     error, message = known
+    arn = call.body.get("executionArn")
+    if isinstance(arn, str) and is_name(arn.rpartition(":")[2]):
+        message = message.replace("NAME#0", f"{arn.rpartition(':')[2]}#0")
     return Fault(error, f"{call.action} isn't taken by a book: {message} (docs/AWS.md)")
