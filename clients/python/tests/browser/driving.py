@@ -6,7 +6,7 @@ import subprocess
 import time
 
 from selenium import webdriver
-from selenium.common.exceptions import StaleElementReferenceException
+from selenium.common.exceptions import ElementClickInterceptedException, StaleElementReferenceException
 from selenium.webdriver.chrome.options import Options
 from selenium.webdriver.chrome.service import Service
 from selenium.webdriver.common.action_chains import ActionChains
@@ -181,10 +181,11 @@ class InBrowser(WithPages):
 
     def press(self, look):
         """Clicks on what a look finds, which a change of the page may have made anew."""
-        for _ in range(5):
-            with contextlib.suppress(StaleElementReferenceException):
+        for _ in range(50):
+            with contextlib.suppress(StaleElementReferenceException, ElementClickInterceptedException):
                 look().click()
                 return
+            time.sleep(0.05)
         look().click()
 
     def type(self, *keys):
