@@ -186,6 +186,7 @@ summary { cursor: pointer; }
 
 /* ---- the panel */
 #panel { flex: 0 0 380px; overflow: auto; border-left: 1px solid var(--line); padding: 12px 16px; background: var(--ground); outline: none; }
+#panel.stale { pointer-events: none; opacity: 0.6; }
 .panel-head { display: flex; align-items: center; gap: 8px; }
 .panel-head h2 { margin: 0; flex: 1 1 auto; min-width: 0; }
 .panel-kind { color: var(--quiet); }

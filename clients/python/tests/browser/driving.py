@@ -3,11 +3,10 @@ import contextlib
 import os
 import pathlib
 import subprocess
-import sys
 import time
 
 from selenium import webdriver
-from selenium.common.exceptions import StaleElementReferenceException
+from selenium.common.exceptions import ElementClickInterceptedException, StaleElementReferenceException
 from selenium.webdriver.chrome.options import Options
 from selenium.webdriver.chrome.service import Service
 from selenium.webdriver.common.action_chains import ActionChains
@@ -16,7 +15,7 @@ from selenium.webdriver.common.keys import Keys
 
 from rollback_client import Book
 from tests.pages import WithPages
-from tests.program import PLAIN_FOLLOWER, PROGRAM, TOP
+from tests.program import PROGRAM, TOP, follower
 
 WIDTH, HEIGHT = 1280, 800
 SECONDS = 15
@@ -102,12 +101,11 @@ class InBrowser(WithPages):
         self.address = self.driver.current_url.split("#")[0]
         self.until(lambda: self.js("return Boolean(window.rollback && rollback.app.ready)"), SECONDS)
 
-    def file_page(self, journal, *words):
-        """The page of a journal, from a file."""
+    def file_page(self, journal, *words, program=None):
+        """The page of a journal, from a file, as the program writes it that follows."""
         made = self.path("page.html")
         with open(made, "wb") as file:
-            command = [sys.executable, PLAIN_FOLLOWER, journal, "--html", *words]
-            subprocess.run(command, stdout=file, check=True)
+            subprocess.run([program or follower(), journal, "--html", *words], stdout=file, check=True)
         return pathlib.Path(made)
 
     def go(self, hash):
@@ -183,10 +181,11 @@ class InBrowser(WithPages):
 
     def press(self, look):
         """Clicks on what a look finds, which a change of the page may have made anew."""
-        for _ in range(5):
-            with contextlib.suppress(StaleElementReferenceException):
+        for _ in range(50):
+            with contextlib.suppress(StaleElementReferenceException, ElementClickInterceptedException):
                 look().click()
                 return
+            time.sleep(0.05)
         look().click()
 
     def type(self, *keys):

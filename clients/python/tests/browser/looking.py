@@ -48,6 +48,31 @@ class Views(OfOneBook):
             self.assertLessEqual(found.size["width"], 400)
             self.assertLessEqual(found.size["height"], 150)
 
+    def test_why(self):
+        """Why it failed, as the follower found it out, in a sentence."""
+        self.go("execution=order-2")
+        self.soon(lambda: "in Refuse: this Fail state says so" in self.find(".why").text, "reason")
+        for why, text in (
+            ({"case": "picks_nothing", "path": "$.none"}, "$.none picks nothing"),
+            ({"case": "malformed", "flaw": "missing field", "field": "Key"}, "the call lacks Key"),
+            (
+                {"case": "malformed", "flaw": "attribute value", "field": "n", "fault": "no attribute value"},
+                "the attribute n is no attribute value",
+            ),
+            (
+                {"case": "no_key", "attribute": "id", "fault": "another type", "type": "S"},
+                "the key's attribute id is of another type",
+            ),
+            (
+                {"case": "condition", "condition": "attribute_not_exists", "attribute": "id"},
+                "attribute_not_exists(id) doesn't hold",
+            ),
+            ({"case": "branch", "branch": 2}, "branch 2 failed"),
+            ({"case": "too_many", "elements": 5000}, "5,000 elements, and at most 4,096"),
+            ({"case": "unexplained"}, ""),
+        ):
+            self.assertIn(text, self.js("return rollback.console.whyText(arguments[0])", why))
+
     def test_panel(self):
         self.go("step=order-2%231")
         panel = self.find("#panel")

@@ -13,17 +13,20 @@ class Pictures(InBrowser):
     def test_pictures(self):
         self.begin()
         for name, hash, wait in (
-            ("overview", "overview", "tbody td.name"),
-            ("execution", "step=order-27%231", '.box[data-id="order-27#3"]'),
-            ("causes", "step=order-27%233&show=causes", '.box[data-id="billing-7#2"]'),
-            ("plan", "step=billing-7%230&show=plan", "[data-does=rollback]"),
-            ("item", "item=ann", "tbody tr"),
+            ("overview", "overview", ["tbody td.name"]),
+            ("execution", "step=order-27%231", ['.box[data-id="order-27#3"]', ".why", "#panel .valued"]),
+            ("causes", "step=order-27%233&show=causes", ['.box[data-id="billing-7#2"]', "#panel .valued"]),
+            ("plan", "step=billing-7%230&show=plan", ["[data-does=rollback]", "#panel .valued"]),
+            ("item", "item=ann", ["tbody tr"]),
         ):
             self.go(hash)
-            self.find(wait)
+            for selector in wait:
+                self.find(selector)
+            self.soon(
+                lambda name=name: name not in ("causes", "plan") or "failed" in self.find(".picture").text, "marks"
+            )
             self.soon(lambda: not self.js("return document.querySelector('main').getAttribute('aria-busy')"), "view")
             self.until(lambda: self.js("return document.fonts.status === 'loaded'"))
-            self.soon(lambda name=name: name != "plan" or "failed" in self.find(".picture").text, "marks")
             self.keep(name)
 
     def keep(self, name):

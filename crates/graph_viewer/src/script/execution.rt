@@ -56,6 +56,7 @@ class ExecutionView {
             el("div", { class: "bar" }, el("h1", null, el("bdi", null, this.name)), statusMark(about.status),
                 copyButton(this.name, "the execution's name"), slot("execution", about, this)),
             el("dl", { class: "facts" }, facts.map(([name, value]) => el("div", null, el("dt", null, name), el("dd", null, value)))),
+            slot("why", about),
             el("div", { class: "values" }, values.map(([name, value]) => el("details", { "data-name": name, open: open.includes(name) },
                 el("summary", null, el("b", null, name + " "), el("bdi", { class: "line-of-value" }, short(jsonText(value), 160))),
                 valueBlock(value, name)))));

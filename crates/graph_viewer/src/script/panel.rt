@@ -4,6 +4,8 @@ pub const PANEL: &str = r####"
 async function showPanel(step) {
     const isNew = app.panelStep !== step;
     app.panelStep = step;
+    // what it still shows is another step's, and isn't to be pressed
+    app.panel.classList.toggle("stale", isNew);
     let answer;
     try {
         answer = await app.source.ask("show " + step);
@@ -14,6 +16,7 @@ async function showPanel(step) {
     if (app.panelStep !== step) return;
     if (!isNew && !app.panel.hidden && app.panelSaid === said(answer)) return;
     app.panelSaid = said(answer);
+    app.panel.classList.remove("stale");
     const top = isNew ? 0 : app.panel.scrollTop;
     const open = [...app.panel.querySelectorAll("details[open]")].map((made) => made.dataset.name);
     const had = app.panel.contains(document.activeElement) ? document.activeElement.textContent : null;

@@ -187,6 +187,10 @@ class ConsoleBook {
         this.leaves = new AbortController();
         this.channel = new BroadcastChannel("rollback");
         this.channel.onmessage = (event) => this.hear(event.data);
+        if (!navigator.locks) {
+            this.stream();
+            return;
+        }
         navigator.locks.request("rollback-events", { signal: this.leaves.signal }, () => this.stream()).catch(() => {});
     }
 

@@ -82,6 +82,69 @@ function pauseButton(kind, name) {
     }, { class: "small", "data-does": is ? "resume" : "pause" });
 }
 
+// ---- why it failed
+
+const FAULTS = { absent: "is absent", "another type": "is of another type", empty: "is empty", "no attribute value": "is no attribute value" };
+
+function malformedText(why) {
+    const field = shown(why.field || "");
+    return {
+        "no object": "what is to be a call is no object",
+        "unknown field": "the call has a field " + field + ", which isn't known",
+        "missing field": "the call lacks " + field,
+        "table name": "the call's TableName is no text",
+        "no attributes": "the call's item or key is no object of attributes",
+        "attribute value": "the attribute " + field + " " + (FAULTS[why.fault] || "has a bad value"),
+        condition: "the call's condition is none that is taken",
+        "return values": "the call's ReturnValues are none that are taken",
+    }[why.flaw] || "the call is malformed";
+}
+
+// What the follower found out about a failure, as a sentence without its end.
+function whyText(why) {
+    const path = why.path === null || why.path === undefined ? "a path" : shown(why.path);
+    switch (why.case) {
+        case "picks_nothing": return path + " picks nothing";
+        case "cannot_place": return "the result can't be placed at " + path;
+        case "too_deep": return "a value has more than 127 levels";
+        case "no_list": return "what ItemsPath picks is no list";
+        case "too_many": return "the Map has " + counted(why.elements, "element") + ", and at most 4,096 are taken";
+        case "no_rule_holds": return "no rule of the Choice holds, and it has no Default";
+        case "malformed": return malformedText(why);
+        case "other_table": return "the call names the table " + shown(why.named) + ", and this book's is " + shown(why.table);
+        case "no_key": return "the key's attribute " + shown(why.attribute) + " " + (FAULTS[why.fault] || "is none");
+        case "other_attribute": return shown(why.attribute) + " is no attribute of the key";
+        case "condition": return why.condition + "(" + shown(why.attribute) + ") doesn't hold of the item that it met";
+        case "fail": // as the plain book says it
+        case "declared": return "this Fail state says so";
+        case "branch": return (why.branch === undefined ? "a branch" : "branch " + why.branch) + " failed";
+        default: return "";
+    }
+}
+
+// The place within the state's definition, as people write it.
+function placeText(place) {
+    return place.map((part, number) => (typeof part === "number" ? "[" + part + "]" : (number ? "." : "") + shown(part))).join("");
+}
+
+async function drawWhy(execution, made) {
+    const { why } = await app.source.ask("explain " + execution).catch(() => ({ why: null }));
+    const text = why ? whyText(why) : "";
+    if (!text) return;
+    const value = why.of === null || why.of === undefined ? why.item : why.of;
+    fill(made, el("b", null, "Why: "), "in ", shown(why.state), why.place.length ? ", " + placeText(why.place) : "", ": ", text,
+        value === undefined || value === null ? null : [", of ", el("bdi", { class: "line-of-value" }, rollback.short(rollback.jsonText(value), 120))],
+        why.step ? [" (", stepLink(why.step), ")"] : null, ".");
+    made.hidden = false;
+}
+
+slots.why = (row) => {
+    if (row.status !== "failed") return null;
+    const made = el("p", { class: "why", hidden: true });
+    drawWhy(row.execution, made);
+    return made;
+};
+
 // ---- the runner
 
 addView("runner", {
@@ -150,5 +213,5 @@ function untilText(moment) {
     return Number.isNaN(milliseconds) ? moment : rollback.timeText(milliseconds);
 }
 
-Object.assign(rollback.console, { moves, pauseButton, stepLink });
+Object.assign(rollback.console, { moves, pauseButton, whyText });
 })();

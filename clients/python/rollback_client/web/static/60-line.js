@@ -25,6 +25,7 @@ addView("line", {
 class LineView {
     constructor() {
         this.at = typed.length;
+        this.turn = Promise.resolve();
         this.field = el("input", {
             type: "text", class: "code", "aria-label": "Line", placeholder: "show order-2", spellcheck: "false", autocomplete: "off",
             input: later(120, () => this.suggest()), keydown: (event) => this.pressed(event), disabled: !canGive(),
@@ -80,26 +81,29 @@ class LineView {
 
     // ---- what is given
 
-    async give() {
+    // Lines are given one after the other: what is typed meanwhile waits for its turn.
+    give() {
         const line = this.field.value.trim();
-        if (!line || this.isBusy) return;
-        this.isBusy = true;
-        try {
-            if (!(await isSure(line))) return;
-            typed.push(line);
-            if (typed.length > MOST_KEPT) typed.shift();
-            this.at = typed.length;
-            this.field.value = "";
-            const given = await give("/line", { line });
-            if (given === null) return;
-            told.push([line, given.value, given.status]);
-            if (told.length > MOST_KEPT) told.shift();
-            this.show(line, given.value, given.status);
-            await app.source.catchUp().catch(() => {});
-        } finally {
-            this.isBusy = false;
+        if (!line) return;
+        this.field.value = "";
+        this.turn = this.turn.then(() => this.giveNow(line)).catch((fault) => rollback.notice(fault.message, "fault"));
+    }
+
+    async giveNow(line) {
+        if (!(await isSure(line))) {
+            if (!this.field.value) this.field.value = line;
             this.field.focus();
+            return;
         }
+        typed.push(line);
+        if (typed.length > MOST_KEPT) typed.shift();
+        this.at = typed.length;
+        const given = await give("/line", { line });
+        if (given === null) return;
+        told.push([line, given.value, given.status]);
+        if (told.length > MOST_KEPT) told.shift();
+        this.show(line, given.value, given.status);
+        await app.source.catchUp().catch(() => {});
     }
 
     show(line, value, status) {
