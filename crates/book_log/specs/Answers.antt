@@ -26,12 +26,12 @@ use Rattle.book_log.specs.declared.moved.Moved.{Moved}
 use Rattle.book_log.specs.declared.refusal.Refusal.{Refusal}
 use Rattle.book_log.specs.declared.refusal.Refusal.TheVariants.{NoMachine, MachineTaken, BadMachine, ExecTaken, NoThread, NotReady, NoStep, HasDependents, Full, Memory, Settled, Held}
 
--- an answer that is given, but for want of memory where it isn't refused
+-- an answer that is given, unless memory runs out and it isn't a refusal
 abbrev pub Gives : {T : Type 0} → Result T Refusal → Result T Refusal → Type 0
 Gives result (Ok x) = (result ≡ Ok x) ⊎ (result ≡ Err Memory)
 Gives result (Err e) = result ≡ Err e
 
--- the same; and in some cases want of memory for any answer
+-- the same; and in some cases out of memory for any answer
 abbrev pub GivesOr : {T : Type 0} → Type 0 → Result T Refusal → Result T Refusal → Type 0
 GivesOr lacks result answer = Gives result answer ⊎ ((result ≡ Err Memory) × lacks)
 
@@ -233,7 +233,7 @@ rerun_answer log names =
 abbrev pub is_enabled : Log → Thread → Bool
 is_enabled log t = is_some (move_effect (setting_of log) (world_of log) t)
 
--- ---- want of memory while something is held
+-- ---- out of memory while something is held
 
 -- Only what a move would do tells whether it depends on what is left: this, and the name that a refusal tells, take memory.
 abbrev pub StepLacks : Log → Thread → Type 0

@@ -64,29 +64,29 @@ pub record GoesOnFrom (begun : ℕ) (before : Option Log) (after : Log) : Type 0
   pub after_is : after ≡ with_entries was (since begun after)
   pub steps : AreSteps (since begun after)
 
--- a round is told, or nothing has changed; a book that was there may be lost
+-- a round is answered, or nothing has changed; a book that was there may be lost
 abbrev pub WorksBy : Worked → Option Log → ℕ → ℕ → Option Log → Type 0
 WorksBy (worked.Told reply) before workers moves after = AnswersCommand before (command_view.work workers moves) (string_bytes reply.text) after
 WorksBy worked.NoMemory before workers moves after = after ≡ before
 WorksBy worked.Lost before workers moves after = IsSome before × (after ≡ before)
 
--- this is told, or memory was refused
+-- this is answered, or memory was refused
 abbrev pub IsToldOr : List ℕ → Worked → Type 0
 IsToldOr text (worked.Told reply) = string_bytes reply.text ≡ text
 IsToldOr text worked.NoMemory = Unit {0}
 IsToldOr text worked.Lost = ⊥
 
--- the steps since then are told, or the session has failed
+-- the steps since then are listed, or the session has failed
 abbrev pub Settles : Worked → ℕ → Option Log → Log → Option Log → Type 0
 Settles (worked.Told reply) begun before now after = (string_bytes reply.text ≡ names_reply (stepped_names (since begun now))) × (after ≡ Some now)
 Settles worked.NoMemory begun before now after = ⊥
 Settles worked.Lost begun before now after = after ≡ before
 
--- it is told that no step was taken, or that there is no room for one
+-- the answer is that no step was taken, or that there is no room for one
 abbrev pub TellsNone : Log → List ℕ → Type 0
 TellsNone log text = (text ≡ names_reply []) ⊎ HasNoRoom log text (Some log)
 
--- no step was taken, which is told, or memory was refused
+-- no step was taken, which is answered, or memory was refused
 abbrev pub Stays : Worked → Log → Type 0
 Stays (worked.Told reply) log = TellsNone log (string_bytes reply.text)
 Stays worked.NoMemory log = Unit {0}

@@ -1,5 +1,5 @@
--- What lines are answered, and what the book is afterwards. Open are want of memory and the journal's refusal of a line, which are
--- told and change nothing, where a drive stops early because of them, and which fault of a definition is told, among those that stand.
+-- What lines are answered, and what the book is afterwards. Open are refused memory and the journal's refusal of a line, which are
+-- answered and change nothing, where a drive stops early because of them, and which fault of a definition is named, among those that it has.
 use Rattle.std.specs.Prelude.{◌≡◌, ◌≤◌, ℕ, zero, suc, ◌⊎◌, List, [], ◌∷◌, ◌++◌, length, map, reverse, Bool, false, true, Option, None, Some, option_and_then, Result, Ok, Err, IsOk}
 use Rattle.std.specs.List.{list_any}
 use Rattle.std.specs.Ordering.{eq_by_cmp}
@@ -42,21 +42,21 @@ use Rattle.command_lines.specs.Grammar as command_view
 use Rattle.command_lines.specs.Grammar.{CommandView, command_of}
 use Rattle.reply_lines.specs.Replies.{done_reply, step_reply, moved_reply, count_reply, list_reply, names_reply, item_fault_reply, frame_reply, refused, refused_by, refusal_reply, memory_reply, no_journal, bad_json, bad_beginning, table_taken, no_table, bad_line}
 
--- this is told, and this is the book then: such is the reply, and the book afterwards
+-- this is answered, and this is the book then: such is the reply, and the book afterwards
 abbrev pub AnswersUnchanged : List ℕ → Option Log → List ℕ → Option Log → Type 0
 AnswersUnchanged told book reply after = (reply ≡ told) × (after ≡ book)
 
--- what is told where the journal refuses a line
+-- what is answered if the journal refuses a line
 abbrev pub journal_reply : List ℕ
 journal_reply = refused no_journal
 
--- This is told, and this is the book then; or the journal refuses the line, and the book is the one from before.
+-- This is answered, and this is the book then; or the journal refuses the line, and the book is the one from before.
 abbrev pub AnswersAppended : List ℕ → Option Log → Option Log → List ℕ → Option Log → Type 0
 AnswersAppended told book before reply after = AnswersUnchanged told book reply after ⊎ AnswersUnchanged journal_reply before reply after
 
 -- ---- JSON of a line
 
--- a value whose numbers are whole, or what is told where the text is none
+-- a value whose numbers are whole, or what is answered if the text is none
 abbrev pub OfWhole : Option Data → (List ℕ → Type 0) → (Data → Type 0) → Type 0
 OfWhole None Refused Read = Refused (refused_by bad_json 2)
 OfWhole (Some d) Refused Read = Read d
@@ -74,7 +74,7 @@ abbrev pub values_in : Items → List Data
 values_in no_items = []
 values_in (item d ds) = d ∷ values_in ds
 
--- the table begins with its items, or with the first that is none, which is told
+-- the table begins with its items, or is refused for the first that is none
 abbrev pub AnswersBegin : Begin → Result Table ItemFault → List ℕ → Option Log → Type 0
 AnswersBegin begin (Ok items) = AnswersAppended done_reply (Some (record { begin = begin; entries = [] })) None
 AnswersBegin begin (Err fault) = AnswersUnchanged (item_fault_reply fault) None
@@ -204,7 +204,7 @@ abbrev pub is_held : Refusal → Bool
 is_held (Held name) = true
 is_held _ = false
 
--- a refusal, for another cause than a hold, of the step of the thread whose turn it is, by the book or by the journal; or want of memory
+-- a refusal, for another cause than a hold, of the step of the thread whose turn it is, by the book or by the journal; or out of memory
 abbrev pub StopsDrive : (Thread → Bool) → Log → EntryFault → Type 0
 StopsDrive passed log (by.Book refusal) = (refusal ≡ Memory) ⊎ ((t : Thread) × IsLeastEnabled passed log t × (step_answer log t ≡ Err refusal) × (is_held refusal ≡ false))
 StopsDrive passed log (by.Journal fault) = (t : Thread) × IsLeastEnabled passed log t × IsOk (step_answer log t)
@@ -221,12 +221,12 @@ DrivesAtMost (suc more) passed log (took name ∷ turns) stop after =
     (m : Moved) × IsLeastEnabled (is_passed passed) log name.thread × (step_answer log name.thread ≡ Ok m) × (name ≡ m.name) × DrivesAtMost more passed (appended log (Stepped m.name m.kind)) turns stop after
 DrivesAtMost (suc more) passed log (skipped t ∷ turns) stop after = IsLeastEnabled (is_passed passed) log t × NeedsHeld log t × DrivesAtMost (suc more) (t ∷ passed) log turns stop after
 
--- what is told of a command that isn't accepted
+-- what is answered to a command that isn't accepted
 abbrev pub change_reply : EntryFault → List ℕ
 change_reply (by.Book refusal) = refusal_reply refusal
 change_reply (by.Journal fault) = journal_reply
 
--- what is told of these: the steps, or a refusal that came before any
+-- what is answered to these: the steps, or a refusal that came before any
 abbrev pub drive_reply : List StepName → Option EntryFault → List ℕ
 drive_reply [] None = names_reply []
 drive_reply [] (Some fault) = change_reply fault
@@ -309,7 +309,7 @@ abbrev pub AnswersView : Option Log → Option CommandView → List ℕ → Opti
 AnswersView before None = AnswersUnchanged (refused bad_line) before
 AnswersView before (Some command) = AnswersCommand before command
 
--- want of memory may be told in place of what else is answered
+-- out of memory may be answered in place of anything else
 abbrev pub AnswersText : Option Log → Option (List ℕ) → List ℕ → Option Log → Type 0
 AnswersText before line reply after = AnswersUnchanged memory_reply before reply after ⊎ AnswersView before (option_and_then command_of line) reply after
 

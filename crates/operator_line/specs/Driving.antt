@@ -45,7 +45,7 @@ abbrev pub is_for_hold : EntryFault → Bool
 is_for_hold (by.Book refusal) = is_held refusal
 is_for_hold (by.Journal fault) = false
 
--- a refusal of a step that needs what is held has its thread passed by; each other is told, and so is want of memory
+-- a refusal of a step that needs what is held has its thread passed by; each other is answered, and so is refused memory
 abbrev pub PassesBy : Thread → EntryFault → BTreeSet Thread → BTreeSet Thread → Result Tried EntryFault → Type 0
 PassesBy t fault old new (Ok StepTaken) = ⊥
 PassesBy t fault old new (Ok PassedBy) = (needed : StepName) × (fault ≡ by.Book (Held needed)) × AddsThread t old new

@@ -4,7 +4,7 @@ use Rattle.asl_fields.specs.Fields.{is_text}
 use Rattle.book_log.specs.Log.{Log}
 use Rattle.operator_line.specs.Answers.{AnswersLine}
 
--- a reply that begins so tells a refusal
+-- a reply that begins so is a refusal
 abbrev pub is_refusal : List ℕ → Bool
 is_refusal reply = is_text (take 3 reply) (codes "no ")
 

@@ -40,7 +40,7 @@ pub record AnswersUpTo (lines : List (Option (List ℕ))) (before : Option Log) 
   pub until : AnswersUntil lines (line ∷ later) before between old contents
   pub part : AnswersPart line between after contents new
 
--- what is told where the steps of a round can't be written down
+-- what is answered if the steps of a round can't be written down
 abbrev pub lost_reply : List ℕ
 lost_reply = codes "no 24\n"
 

@@ -27,7 +27,7 @@ pub(crate) enum Tried {
     NoMove,
 }
 
-/// Takes at most so many steps, each of the least thread that has a move then, and writes what is told of them. A thread whose step
+/// Takes at most so many steps, each of the least thread that has a move then, and writes the reply to them. A thread whose step
 /// needs what is held is passed by. Room for the reply is made before each step, and each stands in the journal by a line of its
 /// own. A step takes what the book's `first_ready` and `step` take.
 pub(crate) fn drive<S: Alter>(
@@ -130,7 +130,7 @@ fn first_ready<S: Alter>(
     book.first_ready(alloc, passed)
 }
 
-/// What comes of a refused step: where it needs what is held, its thread is passed by; else the refusal is told.
+/// What comes of a refused step: if it needs what is held, its thread is passed by; else the refusal is answered.
 #[tactic(auto, using(crate::proofs::Taken::not_held))]
 fn pass_by(
     passed: &mut BTreeSet<ThreadName>,

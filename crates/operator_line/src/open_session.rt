@@ -400,7 +400,7 @@ impl<S: Alter> OpenSession<S> {
     }
 }
 
-/// Tells what is left of the hold, the latest first. Its step remains, so that its plan is refused for want of memory alone.
+/// Lists what is left of the hold, the latest first. Its step remains, so its plan is refused only if memory is.
 #[tactic(auto, using(crate::proofs::Left::left_planned, crate::proofs::Left::none_left_of))]
 fn tell_left(alloc: Global, book: &Book, reply: &mut Reply) -> Result<(), AllocError>
     requires { string_bytes reply.old.text ≡ [] }

@@ -283,7 +283,7 @@ fn write_answer<T: Threads + Wait + Sync, W: Write, S: Alter>(
     }
 }
 
-/// Tells that the steps of a round couldn't be written down. What the writer refuses then is told nobody.
+/// Answers that the steps of a round couldn't be written down. What the writer refuses then, nobody learns.
 #[tactic(auto, using(crate::proofs::Served::part_kept))]
 fn tell_lost<W: Write>(writer: &mut W)
     ensures { WritesPart lost_reply (W.contents writer.old) (W.contents writer.new) }

@@ -30,7 +30,7 @@ use std::thread::Threads;
 /// What came of a round.
 #[derive(Drop)]
 pub(crate) enum Worked {
-    /// This is told.
+    /// This is answered.
     Told(Reply),
     /// Memory was refused before any step was taken.
     NoMemory,
@@ -196,7 +196,7 @@ fn texts_of(alloc: Global, lines: &[String]) -> Result<Vec<&str>, AllocError>
     Ok(refs)
 }
 
-/// The reply that tells these steps, and their lines in the journal.
+/// The reply that lists these steps, and their lines in the journal.
 #[tactic(auto, using(crate::proofs::Settling::names_more, crate::proofs::Settling::step_there))]
 fn tell(alloc: Global, entries: &[Entry]) -> Result<(Reply, Vec<String>), AllocError>
     requires steps { AreSteps entries.now }

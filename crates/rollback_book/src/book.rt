@@ -99,7 +99,7 @@ impl Book {
         Ok(Room::new(alloc, step)?)
     }
 
-    /// The same for a step that remains. Want of memory is told of no other: where it is refused, the step is looked up.
+    /// The same for a step that remains. Of no other out of memory is answered: if memory is refused, the step is looked up.
     ///
     /// # Errors
     ///

@@ -253,7 +253,7 @@ fn is_numbered(frame: Option<&Frame>, number: u32) -> bool
     }
 }
 
-/// Want of memory stays; any other refusal is that there is no such step.
+/// Out of memory stays that; any other refusal is that there is no such step.
 fn or_no_step(refusal: Refusal) -> Refusal
     ensures { ((refusal ≡ Refusal.Memory) × (result ≡ Refusal.Memory)) ⊎ ((refusal ≡ Refusal.Memory → ⊥) × (result ≡ Refusal.NoStep)) }
 {

@@ -85,7 +85,7 @@ fn copy_call(call: &Call) -> Result<Call, AllocError>
     Ok(Call { table, request })
 }
 
-/// The answer to a call that touches no item. Want of memory is no answer.
+/// The answer to a call that touches no item. Out of memory is no answer.
 fn refuse(alloc: Global, fault: CallFault) -> Result<Answered, AllocError>
     ensures { IfOk result (λ a. (reply_of a.answer ≡ refused (told fault)) × (a.touch ≡ None) × (fault ≡ CallFault.Memory → ⊥)) }
 {
