@@ -9,7 +9,7 @@ from tests.amazon import WithAmazon, client_of, error_of
 from tests.runners import chain
 
 CLIENTS = 16
-SECONDS = float(os.environ.get("ROLLBACK_AWS_SECONDS", "20"))
+SECONDS = float(os.environ.get("ROLLBACK_AWS_SECONDS", "10"))
 COPY = chain(
     {
         "Type": "Task",
