@@ -14,8 +14,8 @@ The documents are README.md and CONTRIBUTING.md at the top, docs/*.md, rows/READ
 - a sentence has at most 40 words, and all have 25 on average at most. This is asked of those that are written so (SHORT);
 - the tables of docs/REFERENCE.md have to name the fields of crates/asl_fields/src/fields.rt, object by object, and those that are left out;
 - a block with lines behind `>` is a part of the session of the example that was named last. Its lines stand in the example in their order,
-  and the program answers what stands under them. `...` stands for the rest of a reply, and in a line for any text. This is asked of
-  those that show sessions (SESSIONS), and needs the program; where it isn't built, it is told so and passed over.
+  and the program answers what stands under them. `...` stands for the rest of a reply, and in a line for any text. What a shell's line
+  behind `$` prints isn't compared. This is asked of those that show sessions (SESSIONS), and needs the program; where it isn't built, it is told so and passed over.
 
 --names looks at all but the replies, and --replies at these alone. Each failure is printed. The last line is `N passed, M failed`, of names, sentences and replies. The status is 1 where one failed.
 """
@@ -217,11 +217,14 @@ def blocks(text):
 
 
 def pairs(block):
-    found = []
+    """The lines behind `>`, each with the lines that stand under it. What a shell's line behind `$` prints belongs to none."""
+    found, answers = [], False
     for line in block:
-        if line.startswith("> "):
-            found.append((line[2:], []))
-        elif found:
+        if line.startswith(("> ", "$ ")):
+            answers = line.startswith("> ")
+            if answers:
+                found.append((line[2:], []))
+        elif answers:
             found[-1][1].append(line)
     return found
 
