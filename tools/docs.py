@@ -15,7 +15,8 @@ The documents are README.md and CONTRIBUTING.md at the top, docs/*.md, rows/READ
 - the tables of docs/REFERENCE.md have to name the fields of crates/asl_fields/src/fields.rt, object by object, and those that are left out;
 - a block with lines behind `>` is a part of the session of the example that was named last. Its lines stand in the example in their order,
   and the program answers what stands under them. `...` stands for the rest of a reply, and in a line for any text. What a shell's line
-  behind `$` prints isn't compared. This is asked of those that show sessions (SESSIONS), and needs the program; where it isn't built, it is told so and passed over.
+  behind `$` prints isn't compared. This is asked of those that show sessions (SESSIONS), and needs the program; if it isn't built, a line
+  says so.
 
 --names looks at all but the replies, and --replies at these alone. Each failure is printed. The last line is `N passed, M failed`, of names, sentences and replies. The status is 1 where one failed.
 """
