@@ -185,14 +185,16 @@ class Streams:
     # ---- words
 
     def taken_files(self, title, _):
-        """A file that another process has. It goes on with it."""
+        """A file that another process has: it can't be opened, can be looked at, and that process goes on with it."""
         with self.journal_of(title) as journal:
+            alone = ran(self.program, self.library, ["--check", journal], b"")
+            ended_so(alone, WELL, "--check")
             other = Served(self.program, ["--journal", journal], self.library, 0)
             try:
                 before = other.ask(b"history")
-                for words in (["--journal", journal], ["--check", journal]):
+                for words, wanted in ((["--journal", journal], (STORE, b"")), (["--check", journal], (WELL, alone.output))):
                     found = ran(self.program, self.library, words, b"settle\n")
-                    if found.end != STORE or found.output:
+                    if (found.end, found.output) != wanted:
                         raise Wrong(f"{words}, of a file that another process has: {found.text()}")
                 if other.ask(b"history") != before or other.end() != (b"", *WELL):
                     raise Wrong("the process that has the file doesn't go on")
