@@ -3,10 +3,11 @@
 
 usage: running_reads.py [--program PATH] [--graph PATH] [--reads N]
 
-A session writes lines to a journal's file without a pause, and copies its log into the file now and then. Meanwhile `rollback --check` and
-`rollback_graph --log` read it N times (60): each answers, of a beginning of the lines that were given, and of no fewer than had been answered before it
-began. Then files that are no journals, or damaged ones, are read: a text, zeros, an empty file, one of a byte, a log with a wrong bit. They, and what is
-beside them, stay as they were, byte for byte; and once the bit is put right all lines are there again.
+A session writes lines to a journal's file, a thousand steps a second at most, and copies its log into the file now and then. Meanwhile
+`rollback --check` and `rollback_graph --machines` read it N times (60): each answers, of a beginning of the lines that were given, and of no
+fewer than had been answered before it began. Then files that are no journals, or damaged ones, are read: a text, zeros, an empty file, one of
+a byte, a log with a wrong bit. They, and what is beside them, stay as they were, byte for byte; and once the bit is put right all lines are
+there again.
 
 The last line is `N passed, M failed`.
 """
@@ -40,7 +41,7 @@ def ran(words):
 
 
 class Writer(threading.Thread):
-    """A session that is given lines one by one, until it is told to end."""
+    """A session that is given lines one by one, until it has to end."""
 
     def __init__(self, program, journal):
         super().__init__()
@@ -65,6 +66,11 @@ class Writer(threading.Thread):
             self.give(f"start e{number} m {text}")
             self.give(f"step e{number}")
             number += 1
+            # (else the log is emptied more often than a grown file can be read)
+            time.sleep(0.001)
+            # (a book is full at 65,536 steps)
+            if number % 5_000 == 0:
+                self.give("settle")
 
     def end(self):
         self.is_ending = True
@@ -136,7 +142,7 @@ def read_damaged(program, graph, folder):
     writer.wait()
     log = pathlib.Path(journal + "-wal")
     right = log.read_bytes()
-    at = len(right) * 3 // 4
+    at = len(right) // 3  # the log's end may be room that no line has yet
     log.write_bytes(right[:at] + bytes([right[at] ^ 1]) + right[at + 1 :])
     before = whole(place)
     ensure(lines_by_check(program, journal) < 32 and lines_by_graph(graph, journal) < 32, "a wrong bit costs no line")

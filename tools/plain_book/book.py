@@ -275,12 +275,14 @@ class Book:
         self._add(step)
         return [f"ok {step.name} {step.kind}"]
 
-    def next_step(self, name: str) -> Step:
-        """The step that a thread would take."""
+    def next_step(self, name: str, waits: bool = True) -> Step:
+        """The step that a thread would take; without waiting, also if its Map's bound doesn't let it yet."""
         thread = self.threads.get(name)
         if thread is None:
             raise No("5")
         move = self.move(name)
+        if move is None and not waits and thread.frame.phase == "ready":
+            move = "step"
         if move is None:
             raise No(f"6 {thread.frame.phase if thread.frame.phase in ('done', 'failed') else 'waiting'}")
         frame, number = thread.frame, thread.frame.moves + 1
@@ -412,6 +414,10 @@ class Book:
         """The threads whose rows an entry after this one has changed, there or gone, in the order of `drive`."""
         at = bisect.bisect_left(self._changes, (entry + 1, ""))
         return sorted({name for _, name in self._changes[at:]}, key=path_of)
+
+    def was_there(self, name: str) -> bool:
+        """Whether an accepted line has changed this thread."""
+        return any(name == other for _, other in self._changes)
 
     def last_change(self, execution: str) -> int:
         """The last entry that changed a thread of an execution."""

@@ -95,7 +95,7 @@ def item_of(book: Book, text: str) -> Answer:
     key = _key(book, text)
     accessed = [step for step in book.steps if step.access is not None and step.access.key == key]
     if not accessed and key not in book.items:
-        raise NoAnswer(f"{key} is no item")
+        raise NoAnswer(f"{text} is no item")
     rows = [
         {"access": access_word(step), "after": step.access.after, "before": step.access.before, "step": step.name}
         for step in accessed
@@ -176,7 +176,6 @@ def show_execution(book: Book, name: str) -> Answer:
     """An execution with the steps of its threads."""
     frame, status = book.threads[name].frame, status_of(book, name)
     is_failed = status == "failed"
-    last = [step.name for step in book.steps if step.thread == name][-1:]
     threads = {thread for thread in book.threads if thread.split("/")[0] == name}
     threads |= {step.thread for step in book.steps if step.thread.split("/")[0] == name}
     return {
@@ -188,7 +187,7 @@ def show_execution(book: Book, name: str) -> Answer:
         "output": frame.output if status == "done" else None,
         "state": None if status == "done" else frame.state,
         "status": status,
-        "step": last[0] if is_failed and last else None,
+        "step": f"{name}#{frame.moves}" if is_failed else None,
         "threads": [shown_thread(book, thread) for thread in in_order(list(threads))],
     }
 
@@ -246,7 +245,7 @@ def log_row(book: Book, number: int) -> Answer:
         found.update(machine=words[2], step=entry.step)
     elif words[0] == "step":
         found.update(kind=entry.kind, step=entry.step)
-        if entry.kind in ("join", "terminate"):
+        if entry.kind in ("join", "terminate") and entry.branches:
             found["closed"] = entry.branches
     elif words[0] == "undo":
         found["undone"] = entry.undone
@@ -270,9 +269,9 @@ def explained(book: Book, name: str) -> Answer:
     if frame.phase == "failed":
         step = own[-1] if own else None
         return {"why": None if step is None else why_of(step, step.name)}
-    if thread is None or book.move(name) is None:
+    if thread is None or (book.move(name) is None and frame.phase != "ready"):
         return {"why": None}
-    step = book.next_step(name)
+    step = book.next_step(name, waits=False)
     return {"why": why_of(step, None) if step.after.phase == "failed" else None}
 
 

@@ -114,7 +114,7 @@ def _show(book: Book, found: Match[str]) -> Answer:
 
 def _list(book: Book, found: Match[str]) -> Answer:
     status, machine, since = found[1], found[2], found[3]
-    if machine is not None and machine not in book.machines:
+    if machine is not None and machine not in book.machines and book.schema is not None:
         raise NoAnswer(f"{machine} is no machine")
     names = sorted(book.executions)
     answer = looking.list_head(book)
@@ -157,7 +157,7 @@ _QUESTIONS: List[Tuple[str, Callable[[Book, Match[str]], Answer]]] = [
     (rf"item(?: after (.+?))? most ({_NUMBER})(?: (.+))?", _item),
     (r"item(?:()() (.+))?", _item),
     (rf"show ({_STEP}|{_THREAD})(?: most {_NUMBER})?", _show),
-    (rf"list(?: (failed|open|done))?(?: machine ({_NAME}))?(?: since ({_NUMBER}))?{_PAGE}", _list),
+    (rf"list(?: (?:failed|open|done))*?(?: (failed|open|done))?(?: machine ({_NAME}))?(?: since ({_NUMBER}))?{_PAGE}", _list),
     (rf"find (.+?) most ({_NUMBER})", lambda book, found: looking.found_steps(book, found[1], int(found[2]))),
     (r"find (.+)", lambda book, found: looking.found_steps(book, found[1], looking.MOST_FOUND)),
     (rf"steps ({_NUMBER}) ({_NUMBER})", _steps),
@@ -172,6 +172,8 @@ def answer(book: Book, question: str) -> Answer:
         if found is not None and _fits(found):
             if book.schema is None and question.startswith(_NAMING) and not question.startswith(_LISTING):
                 raise NoAnswer("no table yet")
+            if book.schema is None and question.startswith(("steps ", "log ")):
+                return {question.split(" ")[0]: [], "more": False}
             return give(book, found)
     raise NoAnswer("no question")
 

@@ -127,7 +127,7 @@ def shown_row(book: Book, step: Step) -> Row:
         **step_row(book, step),
         "entry": step.entry,
         "input": None if step.before is None else step.before.input,
-        "outcome": outcome(step),
+        "outcome": outcome(book, step),
         "output": step.after.output if step.after.phase == "done" else step.after.input,
     }
 
@@ -154,8 +154,8 @@ def frame_object(frame: Frame) -> Row:
     return found
 
 
-def outcome(step: Step) -> Row:
-    """What a step went on to."""
+def outcome(book: Book, step: Step) -> Row:
+    """What a step went on to. It was caught if it isn't in the state that its own one's `Next` names."""
     after = step.after
     if after.phase == "parked":
         return {"branches": after.branches, "to": "forked"}
@@ -165,7 +165,8 @@ def outcome(step: Step) -> Row:
         return {"error": after.error, "to": "failed"}
     if after.retrier is not None:
         return {"to": "retry"}
-    return {"state": after.state, "to": "caught" if step.failure is not None else "next"}
+    own = None if step.before is None else book.machines[step.before.machine].state(step.before).get("Next")
+    return {"state": after.state, "to": "caught" if step.failure is not None and own != after.state else "next"}
 
 
 def in_order(names: Sequence[str]) -> List[str]:

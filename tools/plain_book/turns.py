@@ -185,6 +185,7 @@ class Machine:
                 try:
                     placed = _held(_placed(catcher, frame.input, caught))
                 except Failure as other:
+                    failure.why = other.why
                     return replace(failed, error=other.error, cause=other.cause)
                 return self._enters(frame.level, catcher["Next"], placed, moves)
         return replace(failed, error=failure.error, cause=failure.cause)
