@@ -133,11 +133,11 @@ class InBrowser(WithPages):
         return []
 
     def named(self, text, selector="a, button, summary"):
-        """The element that has this text."""
-        return self.soon(
-            lambda: next((found for found in self.all(selector) if found.text.strip() == text), None),
-            f"a {selector} {text!r}",
-        )
+        """The element that has this text. It is looked for in one call, since a page that lives may be drawn anew between two."""
+        look = """const [selector, text] = arguments;
+            const isIt = (found) => found.getClientRects().length > 0 && found.innerText.trim() === text;
+            return [...document.querySelectorAll(selector)].find(isIt) || null;"""
+        return self.soon(lambda: self.js(look, selector, text), f"a {selector} {text!r}")
 
     def soon(self, look, what, seconds=SECONDS):
         """What is looked for, once it is there."""

@@ -4,6 +4,16 @@
 const { NoAnswer, app, counted, notice, readJson, tellNews } = rollback;
 const PAGE = 5000;
 const AGAIN = 1000; // milliseconds before a lost connection is tried again
+const PRESS = 1000; // milliseconds for which news waits for the release of a button
+
+// A page that is drawn anew between a button's press and its release loses the click, so news waits for that.
+let pressed = 0;
+document.addEventListener("pointerdown", () => { pressed = Date.now(); }, true);
+for (const name of ["pointerup", "pointercancel"]) document.addEventListener(name, () => setTimeout(() => { pressed = 0; }), true);
+
+async function untilReleased() {
+    while (pressed && Date.now() - pressed < PRESS) await new Promise((done) => { setTimeout(done, 20); });
+}
 
 class Lost extends Error {}
 
@@ -158,6 +168,7 @@ class ConsoleBook {
             after = " after " + answer.executions[answer.executions.length - 1].execution;
         }
         if (this.entries > before) this.times.push([before, this.entries, Date.now()]);
+        await untilReleased();
         tellNews({ all: false, entries: this.entries > before, executions: changed });
         this.tell();
     }
