@@ -2,10 +2,10 @@
 use Rattle.std.proofs.Common.{◌≡◌, ℕ, ◌+◌, ◌≤◌, List, [], ◌∷◌, ◌++◌, length, Result, Ok, Err, ◌<◌, nat_le, codes, refl, ap, append_assoc, sym, arith}
 use Rattle.std.proofs.lemmas.Bool.{cond-false, lt-leb}
 use Rattle.json_tree.specs.Data.{Data, depth}
-use Rattle.asl_results.specs.Definition.{Definition}
+use Rattle.asl_frames.specs.Definition.{Definition}
 use Rattle.asl_forward.specs.Forks.{with_others, begins, frames_from}
 use Rattle.asl_processing.specs.Processing.{held}
-use Rattle.asl_results.specs.Frame.{Frame}
+use Rattle.asl_frames.specs.declared.frame.Frame.{Frame}
 
 -- those frames, and then these
 abbrev pub after_those : List Frame → Result (List Frame) (List ℕ) → Result (List Frame) (List ℕ)

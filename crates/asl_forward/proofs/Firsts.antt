@@ -4,22 +4,22 @@ use Rattle.std.proofs.Common.{◌≡◌, ℕ, suc, ◌+◌, nat_le, Bool, true, 
 use Rattle.std.specs.List.{AllByRecursion}
 use Rattle.json_tree.specs.Data.{Data}
 use Rattle.json_tree.specs.View.{data_of}
-use Rattle.asl_results.specs.Complete.{state_of, IsState}
-use Rattle.asl_results.specs.Definition.{Definition}
-use Rattle.asl_results.specs.Find.{branch_of, machine_at}
-use Rattle.asl_results.specs.LevelStep.{LevelStep}
-use Rattle.asl_results.specs.Map.{Map}
-use Rattle.asl_results.specs.Parallel.{Parallel}
-use Rattle.asl_results.specs.State.{State}
-use Rattle.asl_results.specs.State.TheVariants as state
+use Rattle.asl_frames.specs.Complete.{state_of, IsState}
+use Rattle.asl_frames.specs.Definition.{Definition}
+use Rattle.asl_frames.specs.Find.{branch_of, machine_at}
+use Rattle.asl_frames.specs.LevelStep.{LevelStep}
+use Rattle.asl_frames.specs.Map.{Map}
+use Rattle.asl_frames.specs.Parallel.{Parallel}
+use Rattle.asl_frames.specs.State.{State}
+use Rattle.asl_frames.specs.State.TheVariants as state
 use Rattle.item_store.specs.Calls.{call_of}
 use Rattle.item_store.specs.declared.call.Call.{Call}
 use Rattle.asl_forward.specs.Forks.{branch_frame, with_others, begins, frames_from, parallel_frames, elements, element_input, element_frames, counted_frames, map_frames}
 use Rattle.asl_forward.specs.Outcomes.{asks, task_turn, forks, fork_of, turn, turn_of, action_of}
 use Rattle.asl_processing.specs.Processing.{held, effective}
-use Rattle.asl_results.specs.Turn.{Location, located, counters_of, retriers_of}
-use Rattle.asl_results.specs.Frame.{Frame}
-use Rattle.asl_results.specs.Phase.TheVariants.{Ready}
+use Rattle.asl_frames.specs.Turn.{Location, located, counters_of, retriers_of}
+use Rattle.asl_frames.specs.declared.frame.Frame.{Frame}
+use Rattle.asl_frames.specs.declared.frame.Phase.TheVariants.{Ready}
 use Rattle.asl_forward.specs.declared.prepared.Outcome.{Outcome}
 use Rattle.asl_forward.specs.declared.prepared.Outcome.TheVariants as outcome
 

@@ -5,21 +5,21 @@ use Rattle.json_tree.specs.View.{data_of}
 use Rattle.item_store.specs.Calls.{call_of}
 use Rattle.item_store.specs.Faults.{validation}
 use Rattle.item_store.specs.declared.call.Call.{Call}
-use Rattle.asl_results.specs.Complete.{IsState, StaysInside}
-use Rattle.asl_results.specs.Definition.{Definition}
-use Rattle.asl_results.specs.State.{State}
-use Rattle.asl_results.specs.State.TheVariants as state
+use Rattle.asl_frames.specs.Complete.{IsState, StaysInside}
+use Rattle.asl_frames.specs.Definition.{Definition}
+use Rattle.asl_frames.specs.State.{State}
+use Rattle.asl_frames.specs.State.TheVariants as state
 use Rattle.asl_forward.specs.Forks.{parallel_frames, map_frames}
 use Rattle.asl_forward.specs.Outcomes.{action_of, asks, task_turn, parks, forks, fork_of, turn, turn_of}
-use Rattle.asl_results.specs.Results.{handled, errors_of, call_fault}
+use Rattle.asl_forward.specs.Results.{handled, errors_of, call_fault}
 use Rattle.asl_processing.specs.Processing.{effective}
-use Rattle.asl_results.specs.Turn.{Location, next_frame, own_fault}
-use Rattle.asl_results.specs.Fault.{Fault}
-use Rattle.asl_results.specs.Frame.{Frame}
+use Rattle.asl_frames.specs.Turn.{Location, next_frame, own_fault}
+use Rattle.asl_frames.specs.declared.frame.Fault.{Fault}
+use Rattle.asl_frames.specs.declared.frame.Frame.{Frame}
 use Rattle.asl_forward.specs.declared.prepared.Outcome.{Outcome}
 use Rattle.asl_forward.specs.declared.prepared.Outcome.TheVariants as outcome
-use Rattle.asl_results.proofs.Turns.{next_frame-count, next_frame-level, next_frame-state}
-use Rattle.asl_results.proofs.NextFrames.{handled-count, handled-level, handled-state, catchers_stay}
+use Rattle.asl_frames.proofs.Turns.{next_frame-count, next_frame-level, next_frame-state}
+use Rattle.asl_forward.proofs.ResultFrames.{handled-count, handled-level, handled-state, catchers_stay}
 
 -- P of the thread's next frame, where the turn gives one
 abbrev pub OnFrame : (Frame → Type 0) → Outcome → Type 0

@@ -1,19 +1,19 @@
 -- The frames with which the branches of a Parallel or a Map state begin (Amazon States Language, "Parallel State", "Map State").
 use Rattle.std.specs.Prelude.{ℕ, ◌+◌, nat_le, List, [], ◌∷◌, ◌++◌, length, Option, None, Some, Result, Ok, Err, ok_or, if◌then◌else◌, codes}
 use Rattle.json_tree.specs.Data.{Data, list, null, boolean, whole, text, fields}
-use Rattle.asl_results.specs.Definition.{Definition}
+use Rattle.asl_frames.specs.Definition.{Definition}
 use Rattle.asl_processing.specs.Reading.{json_of, items_in, most_branches}
-use Rattle.asl_results.specs.Level.{Level}
-use Rattle.asl_results.specs.Map.{Map}
-use Rattle.asl_results.specs.Parallel.{Parallel}
+use Rattle.asl_frames.specs.Level.{Level}
+use Rattle.asl_frames.specs.Map.{Map}
+use Rattle.asl_frames.specs.Parallel.{Parallel}
 use Rattle.asl_processing.specs.Filling.{filled}
 use Rattle.asl_processing.specs.Picking.{pick_at}
 use Rattle.asl_processing.specs.Templates.{Payload}
 use Rattle.asl_processing.specs.PathStep.{PathStep}
 use Rattle.asl_processing.specs.Processing.{and_then, held}
-use Rattle.asl_results.specs.Turn.{counters_at}
-use Rattle.asl_results.specs.Frame.{Frame}
-use Rattle.asl_results.specs.Phase.TheVariants.{Ready}
+use Rattle.asl_frames.specs.Turn.{counters_at}
+use Rattle.asl_frames.specs.declared.frame.Frame.{Frame}
+use Rattle.asl_frames.specs.declared.frame.Phase.TheVariants.{Ready}
 
 -- the `States` object of a state's branch; a Map's one processor is branch 0
 abbrev pub inward : Level → List ℕ → ℕ → Level

@@ -1,3 +1,5 @@
+pub mod Handling
+pub mod Results
 pub mod Forks
 pub mod Outcomes
 pub mod Planned
@@ -6,9 +8,12 @@ pub use Rattle.asl_processing.specs.Catcher
 pub use Rattle.asl_processing.specs.ErrorHandling
 pub use Rattle.asl_processing.specs.Choosing
 pub use Rattle.asl_processing.specs.Processing
-pub use Rattle.asl_results.specs.Handling
-pub use Rattle.asl_results.specs.Results
 pub use Rattle.asl_processing.specs.Choice
 pub use Rattle.asl_processing.specs.StateProcessing
 pub use Rattle.asl_processing.specs.Task
 pub use Rattle.asl_processing.specs.Transition
+pub use Rattle.asl_frames.specs.Turn
+pub use Rattle.asl_frames.specs.declared.frame.Fault
+pub use Rattle.asl_frames.specs.declared.frame.Frame
+pub use Rattle.asl_frames.specs.declared.frame.Phase
+pub use Rattle.asl_frames.specs.Definition

@@ -9,19 +9,19 @@ use Rattle.item_store.specs.declared.call.Action.{Action}
 use Rattle.item_store.specs.declared.call.Action.TheVariants as action
 use Rattle.item_store.specs.declared.call.Call as call
 use Rattle.asl_processing.specs.ErrorHandling.{ErrorHandling}
-use Rattle.asl_results.specs.Definition.{Definition}
+use Rattle.asl_frames.specs.Definition.{Definition}
 use Rattle.asl_processing.specs.Resource.{Resource}
 use Rattle.asl_processing.specs.Resource.TheVariants.{GetItem, PutItem, DeleteItem}
-use Rattle.asl_results.specs.State.{State}
-use Rattle.asl_results.specs.State.TheVariants as state
+use Rattle.asl_frames.specs.State.{State}
+use Rattle.asl_frames.specs.State.TheVariants as state
 use Rattle.asl_processing.specs.Task.{Task}
 use Rattle.asl_forward.specs.Forks.{parallel_frames, map_frames}
-use Rattle.asl_results.specs.Results.{handled, call_fault}
+use Rattle.asl_forward.specs.Results.{handled, call_fault}
 use Rattle.asl_processing.specs.Processing.{effective}
-use Rattle.asl_results.specs.Turn.{Location, next_frame, own_fault}
-use Rattle.asl_results.specs.Fault.{Fault}
-use Rattle.asl_results.specs.Frame.{Frame}
-use Rattle.asl_results.specs.Phase.TheVariants.{Parked}
+use Rattle.asl_frames.specs.Turn.{Location, next_frame, own_fault}
+use Rattle.asl_frames.specs.declared.frame.Fault.{Fault}
+use Rattle.asl_frames.specs.declared.frame.Frame.{Frame}
+use Rattle.asl_frames.specs.declared.frame.Phase.TheVariants.{Parked}
 use Rattle.asl_forward.specs.declared.prepared.Outcome.{Outcome}
 use Rattle.asl_forward.specs.declared.prepared.Outcome.TheVariants as outcome
 

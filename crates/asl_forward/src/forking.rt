@@ -6,14 +6,14 @@ ghost use Rattle.asl_processing.specs.Errors.{NamesError};
 ghost use Rattle.asl_forward.specs.Forks.{inward, branch_frame, frames_from, parallel_frames, elements, element_input, element_frames, map_frames};
 ghost use Rattle.asl_forward.specs.Outcomes.{fork_of};
 ghost use Rattle.asl_processing.specs.Processing.{held, effective};
-ghost use Rattle.asl_results.specs.Turn.{counters_at};
+ghost use Rattle.asl_frames.specs.Turn.{counters_at};
 
 use crate::frames::Frames;
-use asl_processing::paths::{FillFault, RefPath, Template};
-use asl_results::frame_turns::{
+use asl_frames::machine_tree::{Branches, Level, Machine, Map, Parallel};
+use asl_frames::{
     Frame, MOST_LEVELS, Phase, Retries, StateError, TurnFault, counters_at, effective_input, held,
 };
-use asl_results::machine_tree::{Branches, Level, Machine, Map, Parallel};
+use asl_processing::paths::{FillFault, RefPath, Template};
 use json_tree::{Json, JsonList, Text, depth};
 use std::alloc::{AllocError, Global};
 

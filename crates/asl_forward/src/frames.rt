@@ -1,7 +1,7 @@
 // The frames with which the branches of a fork begin.
 ghost use Rattle.std.specs.Prelude.{◌≡◌, []};
 
-use asl_results::frame_turns::Frame;
+use asl_frames::Frame;
 use std::alloc::Global;
 use std::marker::Model;
 
@@ -14,8 +14,8 @@ pub struct Frames {
 impl Model for Frames {
     ghost use Rattle.std.specs.Prelude.{List};
     ghost use Rattle.std.specs.Coded.{codes};
-    ghost use Rattle.asl_results.specs.Frame.{Frame};
-    ghost use Rattle.asl_results.specs.FrameContract as frame;
+    ghost use Rattle.asl_frames.specs.declared.frame.Frame.{Frame};
+    ghost use Rattle.asl_frames.specs.contracts.frame.Frame as frame;
 
     ghost Value = { List Frame };
 

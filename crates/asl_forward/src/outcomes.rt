@@ -6,18 +6,19 @@ ghost use Rattle.item_store.specs.Faults.{validation};
 ghost use Rattle.asl_processing.specs.Errors.{NamesError};
 ghost use Rattle.asl_forward.specs.Outcomes.{action_of, asks, fails, forks, parks, task_turn, turn};
 ghost use Rattle.asl_processing.specs.Processing.{effective};
-ghost use Rattle.asl_results.specs.Frame.{Frame};
+ghost use Rattle.asl_frames.specs.declared.frame.Frame.{Frame};
 
 use crate::forking::{count_of, fork_map, fork_parallel};
 use crate::frames::Frames;
+use crate::handling::handle;
 use crate::prepared::Outcome;
-use asl_processing::error_handling::ErrorHandling;
-use asl_processing::state_parts::{Resource, Task};
-use asl_results::frame_turns::{
+use crate::work_results::call_fault;
+use asl_frames::machine_tree::{Machine, State};
+use asl_frames::{
     Fault, Frame, Phase, TurnFault, effective_input, next_frame, own_fault, with_phase,
 };
-use asl_results::machine_tree::{Machine, State};
-use asl_results::{call_fault, handle};
+use asl_processing::error_handling::ErrorHandling;
+use asl_processing::state_parts::{Resource, Task};
 use item_store::{Action, Call, CallFault};
 use json_tree::{Json, Text};
 use std::alloc::{AllocError, Global};

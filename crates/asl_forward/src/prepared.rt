@@ -3,15 +3,15 @@ ghost use Rattle.std.specs.Prelude.{◌≡◌, ◌+◌, ◌^◌, ◌<◌, Some, 
 ghost use Rattle.std.specs.Coded.{codes};
 ghost use Rattle.std.proofs.Props.{props};
 ghost use Rattle.asl_forward.specs.Planned.{turn_at};
-ghost use Rattle.asl_results.specs.Turn.{located};
-ghost use Rattle.asl_results.specs.PhaseContract as phase_contract;
+ghost use Rattle.asl_frames.specs.Turn.{located};
+ghost use Rattle.asl_frames.specs.contracts.frame.Phase as phase_contract;
 ghost use Rattle.asl_forward.specs.contracts.prepared.Outcome as outcome_contract;
-ghost use Rattle.asl_results.specs.Phase.TheVariants.{Ready};
+ghost use Rattle.asl_frames.specs.declared.frame.Phase.TheVariants.{Ready};
 
 use crate::frames::Frames;
 use crate::outcomes::turn;
-use asl_results::frame_turns::{Frame, Phase, located};
-use asl_results::machine_tree::SharedMachine;
+use asl_frames::machine_tree::SharedMachine;
+use asl_frames::{Frame, Phase, located};
 use item_store::Call;
 use std::alloc::{AllocError, Global};
 

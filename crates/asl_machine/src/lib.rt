@@ -5,11 +5,13 @@ mod laws;
 mod read;
 
 pub use asl_fields::MachineFault;
-pub use asl_states::choices::{Comparison, InnerTest, Relation, Rule, Rules, Test, Tests};
 pub use asl_states::error_handling::{
     Catcher, Catchers, ErrorHandling, ErrorNames, Retrier, Retriers,
 };
-pub use asl_states::{Choice, Fail, Pass, Processing, Resource, Succeed, Task, Transition, Wait};
+pub use asl_states::{
+    Choice, Comparison, Fail, InnerTest, Pass, Processing, Relation, Resource, Rule, Rules,
+    Succeed, Task, Test, Tests, Transition, Wait,
+};
 pub use asl_tree as machine_tree;
 pub use asl_tree::{
     Branches, Level, LevelPath, LevelStep, Machine, Map, Parallel, SharedMachine, State, States,

@@ -2,7 +2,7 @@
 use Rattle.std.specs.Prelude.{ℕ, List, Option, Some, None, Result, Ok, Err, codes}
 use Rattle.json_tree.specs.Data.{Data}
 use Rattle.asl_states.specs.Holding.{first_rule}
-use Rattle.asl_states.specs.Rule.{Rule}
+use Rattle.asl_states.specs.declared.choice.Rule.{Rule}
 
 abbrev pub or_default : Option (List ℕ) → Option (List ℕ) → Result (List ℕ) (List ℕ)
 or_default (Some name) default = Ok name

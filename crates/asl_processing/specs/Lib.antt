@@ -4,7 +4,7 @@ pub mod Choosing
 -- what stands below and is named by the crates above
 pub use Rattle.asl_states.specs.Holding
 pub use Rattle.asl_states.specs.TestView
-pub use Rattle.asl_states.specs.Rule
+pub use Rattle.asl_states.specs.declared.choice.Rule
 pub use Rattle.asl_states.specs.Catcher
 pub use Rattle.asl_states.specs.ErrorHandling
 pub use Rattle.asl_states.specs.Retrier

@@ -3,11 +3,11 @@ use Rattle.std.proofs.Common.{◌≡◌, ℕ, List, Option, Some, None, false, t
 use Rattle.serde_json.specs.Data.{Data as Source}
 use Rattle.serde_json.specs.Find.{get}
 use Rattle.json_tree.specs.declared.tree.Json.{Json}
-use Rattle.asl_choice.specs.Templates.{Payload}
-use Rattle.asl_choice.specs.PathStep.{PathStep}
-use Rattle.asl_choice.proofs.OneField.{one_path, one_template}
-use Rattle.asl_choice.proofs.OneTest.{rules_are_one}
-use Rattle.asl_choice.specs.declared.choice.Rule.{Rule}
+use Rattle.asl_fields.specs.Templates.{Payload}
+use Rattle.asl_fields.specs.PathStep.{PathStep}
+use Rattle.asl_fields.proofs.OneField.{one_path, one_template}
+use Rattle.asl_states.proofs.OneTest.{rules_are_one}
+use Rattle.asl_states.specs.declared.choice.Rule.{Rule}
 use Rattle.asl_errors.proofs.OneErrors.{one_error_handling}
 use Rattle.asl_errors.specs.declared.errors.ErrorHandling.{ErrorHandling}
 use Rattle.asl_states.specs.Profile.{IsProcessing, HasWork, IsPass, IsWait, IsSucceed, IsFail, IsTask, IsChoice, NamedSelector}

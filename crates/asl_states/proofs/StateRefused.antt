@@ -3,11 +3,11 @@ use Rattle.std.proofs.Common.{◌≡◌, ℕ, List, Option, Some, None, Bool, tr
 use Rattle.serde_json.specs.Data.{Data as Source}
 use Rattle.serde_json.specs.Find.{get, as_str}
 use Rattle.json_tree.specs.declared.tree.Json.{Json}
-use Rattle.asl_choice.specs.FieldFaults.{optional_text_fault, text_fault}
-use Rattle.asl_choice.proofs.FieldsRefused.{fields_refused, template_refused, optional_refused}
-use Rattle.asl_choice.specs.MachineFault.{MachineFault}
-use Rattle.asl_choice.specs.Place.TheVariants as at
-use Rattle.asl_choice.proofs.RulesRefused.{rules_refused}
+use Rattle.asl_fields.specs.FieldFaults.{optional_text_fault, text_fault}
+use Rattle.asl_fields.proofs.FieldsRefused.{fields_refused, template_refused, optional_refused}
+use Rattle.asl_fields.specs.declared.fault.MachineFault.{MachineFault}
+use Rattle.asl_fields.specs.declared.fields.Place.TheVariants as at
+use Rattle.asl_states.proofs.RulesRefused.{rules_refused}
 use Rattle.asl_errors.proofs.ErrorsRefused.{error_handling_refused}
 use Rattle.asl_errors.specs.declared.errors.ErrorHandling.{ErrorHandling}
 use Rattle.asl_states.specs.Faults.{whole_fault, result_fault, transition_fault, ProcessingFault, PassFault, WaitFault, SucceedFault, FailFault, WorkFault, ResourceTextFault, ResourceFault, TaskFault, ChoiceFault}

@@ -3,13 +3,13 @@ use Rattle.std.specs.Prelude.{◌≡◌, ℕ, List, Bool, false, true, ◌⊎◌
 use Rattle.serde_json.specs.Data.{Data as Source}
 use Rattle.serde_json.specs.Find.{get, as_str}
 use Rattle.json_tree.specs.declared.tree.Json.{Json}
-use Rattle.asl_choice.specs.PathStep.{PathStep}
-use Rattle.asl_choice.specs.FieldFaults.{FieldsFault, PathFieldFault, TemplateFieldFault, required_text_fault, optional_text_fault}
-use Rattle.asl_choice.specs.Values.{IsPathField}
-use Rattle.asl_choice.specs.MachineFault.{MachineFault}
-use Rattle.asl_choice.specs.MachineFault.TheVariants.{Missing, Unsupported, BadField, NextAndEnd}
-use Rattle.asl_choice.specs.Place.TheVariants as at
-use Rattle.asl_choice.specs.TestFaults.{ChoicesFault}
+use Rattle.asl_fields.specs.PathStep.{PathStep}
+use Rattle.asl_fields.specs.FieldFaults.{FieldsFault, PathFieldFault, TemplateFieldFault, required_text_fault, optional_text_fault}
+use Rattle.asl_fields.specs.Values.{IsPathField}
+use Rattle.asl_fields.specs.declared.fault.MachineFault.{MachineFault}
+use Rattle.asl_fields.specs.declared.fault.MachineFault.TheVariants.{Missing, Unsupported, BadField, NextAndEnd}
+use Rattle.asl_fields.specs.declared.fields.Place.TheVariants as at
+use Rattle.asl_states.specs.TestFaults.{ChoicesFault}
 use Rattle.asl_errors.specs.ErrorFaults.{ErrorHandlingFault}
 use Rattle.asl_states.specs.Reading.{is_end, whole_json, resource_named, name_of_two}
 

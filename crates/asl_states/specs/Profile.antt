@@ -2,11 +2,11 @@
 use Rattle.std.specs.Prelude.{◌≡◌, ℕ, true, false, List, Option, None, Some, if◌then◌else◌, codes}
 use Rattle.serde_json.specs.Data.{Data as Source}
 use Rattle.serde_json.specs.Find.{get}
-use Rattle.asl_choice.specs.Templates.{Payload}
-use Rattle.asl_choice.specs.Fields.{is_text}
-use Rattle.asl_choice.specs.Values.{HasFields, IsPathField, IsTemplateField, text_or_empty}
-use Rattle.asl_choice.specs.Place.TheVariants as at
-use Rattle.asl_choice.specs.TestFields.{AreRules}
+use Rattle.asl_fields.specs.Templates.{Payload}
+use Rattle.asl_fields.specs.Fields.{is_text}
+use Rattle.asl_fields.specs.Values.{HasFields, IsPathField, IsTemplateField, text_or_empty}
+use Rattle.asl_fields.specs.declared.fields.Place.TheVariants as at
+use Rattle.asl_states.specs.TestFields.{AreRules}
 use Rattle.asl_errors.specs.ErrorFields.{IsErrorHandling}
 use Rattle.asl_errors.specs.declared.errors.ErrorHandling.{ErrorHandling}
 use Rattle.asl_states.specs.Reading.{transition_of, result_of, default_of, resource_of, name_of_two}

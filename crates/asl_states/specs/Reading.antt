@@ -6,9 +6,9 @@ use Rattle.json_tree.specs.Data.{Data, null, boolean, whole, text, list, fields,
 use Rattle.json_tree.specs.Reading.{whole_of}
 use Rattle.json_tree.specs.declared.tree.Json.{Json}
 use Rattle.json_tree.specs.declared.tree.Json.TheVariants.{Null, Bool as Boolean, Whole, Text, List as ListOf, Fields}
-use Rattle.asl_choice.specs.Fields.{is_text}
-use Rattle.asl_choice.specs.MachineFault.{MachineFault}
-use Rattle.asl_choice.specs.MachineFault.TheVariants.{Unsupported, BadField}
+use Rattle.asl_fields.specs.Fields.{is_text}
+use Rattle.asl_fields.specs.declared.fault.MachineFault.{MachineFault}
+use Rattle.asl_fields.specs.declared.fault.MachineFault.TheVariants.{Unsupported, BadField}
 use Rattle.asl_states.specs.declared.state.Resource.{Resource}
 use Rattle.asl_states.specs.declared.state.Resource.TheVariants.{GetItem, PutItem, DeleteItem}
 use Rattle.asl_states.specs.declared.state.Transition.{Transition}

@@ -10,8 +10,8 @@ use Rattle.json_tree.proofs.Same.{eq_one, eq_itself}
 use Rattle.json_tree.specs.Order.{data_cmp}
 use Rattle.json_tree.specs.View.{data_of}
 use Rattle.json_tree.specs.declared.tree.Json.{Json}
-use Rattle.asl_choice.specs.PathSame.{same_text, same_path, same_payload, IsExact, exact, first_true, second_true, text_exact, path_exact, payload_exact, option_exact}
-use Rattle.asl_choice.specs.Same.{same_rule, rules_exact}
+use Rattle.asl_fields.specs.Same.{same_text, same_path, same_payload, IsExact, exact, first_true, second_true, text_exact, path_exact, payload_exact, option_exact}
+use Rattle.asl_states.specs.TestSame.{same_rule, rules_exact}
 use Rattle.asl_errors.specs.Same.{same_handling, handling_exact}
 use Rattle.asl_states.specs.declared.state.Processing.{Processing}
 use Rattle.asl_states.specs.declared.state.Pass.{Pass}

@@ -6,7 +6,7 @@ use crate::state::{Choice, Fail, Pass, Processing, Resource, Succeed, Task, Tran
 
 impl PartialEq for Transition {
     ghost use Rattle.std.specs.Cmp.{partial_equiv_from_equiv};
-    ghost use Rattle.asl_choice.specs.PathSame.{exact_equiv};
+    ghost use Rattle.asl_fields.specs.Same.{exact_equiv};
     ghost use Rattle.asl_states.specs.Same.{same_transition, transition_exact};
 
     ghost eq = { same_transition };
@@ -23,7 +23,7 @@ impl PartialEq for Transition {
 }
 
 impl Eq for Transition {
-    ghost use Rattle.asl_choice.specs.PathSame.{exact_equiv};
+    ghost use Rattle.asl_fields.specs.Same.{exact_equiv};
     ghost use Rattle.asl_states.specs.Same.{same_transition, transition_exact};
 
     ghost laws = { exact_equiv same_transition transition_exact };
@@ -31,7 +31,7 @@ impl Eq for Transition {
 
 impl PartialEq for Processing {
     ghost use Rattle.std.specs.Cmp.{partial_equiv_from_equiv};
-    ghost use Rattle.asl_choice.specs.PathSame.{exact_equiv};
+    ghost use Rattle.asl_fields.specs.Same.{exact_equiv};
     ghost use Rattle.asl_states.specs.Same.{same_processing, processing_exact};
 
     ghost eq = { same_processing };
@@ -48,7 +48,7 @@ impl PartialEq for Processing {
 }
 
 impl Eq for Processing {
-    ghost use Rattle.asl_choice.specs.PathSame.{exact_equiv};
+    ghost use Rattle.asl_fields.specs.Same.{exact_equiv};
     ghost use Rattle.asl_states.specs.Same.{same_processing, processing_exact};
 
     ghost laws = { exact_equiv same_processing processing_exact };
@@ -56,7 +56,7 @@ impl Eq for Processing {
 
 impl PartialEq for Pass {
     ghost use Rattle.std.specs.Cmp.{partial_equiv_from_equiv};
-    ghost use Rattle.asl_choice.specs.PathSame.{exact_equiv};
+    ghost use Rattle.asl_fields.specs.Same.{exact_equiv};
     ghost use Rattle.asl_states.specs.Same.{same_pass, pass_exact};
 
     ghost eq = { same_pass };
@@ -71,7 +71,7 @@ impl PartialEq for Pass {
 }
 
 impl Eq for Pass {
-    ghost use Rattle.asl_choice.specs.PathSame.{exact_equiv};
+    ghost use Rattle.asl_fields.specs.Same.{exact_equiv};
     ghost use Rattle.asl_states.specs.Same.{same_pass, pass_exact};
 
     ghost laws = { exact_equiv same_pass pass_exact };
@@ -79,7 +79,7 @@ impl Eq for Pass {
 
 impl PartialEq for Task {
     ghost use Rattle.std.specs.Cmp.{partial_equiv_from_equiv};
-    ghost use Rattle.asl_choice.specs.PathSame.{exact_equiv};
+    ghost use Rattle.asl_fields.specs.Same.{exact_equiv};
     ghost use Rattle.asl_states.specs.Same.{same_task, task_exact};
 
     ghost eq = { same_task };
@@ -95,7 +95,7 @@ impl PartialEq for Task {
 }
 
 impl Eq for Task {
-    ghost use Rattle.asl_choice.specs.PathSame.{exact_equiv};
+    ghost use Rattle.asl_fields.specs.Same.{exact_equiv};
     ghost use Rattle.asl_states.specs.Same.{same_task, task_exact};
 
     ghost laws = { exact_equiv same_task task_exact };
@@ -103,7 +103,7 @@ impl Eq for Task {
 
 impl PartialEq for Choice {
     ghost use Rattle.std.specs.Cmp.{partial_equiv_from_equiv};
-    ghost use Rattle.asl_choice.specs.PathSame.{exact_equiv};
+    ghost use Rattle.asl_fields.specs.Same.{exact_equiv};
     ghost use Rattle.asl_states.specs.Same.{same_choice, choice_exact};
 
     ghost eq = { same_choice };
@@ -118,7 +118,7 @@ impl PartialEq for Choice {
 }
 
 impl Eq for Choice {
-    ghost use Rattle.asl_choice.specs.PathSame.{exact_equiv};
+    ghost use Rattle.asl_fields.specs.Same.{exact_equiv};
     ghost use Rattle.asl_states.specs.Same.{same_choice, choice_exact};
 
     ghost laws = { exact_equiv same_choice choice_exact };
@@ -126,7 +126,7 @@ impl Eq for Choice {
 
 impl PartialEq for Wait {
     ghost use Rattle.std.specs.Cmp.{partial_equiv_from_equiv};
-    ghost use Rattle.asl_choice.specs.PathSame.{exact_equiv};
+    ghost use Rattle.asl_fields.specs.Same.{exact_equiv};
     ghost use Rattle.asl_states.specs.Same.{same_wait, wait_exact};
 
     ghost eq = { same_wait };
@@ -139,7 +139,7 @@ impl PartialEq for Wait {
 }
 
 impl Eq for Wait {
-    ghost use Rattle.asl_choice.specs.PathSame.{exact_equiv};
+    ghost use Rattle.asl_fields.specs.Same.{exact_equiv};
     ghost use Rattle.asl_states.specs.Same.{same_wait, wait_exact};
 
     ghost laws = { exact_equiv same_wait wait_exact };
@@ -147,7 +147,7 @@ impl Eq for Wait {
 
 impl PartialEq for Succeed {
     ghost use Rattle.std.specs.Cmp.{partial_equiv_from_equiv};
-    ghost use Rattle.asl_choice.specs.PathSame.{exact_equiv};
+    ghost use Rattle.asl_fields.specs.Same.{exact_equiv};
     ghost use Rattle.asl_states.specs.Same.{same_succeed, succeed_exact};
 
     ghost eq = { same_succeed };
@@ -160,7 +160,7 @@ impl PartialEq for Succeed {
 }
 
 impl Eq for Succeed {
-    ghost use Rattle.asl_choice.specs.PathSame.{exact_equiv};
+    ghost use Rattle.asl_fields.specs.Same.{exact_equiv};
     ghost use Rattle.asl_states.specs.Same.{same_succeed, succeed_exact};
 
     ghost laws = { exact_equiv same_succeed succeed_exact };
@@ -168,7 +168,7 @@ impl Eq for Succeed {
 
 impl PartialEq for Fail {
     ghost use Rattle.std.specs.Cmp.{partial_equiv_from_equiv};
-    ghost use Rattle.asl_choice.specs.PathSame.{exact_equiv};
+    ghost use Rattle.asl_fields.specs.Same.{exact_equiv};
     ghost use Rattle.asl_states.specs.Same.{same_fail, fail_exact};
 
     ghost eq = { same_fail };
@@ -181,7 +181,7 @@ impl PartialEq for Fail {
 }
 
 impl Eq for Fail {
-    ghost use Rattle.asl_choice.specs.PathSame.{exact_equiv};
+    ghost use Rattle.asl_fields.specs.Same.{exact_equiv};
     ghost use Rattle.asl_states.specs.Same.{same_fail, fail_exact};
 
     ghost laws = { exact_equiv same_fail fail_exact };

@@ -2,14 +2,14 @@
 ghost use Rattle.std.specs.Prelude.{◌≡◌, ◌⊎◌, IfOk, IfErr, OnOk, Some, None, codes};
 ghost use Rattle.serde_json.specs.Find.{get};
 ghost use Rattle.serde_json.specs.View.{view};
-ghost use Rattle.asl_choice.specs.Refusal.{Refuses};
-ghost use Rattle.asl_choice.specs.Values.{IsPathField};
+ghost use Rattle.asl_fields.specs.Refusal.{Refuses};
+ghost use Rattle.asl_fields.specs.Values.{IsPathField};
 ghost use Rattle.asl_states.specs.Faults.{ItemsPathFault, HasSelectorFault};
 ghost use Rattle.asl_states.specs.Profile.{HasSelector};
 ghost use Rattle.asl_states.specs.Reading.{name_of_two, config_fault, concurrency_of, concurrency_fault};
 
-use asl_choice::definition_fields::{MachineFault, read_path, read_template};
-use asl_choice::paths::{RefPath, Template};
+use asl_fields::paths::{RefPath, Template};
+use asl_fields::{MachineFault, read_path, read_template};
 use json_tree::Text;
 use serde_json::Value;
 use std::alloc::Global;

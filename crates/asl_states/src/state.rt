@@ -1,7 +1,7 @@
 // What all states are made of, and the states that hold no machines (Amazon States Language, "State Types").
-use asl_choice::Rules;
-use asl_choice::paths::{RefPath, Template};
+use crate::choice::Rules;
 use asl_errors::ErrorHandling;
+use asl_fields::paths::{RefPath, Template};
 use json_tree::{Json, Text};
 
 /// Where the execution goes after a state ("Transitions").

@@ -2,19 +2,19 @@
 ghost use Rattle.std.specs.Prelude.{◌≡◌, IfOk, IfErr, OnErr, Some, None, true, false, codes};
 ghost use Rattle.serde_json.specs.Find.{get, as_object};
 ghost use Rattle.serde_json.specs.View.{view, members_view};
-ghost use Rattle.asl_choice.specs.FieldFaults.{optional_text_fault};
-ghost use Rattle.asl_choice.specs.Refusal.{Refuses};
+ghost use Rattle.asl_fields.specs.FieldFaults.{optional_text_fault};
+ghost use Rattle.asl_fields.specs.Refusal.{Refuses};
 ghost use Rattle.asl_states.specs.Faults.{PassFault, WaitFault, SucceedFault, FailFault, TaskFault, ChoiceFault, WorkFault, ResourceFault, ProcessingFault, result_fault, transition_fault};
 ghost use Rattle.asl_states.specs.Profile.{IsPass, IsWait, IsSucceed, IsFail, IsTask, IsChoice, HasWork, IsProcessing};
 ghost use Rattle.asl_states.specs.Reading.{result_of, transition_of, is_end, default_of, resource_of, resource_named};
 
+use crate::rule_readers::read_rules;
 use crate::state::{Choice, Fail, Pass, Processing, Resource, Succeed, Task, Transition, Wait};
-use asl_choice::definition_fields::{
+use asl_errors::{ErrorHandling, read_error_handling};
+use asl_fields::paths::Template;
+use asl_fields::{
     MachineFault, Place, check_fields, optional_text, read_path, read_template, required, text_of,
 };
-use asl_choice::paths::Template;
-use asl_choice::read_rules;
-use asl_errors::{ErrorHandling, read_error_handling};
 use json_tree::{Json, JsonFault, Text, from_value};
 use serde_json::{Map, Value};
 use std::alloc::Global;

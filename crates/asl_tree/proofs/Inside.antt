@@ -10,7 +10,7 @@ use Rattle.asl_tree.specs.Complete.{state_of, IsState, LeadsInto, StaysInside, I
 use Rattle.asl_tree.specs.Definition.{StateTree, Definition}
 use Rattle.asl_tree.specs.Targets.{if_missing, or_else, missing_next, missing_catcher, missing_rule, missing_default, missing_target, first_missing}
 use Rattle.asl_tree.specs.TreeView.{state_in}
-use Rattle.asl_states.specs.Rule.{Rule}
+use Rattle.asl_states.specs.declared.choice.Rule.{Rule}
 use Rattle.asl_states.specs.Catcher.{Catcher}
 use Rattle.asl_tree.specs.declared.state.State.{State}
 use Rattle.asl_tree.specs.declared.state.State.TheVariants.{Pass, Task, Choice, Wait, Succeed, Fail, Parallel, Map}

@@ -7,7 +7,7 @@ use Rattle.std.specs.List.{AllByRecursion}
 use Rattle.std.specs.Map.{lookup}
 use Rattle.asl_tree.specs.Definition.{StateTree, Definition}
 use Rattle.asl_tree.specs.TreeView.{state_in}
-use Rattle.asl_states.specs.Rule.{Rule}
+use Rattle.asl_states.specs.declared.choice.Rule.{Rule}
 use Rattle.asl_states.specs.Catcher.{Catcher}
 use Rattle.asl_tree.specs.declared.state.State.{State}
 use Rattle.asl_tree.specs.declared.state.State.TheVariants.{Pass, Task, Choice, Wait, Succeed, Fail, Parallel, Map}

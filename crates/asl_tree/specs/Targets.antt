@@ -3,7 +3,7 @@ use Rattle.std.specs.Prelude.{ℕ, List, [], ◌∷◌, Bool, Option, Some, None
 use Rattle.asl_tree.specs.Complete.{state_of}
 use Rattle.asl_tree.specs.Definition.{StateTree}
 use Rattle.asl_tree.specs.TreeView.{state_in}
-use Rattle.asl_states.specs.Rule.{Rule}
+use Rattle.asl_states.specs.declared.choice.Rule.{Rule}
 use Rattle.asl_states.specs.Catcher.{Catcher}
 use Rattle.asl_states.specs.MachineFault.{MachineFault}
 use Rattle.asl_states.specs.MachineFault.TheVariants.{NoTarget}

@@ -11,10 +11,9 @@ ghost use Rattle.asl_tree.specs.TreeView.{tree_of};
 
 use crate::level::LevelPath;
 use crate::state::{Machine, State, States};
-use asl_states::Transition;
-use asl_states::choices::Rules;
 use asl_states::definition_fields::MachineFault;
 use asl_states::error_handling::Catchers;
+use asl_states::{Rules, Transition};
 use json_tree::Text;
 use std::alloc::{AllocError, Global};
 use std::collections::BTreeMap;

@@ -1,10 +1,11 @@
 -- The first thread of a node is its own, or else that of the first branch that has one.
 use Rattle.std.proofs.Common.{arith, zero, suc, ◌≡◌, ◌<◌, ◌≤◌, ℕ, ◌+◌, Bool, true, false, cond, not, ◌&&◌, ◌||◌, inl, inr, ◌==◌, List, [], ◌∷◌, ◌++◌, refl, sym, ap, ap₂, subst, ◌∙◌, Option, Some, None, is_some, length, get_or, append_assoc, length-append, IsSomeAnd, take}
+use Rattle.std.specs.Prelude.{◌⊎◌}
 use Rattle.std.proofs.Math.Path.{fun_ext}
 use Rattle.std.specs.List.{slice_get}
 use Rattle.std.specs.declared.cmp.Ordering.TheVariants.{Less, Equal, Greater}
 use Rattle.std.specs.Ordering.{nat_cmp, ordering_then}
-use Rattle.std.proofs.lemmas.Bool.{eq-eqb, ne_eqb, cases_order, cases_lt, cases_eq, le-ltb}
+use Rattle.std.proofs.lemmas.Bool.{eq-eqb, ne_eqb, cases_order, cases_lt, cases_eq, le-ltb, lt-ltb}
 use Rattle.std.proofs.lemmas.List.{append-nil}
 use Rattle.std.proofs.lemmas.Option.{slice_get_past, slice_get-get_or, same_Some}
 use Rattle.step_names.specs.Thread.{Thread, IsThread, child_of}
@@ -18,7 +19,7 @@ use Rattle.branch_tree.specs.FlatMap.{FrameMap, IsTree, branch_count}
 use Rattle.branch_tree.specs.Bounds.{place_of, bound_of}
 use Rattle.branch_tree.specs.Leading.{leading_done, is_in_turn, done_at, failures}
 use Rattle.branch_tree.specs.Ready.{root_readiness, readiness_of, readiness_under, readiness_in, begins_under, may_begin, progress, frame_is, is_done}
-use Rattle.branch_tree.specs.First.{is_enabled, thread_under, path_cmp, is_free, IsFirst}
+use Rattle.branch_tree.specs.First.{is_enabled, thread_under, path_cmp, is_free, IsFirst, NoneBeforePath, branch_from}
 use Rattle.branch_tree.specs.Tree.{Rows, under, rows_from, flat, frame_at, branch_at, IsNode}
 use Rattle.branch_tree.specs.Falls.{under_len}
 use Rattle.branch_tree.proofs.Below.{nothing_under}
@@ -43,7 +44,13 @@ same_index fork i q p h =
     let e : path_cmp ((fork, i) ∷ q) ((fork, i) ∷ p) ≡ path_cmp q p = same_fork fork i i q p ∙ rw (le-ltb i i (omega arith), eq-eqb i i refl) refl in
     sym e ∙ h
 
-none_before : (q : Path) → path_cmp q [] ≡ Less → ⊥
+earlier_index : (fork i j : ℕ) (q p : Path) → i < j → path_cmp ((fork, i) ∷ q) ((fork, j) ∷ p) ≡ Less
+earlier_index fork i j q p l = same_fork fork i j q p ∙ rw (lt-ltb i j l) refl
+
+earlier_under : (fork i : ℕ) (q p : Path) → path_cmp q p ≡ Less → path_cmp ((fork, i) ∷ q) ((fork, i) ∷ p) ≡ Less
+earlier_under fork i q p h = same_fork fork i i q p ∙ rw (le-ltb i i (omega arith), eq-eqb i i refl) h
+
+pub none_before : (q : Path) → path_cmp q [] ≡ Less → ⊥
 none_before [] h = let f : Equal ≡ Less = h in cc
 none_before (b ∷ q) h = let f : Greater ≡ Less = h in cc
 
@@ -175,6 +182,66 @@ module _ (root : Bool) (frame : Frame) (kids : List Rows) (base : Thread) (passe
       let k : done_at kids i ≡ true = lead_knows kids i l in
       let d : frame_is is_done (frame_at (get_or kids i []) []) ≡ true = rw e at k in
       in_kid i (get_or kids i []) e q ∙ done_moves_not (frame_at (get_or kids i [])) (branch_tree kids i (get_or kids i []) node.trees e) d (begins i) (child_of base frame.count i) passed q
+
+  -- ---- from a path on
+
+  -- the path is of the fork, and begins at this branch; or the search begins at the first
+  begins_at : (number index : ℕ) (rest : Path) (first : ℕ) (under : Path) → branch_from frame.count ((number, index) ∷ rest) ≡ (first, under)
+      → ((number ≡ frame.count) × (index ≡ first) × (rest ≡ under)) ⊎ ((0 ≡ first) × ([] ≡ under))
+  begins_at number index rest first under e = elim (cases_eq number frame.count) [
+    | inl same ↦ (let k : ◌≡◌ {A = ℕ × Path} (index, rest) (first, under) = rw (eq-eqb number frame.count same) at e in
+        inl (same, ap (λ (p : ℕ × Path). p.0) k, ap (λ (p : ℕ × Path). p.1) k))
+    | inr ne ↦ (let k : ◌≡◌ {A = ℕ × Path} (0, []) (first, under) = rw (ne_eqb number frame.count ne) at e in
+        inr (ap (λ (p : ℕ × Path). p.0) k, ap (λ (p : ℕ × Path). p.1) k))
+  ]
+
+  -- nothing is free in the branches before that one
+  none_in_earlier : (from : Path) (first : ℕ) (under : Path) → branch_from frame.count from ≡ (first, under)
+      → NoneBeforePath root (frame_at (flat frame kids)) base passed from → IsFirstOf first None
+  none_in_earlier [] first under e none i q l t = let k : 0 ≡ first = ap (λ (p : ℕ × Path). p.0) e in absurd (omega (arith, k, l))
+  none_in_earlier (b ∷ rest) first under e none i q l t = elim (begins_at b.0 b.1 rest first under e) [
+    | inl at ↦ none ((frame.count, i) ∷ q) t
+        (subst (λ (number : ℕ). path_cmp ((frame.count, i) ∷ q) ((number, b.1) ∷ rest) ≡ Less) (sym at.0)
+        (earlier_index frame.count i b.1 q rest (let same = at.1 in omega (arith, same, l))))
+    | inr at ↦ (let none = at.0 in absurd (omega (arith, none, l)))
+  ]
+
+  -- nor before the path in the branch itself
+  none_in_first : (from : Path) (first : ℕ) (under : Path) → branch_from frame.count from ≡ (first, under)
+      → NoneBeforePath root (frame_at (flat frame kids)) base passed from → (kid : Rows) → slice_get kids first ≡ Some kid
+      → NoneBeforePath (begins first) (frame_at kid) (child_of base frame.count first) passed under
+  none_in_first [] first under e none kid h q t less =
+      absurd (none_before q (subst (λ (p : Path). path_cmp q p ≡ Less) (sym (ap (λ (p : ℕ × Path). p.1) e)) less))
+  none_in_first (b ∷ rest) first under e none kid h q t less = elim (begins_at b.0 b.1 rest first under e) [
+    | inl at ↦ (let further : path_cmp q rest ≡ Less = subst (λ (p : Path). path_cmp q p ≡ Less) (sym at.2) less in
+        let here : path_cmp ((frame.count, first) ∷ q) ((frame.count, first) ∷ rest) ≡ Less = earlier_under frame.count first q rest further in
+        let it : path_cmp ((frame.count, first) ∷ q) ((b.0, first) ∷ rest) ≡ Less = subst (λ (number : ℕ). path_cmp ((frame.count, first) ∷ q) ((number, first) ∷ rest) ≡ Less) (sym at.0) here in
+        let all : path_cmp ((frame.count, first) ∷ q) ((b.0, b.1) ∷ rest) ≡ Less = subst (λ (i : ℕ). path_cmp ((frame.count, first) ∷ q) ((b.0, i) ∷ rest) ≡ Less) (sym at.1) it in
+        sym (in_kid first kid h q) ∙ none ((frame.count, first) ∷ q) (subst (λ (u : Thread). IsThread u) (sym (below_base base frame.count first q)) t) all)
+    | inr at ↦ absurd (none_before q (subst (λ (p : Path). path_cmp q p ≡ Less) (sym at.1) less))
+  ]
+
+  -- what is known when the search begins at the greater of two branches
+  pub first_from : (v : Rows) → flat frame kids ≡ v → IsNode frame kids → (from : Path) (first : ℕ) (under : Path) → branch_from frame.count from ≡ (first, under)
+      → NoneBeforePath root (frame_at v) base passed from → (start : ℕ) → (start ≡ leading_done kids) ⊎ (start ≡ first) → IsFirstOf start None
+  first_from v is node from first under e none start (inl leads) = subst (λ (n : ℕ). IsFirstOf n None) (sym leads) (first_of_leading node)
+  first_from v is node from first under e none start (inr begins) =
+      subst (λ (n : ℕ). IsFirstOf n None) (sym begins)
+      (none_in_earlier from first under e (subst (λ (w : Rows). NoneBeforePath root (frame_at w) base passed from) (sym is) none))
+
+  -- of a branch nothing before the path that is left under it
+  pub none_in_kid : (v : Rows) → flat frame kids ≡ v → (from : Path) (first : ℕ) (under : Path) → branch_from frame.count from ≡ (first, under)
+      → NoneBeforePath root (frame_at v) base passed from → (n : ℕ) (kid : Rows) → n < length kids → kid ≡ get_or kids n kid → (in_turn : Bool) → in_turn ≡ begins n
+      → (left : Path) → ((n ≡ first) × (left ≡ under)) ⊎ (left ≡ []) → NoneBeforePath in_turn (frame_at kid) (child_of base frame.count n) passed left
+  none_in_kid v is from first under e none n kid l k in_turn b left (inl at) =
+      let there : slice_get kids first ≡ Some kid = subst (λ (i : ℕ). slice_get kids i ≡ Some kid) at.0 (slice_get-get_or kids n kid l ∙ ap Some (sym k)) in
+      let in_first : NoneBeforePath (begins first) (frame_at kid) (child_of base frame.count first) passed under =
+      none_in_first from first under e (subst (λ (w : Rows). NoneBeforePath root (frame_at w) base passed from) (sym is) none) kid there in
+      let in_it : NoneBeforePath (begins n) (frame_at kid) (child_of base frame.count n) passed under =
+      subst (λ (i : ℕ). NoneBeforePath (begins i) (frame_at kid) (child_of base frame.count i) passed under) (sym at.0) in_first in
+      subst (λ (p : Path). NoneBeforePath in_turn (frame_at kid) (child_of base frame.count n) passed p) (sym at.1)
+      (subst (λ (c : Bool). NoneBeforePath c (frame_at kid) (child_of base frame.count n) passed under) (sym b) in_it)
+  none_in_kid v is from first under e none n kid l k in_turn b left (inr all) = λ q t less. absurd (none_before q (subst (λ (p : Path). path_cmp q p ≡ Less) all less))
 
   branch_elsewhere : (b : ℕ × ℕ) (q : Path) → (frame.count ≡ b.0 → ⊥) → free (b ∷ q) ≡ false
   branch_elsewhere b q h =
@@ -333,3 +400,7 @@ module _ (root : Bool) (frame : Frame) (kids : List Rows) (v : Rows) (is : flat 
   pub fork_none : (i : ℕ) → ((not (failed == 0) || (leading == many)) && not (passed base)) ≡ false → length kids ≤ i → IsFirstOf root frame kids base passed i None → IsFirst root (frame_at v) base passed None
   fork_none i h past below =
       first_under_parked root frame kids v is node base passed n bound None parked (still h) (λ j q l t. below j q (omega (arith, l, past)) t)
+
+pub begun : (start leading first leads : ℕ) → leading ≡ leads → (start ≡ leading) ⊎ (start ≡ first) → (start ≡ leads) ⊎ (start ≡ first)
+begun start leading first leads e (inl h) = inl (h ∙ e)
+begun start leading first leads e (inr h) = inr h

@@ -7,7 +7,7 @@ mod Grafts
 mod Leaves
 pub mod Window
 mod Counted
-mod FirstOf
+pub mod FirstOf
 mod Names
 mod Below
 pub use Rattle.asl_frames.proofs.Turns

@@ -1,5 +1,5 @@
 -- The first thread, by the order of names, that has a move and is not passed by.
-use Rattle.std.specs.Prelude.{◌≡◌, Bool, true, false, ◌&&◌, not, ◌++◌, Option, Some, None}
+use Rattle.std.specs.Prelude.{◌≡◌, ◌==◌, ℕ, Bool, true, false, ◌&&◌, not, cond, List, [], ◌∷◌, ◌++◌, Option, Some, None}
 use Rattle.std.specs.declared.cmp.Ordering.{Ordering}
 use Rattle.std.specs.declared.cmp.Ordering.TheVariants.{Less}
 use Rattle.std.specs.Cmp.Lexicographic.{slice_cmp}
@@ -38,3 +38,12 @@ IsFirst begins frames base passed None = (p : Path) → IsThread (thread_under b
 IsFirst begins frames base passed (Some t) =
     (p : Path) × (t ≡ thread_under base p) × (is_free begins frames base passed p ≡ true)
     × ((q : Path) → IsThread (thread_under base q) → path_cmp q p ≡ Less → is_free begins frames base passed q ≡ false)
+
+-- no thread whose path comes before this one is free
+abbrev pub NoneBeforePath : Bool → FrameMap → Thread → (Thread → Bool) → Path → Type 0
+NoneBeforePath begins frames base passed from = (q : Path) → IsThread (thread_under base q) → path_cmp q from ≡ Less → is_free begins frames base passed q ≡ false
+
+-- the branch of a fork at which a path begins, and the path under it; if it isn't of that fork, the first branch and all of it
+abbrev pub branch_from : ℕ → Path → ℕ × Path
+branch_from fork [] = (0, [])
+branch_from fork ((number, index) ∷ under) = cond (number == fork) (index, under) (0, [])

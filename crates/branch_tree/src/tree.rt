@@ -2,7 +2,7 @@
 ghost use Rattle.std.specs.Prelude.{◌≡◌, [], ◌++◌, Some, true, false, IfOk, IsSome, IsSomeAnd, option_copied};
 ghost use Rattle.std.specs.BTreeSet.{contains};
 ghost use Rattle.step_names.specs.Order.{thread_cmp};
-ghost use Rattle.branch_tree.specs.First.{IsFirst};
+ghost use Rattle.branch_tree.specs.First.{IsFirst, NoneBeforePath};
 ghost use Rattle.branch_tree.specs.Paths.{Path};
 ghost use Rattle.branch_tree.specs.FlatMap.{IsTree, is_parked, with_frame, grafted, alone};
 ghost use Rattle.branch_tree.specs.Bounds.{place_of};
@@ -109,20 +109,22 @@ impl Tree {
     }
 
     /// The least name among those that go on from this one, which is the execution's, whose thread moves (it is `Ready`, or
-    /// can `Join` or `Terminate`) and is not passed by.
+    /// can `Join` or `Terminate`) and is not passed by. None before the path `from` is such a thread; an empty one leaves none out.
     ///
-    /// Looks at no branch that is done before the first of its fork that is not, nor at one after the thread found: where nothing
-    /// is passed by, at one thread for each fork above it. Names share the execution's, and each of a branch takes a block: of the
-    /// threads before the one found that have not ended, and two for that one.
+    /// Looks at no branch before that path, at none that is done before the first of its fork that is not, nor at one after the
+    /// thread found: if nothing is passed by, at one thread for each fork above it. Names share the execution's, and each of a
+    /// branch takes a block: of the threads that are looked at and have not ended, and two for the one found.
     pub fn first_ready(
         &self,
         alloc: Global,
         execution: &ThreadName,
+        from: &[(u32, u32)],
         passed: &BTreeSet<ThreadName>,
     ) -> Result<Option<ThreadName>, AllocError>
+        requires { NoneBeforePath true (frame_at self.now) execution.now (contains thread_cmp passed.now) from.now }
         ensures { IfOk result (λ found. IsFirst true (frame_at self.now) execution.now (contains thread_cmp passed.now) found) }
     {
-        self.root.first_ready(alloc, true, execution, passed)
+        self.root.first_ready(alloc, true, execution, from, passed)
     }
 
     /// Puts a frame in the place of the one at a path, which comes back. Takes no memory, in time of the path's length; where it

@@ -9,3 +9,11 @@ pub mod Named
 pub mod Consequences
 pub mod Extended
 pub mod Reasoned
+pub mod Anyone
+pub mod Rising
+pub mod Least
+pub mod Awaiting
+pub mod Noted
+pub mod Sought
+pub mod Hashed
+pub mod Again

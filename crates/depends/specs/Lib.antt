@@ -4,6 +4,10 @@ pub mod Laws
 pub mod Plans
 pub mod Reasons
 pub mod Rows
+pub mod Above
+pub mod Hashes
+pub mod Kinds
+pub mod Marks
 -- what stands below and is named by the crates above
 pub use Rattle.saved_steps.specs.Turn
 pub use Rattle.saved_steps.specs.Fault

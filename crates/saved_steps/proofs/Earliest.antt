@@ -19,16 +19,17 @@ use Rattle.json_tree.specs.declared.tree.Json.{Json}
 use Rattle.branch_tree.specs.Fault.{Fault}
 use Rattle.branch_tree.specs.Frame.{Frame}
 use Rattle.branch_tree.specs.Phase.TheVariants.{Done, Failed}
-use Rattle.branch_tree.specs.First.{IsFirst, is_free, thread_under, path_cmp, is_enabled}
+use Rattle.branch_tree.specs.First.{IsFirst, NoneBeforePath, is_free, thread_under, path_cmp, is_enabled}
 use Rattle.branch_tree.specs.FlatMap.{FrameMap, IsTree, branch_count}
 use Rattle.branch_tree.specs.Laws.{BelowIsParked}
 use Rattle.branch_tree.specs.Paths.{Path}
 use Rattle.branch_tree.specs.Bounds.{place_of}
 use Rattle.branch_tree.specs.Ready.{readiness_of, readiness_at, begins_under}
 use Rattle.branch_tree.specs.Tree.{Rows, frame_at}
+use Rattle.branch_tree.proofs.FirstOf.{none_before as none_before_root}
 use Rattle.step_names.specs.Order.{thread_cmp}
 use Rattle.step_names.specs.Thread.{Thread, IsThread, execution, is_name}
-use Rattle.saved_steps.specs.First.{free, AreQuiet, IsFirstReady, IsGoneBy, NoneFreeBefore}
+use Rattle.saved_steps.specs.First.{free, AreQuiet, IsFirstReady, IsGoneBy, NoneBeforeThread, NoneFreeBefore}
 use Rattle.saved_steps.specs.Held.{placed, tree_in, rows_at, frames_in}
 
 by_bool : (b : Bool) (P : Type 0) → (b ≡ true → P) → (b ≡ false → P) → P
@@ -71,6 +72,43 @@ pub in_place : {E : Type 0} (r : Result (Option Thread) E) (place : Option Rows)
     → IfOk r (IsFirst true (frame_at rows) name passed) → IfOk r (IsFirst true (rows_at place) base passed)
 in_place r place rows name base passed there same h =
     subst (λ (o : Option Rows). IfOk r (IsFirst true (rows_at o) base passed)) (sym there) (subst (λ (t : Thread). IfOk r (IsFirst true (frame_at rows) t passed)) same h)
+
+-- ---- before a thread
+
+equal_names : (a b : List ℕ) → a ≡ b → slice_cmp nat_cmp a b ≡ Equal
+equal_names a b e = by (slice_cmp nat_cmp a b) refl (is_eq-slice_cmp a b ∙ (bytes_eq-Decides a b).1 e)
+  where
+    by : (o : Ordering) → slice_cmp nat_cmp a b ≡ o → is_eq (slice_cmp nat_cmp a b) ≡ true → slice_cmp nat_cmp a b ≡ Equal
+    by Less h e = let clash : is_eq Less ≡ true = rw h at e in cc
+    by Equal h e = h
+    by Greater h e = let clash : is_eq Greater ≡ true = rw h at e in cc
+
+-- no thread of an execution before its own is free
+pub before_name : (frames : Thread → Option Frame) (passed : Thread → Bool) (from : List ℕ) (path : Path) → NoneBeforeThread frames passed from path → NoneFreeBefore frames passed from
+before_name frames passed from path none t named less = none t named (rw less refl)
+
+-- the first thread of an execution comes after those of executions before it alone
+pub before_first : (frames : Thread → Option Frame) (passed : Thread → Bool) (name : List ℕ) → NoneFreeBefore frames passed name → NoneBeforeThread frames passed name []
+before_first frames passed name none t named less = by (slice_cmp nat_cmp t.exec name) refl
+  where
+    by : (o : Ordering) → slice_cmp nat_cmp t.exec name ≡ o → free frames passed t ≡ false
+    by Less e = none t named e
+    by Equal e = let h : path_cmp t.path [] ≡ Less = rw e at less in absurd (none_before_root t.path h)
+    by Greater e = let clash : Greater ≡ Less = rw e at less in cc
+
+-- nor any before its path in its own execution; in another one the search begins with all
+pub none_under : (m : BTreeMap (String Global) (Option Rows)) (passed : Thread → Bool) (exec : List ℕ) (v : Option Rows) → tree_in m exec ≡ v → (from : List ℕ) (path left : Path)
+    → NoneBeforeThread (frames_in m) passed from path → ((exec ≡ from) × (left ≡ path)) ⊎ (left ≡ []) → NoneBeforePath true (rows_at v) (execution exec) passed left
+none_under m passed exec v tree from path left none (inl at) q named less =
+    let same : slice_cmp nat_cmp exec from ≡ Equal = equal_names exec from at.0 in
+    let before : path_cmp q path ≡ Less = subst (λ (p : Path). path_cmp q p ≡ Less) at.1 less in
+    sym (ap (λ (o : Option Rows). is_enabled (readiness_at (rows_at o) q) && not (passed (record { exec = exec; path = q }))) tree)
+    ∙ none (record { exec = exec; path = q }) named (rw same before)
+none_under m passed exec v tree from path left none (inr all) q named less = absurd (none_before_root q (subst (λ (p : Path). path_cmp q p ≡ Less) all less))
+
+pub of_name : (a b c : List ℕ) (P Q : Type 0) → b ≡ c → ((a ≡ b) × P) ⊎ Q → ((a ≡ c) × P) ⊎ Q
+of_name a b c P Q e (inl h) = inl (h.0 ∙ e, h.1)
+of_name a b c P Q e (inr h) = inr h
 
 -- ---- one execution after another
 
@@ -203,6 +241,9 @@ module _ (m : BTreeMap (String Global) (Option Rows)) (passed : Thread → Bool)
     tree_here : (exec : List ℕ) → is_eq (slice_cmp nat_cmp exec (string_bytes k)) ≡ true → tree_in m exec ≡ v
     tree_here exec h = ap placed (i.held exec v (rw h refl))
 
+    pub tree_next : tree_in m (string_bytes k) ≡ v
+    tree_next = tree_here (string_bytes k) (is_eq-slice_cmp (string_bytes k) (string_bytes k) ∙ (bytes_eq-Decides (string_bytes k) (string_bytes k)).1 refl)
+
     free_here : (t : Thread) → is_eq (slice_cmp nat_cmp t.exec (string_bytes k)) ≡ true → free (frames_in m) passed t ≡ is_free true (rows_at v) (execution (string_bytes k)) passed t.path
     free_here t h =
         let same = same_exec t.exec (string_bytes k) h in
@@ -259,7 +300,7 @@ module _ (m : BTreeMap (String Global) (Option Rows)) (passed : Thread → Bool)
 
 -- ---- the execution that is awake
 
-apart : (exec e : List ℕ) → slice_cmp nat_cmp e exec ≡ Less → bytes_eq exec e ≡ false
+pub apart : (exec e : List ℕ) → slice_cmp nat_cmp e exec ≡ Less → bytes_eq exec e ≡ false
 apart exec e less = by (bytes_eq exec e) refl
   where
     by : (b : Bool) → bytes_eq exec e ≡ b → b ≡ false
@@ -287,6 +328,11 @@ module _ (m : BTreeMap (String Global) (Option Rows)) (name awake : List ℕ) wh
   pub none_as_late : (passed : Thread → Bool) → AreQuiet m name awake → (slice_cmp nat_cmp awake name ≡ Less → ⊥) → NoneFreeBefore (frames_in m) passed name
   none_as_late passed quiet late =
       none_before passed quiet (λ t named less same. absurd (late (subst (λ (x : List ℕ). slice_cmp nat_cmp x name ≡ Less) same less)))
+
+  pub none_as_early : (passed : Thread → Bool) → AreQuiet m name awake → (from : List ℕ) (path : Path) → NoneBeforeThread (frames_in m) passed from path
+      → slice_cmp nat_cmp awake from ≡ Less → NoneFreeBefore (frames_in m) passed name
+  none_as_early passed quiet from path none early =
+      none_before passed quiet (λ t named less same. before_name (frames_in m) passed from path none t named (subst (λ (x : List ℕ). slice_cmp nat_cmp x from ≡ Less) (sym same) early))
 
   free_there : (passed : Thread → Bool) (v : Option Rows) → tree_in m awake ≡ v → (t : Thread) → t.exec ≡ awake
       → free (frames_in m) passed t ≡ is_free true (rows_at v) (execution awake) passed t.path

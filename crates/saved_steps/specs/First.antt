@@ -8,6 +8,7 @@ use Rattle.std.specs.declared.string.String.{String}
 use Rattle.std.specs.declared.cmp.Ordering.TheVariants.{Less}
 use Rattle.branch_tree.specs.Frame.{Frame}
 use Rattle.branch_tree.specs.First.{is_enabled}
+use Rattle.branch_tree.specs.Paths.{Path}
 use Rattle.branch_tree.specs.Ready.{readiness_at}
 use Rattle.step_names.specs.Order.{thread_cmp}
 use Rattle.step_names.specs.Thread.{Thread, IsThread}
@@ -22,6 +23,10 @@ abbrev pub IsFirstReady : (Thread → Option Frame) → (Thread → Bool) → Op
 IsFirstReady frames passed None = (t : Thread) → IsThread t → free frames passed t ≡ false
 IsFirstReady frames passed (Some t) =
     IsThread t × (free frames passed t ≡ true) × ((u : Thread) → IsThread u → thread_cmp u t ≡ Less → free frames passed u ≡ false)
+
+-- no thread before the one at this path in this execution is free
+abbrev pub NoneBeforeThread : (Thread → Option Frame) → (Thread → Bool) → List ℕ → Path → Type 0
+NoneBeforeThread frames passed name path = (t : Thread) → IsThread t → thread_cmp t (record { exec = name; path = path }) ≡ Less → free frames passed t ≡ false
 
 -- no thread of an execution before this name is free
 abbrev pub NoneFreeBefore : (Thread → Option Frame) → (Thread → Bool) → List ℕ → Type 0

@@ -8,7 +8,7 @@ ghost use Rattle.saved_steps.specs.Made.{KeepsStore};
 
 use crate::fact::Access;
 use attr_values::{Item, Key};
-use item_store::{Answer, Call, CallFault, Condition, ItemStore, Request, SlotNo, Terms, decide};
+use item_store::{Answer, Call, CallFault, ItemStore, SlotNo, decide};
 use json_tree::Text;
 use std::alloc::{AllocError, Global};
 
@@ -25,64 +25,6 @@ pub struct Touch {
 pub struct Answered {
     pub(crate) answer: Answer,
     pub(crate) touch: Option<Touch>,
-}
-
-/// An equal condition. Takes no memory.
-fn copy_condition(condition: &Option<Condition>) -> Result<Option<Condition>, AllocError>
-    ensures { IfOk result (λ c. c ≡ condition.now) }
-{
-    match condition {
-        Some(condition) => Ok(Some(Condition {
-            kind: condition.kind,
-            attribute: condition.attribute.copy()?,
-        })),
-        None => Ok(None),
-    }
-}
-
-fn copy_terms(terms: &Terms) -> Result<Terms, AllocError>
-    ensures { IfOk result (λ t. t ≡ terms.now) }
-{
-    Ok(Terms {
-        condition: copy_condition(&terms.condition)?,
-        returns: terms.returns,
-    })
-}
-
-/// An equal request: the prepared turn keeps its own, and this one's item goes into the table.
-fn copy_request(request: &Request) -> Result<Request, AllocError>
-    ensures { IfOk result (λ r. r ≡ request.now) }
-{
-    match request {
-        Request::Get(key) => Ok(Request::Get(key.copy()?)),
-        Request::Put(item, terms) => {
-            let terms = copy_terms(terms)?;
-            let Ok(item) = item.copy() else {
-                drop(terms);
-                return Err(AllocError);
-            };
-            Ok(Request::Put(item, terms))
-        }
-        Request::Delete(key, terms) => {
-            let terms = copy_terms(terms)?;
-            let Ok(key) = key.copy() else {
-                drop(terms);
-                return Err(AllocError);
-            };
-            Ok(Request::Delete(key, terms))
-        }
-    }
-}
-
-fn copy_call(call: &Call) -> Result<Call, AllocError>
-    ensures { IfOk result (λ c. c ≡ call.now) }
-{
-    let request = copy_request(&call.request)?;
-    let Ok(table) = call.table.copy() else {
-        drop(request);
-        return Err(AllocError);
-    };
-    Ok(Call { table, request })
 }
 
 /// The answer to a call that touches no item. Out of memory is no answer.
@@ -103,17 +45,13 @@ fn refuse(alloc: Global, fault: CallFault) -> Result<Answered, AllocError>
 fn answer_at(
     items: &ItemStore,
     alloc: Global,
-    call: &Call,
+    call: Call,
     key: Key,
     slot: SlotNo,
 ) -> Result<Answered, AllocError>
     requires { slot_key items.now slot ≡ Some key }
-    ensures { IfOk result (λ a. IsAnswerAt (decision call.now.request (items_of items.now key)) key slot a) }
+    ensures { IfOk result (λ a. IsAnswerAt (decision call.request (items_of items.now key)) key slot a) }
 {
-    let Ok(call) = copy_call(call) else {
-        drop(key);
-        return Err(AllocError);
-    };
     let Ok(decided) = decide(alloc, call, items.look(slot)) else {
         drop(key);
         return Err(AllocError);
@@ -136,37 +74,41 @@ fn answer_at(
 fn answer_key(
     items: &mut ItemStore,
     alloc: Global,
-    call: &Call,
+    call: Call,
     key: Key,
 ) -> Result<Answered, AllocError>
-    ensures answer { IfOk result (λ a. IsAnswered items.new (at_key (items_of items.old) key (decision call.now.request (items_of items.old key))) a) }
+    ensures answer { IfOk result (λ a. IsAnswered items.new (at_key (items_of items.old) key (decision call.request (items_of items.old key))) a) }
     ensures items { items_of items.new ≡ items_of items.old }
     ensures store { KeepsStore items.old items.new }
 {
     let Ok(kept) = key.copy() else {
         drop(key);
+        drop(call);
         return Err(AllocError);
     };
     let Ok(slot) = items.slot(key) else {
         drop(kept);
+        drop(call);
         return Err(AllocError);
     };
     answer_at(items, alloc, call, kept, slot)
 }
 
-/// What the table answers a call. Takes memory for the answer, for the slot and the copies of a key, and for the copy of an
-/// item that is put.
+/// What the table answers a call, whose item goes to it. Takes memory for the answer, for the slot and for the copies of a key.
 pub(crate) fn answer(
     items: &mut ItemStore,
     alloc: Global,
-    call: &Call,
+    call: Call,
 ) -> Result<Answered, AllocError>
-    ensures answer { IfOk result (λ a. IsAnswered items.new (in_form items.old.table items.old.schema (items_of items.old) call.now) a) }
+    ensures answer { IfOk result (λ a. IsAnswered items.new (in_form items.old.table items.old.schema (items_of items.old) call) a) }
     ensures items { items_of items.new ≡ items_of items.old }
     ensures store { KeepsStore items.old items.new }
 {
-    match items.key(call) {
+    match items.key(&call) {
         Ok(key) => answer_key(items, alloc, call, key),
-        Err(fault) => refuse(alloc, fault),
+        Err(fault) => {
+            drop(call);
+            refuse(alloc, fault)
+        }
     }
 }

@@ -9,7 +9,7 @@ ghost use Rattle.branch_tree.specs.Paths.{Path};
 ghost use Rattle.branch_tree.specs.Tree.{node_at, IsNode};
 ghost use Rattle.step_names.specs.Order.{thread_cmp};
 ghost use Rattle.step_names.specs.Thread.{Thread};
-ghost use Rattle.saved_steps.specs.First.{IsFirstReady, NoneFreeBefore};
+ghost use Rattle.saved_steps.specs.First.{IsFirstReady, NoneBeforeThread};
 ghost use Rattle.saved_steps.specs.Places.{tree_in, rows_at, frames_in, paths_of, put_at, with_thread};
 
 use crate::first::{first_among, go_on, wake};
@@ -139,16 +139,18 @@ impl Executions {
         go_on(&self.places.trees, &mut self.quiet);
     }
 
-    /// The least name of a thread that moves and is not passed by, none being free in executions before a name.
+    /// The least name of a thread that moves and is not passed by, none being free before one that is given as its execution and its
+    /// path.
     pub(crate) fn first_ready(
         &self,
         alloc: Global,
         from: &String,
+        path: &[(u32, u32)],
         passed: &BTreeSet<ThreadName>,
     ) -> Result<Option<ThreadName>, AllocError>
-        requires { NoneFreeBefore (frames_in self.now.trees) (contains thread_cmp passed.now) (string_bytes from.now) }
+        requires { NoneBeforeThread (frames_in self.now.trees) (contains thread_cmp passed.now) (string_bytes from.now) path.now }
         ensures { IfOk result (λ found. IsFirstReady (frames_in self.now.trees) (contains thread_cmp passed.now) found) }
     {
-        first_among(alloc, &self.places.trees, &self.quiet, from, passed)
+        first_among(alloc, &self.places.trees, &self.quiet, from, path, passed)
     }
 }

@@ -4,11 +4,11 @@ ghost use Rattle.std.specs.Bool.{OnTrue};
 ghost use Rattle.std.specs.BTreeSet.{contains};
 ghost use Rattle.std.specs.Str.{bytes_eq};
 ghost use Rattle.std.specs.String.{string_bytes};
-ghost use Rattle.branch_tree.specs.First.{IsFirst};
+ghost use Rattle.branch_tree.specs.First.{IsFirst, NoneBeforePath};
 ghost use Rattle.branch_tree.specs.Tree.{frame_at};
 ghost use Rattle.step_names.specs.Order.{thread_cmp};
 ghost use Rattle.step_names.specs.Thread.{Thread, execution};
-ghost use Rattle.saved_steps.specs.First.{AreQuiet, IsFirstReady, IsGoneBy, NoneFreeBefore};
+ghost use Rattle.saved_steps.specs.First.{AreQuiet, IsFirstReady, IsGoneBy, NoneBeforeThread, NoneFreeBefore};
 ghost use Rattle.saved_steps.specs.Held.{rows_at, frames_in};
 
 use crate::places::Trees;
@@ -42,13 +42,16 @@ fn is_quiet(place: &Option<Tree>) -> bool
     }
 }
 
-/// The first thread of an execution that has a move and is not passed by. Takes no memory where the execution has ended.
+/// The first thread of an execution that has a move and is not passed by, none before a path being so. Takes no memory if the
+/// execution has ended.
 fn first_in(
     alloc: Global,
     exec: &str,
     place: &Option<Tree>,
+    path: &[(u32, u32)],
     passed: &BTreeSet<ThreadName>,
 ) -> Result<Option<ThreadName>, AllocError>
+    requires { NoneBeforePath true (rows_at place.now) (execution exec.now) (contains thread_cmp passed.now) path.now }
     ensures { IfOk result (λ found. IsFirst true (rows_at place.now) (execution exec.now) (contains thread_cmp passed.now) found) }
 {
     let Some(tree) = place else {
@@ -60,18 +63,28 @@ fn first_in(
     let Some(name) = ThreadName::new(alloc, Text::new(alloc, exec)?) else {
         return Ok(None);
     };
-    tree.first_ready(alloc, &name, passed)
+    tree.first_ready(alloc, &name, path, passed)
 }
 
-/// The same of the execution that is awake, where its name is before the other. Nothing, where no thread of an execution before the
-/// other name is free.
+/// Where the search begins in an execution: at the path, if that is in this one.
+fn path_in<'a>(exec: &str, from: &str, path: &'a [(u32, u32)]) -> &'a [(u32, u32)]
+    ensures { ((exec.now ≡ from.now) × (result.now ≡ path.now)) ⊎ (result.now ≡ []) }
+{
+    if exec == from { path } else { &[] }
+}
+
+/// The same of the execution that is awake, if its name is before the other one that is quiet, and no thread before one that is given
+/// as its execution and its path is free. Nothing if no thread of an execution before the quiet name is free.
 fn first_awake(
     alloc: Global,
     trees: &Trees,
     quiet: &Quiet,
+    from: &String,
+    path: &[(u32, u32)],
     passed: &BTreeSet<ThreadName>,
 ) -> Result<Option<ThreadName>, AllocError>
-    requires { AreQuiet trees.now (string_bytes quiet.now.name) (string_bytes quiet.now.awake) }
+    requires quiet { AreQuiet trees.now (string_bytes quiet.now.name) (string_bytes quiet.now.awake) }
+    requires from { NoneBeforeThread (frames_in trees.now) (contains thread_cmp passed.now) (string_bytes from.now) path.now }
     ensures { IfOk result (λ found. MatchOption found
         (NoneFreeBefore (frames_in trees.now) (contains thread_cmp passed.now) (string_bytes quiet.now.name))
         (λ t. IsFirstReady (frames_in trees.now) (contains thread_cmp passed.now) (Some t))) }
@@ -81,11 +94,15 @@ fn first_awake(
         Ordering::Less => {}
         _ => return Ok(None),
     }
+    if let Ordering::Less = awake.cmp(from.as_str()) {
+        return Ok(None);
+    }
+    let under = path_in(awake, from.as_str(), path);
     let place = match trees.get(awake) {
         Some(place) => place,
         None => return Ok(None),
     };
-    match first_in(alloc, awake, place, passed)? {
+    match first_in(alloc, awake, place, under, passed)? {
         Some(found) => {
             let _ = found.path();
             Ok(Some(found))
@@ -94,18 +111,21 @@ fn first_awake(
     }
 }
 
-/// The first thread of all executions, none being free in those before a name.
+/// The first thread of all executions, none being free before one that is given as its execution and its path.
 fn first_from(
     alloc: Global,
     trees: &Trees,
     from: &String,
+    path: &[(u32, u32)],
     passed: &BTreeSet<ThreadName>,
 ) -> Result<Option<ThreadName>, AllocError>
-    requires { NoneFreeBefore (frames_in trees.now) (contains thread_cmp passed.now) (string_bytes from.now) }
+    requires { NoneBeforeThread (frames_in trees.now) (contains thread_cmp passed.now) (string_bytes from.now) path.now }
     ensures { IfOk result (λ found. IsFirstReady (frames_in trees.now) (contains thread_cmp passed.now) found) }
 {
     for (exec, place) in trees.range(from..) {
-        if let Some(found) = first_in(alloc, exec.as_str(), place, passed)? {
+        let name = exec.as_str();
+        let under = path_in(name, from.as_str(), path);
+        if let Some(found) = first_in(alloc, name, place, under, passed)? {
             let _ = found.path();
             return Ok(Some(found));
         }
@@ -113,33 +133,28 @@ fn first_from(
     Ok(None)
 }
 
-/// The later of two names.
-fn later<'a>(one: &'a String, other: &'a String) -> &'a String
-    ensures { (result.now ≡ one.now) ⊎ (result.now ≡ other.now) }
-{
-    match one.as_str().cmp(other.as_str()) {
-        Ordering::Less => other,
-        _ => one,
-    }
-}
-
-/// The first thread of all executions, some of which are gone by, and none being free in those before a name.
+/// The first thread of all executions, some of which are gone by, and none being free before one that is given as its execution and
+/// its path.
 pub(crate) fn first_among(
     alloc: Global,
     trees: &Trees,
     quiet: &Quiet,
     from: &String,
+    path: &[(u32, u32)],
     passed: &BTreeSet<ThreadName>,
 ) -> Result<Option<ThreadName>, AllocError>
     requires quiet { AreQuiet trees.now (string_bytes quiet.now.name) (string_bytes quiet.now.awake) }
-    requires from { NoneFreeBefore (frames_in trees.now) (contains thread_cmp passed.now) (string_bytes from.now) }
+    requires from { NoneBeforeThread (frames_in trees.now) (contains thread_cmp passed.now) (string_bytes from.now) path.now }
     ensures { IfOk result (λ found. IsFirstReady (frames_in trees.now) (contains thread_cmp passed.now) found) }
 {
-    let found = first_awake(alloc, trees, quiet, passed)?;
+    let found = first_awake(alloc, trees, quiet, from, path, passed)?;
     if found.is_some() {
         return Ok(found);
     }
-    first_from(alloc, trees, later(&quiet.name, from), passed)
+    match from.as_str().cmp(quiet.name.as_str()) {
+        Ordering::Less => first_from(alloc, trees, &quiet.name, &[], passed),
+        _ => first_from(alloc, trees, from, path, passed),
+    }
 }
 
 // ---- up to which name none has a move

@@ -167,25 +167,29 @@ impl World {
         ensures items { items_of self.new.items ≡ items_of self.old.items }
         ensures store { KeepsStore self.old.items self.new.items }
     {
-        let Outcome::Call(call) = prepared.outcome() else {
+        let (frame, machine, outcome) = prepared.into_parts();
+        let Outcome::Call(call) = outcome else {
             unreachable!()
         };
         let Ok(Answered { answer, touch }) = answer(&mut self.items, alloc, call) else {
-            drop(prepared);
+            drop(frame);
+            drop(machine);
             drop(name);
             return Err(AllocError);
         };
-        let Ok(frame) = finish(alloc, &prepared, answer) else {
+        let Ok(next) = finish(alloc, &machine, &frame, answer) else {
             drop(touch);
-            drop(prepared);
+            drop(frame);
+            drop(machine);
             drop(name);
             return Err(AllocError);
         };
-        drop(prepared);
+        drop(frame);
+        drop(machine);
         Ok(Made {
             name,
             bound,
-            change: change_of(frame, touch),
+            change: change_of(next, touch),
         })
     }
 }

@@ -6,7 +6,7 @@ ghost use Rattle.branch_tree.specs.FlatMap.{IsTree};
 ghost use Rattle.branch_tree.specs.Ready.{readiness_at};
 ghost use Rattle.step_names.specs.Order.{thread_cmp};
 ghost use Rattle.step_names.specs.Thread.{Thread};
-ghost use Rattle.saved_steps.specs.First.{IsFirstReady, NoneFreeBefore};
+ghost use Rattle.saved_steps.specs.First.{IsFirstReady, NoneBeforeThread};
 ghost use Rattle.saved_steps.specs.Held.{frames_of, paths_of};
 
 use crate::executions::Executions;
@@ -56,23 +56,24 @@ impl World {
         look_up(self.executions.trees(), thread)
     }
 
-    /// The least name of a thread that moves (it is `Ready`, or can `Join` or `Terminate`) and is not passed by. No such thread
-    /// is of an execution before the name `from`; an empty one leaves none out.
+    /// The least name of a thread that moves (it is `Ready`, or can `Join` or `Terminate`) and is not passed by. No such thread is
+    /// before the one at `path` in the execution `from`; two empty ones leave none out.
     ///
     /// Goes through the executions in the order of their names, up to that of the thread that it finds: from `from` on, or from the
     /// first that hadn't ended when a step was last made, and by one besides that was started or undone since. One that is done or
-    /// has failed costs a step and no memory; of the others it takes the blocks of `Tree::first_ready`, and two for the name of the
-    /// execution where that has more than 22 bytes.
+    /// has failed costs a step and no memory; of the others it takes the time and the blocks of `Tree::first_ready`, and two for the
+    /// name of the execution if that has more than 22 bytes.
     pub fn first_ready(
         &self,
         alloc: Global,
         from: &String,
+        path: &[(u32, u32)],
         passed: &BTreeSet<ThreadName>,
     ) -> Result<Option<ThreadName>, AllocError>
-        requires { NoneFreeBefore (frames_of self.now) (contains thread_cmp passed.now) (string_bytes from.now) }
+        requires { NoneBeforeThread (frames_of self.now) (contains thread_cmp passed.now) (string_bytes from.now) path.now }
         ensures { IfOk result (λ found. IsFirstReady (frames_of self.now) (contains thread_cmp passed.now) found) }
     {
-        self.executions.first_ready(alloc, from, passed)
+        self.executions.first_ready(alloc, from, path, passed)
     }
 
     /// The items of the table.

@@ -11,3 +11,4 @@ pub mod Extended
 pub mod Placed
 pub mod Movable
 pub mod Trials
+pub mod NamesClassed

@@ -34,7 +34,7 @@ use Rattle.asl_forward.specs.declared.prepared.Outcome.{Outcome}
 use Rattle.asl_forward.specs.declared.prepared.Outcome.TheVariants as outcome
 use Rattle.asl_forward.proofs.Firsts.{located_parts, one_step_further, first_of, branches_all, OnBranches}
 use Rattle.asl_forward.proofs.NextFrames.{OnFrame, turn-level, turn-state}
-use Rattle.asl_forward.proofs.ResultNextFrames.{WorkStays, work_stays, after_answer-level, after_answer-state, after_join-level, after_join-state, after_branch-level, after_branch-state}
+use Rattle.asl_forward.proofs.ResultFrames.{WorkStays, work_stays, after_answer-level, after_answer-state, after_join-level, after_join-state, after_branch-level, after_branch-state}
 use Rattle.saved_steps.specs.FlatMap.{is_parked}
 use Rattle.saved_steps.specs.Paths.{Path, rest_after}
 use Rattle.saved_steps.proofs.Under.{whole_is}

@@ -6,7 +6,7 @@ use Rattle.saved_steps.specs.Held.{world_view, store_of}
 use Rattle.saved_steps.specs.World.{Setting, World}
 use Rattle.saved_steps.specs.declared.record.StepRecord.{StepRecord}
 use Rattle.saved_steps.specs.declared.world.World.{World as Held}
-use Rattle.settled_names.specs.Names.{HasRoomFor, Names}
+use Rattle.step_history.specs.SettledNames.{HasRoomFor, Names}
 use Rattle.depends.specs.Instance.{steps}
 use Rattle.step_history.specs.History.{TakenStep, IsHistory, AreRecordsOf}
 use Rattle.step_history.specs.declared.history.History.{History}

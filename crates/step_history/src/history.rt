@@ -5,7 +5,7 @@ ghost use Rattle.std.specs.String.{string_bytes};
 ghost use Rattle.saved_steps.specs.Ready.{readiness_at};
 ghost use Rattle.depends.specs.Plans as plans;
 ghost use Rattle.item_store.specs.Store.{items_of};
-ghost use Rattle.saved_steps.specs.First.{IsFirstReady, NoneFreeBefore};
+ghost use Rattle.saved_steps.specs.First.{IsFirstReady, NoneBeforeThread};
 ghost use Rattle.saved_steps.specs.Held.{frames_of, paths_of, store_of};
 ghost use Rattle.saved_steps.specs.World.{Setting, is_same_step};
 ghost use Rattle.step_names.specs.Order.{thread_cmp};
@@ -53,18 +53,20 @@ impl History {
         self.world.look_up(thread)
     }
 
-    /// The least name of a thread that has a move and is not passed by, where there is none in executions before the name `from`.
-    /// Takes the memory and the time of `World::first_ready`: executions that are done or have failed cost a step each and no memory.
+    /// The least name of a thread that has a move and is not passed by, if there is none before the one at `path` in the execution
+    /// `from`. Takes the memory and the time of `World::first_ready`: executions that are done or have failed cost a step each and no
+    /// memory.
     pub fn first_ready(
         &self,
         alloc: Global,
         from: &String,
+        path: &[(u32, u32)],
         passed: &BTreeSet<ThreadName>,
     ) -> Result<Option<ThreadName>, AllocError>
-        requires { NoneFreeBefore (frames_of self.now.world) (contains thread_cmp passed.now) (string_bytes from.now) }
+        requires { NoneBeforeThread (frames_of self.now.world) (contains thread_cmp passed.now) (string_bytes from.now) path.now }
         ensures { IfOk result (λ found. IsFirstReady (frames_of self.now.world) (contains thread_cmp passed.now) found) }
     {
-        self.world.first_ready(alloc, from, passed)
+        self.world.first_ready(alloc, from, path, passed)
     }
 
     /// The items of the table.

@@ -2,12 +2,12 @@
 ghost use Rattle.std.specs.Prelude.{◌≡◌, [], ◌++◌, List, length, map};
 ghost use Rattle.saved_steps.specs.Held.{world_view};
 ghost use Rattle.saved_steps.specs.World.{Setting, World};
-ghost use Rattle.settled_names.specs.Names.{HasRoomFor};
+ghost use Rattle.step_history.specs.SettledNames.{HasRoomFor};
 ghost use Rattle.step_history.specs.History.{TakenStep, IsHistory};
 
 use crate::history::History;
+use crate::settled_names::SettledNames;
 use saved_steps::{Fact, StepRecord};
-use settled_names::SettledNames;
 use step_index::StepRecords;
 use step_names::StepName;
 

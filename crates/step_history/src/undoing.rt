@@ -1,15 +1,17 @@
 // Steps that are taken back, and the histories that are left.
-ghost use Rattle.std.specs.Prelude.{◌≡◌, ◌<◌, ℕ, [], ◌∷◌, List, None, Some, IfOk, length, map, slice_get};
+ghost use Rattle.std.specs.Prelude.{◌≡◌, ◌<◌, ◌≤◌, ◌+◌, ◌-◌, ℕ, [], ◌∷◌, List, None, Some, IfOk, length, map, slice_get};
 ghost use Rattle.depends.specs.Instance.{steps};
 ghost use Rattle.depends.specs.Laws.{facts_of};
 ghost use Rattle.depends.specs.Plans as plans;
 ghost use Rattle.saved_steps.specs.World.{Setting, World};
 ghost use Rattle.step_history.specs.History.{TakenStep, IsHistory, IsSomeHistory, IsPlanOf};
+ghost use Rattle.step_index.specs.Near.{near_behind};
 ghost use Rattle.trace_theory.specs.Traces.{without, consequences};
 
 use crate::history::History;
 use depends::Plan;
 use std::alloc::{AllocError, Global};
+use step_index::Looks;
 
 impl History {
     /// The place of the earliest step that depends directly on the one at a place. Takes no memory, and the looks of
@@ -40,6 +42,26 @@ impl History {
         ensures { IfOk result (λ p. p ≡ plans.plan (map (λ r. r.fact) self.now.records.items) at) }
     {
         self.records.plan(alloc, at)
+    }
+
+    /// The same, with its looks at records counted: at each step of the plan one, and besides the first one only at later steps that
+    /// are in a class of one of them.
+    pub fn plan_with_looks(
+        &self,
+        alloc: Global,
+        at: usize,
+        looks: &mut Looks,
+    ) -> Result<Plan, AllocError>
+        requires there { at < length self.now.records.items }
+        requires none { looks.old.count ≡ 0 }
+        ensures plan { IfOk result (λ p. p ≡ plans.plan (map (λ r. r.fact) self.now.records.items) at) }
+        ensures looks { looks.new.count ≤ length self.now.records.items - at }
+        ensures members { IfOk result (λ p. length p ≤ looks.new.count) }
+        ensures near { IfOk result (λ p. looks.new.count ≤ 1 + near_behind (map (λ r. r.fact) self.now.records.items) p at) }
+    {
+        let count = self.records.len();
+        prove!(at < count);
+        self.records.plan_with_looks(alloc, at, looks)
     }
 
     /// Undoes the steps of a plan of this history, the latest first: the steps that are left stay in their order. Takes no

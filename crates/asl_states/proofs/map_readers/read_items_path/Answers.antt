@@ -1,7 +1,7 @@
 use Rattle.std.proofs.Common.{rules, codes, subst}
 use Rattle.serde_json.specs.Find.{get}
 use Rattle.serde_json.specs.View.{view}
-use Rattle.asl_choice.specs.Values.{IsPathField}
+use Rattle.asl_fields.specs.Values.{IsPathField}
 use Rattle.asl_states.proofs.NoPath.{null_is_no_path}
 use Rattle.asl_states.proofs.map_readers.read_items_path.Goals as goal
 

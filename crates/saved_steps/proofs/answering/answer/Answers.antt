@@ -10,6 +10,6 @@ use Rattle.saved_steps.proofs.answering.answer.Goals as goal
 pub returns-in-Ok-clause-answer : goal.returns-in-Ok-clause-answer
 returns-in-Ok-clause-answer c =
     let s = c.args.items.now in
-    let call = c.args.call.now in
+    let call = c.args.call in
     let asked : key_asked s.table s.schema call ≡ Ok c.in-Ok.key = c.in-Ok.ensures.key in
     subst (λ (r : Result Key CallFault). IfOk c.answer_key.result (λ a. IsAnswered c.answer_key.new.items (on_key (items_of s) call.request r) a)) (sym asked) c.answer_key.ensures.answer

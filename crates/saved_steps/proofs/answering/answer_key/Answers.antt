@@ -13,7 +13,7 @@ returns-clause-answer c =
     let old = items_of c.args.items.now in
     let new = items_of c.slot.new.self in
     let slot = c.in-Ok-slot.slot in
-    let request = c.args.call.now.request in
+    let request = c.args.call.request in
     let kept : c.in-Ok.kept ≡ key = c.in-Ok.ensures in
     let found : slot_key c.slot.new.self slot ≡ Some key = c.in-Ok-slot.ensures.found in
     if_ok c.answer_at.result (λ a. IsAnswerAt (decision request (new c.in-Ok.kept)) c.in-Ok.kept slot a) (λ a. IsAnswered c.slot.new.self (at_key old key (decision request (old key))) a) c.answer_at.ensures

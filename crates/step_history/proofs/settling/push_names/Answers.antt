@@ -1,7 +1,7 @@
 use Rattle.std.proofs.Common.{◌≡◌, ◌++◌, ◌∷◌, [], ◌+◌, List, arith, append_assoc, length, map, ap, subst, sym, ◌∙◌}
 use Rattle.std.proofs.lemmas.List.{append-nil}
 use Rattle.saved_steps.specs.declared.record.StepRecord.{StepRecord}
-use Rattle.settled_names.specs.Names.{HasRoomFor}
+use Rattle.step_history.specs.SettledNames.{HasRoomFor}
 use Rattle.step_names.specs.declared.step.StepName.{StepName}
 use Rattle.step_history.proofs.Settled.{none_left, room_for_one, some_left}
 use Rattle.step_history.proofs.settling.push_names.Goals as goal

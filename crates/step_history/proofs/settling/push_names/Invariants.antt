@@ -1,6 +1,6 @@
 use Rattle.std.proofs.Common.{◌≡◌, ◌++◌, length, map}
 use Rattle.saved_steps.specs.declared.record.StepRecord.{StepRecord}
-use Rattle.settled_names.specs.Names.{HasRoomFor}
+use Rattle.step_history.specs.SettledNames.{HasRoomFor}
 use Rattle.step_history.proofs.settling.push_names.Given as goal
 
 -- the names that are there and those that are left are all, and there is room for these

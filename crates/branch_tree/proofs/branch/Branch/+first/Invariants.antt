@@ -1,6 +1,8 @@
 use Rattle.std.proofs.Common.{◌≤◌, Bool, None, ◌+◌, ◌*◌, length}
 use Rattle.std.specs.BTreeSet.{contains}
 use Rattle.step_names.specs.Order.{thread_cmp}
+use Rattle.branch_tree.specs.First.{NoneBeforePath}
+use Rattle.branch_tree.specs.Tree.{frame_at}
 use Rattle.branch_tree.proofs.FirstOf.{IsFirstOf}
 use Rattle.branch_tree.proofs.branch.Branch.+first.Given as goal
 
@@ -16,5 +18,6 @@ decreases-first_as_branch l = 3 * length l.self.now + 3
 abbrev pub invariant-first_at_fork-loop-index : goal.invariant-first_at_fork-loop-index
 invariant-first_at_fork-loop-index l = record {
   past : l.self-inside.counts.leading ≤ l.index;
-  first : (begins : Bool) → IsFirstOf begins l.self-inside.frame l.self-inside.kids.items l.name (contains thread_cmp l.passed) l.index None;
+  first : (begins : Bool) → NoneBeforePath begins (frame_at l.self) l.name (contains thread_cmp l.passed) l.from
+      → IsFirstOf begins l.self-inside.frame l.self-inside.kids.items l.name (contains thread_cmp l.passed) l.index None;
 }

@@ -1,2 +1,0 @@
-pub mod NextFrames
-pub use Rattle.asl_frames.proofs.Turns

@@ -1,4 +1,0 @@
-pub mod Above
-pub mod Hashes
-pub mod Kinds
-pub mod Marks
