@@ -10,10 +10,12 @@ use Rattle.book_log.specs.Answers.{step_answer}
 use Rattle.book_log.specs.Log.{Log, appended, machine_of, world_of}
 use Rattle.book_log.specs.declared.entry.Entry.TheVariants.{Step as Stepped}
 use Rattle.book_log.specs.declared.moved.Moved.{Moved}
+use Rattle.book_log.specs.declared.refusal.Refusal.{Refusal}
+use Rattle.book_log.specs.declared.refusal.Refusal.TheVariants as refusal
 use Rattle.book_events.specs.Planned.{IsMoveRefusal}
 use Rattle.book_events.specs.Tickets.{readiness_in}
 use Rattle.book_events.specs.declared.commits.CommitRefusal.{CommitRefusal}
-use Rattle.book_events.specs.declared.commits.CommitRefusal.TheVariants.{Stale, Refused}
+use Rattle.book_events.specs.declared.commits.CommitRefusal.TheVariants.{Stale, Held, Refused}
 use Rattle.book_events.specs.declared.commits.Staleness.{Staleness}
 use Rattle.book_events.specs.declared.commits.Staleness.TheVariants as stale
 
@@ -44,11 +46,23 @@ abbrev pub IsStaleness : Log → Thread → Prepared → Option Staleness → Ty
 IsStaleness log t p None = IsFresh log t p
 IsStaleness log t p (Some why) = IsStale log t p why
 
--- A turn that is fresh is the thread's step, and is refused as that is; one that isn't is handed back, with the reason.
+-- refused since the step would depend on what a hold has left
+abbrev pub tells_hold : Refusal → Bool
+tells_hold (refusal.Held step) = true
+tells_hold _ = false
+
+-- A turn that is fresh is the thread's step, and is refused as that is; one that isn't is handed back, with the reason, and so is one
+-- that is held back.
 abbrev pub AnswersCommit : Log → Thread → Prepared → Result Moved CommitRefusal → Type 0
 AnswersCommit log t p (Ok moved) = IsFresh log t p × (step_answer log t ≡ Ok moved)
 AnswersCommit log t p (Err (Stale why prepared)) = IsStale log t p why × (prepared ≡ p)
-AnswersCommit log t p (Err (Refused e)) = IsFresh log t p × IsMoveRefusal log t e
+AnswersCommit log t p (Err (Held step prepared)) = IsFresh log t p × IsMoveRefusal log t (refusal.Held step) × (prepared ≡ p)
+AnswersCommit log t p (Err (Refused e)) = IsFresh log t p × IsMoveRefusal log t e × (tells_hold e ≡ false)
+
+-- how a fresh turn is refused
+abbrev pub turn_refused : Refusal → Prepared → CommitRefusal
+turn_refused (refusal.Held step) p = Held step p
+turn_refused e p = Refused e
 
 -- the log has the step more, or is the same where it is refused
 abbrev pub Commits : Log → Result Moved CommitRefusal → Log → Type 0

@@ -4,6 +4,7 @@ pub mod FirstMove
 pub mod Calls
 pub mod Tickets
 pub mod Commits
+pub mod Cursors
 -- what stands below and is named by the crates above
 pub use Rattle.step_history.specs.Frame
 pub use Rattle.step_history.specs.Prepared

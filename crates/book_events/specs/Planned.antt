@@ -1,7 +1,8 @@
 -- How a move is refused, and what a rollback was planned of.
-use Rattle.std.specs.Prelude.{◌≡◌, ◌⊎◌, ℕ, List, ◌++◌, length, slice_get, Some, option_map, Result, Ok, Err}
+use Rattle.std.specs.Prelude.{◌≡◌, ◌≤◌, ◌+◌, ◌-◌, ◌⊎◌, ℕ, List, ◌++◌, length, slice_get, Some, option_map, Result, Ok, Err}
 use Rattle.depends.specs.Plans.{plan}
 use Rattle.step_history.specs.History.{TakenStep}
+use Rattle.step_history.specs.Near.{near_behind}
 use Rattle.step_names.specs.Thread.{Thread}
 use Rattle.book_log.specs.Answers.{StepLacks, step_answer, plan_answer}
 use Rattle.book_log.specs.Log.{Log, facts_of}
@@ -31,6 +32,11 @@ pub record IsPlanned (log : Log) (r : PlanRoom) : Type 0 where
   pub at : ℕ
   pub there : option_map (λ f. f.name) (slice_get (facts_of log) at) ≡ Some r.step
   pub places : r.places ≡ plan (facts_of log) at
+  -- each of its steps was looked at, at most all remaining steps from the first one on, and besides that one only later steps that are in a
+  -- class of a step of the plan
+  pub members : length r.places ≤ r.looks
+  pub from : r.looks ≤ length (facts_of log) - at
+  pub near : r.looks ≤ 1 + near_behind (facts_of log) r.places at
   -- the steps of these names may be undone one by one in this order
   pub order : (xs : List TakenStep) × IsBackwardOrderOf log r.names xs
 

@@ -2,6 +2,7 @@
 use book_log::Refusal;
 use branch_tree::Readiness;
 use step_history::turns::Prepared;
+use step_names::StepName;
 
 /// Why a turn that was prepared is no longer its thread's.
 #[derive(Debug, Drop)]
@@ -22,6 +23,8 @@ pub enum Staleness {
 pub enum CommitRefusal {
     /// 9: the turn is no longer its thread's, and comes back.
     Stale(Staleness, Prepared),
-    /// 13, 10 and 11: `Held`, `Full` or `Memory`; the turn is dropped.
+    /// 13: the step would depend directly on this one, which a hold has left. The turn comes back.
+    Held(StepName, Prepared),
+    /// 10 and 11: `Full` or `Memory`; the turn is dropped.
     Refused(Refusal),
 }

@@ -5,7 +5,7 @@ ghost use Rattle.std.specs.String.{string_bytes};
 ghost use Rattle.json_tree.specs.Data.{depth, most_levels};
 ghost use Rattle.json_tree.specs.View.{data_of};
 ghost use Rattle.step_names.specs.Order.{thread_cmp};
-ghost use Rattle.saved_steps.specs.First.{NoneFreeBefore};
+ghost use Rattle.saved_steps.specs.First.{NoneBeforeThread};
 ghost use Rattle.book_log.specs.Log.{Log, held, left_of, world_of};
 ghost use Rattle.book_events.specs.Calls.{FindsFirst, Holds, IsLatestLeft, IsLogOf, MakesRoom, PlansRollback, RollsBack, Shows, Starts, Steps, Undoes};
 ghost use Rattle.book_events.specs.Commits.{AnswersCommit, Commits};
@@ -101,9 +101,10 @@ pub trait Events {
         &self,
         alloc: Global,
         from: &String,
+        path: &[(u32, u32)],
         outside: &BTreeSet<ThreadName>,
     ) -> Result<Option<ThreadName>, Refusal>
-        requires { NoneFreeBefore (world_of (log self.now)).frames (contains thread_cmp outside.now) (string_bytes from.now) }
+        requires { NoneBeforeThread (world_of (log self.now)).frames (contains thread_cmp outside.now) (string_bytes from.now) path.now }
         ensures { FindsFirst (log self.now) (contains thread_cmp outside.now) result };
 
     /// As `Book::ticket`.

@@ -25,8 +25,8 @@ impl Room {
     }
 }
 
-/// A step to be rolled back, with the names and the places of it and its consequences, the latest first, and the number of the log's
-/// entries at the time. It is spent by the rollback, which then takes no memory.
+/// A step to be rolled back, with the names and the places of it and its consequences, the latest first, the number of the log's
+/// entries at the time, and how many records were looked at to plan it. It is spent by the rollback, which then takes no memory.
 #[derive(Drop)]
 pub struct PlanRoom {
     pub step: StepName,
@@ -34,6 +34,7 @@ pub struct PlanRoom {
     pub undone: StepNames,
     pub places: Plan,
     pub entries: usize,
+    pub looks: u64,
 }
 
 impl PlanRoom {
@@ -49,5 +50,12 @@ impl PlanRoom {
         ensures { result ≡ self.now.entries }
     {
         self.entries
+    }
+
+    /// How many records were looked at to make the plan.
+    pub fn looks(&self) -> u64
+        ensures { result ≡ self.now.looks }
+    {
+        self.looks
     }
 }

@@ -6,7 +6,7 @@ use rollback_book::{Book, CommitRefusal, Kind, Moved, Readiness, Staleness, Tick
 use std::alloc::Global;
 use std::process::Abort;
 use std::test::Fail;
-use step_names::ThreadName;
+use step_names::{StepName, ThreadName};
 
 const PASS: &str = r#"{"StartAt":"P","States":{"P":{"Type":"Pass","Result":7,"End":true}}}"#;
 
@@ -71,6 +71,11 @@ fn is_stale(why: &Staleness, want: &str) -> bool {
     }
 }
 
+fn is_held(alloc: Global, step: &StepName, want: &str) -> Result<bool, Fail> {
+    let name = step.write_text(alloc)?;
+    Ok(format!(in alloc; "held {name}")?.as_str() == want)
+}
+
 /// Whether it is answered so, with the turn where it is handed back.
 fn commit(
     alloc: Global,
@@ -88,6 +93,10 @@ fn commit(
     match book.commit(alloc, &thread, prepared) {
         Ok(moved) => Ok((is_moved(alloc, &moved, want)?, None)),
         Err(CommitRefusal::Stale(why, prepared)) => Ok((is_stale(&why, want), Some(prepared))),
+        Err(CommitRefusal::Held(step, prepared)) => Ok((
+            is_held(alloc, &step, want)?,
+            Some(prepared),
+        )),
         Err(CommitRefusal::Refused(refusal)) => Err(refusal.into()),
     }
 }
@@ -171,6 +180,23 @@ const CASES: &[Case] = &[
         between: &[(Act::Undo("a#0"), "ok"), (Act::Start("a", "p", "1"), "ok")],
         want: "other",
     },
+    // it would depend on what is left of a hold; that it is stale is told before
+    Case {
+        machine: PASS,
+        between: &[(Act::Hold("a#0"), "ok")],
+        want: "held a#0",
+    },
+    Case {
+        machine: PASS,
+        between: &[(Act::Step("a"), "ok"), (Act::Hold("a#0"), "ok")],
+        want: "done",
+    },
+    // a hold of others keeps nothing back
+    Case {
+        machine: PUT,
+        between: &[(Act::Start("b", "p", "{}"), "ok"), (Act::Hold("b#0"), "ok")],
+        want: "a#1 call",
+    },
 ];
 
 fn begin(
@@ -224,6 +250,32 @@ fn commits_again(rt: &impl Abort, alloc: Global, book: &mut Book) -> Result<bool
 fn handed_back_and_taken(rt: HostRuntime) -> Result<(), Fail> {
     let mut book = book_over(rt.alloc(), "[]")?;
     let is_so = commits_again(&rt, rt.alloc(), &mut book);
+    drop(book);
+    assert!(rt; is_so?);
+    Ok(())
+}
+
+/// The turn that a hold kept back is taken once the hold is over.
+fn commits_after_a_hold(rt: &impl Abort, alloc: Global, book: &mut Book) -> Result<bool, Fail> {
+    let prepared = begin(rt, alloc, book, TWO_PASSES)?;
+    let (is_first, back) = commit_after(rt, alloc, book, &[], prepared, "a#1 plain")?;
+    drop(back);
+    let prepared = self::prepared(alloc, book)?;
+    let held: &[Row] = &[(Act::Hold("a#1"), "ok")];
+    let (is_held, back) = commit_after(rt, alloc, book, held, prepared, "held a#1")?;
+    let Some(prepared) = back else {
+        return Ok(false);
+    };
+    let over: &[Row] = &[(Act::Undo("a#1"), "ok"), (Act::Step("a"), "ok")];
+    let (is_taken, back) = commit_after(rt, alloc, book, over, prepared, "a#2 plain")?;
+    drop(back);
+    Ok(is_first && is_held && is_taken)
+}
+
+#[test]
+fn held_back_and_taken(rt: HostRuntime) -> Result<(), Fail> {
+    let mut book = book_over(rt.alloc(), "[]")?;
+    let is_so = commits_after_a_hold(&rt, rt.alloc(), &mut book);
     drop(book);
     assert!(rt; is_so?);
     Ok(())

@@ -336,7 +336,7 @@ fn threads(alloc: Global, texts: &[&str]) -> Result<BTreeSet<ThreadName>, Fail> 
 fn is_first(alloc: Global, tree: &Tree, passed: &[&str], text: &str) -> Result<bool, Fail> {
     let execution = ThreadName::read(alloc, "E")?;
     let passed = threads(alloc, passed)?;
-    match tree.first_ready(alloc, &execution, &passed)? {
+    match tree.first_ready(alloc, &execution, &[], &passed)? {
         Some(first) => Ok(first.write_text(alloc)?.as_str() == text),
         None => Ok(text.is_empty()),
     }

@@ -11,3 +11,6 @@ pub mod Neighbours
 pub mod Numbered
 pub mod Blocks
 pub mod Filled
+pub mod Placed
+pub mod Slots
+pub mod Sets

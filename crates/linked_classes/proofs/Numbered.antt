@@ -6,14 +6,12 @@ use Rattle.std.specs.List.Sorted.{IsBinarySearchResult}
 use Rattle.std.specs.Ordering.{nat_cmp}
 use Rattle.std.specs.Result.{MatchResult}
 use Rattle.std.proofs.lemmas.Bool.{cases_lt}
-use Rattle.std.proofs.lemmas.List.{length-map, map-append}
 use Rattle.std.proofs.lemmas.List.Sorted.{searched}
-use Rattle.std.proofs.lemmas.Option.{none-some, same_Some, slice_get-get_or, slice_get-map, slice_get_within, get_or_from_slice_get}
+use Rattle.std.proofs.lemmas.Option.{same_Some, slice_get-get_or, slice_get-map, slice_get_within, get_or_from_slice_get}
 use Rattle.linked_classes.specs.Cells.{cell_at}
-use Rattle.linked_classes.specs.Linked.{IsNearest, IsForemost, IsNext, IsBefore, IsFirst, IsLast, Rises, Falls, updated}
-use Rattle.linked_classes.specs.Places.{IsRising, ArePlaces}
+use Rattle.linked_classes.specs.Linked.{IsNearest, IsForemost, IsNext, IsBefore, IsFirst, IsLast, Rises, Falls}
+use Rattle.linked_classes.specs.Places.{IsRising}
 use Rattle.linked_classes.proofs.Gets.{one_or_other, older, newest}
-use Rattle.linked_classes.proofs.Updates.{updated_here, updated_elsewhere}
 
 same_Ok : (a b : ℕ) → ◌≡◌ {A = Result ℕ ℕ} (Ok a) (Ok b) → a ≡ b
 same_Ok a b e = cc
@@ -147,23 +145,6 @@ module _ (ns : List ℕ) (rise : IsRising ns) where
   pub before_place : (f : ℕ → Option ℕ) (c i a p n : ℕ) → slice_get ns i ≡ Some a → slice_get ns p ≡ Some n → IsBefore f c a (Some n) → IsBefore (cell_at (map f ns)) c i (Some p)
   before_place = nearest_place ns Falls falls falls_back
 
--- a neighbour that is told lies in its direction, and its place so too
-nearest_beyond : (R : ℕ → ℕ → Type 0) (f : ℕ → Option ℕ) (a : ℕ) (r : Option ℕ) (n : ℕ) → ((c : ℕ) → f a ≡ Some c → IsNearest R f c a r) → (f a ≡ None → r ≡ None) → r ≡ Some n → R a n
-nearest_beyond R f a r n some none is = by (f a) refl
-  where
-    by : (o : Option ℕ) → f a ≡ o → R a n
-    by None e = absurd (none-some n (sym (none e) ∙ is))
-    by (Some c) e = (subst (IsNearest R f c a) is (some c e)).0
-
-pub place_later : (ns : List ℕ) → IsRising ns → (f : ℕ → Option ℕ) (i a p n : ℕ) (r : Option ℕ) → slice_get ns i ≡ Some a → slice_get ns p ≡ Some n → ((c : ℕ) → f a ≡ Some c → IsNext f c a r) → (f a ≡ None → r ≡ None) → r ≡ Some n → i < p
-place_later ns rise f i a p n r from at some none is = earlier ns rise i p a n from at (nearest_beyond Rises f a r n some none is)
-
-pub place_earlier : (ns : List ℕ) → IsRising ns → (f : ℕ → Option ℕ) (i a p n : ℕ) (r : Option ℕ) → slice_get ns i ≡ Some a → slice_get ns p ≡ Some n → ((c : ℕ) → f a ≡ Some c → IsBefore f c a r) → (f a ≡ None → r ≡ None) → r ≡ Some n → p < i
-place_earlier ns rise f i a p n r from at some none is = earlier ns rise p i n a at from (nearest_beyond Falls f a r n some none is)
-
-pub place_within : (ns : List ℕ) (f : ℕ → Option ℕ) (p n : ℕ) → slice_get ns p ≡ Some n → p < length (map f ns)
-place_within ns f p n at = let l = slice_get_within ns p n at in omega (arith, l, length-map ns f)
-
 -- ---- functions that agree at some numbers
 
 pub map_same : (ns : List ℕ) (f g : ℕ → Option ℕ) → ((i n : ℕ) → slice_get ns i ≡ Some n → g n ≡ f n) → map g ns ≡ map f ns
@@ -192,26 +173,6 @@ more_below ns end below i n is = elim (one_or_other i (length ns)) [
   | inl w ↦ let e = same_Some end n (sym (newest ns end) ∙ ap (slice_get (ns ++ end ∷ [])) (sym w) ∙ is) in omega (arith, e)
   | inr w ↦ let l = below i n (sym (older ns end i w) ∙ is) in omega (arith, l)
 ]
-
-module _ (ns : List ℕ) (f g : ℕ → Option ℕ) (end reached : ℕ) (h : ArePlaces ns f end reached) (class : Option ℕ) (put : (k : ℕ) → g k ≡ updated end f class k) where
-  others : (n : ℕ) → n ≢ end → g n ≡ f n
-  others n e = put n ∙ updated_elsewhere f end class n e
-
-  pub one_more : (now : ℕ) → now ≤ end + 1 → ArePlaces (ns ++ end ∷ []) g (end + 1) now
-  one_more now far = record {
-    rising = more_rises ns end h.rising h.below;
-    below = more_below ns end h.below;
-    stand = λ n c is. elim (one_or_other n end) [
-      | inl w ↦ (length ns, newest ns end ∙ ap Some (sym w))
-      | inr w ↦ let i = h.stand n c (sym (others n w) ∙ is) in (i.0, older ns end i.0 (λ e. let l = slice_get_within ns i.0 n i.1 in omega (arith, l, e)) ∙ i.1)
-    ];
-    reaches = far;
-  }
-
-  pub one_more_seen : map g (ns ++ end ∷ []) ≡ map f ns ++ class ∷ []
-  one_more_seen =
-      map-append g ns (end ∷ [])
-      ∙ ap₂ (λ (xs : List (Option ℕ)) (x : Option ℕ). xs ++ x ∷ []) (map_same ns f g (λ i n is. others n (λ e. let l = h.below i n is in omega (arith, l, e)))) (put end ∙ updated_here f end class end refl)
 
 -- ---- a place goes
 
@@ -246,36 +207,15 @@ less_rises ns at h = record { rises = rises }
           | inr x ↦ elim (cases_lt j at) [ inl y ↦ absurd (omega (arith, x, y, l)) | inr y ↦ let p = v.high x in let q = w.high y in omega (arith, p, q, l) ]
         ]) v.is w.is
 
-still : (ns : List ℕ) (at j n : ℕ) → slice_get ns j ≡ Some n → j ≢ at → (i : ℕ) × (slice_get (remove ns at) i ≡ Some n)
+pub still : (ns : List ℕ) (at j n : ℕ) → slice_get ns j ≡ Some n → j ≢ at → (i : ℕ) × (slice_get (remove ns at) i ≡ Some n)
 still [] at j n h apart = absurd (let e : None ≡ Some n = h in cc)
 still (x ∷ xs) zero zero n h apart = absurd (apart refl)
 still (x ∷ xs) zero (suc j) n h apart = (j, h)
 still (x ∷ xs) (suc at) zero n h apart = (zero, h)
 still (x ∷ xs) (suc at) (suc j) n h apart = let r = still xs at j n h (λ e. apart (ap suc e)) in (suc r.0, r.1)
 
-map_remove : (ns : List ℕ) (at : ℕ) (f : ℕ → Option ℕ) → map f (remove ns at) ≡ remove (map f ns) at
+pub map_remove : (ns : List ℕ) (at : ℕ) (f : ℕ → Option ℕ) → map f (remove ns at) ≡ remove (map f ns) at
 map_remove [] zero f = refl
 map_remove [] (suc at) f = refl
 map_remove (x ∷ xs) zero f = refl
 map_remove (x ∷ xs) (suc at) f = ap (λ (l : List (Option ℕ)). f x ∷ l) (map_remove xs at f)
-
-module _ (ns : List ℕ) (f g : ℕ → Option ℕ) (end reached : ℕ) (h : ArePlaces ns f end reached) (at number : ℕ) (is_at : slice_get ns at ≡ Some number) (gone : g ≡ updated number f None) where
-  stays : (n : ℕ) → n ≢ number → g n ≡ f n
-  stays n e = ap (λ k. k n) gone ∙ updated_elsewhere f number None n e
-
-  other_number : (i n : ℕ) → slice_get (remove ns at) i ≡ Some n → n ≢ number
-  other_number i n is = let w = was ns at i n is in apart ns h.rising w.place at n number w.is is_at (was_apart ns at i n w)
-
-  pub one_less : (now : ℕ) → now ≤ end → ArePlaces (remove ns at) g end now
-  one_less now far = record {
-    rising = less_rises ns at h.rising;
-    below = λ i n is. let w = was ns at i n is in h.below w.place n w.is;
-    stand = λ n c is.
-        let other : n ≢ number = λ e. let x : None ≡ Some c = sym (updated_here f number None n e) ∙ sym (ap (λ k. k n) gone) ∙ is in cc in
-        let j = h.stand n c (sym (stays n other) ∙ is) in
-        still ns at j.0 n j.1 (λ e. other (same_Some n number (sym j.1 ∙ ap (slice_get ns) e ∙ is_at)));
-    reaches = far;
-  }
-
-  pub one_less_seen : map g (remove ns at) ≡ remove (map f ns) at
-  one_less_seen = map_same (remove ns at) f g (λ i n is. stays n (other_number i n is)) ∙ map_remove ns at f

@@ -6,3 +6,4 @@ pub mod Members
 pub mod Places
 pub mod Numbers
 pub mod Listed
+pub mod Sets

@@ -1,22 +1,24 @@
 -- Values in a list, each at a number that stays its own.
 use Rattle.std.specs.Prelude.{◌≡◌, ◌<◌, ◌≤◌, ℕ, Bool, ◌&&◌, nat_lt, nat_le, List, [], ◌∷◌, Option, None, Some, IsSome, length, slice_get, refl}
-use Rattle.std.specs.Coded.{Coded, code_by, coded×, coded_list, coded_bool}
+use Rattle.std.specs.Coded.{Coded, code_by, coded×, coded_ℕ, coded_list, coded_bool}
 use Rattle.linked_classes.specs.Cells.{Cells, cell_at}
 use Rattle.linked_classes.specs.Numbers.{Numbers}
 use Rattle.linked_classes.specs.Places.{IsRising}
 
--- the values in their order, and whether there is room for one more
+-- the values in their order, the number of each, the next number, and whether there is room for one more
 pub record Listed (T : Type 0) : Type 0 where
   pub items : List T
+  pub numbers : List ℕ
+  pub end : ℕ
   pub has_room : Bool
 
 abbrev pub listed_code : {T : Type 0} → Coded T → Coded (Listed T)
 listed_code {T} code =
     code_by
-    (List T × Bool)
-    (coded× (coded_list code) coded_bool)
-    (λ s. (s.items, s.has_room))
-    (λ p. record { items = p.0; has_room = p.1 })
+    (List T × (List ℕ × (ℕ × Bool)))
+    (coded× (coded_list code) (coded× (coded_list coded_ℕ) (coded× coded_ℕ coded_bool)))
+    (λ s. (s.items, (s.numbers, (s.end, s.has_room))))
+    (λ p. record { items = p.0; numbers = p.1.0; end = p.1.1.0; has_room = p.1.1.1 })
     (λ _. refl)
 
 module _ {T : Type 0} where

@@ -1,5 +1,6 @@
 // Values in a list from which one goes anywhere at a low price.
-ghost use Rattle.std.specs.Prelude.{◌≡◌, ◌==◌, ◌<◌, [], ◌∷◌, ◌++◌, Some, OnOk, true, length, remove, slice_get};
+ghost use Rattle.std.specs.Prelude.{◌≡◌, ◌==◌, ◌<◌, ◌+◌, [], ◌∷◌, ◌++◌, Some, OnOk, true, length, remove, slice_get};
+ghost use Rattle.linked_classes.specs.Places.{IsNumber, place_in};
 
 use crate::numbers::RisingNumbers;
 use crate::sparse::SparseVec;
@@ -27,6 +28,8 @@ impl<T> Model for NumberedVec<T> {
 
     ghost view = { λ s. record {
       items = values_at (cell_at s.values.cells) s.numbers.items;
+      numbers = s.numbers.items;
+      end = s.numbers.end;
       has_room = has_room s.numbers s.values;
     } };
 
@@ -36,7 +39,9 @@ impl<T> Model for NumberedVec<T> {
 impl<T> NumberedVec<T> {
     /// No values. Takes no memory.
     pub fn new(alloc: Global) -> NumberedVec<T>
-        ensures { result.items ≡ [] }
+        ensures items { result.items ≡ [] }
+        ensures numbers { result.numbers ≡ [] }
+        ensures end { result.end ≡ 0 }
     {
         NumberedVec {
             numbers: RisingNumbers::new(alloc),
@@ -74,23 +79,64 @@ impl<T> NumberedVec<T> {
         value
     }
 
+    /// The number that the next value gets.
+    pub fn end(&self) -> u32
+        ensures { result ≡ self.now.end }
+    {
+        self.numbers.end()
+    }
+
+    /// The number of the value at a place, in the same time.
+    pub fn number(&self, at: usize) -> u32
+        requires { at < length self.now.items }
+        ensures number { slice_get self.now.numbers at ≡ Some result }
+        ensures place { place_in self.now.numbers result ≡ at }
+    {
+        self.numbers.get(at)
+    }
+
+    /// The place of a number, in nine steps.
+    pub fn place(&self, number: u32) -> usize
+        requires { IsNumber self.now.numbers number }
+        ensures { result ≡ place_in self.now.numbers number }
+    {
+        self.numbers.place(number)
+    }
+
+    /// The value of a number, in one step.
+    pub fn of_number(&self, number: u32) -> &T
+        requires { IsNumber self.now.numbers number }
+        ensures { slice_get self.now.items (place_in self.now.numbers number) ≡ Some result.now }
+    {
+        let Some(value) = self.values.get(number) else {
+            unreachable!()
+        };
+        value
+    }
+
     /// Makes room for one more value. Refused where memory is, and where 4,294,967,295 values have come.
     pub fn reserve(&mut self) -> Result<(), AllocError>
         ensures items { self.new.items ≡ self.old.items }
+        ensures numbers { self.new.numbers ≡ self.old.numbers }
+        ensures end { self.new.end ≡ self.old.end }
         ensures room { OnOk result (self.new.has_room ≡ true) }
     {
         self.numbers.reserve()?;
         self.values.reserve(self.numbers.end() as usize + 1, 1)
     }
 
-    /// Adds a value at the end. Takes no memory, and a few steps.
-    pub fn push(&mut self, value: T)
+    /// Adds a value at the end, and gives its number. Takes no memory, and a few steps.
+    pub fn push(&mut self, value: T) -> u32
         requires { self.old.has_room ≡ true }
-        ensures { self.new.items ≡ self.old.items ++ value ∷ [] }
+        ensures number { result ≡ self.old.end }
+        ensures items { self.new.items ≡ self.old.items ++ value ∷ [] }
+        ensures numbers { self.new.numbers ≡ self.old.numbers ++ result ∷ [] }
+        ensures end { self.new.end ≡ self.old.end + 1 }
     {
         let number = self.numbers.push();
         self.values.extend_to(number as usize + 1);
         self.values.put(number, value);
+        number
     }
 
     /// Takes the value at a place out: the others stay in their order. Takes no memory, and the time of `RisingNumbers::remove`.
@@ -98,6 +144,8 @@ impl<T> NumberedVec<T> {
         requires { at < length self.old.items }
         ensures value { slice_get self.old.items at ≡ Some result }
         ensures items { self.new.items ≡ remove self.old.items at }
+        ensures numbers { self.new.numbers ≡ remove self.old.numbers at }
+        ensures end { self.new.end ≡ self.old.end }
     {
         let number = self.numbers.remove(at);
         let Some(value) = self.values.take(number) else {

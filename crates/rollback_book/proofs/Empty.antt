@@ -9,7 +9,7 @@ use Rattle.item_store.specs.Store.{Store, items_of}
 use Rattle.item_store.specs.Table.{Table}
 use Rattle.saved_steps.specs.Steps.{name_of}
 use Rattle.saved_steps.specs.World.{Setting, World}
-use Rattle.settled_names.specs.Names.{Names}
+use Rattle.step_history.specs.SettledNames.{Names}
 use Rattle.step_history.specs.History.{IsHistory, nothing_over, history_items, history_records}
 use Rattle.step_history.specs.declared.history.History.{History}
 use Rattle.step_history.proofs.Left.{as_many}

@@ -25,3 +25,4 @@ pub mod Started
 pub mod Retaken
 pub mod Remaining
 pub mod Commuted
+pub use Rattle.book_events.proofs.Cursors

@@ -11,7 +11,7 @@ use Rattle.branch_tree.specs.declared.readiness.Readiness.{Readiness}
 use Rattle.step_names.specs.Thread.{Thread}
 use Rattle.step_names.specs.declared.step.StepName.{StepName}
 use Rattle.saved_steps.specs.Effects.{Effect, effect_of, frame_effect, if_numbered, move_effect, next_step, waits}
-use Rattle.saved_steps.specs.First.{IsFirstReady, NoneFreeBefore, free}
+use Rattle.saved_steps.specs.First.{IsFirstReady, NoneBeforeThread, free}
 use Rattle.saved_steps.specs.Held.{frames_of, paths_of, world_view}
 use Rattle.saved_steps.specs.Made.{CanMake, effect_of_next, fact_made}
 use Rattle.saved_steps.specs.Steps.{moved}
@@ -294,5 +294,5 @@ module _ (b : BookView) (tied : BookInvariant b) (passed : Thread → Bool) wher
   pub ready_there : (found : Option Thread) → IsFirstReady (frames_of (history_world b.history)) passed found → IsFirstReady (world_of b.log).frames passed found
   ready_there found h = subst (λ (w : World). IsFirstReady w.frames passed found) (sym (world_is b tied)) h
 
-  pub none_there_before : (name : List ℕ) → NoneFreeBefore (world_of b.log).frames passed name → NoneFreeBefore (frames_of (history_world b.history)) passed name
-  none_there_before name h = subst (λ (w : World). NoneFreeBefore w.frames passed name) (world_is b tied) h
+  pub none_there_before : (name : List ℕ) (path : List (ℕ × ℕ)) → NoneBeforeThread (world_of b.log).frames passed name path → NoneBeforeThread (frames_of (history_world b.history)) passed name path
+  none_there_before name path h = subst (λ (w : World). NoneBeforeThread w.frames passed name path) (world_is b tied) h

@@ -1,8 +1,8 @@
 -- What is planned for a step, and is still planned as long as nothing was accepted since.
 use Rattle.std.proofs.Common.{◌≡◌, ◌<◌, arith, ℕ, ◌+◌, List, [], ◌∷◌, ◌++◌, All, append_assoc, drop, get_or, length, length-append, map, zero, suc, refl, ap, ap₂, sym, subst, ◌∙◌, Option, None, Some, Ok}
-use Rattle.std.specs.Prelude.{slice_get, reverse, option_map}
+use Rattle.std.specs.Prelude.{◌≤◌, ◌-◌, slice_get, reverse, option_map}
 use Rattle.std.proofs.Math.Seq.{drop-cons}
-use Rattle.std.proofs.lemmas.List.{append-nil, map-append}
+use Rattle.std.proofs.lemmas.List.{append-nil, length-map, map-append}
 use Rattle.std.proofs.lemmas.Option.{same_Some, slice_get-map, slice_get_within}
 use Rattle.step_names.specs.declared.step.StepName.{StepName}
 use Rattle.trace_theory.specs.Traces.{consequences}
@@ -13,6 +13,7 @@ use Rattle.depends.specs.Laws.{facts_of}
 use Rattle.depends.specs.Plans.{plan}
 use Rattle.depends.proofs.Searching.{facts}
 use Rattle.step_history.specs.History.{TakenStep, IsPlanOf, history_records}
+use Rattle.step_history.specs.Near.{near_behind}
 use Rattle.book_log.specs.Answers.{plan_answer, names_of_facts}
 use Rattle.book_log.specs.Log.{Log, past_of, setting_of}
 use Rattle.book_log.specs.declared.entry.Entry.{Entry}
@@ -81,8 +82,9 @@ module _ (b : BookView) (tied : BookInvariant b) (name : StepName) (at : ℕ) (i
       ∙ ap Ok (sym (some_names names (names_of_facts xs) (h ∙ names_by (past_of b.log) xs (history_records b.history) places (facts_are b tied) (planned_steps places e))))
 
   pub planned : (r : PlanRoom) → r.step ≡ name → r.places ≡ plan (facts (history_records b.history)) at → map Some r.names ≡ map (name_at (history_records b.history)) r.places
-      → map Some r.undone ≡ map (name_at (history_records b.history)) r.places → length b.log.entries ≡ r.entries → IsPlanned b.log r
-  planned r step places names undone entries =
+      → map Some r.undone ≡ map (name_at (history_records b.history)) r.places → length b.log.entries ≡ r.entries
+      → length r.places ≤ r.looks → r.looks ≤ length (history_records b.history) - at → r.looks ≤ 1 + near_behind (facts (history_records b.history)) r.places at → IsPlanned b.log r
+  planned r step places names undone entries members from near =
       let t = stood b tied name at is_at in
       let told : slice_get (facts_of (past_of b.log)) at ≡ Some t.step.fact = slice_get-map (λ (x : TakenStep). x.fact) (past_of b.log) at ∙ ap (option_map (λ (x : TakenStep). x.fact)) t.there in
       record {
@@ -92,6 +94,9 @@ module _ (b : BookView) (tied : BookInvariant b) (name : StepName) (at : ℕ) (i
         at = at;
         there = ap (option_map (λ (f : Fact). f.name)) told ∙ ap Some (t.fact ∙ sym step);
         places = places ∙ ap (λ (fs : List Fact). plan fs at) (facts_are b tied);
+        members = members;
+        from = subst (λ (fs : List Fact). r.looks ≤ length fs - at) (facts_are b tied) (subst (λ (n : ℕ). r.looks ≤ n - at) (sym (length-map (history_records b.history) (λ (x : StepRecord). x.fact))) from);
+        near = subst (λ (fs : List Fact). r.looks ≤ 1 + near_behind fs r.places at) (facts_are b tied) near;
         order = plan_allowed b.log tied.legal name r.names (names_planned r.places r.names places names);
       }
 

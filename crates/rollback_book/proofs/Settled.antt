@@ -7,7 +7,7 @@ use Rattle.std.proofs.lemmas.List.{map-append}
 use Rattle.step_names.specs.Order.{step_cmp}
 use Rattle.step_names.specs.declared.step.StepName.{StepName}
 use Rattle.step_names.proofs.OrderLaws as order
-use Rattle.settled_names.specs.Names.{HasRoomFor, Names, is_among}
+use Rattle.step_history.specs.SettledNames.{HasRoomFor, Names, is_among}
 use Rattle.trace_theory.proofs.Lists.{by_bool}
 use Rattle.saved_steps.specs.Held.{world_view}
 use Rattle.saved_steps.specs.Steps.{Step, name_of}

@@ -25,7 +25,9 @@ use Rattle.book_log.specs.Log.{Log, base_of, held, machine_of, past_of, setting_
 use Rattle.book_log.specs.declared.refusal.Refusal.{Refusal}
 use Rattle.book_log.specs.declared.refusal.Refusal.TheVariants.{NoMachine, MachineTaken, BadMachine, ExecTaken, NoThread, NotReady, NoStep, HasDependents, Stale, Full, Memory, Settled, Held}
 use Rattle.rollback_book.specs.Book.{BookView, BookInvariant, place_in, placed}
-use Rattle.book_events.specs.Commits.{IsFresh, IsSource}
+use Rattle.book_events.specs.Commits.{AnswersCommit, IsFresh, IsSource, tells_hold, turn_refused}
+use Rattle.book_events.specs.declared.commits.CommitRefusal.TheVariants.{Refused}
+use Rattle.book_events.specs.Planned.{IsMoveRefusal}
 use Rattle.rollback_book.specs.Ready.{HasRoomUnlessHeld, IsNextOf}
 use Rattle.book_events.specs.Tickets.{IsTicketed, IsTicketRefusal, readiness_in}
 use Rattle.rollback_book.proofs.Moving.{few_steps, moves_where, next_is, ready_to, step_full, told_there}
@@ -76,6 +78,31 @@ pub commit_full : (b : BookView) (tied : BookInvariant b) (t : Thread) (p : Prep
 commit_full b tied t p fresh unheld full =
     let there : frames_of (history_world b.history) t ≡ Some p.frame = sym (ap (λ (w : World). w.frames t) (world_is b tied)) ∙ fresh.frame in
     step_full b tied t p.frame there unheld (sym (ap first.is_enabled (told_there b tied t)) ∙ fresh.begins) full
+
+-- a turn that is its thread's next is answered as it is refused
+pub turn_answer : (log : Log) (t : Thread) (p : Prepared) (e : Refusal) → IsFresh log t p → IsMoveRefusal log t e → AnswersCommit log t p (Err (turn_refused e p))
+turn_answer log t p (Held step) fresh refused = (fresh, refused, refl)
+turn_answer log t p NoMachine fresh refused = (fresh, refused, refl)
+turn_answer log t p MachineTaken fresh refused = (fresh, refused, refl)
+turn_answer log t p (BadMachine fault) fresh refused = (fresh, refused, refl)
+turn_answer log t p ExecTaken fresh refused = (fresh, refused, refl)
+turn_answer log t p NoThread fresh refused = (fresh, refused, refl)
+turn_answer log t p (NotReady readiness) fresh refused = (fresh, refused, refl)
+turn_answer log t p NoStep fresh refused = (fresh, refused, refl)
+turn_answer log t p (HasDependents step) fresh refused = (fresh, refused, refl)
+turn_answer log t p (Stale entries) fresh refused = (fresh, refused, refl)
+turn_answer log t p Full fresh refused = (fresh, refused, refl)
+turn_answer log t p Memory fresh refused = (fresh, refused, refl)
+turn_answer log t p Settled fresh refused = (fresh, refused, refl)
+
+not_true : (b : Bool) → (b ≡ true → ⊥) → b ≡ false
+not_true true h = absurd (h refl)
+not_true false h = refl
+
+-- while nothing is held none is held back
+pub unheld_answer : (log : Log) (t : Thread) (p : Prepared) (e : Refusal) → IsFresh log t p → IsMoveRefusal log t e → (tells_hold e ≡ true → IsSome (held log)) → is_some (held log) ≡ false
+    → AnswersCommit log t p (Err (Refused e))
+unheld_answer log t p e fresh refused only none = (fresh, refused, not_true (tells_hold e) (λ h. let clash : true ≡ false = sym (only h) ∙ none in cc))
 
 -- ---- what is compared
 

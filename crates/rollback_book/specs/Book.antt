@@ -10,7 +10,7 @@ use Rattle.depends.specs.Plans.{first_dependent}
 use Rattle.saved_steps.specs.Held.{world_view}
 use Rattle.saved_steps.specs.Steps.{name_of}
 use Rattle.saved_steps.specs.World.{is_same_step}
-use Rattle.settled_names.specs.Names.{Names}
+use Rattle.step_history.specs.SettledNames.{Names}
 use Rattle.step_names.specs.declared.step.StepName.{StepName}
 use Rattle.step_history.specs.History.{IsHistory, history_records, history_world}
 use Rattle.step_history.specs.declared.history.History.{History}

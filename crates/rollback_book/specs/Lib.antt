@@ -25,4 +25,6 @@ pub use Rattle.book_events.specs.FirstMove
 pub use Rattle.book_events.specs.Calls
 pub use Rattle.book_events.specs.Tickets
 pub use Rattle.book_events.specs.Commits
+pub use Rattle.book_events.specs.Cursors
+pub use Rattle.book_events.specs.declared.cursor.Cursor
 pub use Rattle.book_events.specs.declared.room.PlanRoom

@@ -11,7 +11,7 @@ use Rattle.saved_steps.specs.Made.{CanApply, IsMadeFor}
 use Rattle.saved_steps.specs.Steps.{Step, started, moved}
 use Rattle.saved_steps.specs.declared.made.Made.{Made as MadeStep}
 use Rattle.step_history.specs.History.{TakenStep, HasRoom, history_records, history_world}
-use Rattle.settled_names.specs.Names.{HasRoomFor}
+use Rattle.step_history.specs.SettledNames.{HasRoomFor}
 use Rattle.saved_steps.specs.declared.record.StepRecord.{StepRecord}
 use Rattle.step_names.specs.Thread.{Thread}
 use Rattle.step_names.specs.declared.step.StepName.{StepName}

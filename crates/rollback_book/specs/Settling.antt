@@ -1,6 +1,6 @@
 -- What was settled, as a book holds it: by its names.
 use Rattle.std.specs.Prelude.{List, if◌then◌else◌}
-use Rattle.settled_names.specs.Names.{is_among}
+use Rattle.step_history.specs.SettledNames.{is_among}
 use Rattle.step_names.specs.declared.step.StepName.{StepName}
 use Rattle.book_log.specs.declared.refusal.Refusal.{Refusal}
 use Rattle.book_log.specs.declared.refusal.Refusal.TheVariants.{NoStep, Settled}

@@ -21,13 +21,12 @@ use attr_values::{Item, ItemFault};
 use book_events::{PlanRoom, Room};
 use book_log::{Begin, Entry, Refusal, StepNames, first_store};
 use item_store::{Items, SlotNo};
-use settled_names::SettledNames;
 use std::alloc::{AllocError, Global};
 use std::collections::BTreeMap;
 use std::marker::Model;
-use step_history::History;
 use step_history::turns::Frame;
-use step_index::StepRecords;
+use step_history::{History, SettledNames};
+use step_index::{Looks, StepRecords};
 use step_names::{StepName, ThreadName};
 
 /// Executions of state machines over one table, and the steps that were taken and not taken back.
@@ -154,7 +153,8 @@ impl Book {
         Ok(self.undo_found(free))
     }
 
-    /// Plans the rollback of a step: it and its consequences, the latest first. Takes memory for their names and places.
+    /// Plans the rollback of a step: it and its consequences, the latest first. Takes memory for their names and places. Looks at each of
+    /// them, and at those later steps alone that are in a class of one of them; the plan says how many it looked at.
     pub fn plan_room(&self, alloc: Global, step: &StepName) -> Result<PlanRoom, Refusal>
         ensures { PlansRollback self.now.log step.now result }
     {
@@ -186,6 +186,7 @@ impl Book {
             undone,
             places,
             entries: _,
+            looks: _,
         } = room;
         self.history.rollback(&places);
         take_out(&mut self.held, places.places());
@@ -272,7 +273,8 @@ impl Book {
         requires { IsAt self.now step.now at }
         ensures { IfOk result (λ r. (r.step ≡ step.now) × IsPlanned self.now.log r) }
     {
-        let places = self.history.plan(alloc, at)?;
+        let mut looks = Looks::new();
+        let places = self.history.plan_with_looks(alloc, at, &mut looks)?;
         let names = names_at(alloc, self.history.records(), places.places())?;
         let undone = names.copy()?;
         Ok(PlanRoom {
@@ -281,6 +283,7 @@ impl Book {
             undone,
             places,
             entries: self.entries.len(),
+            looks: looks.count(),
         })
     }
 

@@ -1,6 +1,7 @@
 // Turns that were prepared apart from the book, and are taken where they are still their threads'.
-ghost use Rattle.std.specs.Prelude.{◌≡◌, true, false, IfOk, MatchResult};
-ghost use Rattle.book_events.specs.Commits.{AnswersCommit, Commits, IsFresh, IsSource, IsStaleness, is_ready};
+ghost use Rattle.std.specs.Prelude.{◌≡◌, true, false, IfOk, IfErr, IsSome, MatchResult};
+ghost use Rattle.book_events.specs.Commits.{AnswersCommit, Commits, IsFresh, IsSource, IsStaleness, is_ready, tells_hold, turn_refused};
+ghost use Rattle.book_log.specs.Log.{held};
 ghost use Rattle.rollback_book.specs.Making.{AnswersMove, CanEnter};
 
 use crate::book::Book;
@@ -23,15 +24,29 @@ fn is_ready(phase: &Phase) -> bool
     matches!(phase, Phase::Ready)
 }
 
+/// How a turn is refused: one that is held back comes back.
+fn turn_refused(refusal: Refusal, prepared: Prepared) -> CommitRefusal
+    ensures { result ≡ turn_refused refusal prepared }
+{
+    match refusal {
+        Refusal::Held(step) => CommitRefusal::Held(step, prepared),
+        refusal => {
+            drop(prepared);
+            CommitRefusal::Refused(refusal)
+        }
+    }
+}
+
 impl Book {
     /// Takes a turn that was prepared of a thread's frame, where the thread still has that frame and the book that machine, and
     /// answers the step's name and kind. Both are compared whole, which takes no memory, and time linear in what they hold at
-    /// most. Takes what `History::make` takes: the turn is not prepared again.
+    /// most. Takes what `History::make` takes: the turn isn't prepared again, unless something is held.
     ///
     /// # Errors
     ///
-    /// `Stale`, then `Refused` with `Held`, `Full` or `Memory`, in this order; while something is held `Memory` may stand for the two
-    /// before it.
+    /// `Stale` and `Held`, which hand the turn back, and `Refused` with `Full` or `Memory`, in this order; while something is held
+    /// `Memory` may stand for the two before it.
+    #[tactic(auto, using(crate::proofs::Ticketed::unheld_answer))]
     pub fn commit(
         &mut self,
         alloc: Global,
@@ -44,6 +59,9 @@ impl Book {
         if let Some(why) = self.staleness(thread, &prepared) {
             return Err(CommitRefusal::Stale(why, prepared));
         }
+        if self.held().is_some() {
+            return self.commit_beside_hold(alloc, thread, prepared);
+        }
         match self.ready_commit(alloc, thread, prepared) {
             Ok(made) => {
                 let Entered::Stepped(moved) = self.enter(made) else {
@@ -52,6 +70,31 @@ impl Book {
                 Ok(moved)
             }
             Err(refusal) => Err(CommitRefusal::Refused(refusal)),
+        }
+    }
+
+    /// The same of a turn that is its thread's next, while something is held. Only a step that is made tells on what it depends, and
+    /// making it spends its turn: so it is worked out once more, and this one can be handed back.
+    #[tactic(auto, using(crate::proofs::Ticketed::turn_answer))]
+    fn commit_beside_hold(
+        &mut self,
+        alloc: Global,
+        thread: &ThreadName,
+        prepared: Prepared,
+    ) -> Result<Moved, CommitRefusal>
+        requires { IsFresh self.old.log thread.now prepared }
+        ensures answer { AnswersCommit self.old.log thread.now prepared result }
+        ensures log { Commits self.old.log result self.new.log }
+    {
+        match self.ready_step(alloc, thread) {
+            Ok(made) => {
+                drop(prepared);
+                let Entered::Stepped(moved) = self.enter(made) else {
+                    unreachable!()
+                };
+                Ok(moved)
+            }
+            Err(refusal) => Err(turn_refused(refusal, prepared)),
         }
     }
 
@@ -101,6 +144,7 @@ impl Book {
         requires { IsFresh self.old.log thread.now prepared }
         ensures answer { AnswersMove self.old.log thread.now result }
         ensures ready { IfOk result (λ m. CanEnter self.new m) }
+        ensures held { IfErr result (λ e. tells_hold e ≡ true → IsSome (held self.old.log)) }
         ensures log { self.new.log ≡ self.old.log }
     {
         if is_full_unheld(&self.held, self.entries.len(), self.history.len()) {

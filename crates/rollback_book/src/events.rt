@@ -78,9 +78,10 @@ impl Events for Book {
         &self,
         alloc: Global,
         from: &String,
+        path: &[(u32, u32)],
         outside: &BTreeSet<ThreadName>,
     ) -> Result<Option<ThreadName>, Refusal> {
-        Book::first_ready_from(self, alloc, from, outside)
+        Book::first_ready_from(self, alloc, from, path, outside)
     }
 
     fn ticket(&self, thread: &ThreadName) -> Result<Ticket, Refusal> {

@@ -19,7 +19,7 @@ mod stepping;
 mod tickets;
 
 pub use book::Book;
-pub use book_events::{CommitRefusal, Events, PlanRoom, Room, Staleness, Ticket};
+pub use book_events::{CommitRefusal, Cursor, Events, PlanRoom, Room, Staleness, Ticket};
 pub use book_log::{Begin, Entry, Moved, Refusal, StepNames};
 pub use branch_tree::Readiness;
 pub use making::{Change, Entered, Made};

@@ -5,8 +5,8 @@ ghost use Rattle.book_log.specs.Answers.{most_steps};
 ghost use Rattle.rollback_book.specs.Settling.{absent_in};
 
 use book_log::{Entry, Refusal, StepNames};
-use settled_names::SettledNames;
 use std::alloc::{AllocError, Global};
+use step_history::SettledNames;
 use step_index::StepRecords;
 use step_names::StepName;
 

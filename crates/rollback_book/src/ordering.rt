@@ -11,8 +11,8 @@ use crate::book::Book;
 use crate::lists::absent_in;
 use book_log::{Entry, Refusal};
 use saved_steps::{Access, Fact, Saved, StepRecord};
-use settled_names::SettledNames;
 use std::alloc::{AllocError, Global};
+use step_history::SettledNames;
 use step_index::StepRecords;
 use step_names::StepName;
 

@@ -1,6 +1,6 @@
 // Steps that can't be taken back any more, and commands of a log that are entered once more.
 ghost use Rattle.std.specs.Prelude.{◌≡◌, ℕ, List, length, IfErr, IfOk, OnOk};
-ghost use Rattle.settled_names.specs.Names.{HasRoomFor};
+ghost use Rattle.step_history.specs.SettledNames.{HasRoomFor};
 ghost use Rattle.saved_steps.specs.declared.fact.Kind.{Kind};
 ghost use Rattle.step_names.specs.declared.step.StepName.{StepName};
 ghost use Rattle.book_log.specs.Legal.{IsAccepted};

@@ -1,15 +1,16 @@
 // Steps of threads: what is next is worked out and made, and then it is entered.
-ghost use Rattle.std.specs.Prelude.{◌≡◌, ◌+◌, ◌<◌, ◌^◌, IfOk, MatchResult, Err};
+ghost use Rattle.std.specs.Prelude.{◌≡◌, ◌+◌, ◌<◌, ◌^◌, true, IfOk, IfErr, IsSome, MatchResult, Err};
 ghost use Rattle.std.specs.BTreeSet.{contains};
 ghost use Rattle.std.specs.String.{string_bytes};
 ghost use Rattle.branch_tree.specs.First.{is_enabled};
 ghost use Rattle.step_names.specs.Order.{thread_cmp};
 ghost use Rattle.saved_steps.specs.Effects.{next_step};
-ghost use Rattle.saved_steps.specs.First.{NoneFreeBefore};
+ghost use Rattle.saved_steps.specs.First.{NoneBeforeThread};
 ghost use Rattle.saved_steps.specs.Made.{fact_made};
 ghost use Rattle.book_log.specs.Answers.{step_answer};
-ghost use Rattle.book_log.specs.Log.{world_of};
+ghost use Rattle.book_log.specs.Log.{held, world_of};
 ghost use Rattle.book_events.specs.Calls.{FindsFirst, Steps};
+ghost use Rattle.book_events.specs.Commits.{tells_hold};
 ghost use Rattle.rollback_book.specs.Making.{AnswersMove, CanEnter};
 ghost use Rattle.book_events.specs.Planned.{IsMoveRefusal};
 ghost use Rattle.rollback_book.specs.Ready.{HasRoomUnlessHeld, IsHeldBack, IsNextOf, IsReadyTo, MayEnter};
@@ -105,6 +106,7 @@ impl Book {
         requires { IsNextOf self.old name.thread name next }
         ensures answer { AnswersMove self.old.log name.thread result }
         ensures ready { IfOk result (λ m. CanEnter self.new m) }
+        ensures held { IfErr result (λ e. tells_hold e ≡ true → IsSome (held self.old.log)) }
         ensures log { self.new.log ≡ self.old.log }
     {
         let Ok(step) = self.make_step(alloc, &name, next) else {
@@ -127,9 +129,10 @@ impl Book {
     /// is held.
     fn check_made(&self, step: &saved_steps::Made) -> Result<(), Refusal>
         requires { HasRoomUnlessHeld self.now.log }
-        ensures { MatchResult result
+        ensures answer { MatchResult result
             (λ _. MayEnter self.now.log (fact_made step.now))
             (IsHeldBack self.now.log (fact_made step.now)) }
+        ensures held { IfErr result (λ _. IsSome (held self.now.log)) }
     {
         let Some(hold) = &self.held else {
             return Ok(());
@@ -157,11 +160,11 @@ impl Book {
     ) -> Result<Option<ThreadName>, Refusal>
         ensures { FindsFirst self.now.log (contains thread_cmp outside.now) result }
     {
-        self.first_ready_from(alloc, &String::new(alloc), outside)
+        self.first_ready_from(alloc, &String::new(alloc), &[], outside)
     }
 
-    /// The same, where no thread of an execution before the name `from` has a move and is outside the set: none of these is looked
-    /// at.
+    /// The same, if no thread before the one at `path` in the execution `from` has a move and is outside the set: none of these is
+    /// looked at.
     ///
     /// # Errors
     ///
@@ -170,12 +173,13 @@ impl Book {
         &self,
         alloc: Global,
         from: &String,
+        path: &[(u32, u32)],
         outside: &BTreeSet<ThreadName>,
     ) -> Result<Option<ThreadName>, Refusal>
-        requires { NoneFreeBefore (world_of self.now.log).frames (contains thread_cmp outside.now) (string_bytes from.now) }
+        requires { NoneBeforeThread (world_of self.now.log).frames (contains thread_cmp outside.now) (string_bytes from.now) path.now }
         ensures { FindsFirst self.now.log (contains thread_cmp outside.now) result }
     {
-        match self.history.first_ready(alloc, from, outside) {
+        match self.history.first_ready(alloc, from, path, outside) {
             Ok(found) => Ok(found),
             Err(AllocError) => Err(Refusal::Memory),
         }

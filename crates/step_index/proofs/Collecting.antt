@@ -6,7 +6,7 @@ use Rattle.std.proofs.lemmas.Option.{same_Some}
 use Rattle.attr_values.specs.declared.key.Key.{Key}
 use Rattle.item_store.proofs.Slots.{same_key}
 use Rattle.linked_classes.specs.Linked.{IsNext, IsFirst}
-use Rattle.linked_classes.specs.Places.{Places, place_class}
+use Rattle.linked_classes.specs.Cells.{cell_at}
 use Rattle.saved_steps.specs.declared.fact.Access.{Access}
 use Rattle.saved_steps.specs.declared.record.StepRecord.{StepRecord}
 use Rattle.step_index.specs.Buckets.{by_exec, by_key, exec_bucket, key_bucket}
@@ -117,15 +117,15 @@ module _ (g : ℕ → Option ℕ) (c : ℕ) (p : StepRecord → Bool) (rs : List
 
 -- ---- the classes in which these are
 
-pub of_in_class : (exec : List ℕ) (execs : Places) (rs : List StepRecord) (c : ℕ) → execs.classes ≡ classes_by by_exec rs → c ≡ exec_bucket exec
-    → (k : ℕ) (r : StepRecord) → slice_get rs k ≡ Some r → is_of exec r ≡ true → place_class execs k ≡ Some c
+pub of_in_class : (exec : List ℕ) (execs : List (Option ℕ)) (rs : List StepRecord) (c : ℕ) → execs ≡ classes_by by_exec rs → c ≡ exec_bucket exec
+    → (k : ℕ) (r : StepRecord) → slice_get rs k ≡ Some r → is_of exec r ≡ true → cell_at execs k ≡ Some c
 of_in_class exec execs rs c run e k r is same =
     class_there by_exec execs rs run k r is
     ∙ ap (λ (x : List ℕ). Some (exec_bucket x)) ((bytes_eq-Decides r.fact.name.thread.exec exec).0 same)
     ∙ ap Some (sym e)
 
-pub access_in_class : (key : Key) (keys : Places) (rs : List StepRecord) (c : ℕ) → keys.classes ≡ classes_by by_key rs → c ≡ key_bucket key
-    → (k : ℕ) (r : StepRecord) → slice_get rs k ≡ Some r → accesses key r ≡ true → place_class keys k ≡ Some c
+pub access_in_class : (key : Key) (keys : List (Option ℕ)) (rs : List StepRecord) (c : ℕ) → keys ≡ classes_by by_key rs → c ≡ key_bucket key
+    → (k : ℕ) (r : StepRecord) → slice_get rs k ≡ Some r → accesses key r ≡ true → cell_at keys k ≡ Some c
 access_in_class key keys rs c keyed e k r is same = class_there by_key keys rs keyed k r is ∙ by r.fact.access same ∙ ap Some (sym e)
   where
     by : (a : Option Access) → is_access key a ≡ true → option_map (λ (a : Access). key_bucket a.key) a ≡ Some (key_bucket key)

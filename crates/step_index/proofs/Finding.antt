@@ -13,7 +13,7 @@ use Rattle.saved_steps.specs.declared.fact.Fact.{Fact}
 use Rattle.saved_steps.specs.declared.record.StepRecord.{StepRecord}
 use Rattle.depends.specs.Dependence.{depends_directly}
 use Rattle.depends.specs.Plans.{consequences_at, depends_on, depends_on_some}
-use Rattle.step_marks.specs.Marks.{AreMarksOf}
+use Rattle.depends.specs.Marks.{AreMarksOf}
 use Rattle.step_index.specs.Due.{AreDue, IsFurther, IsOpen, IsTaken, is_due}
 use Rattle.step_index.specs.Finding.{AreFound, IsFree, IsNextDue, IsNextDueAt, pick, picked}
 use Rattle.step_index.specs.Near.{is_near, shares, shares_at}

@@ -47,12 +47,6 @@ module _ (by : Fact → Option ℕ) where
   left_where_class (false ∷ ms) (x ∷ rs) zero c is = absurd (let e : None ≡ Some c = is in cc)
   left_where_class (n ∷ ms) (x ∷ rs) (suc k) c is = left_where_class ms rs k c is
 
-  pub as_many_classes : (ms : List Bool) (rs : List StepRecord) → length ms ≡ length rs → length (classes_left by ms rs) ≡ length rs
-  as_many_classes [] [] e = refl
-  as_many_classes [] (x ∷ rs) e = absurd (omega (arith, e))
-  as_many_classes (n ∷ ms) [] e = absurd (omega (arith, e))
-  as_many_classes (n ∷ ms) (x ∷ rs) e = ap suc (as_many_classes ms rs (omega (arith, e)))
-
   one_more : (ms new : List Bool) (rs : List StepRecord) (m : Bool) (r : StepRecord) (old classes : List (Option ℕ)) (class : Option ℕ) → length ms ≡ length rs → new ≡ ms ++ m ∷ [] → old ≡ classes_left by ms rs → classes ≡ old ++ class ∷ [] → class ≡ cond m (by r.fact) None
       → classes ≡ classes_left by new (rs ++ r ∷ [])
   one_more ms new rs m r old classes class many marks is pushed e =
@@ -96,6 +90,11 @@ count_pushed [] = refl
 count_pushed (true ∷ ms) = let e = count_pushed ms in omega (arith, e)
 count_pushed (false ∷ ms) = count_pushed ms
 
+pub count_unmarked : (ms : List Bool) → count_left (ms ++ false ∷ []) ≡ count_left ms
+count_unmarked [] = refl
+count_unmarked (true ∷ ms) = ap suc (count_unmarked ms)
+count_unmarked (false ∷ ms) = count_unmarked ms
+
 pub count_within : (ms : List Bool) → count_left ms ≤ length ms
 count_within [] = omega arith
 count_within (true ∷ ms) = let e = count_within ms in omega (arith, e)
@@ -135,9 +134,6 @@ pub mark_there : (cs : List (Option ℕ)) (k : ℕ) → k < length cs → slice_
 mark_there [] k l = absurd (omega (arith, l))
 mark_there (c ∷ cs) zero l = refl
 mark_there (c ∷ cs) (suc k) l = mark_there cs k (omega (arith, l))
-
-pub shorter : (xs ys : List (Option ℕ)) (at : ℕ) → at < length ys → length xs ≡ length ys → length (remove xs at) ≡ length (remove ys at)
-shorter xs ys at low e = let a = length-remove xs at (omega (arith, low, e)) in let b = length-remove ys at low in omega (arith, a, b, e)
 
 -- ---- the first and the last
 

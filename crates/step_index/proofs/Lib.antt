@@ -12,3 +12,4 @@ pub mod Opening
 pub mod Opened
 pub mod Finding
 pub mod Collecting
+pub mod NearFacts

@@ -6,7 +6,6 @@ use Rattle.std.specs.HashSet.{contains as has_class}
 use Rattle.std.specs.List.{list_any}
 use Rattle.std.proofs.lemmas.Bool.{eqb-false, false_from_ne_true}
 use Rattle.linked_classes.specs.Cells.{cell_at}
-use Rattle.linked_classes.specs.Places.{Places}
 use Rattle.saved_steps.specs.declared.fact.Access.{Access}
 use Rattle.saved_steps.specs.declared.fact.Fact.{Fact}
 use Rattle.saved_steps.specs.declared.record.StepRecord.{StepRecord}
@@ -69,9 +68,7 @@ open_kept old new f k o = record { named = named; accessed = accessed f.access o
 
 module _ (rs : List StepRecord) (from : ℕ) (d : DuePlaces) (due : AreDue rs from d) (k : ℕ) (g : StepRecord) (is : slice_get rs k ≡ Some g) (late : from ≤ k) where
   class_of : (by : Fact → Option ℕ) → cell_at (classes_by by rs) k ≡ by g.fact
-  class_of by =
-      let v : Places = record { classes = classes_by by rs; width = 0; has_room = false } in
-      class_there by v rs refl k g is
+  class_of by = class_there by (classes_by by rs) rs refl k g is
 
   due_by_name : (f : Fact) → IsOpenByName d f → names_need f g.fact ≡ true → is_due d k ≡ true
   due_by_name f o need = elim o [

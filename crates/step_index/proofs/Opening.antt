@@ -1,11 +1,22 @@
 -- A class is opened: the walk back through it puts its later places to those that are due.
 use Rattle.std.proofs.Common.{◌≡◌, ◌==◌, ◌<◌, ◌≤◌, arith, ℕ, Bool, true, false, cond, List, Option, None, Some, eq-eqb, eqb-true, length, refl, ap, sym, subst, ◌∙◌, inl, inr, ◌⊎◌}
-use Rattle.std.specs.Prelude.{◌||◌, IfSome}
-use Rattle.std.proofs.lemmas.Option.{IfSome_then}
+use Rattle.std.specs.Prelude.{◌||◌, IfSome, option_map}
+use Rattle.std.proofs.lemmas.Option.{IfSome_then, slice_get_within}
 use Rattle.linked_classes.specs.Cells.{cell_at}
 use Rattle.linked_classes.specs.Linked.{IsBefore, IsLast}
+use Rattle.linked_classes.specs.Places.{IsNumber, place_in}
 use Rattle.step_index.specs.Due.{IsBehind, IsGrown, Keeps}
 use Rattle.step_index.proofs.Sought.{IsAbove, between, has_class}
+
+-- ---- what holds of a number's place
+
+pub mapped : (f : ℕ → ℕ) (P : ℕ → Type 0) (r : Option ℕ) → IfSome r (λ n. P (f n)) → IfSome (option_map f r) P
+mapped f P None h = tt
+mapped f P (Some n) h = h
+
+pub places_within : (ns : List ℕ) (count : ℕ) → length ns ≡ count → (r : Option ℕ) → IfSome r (IsNumber ns) → IfSome (option_map (place_in ns) r) (λ k. k < count)
+places_within ns count many None h = tt
+places_within ns count many (Some n) h = let l = slice_get_within ns (place_in ns n) n h in omega (arith, l, many)
 
 -- ---- sets of places
 

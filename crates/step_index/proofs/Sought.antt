@@ -1,7 +1,7 @@
 -- A walk back through the places of a class.
 use Rattle.std.proofs.Common.{◌≡◌, ◌<◌, ◌≤◌, ◌+◌, arith, ℕ, Bool, true, false, cond, List, Option, None, Some, refl, ap, sym, subst, ◌∙◌, inl, inr, ◌⊎◌}
-use Rattle.std.specs.Prelude.{slice_get, IfSome}
-use Rattle.std.proofs.lemmas.Bool.{cases_lt}
+use Rattle.std.specs.Prelude.{nat_lt, option_map, slice_get, IfSome}
+use Rattle.std.proofs.lemmas.Bool.{cases_lt, le-ltb, lt-ltb}
 use Rattle.std.proofs.lemmas.Option.{same_Some}
 use Rattle.linked_classes.specs.Linked.{IsBefore, IsLast}
 use Rattle.saved_steps.specs.declared.record.StepRecord.{StepRecord}
@@ -78,3 +78,19 @@ module _ (g : ℕ → Option ℕ) (c : ℕ) (p : StepRecord → Bool) (rs : List
           by : (b : Bool) → p x ≡ b → IsSought g c p rs low now last
           by true k = subst (λ o. IsSought g c p rs low o last) (sym (e ∙ ap (λ b. cond b (Some n) found) k)) (found_here k last before)
           by false k = subst (λ o. IsSought g c p rs low o last) (sym (e ∙ ap (λ b. cond b (Some n) found) k)) (not_here k last before)
+
+-- ---- the order of two places, and a choice, as they were told
+
+pub not_less : (a b : ℕ) → nat_lt a b ≡ false → b ≤ a
+not_less a b h = elim (cases_lt a b) [ inl w ↦ absurd (let e = sym h ∙ lt-ltb a b w in cc) | inr w ↦ w ]
+
+pub is_less : (a b : ℕ) → nat_lt a b ≡ true → a < b
+is_less a b h = elim (cases_lt a b) [ inl w ↦ w | inr w ↦ absurd (let e = sym h ∙ le-ltb a b w in cc) ]
+
+pub map_chosen : (f : ℕ → ℕ) (b : Bool) (n : ℕ) (o : Option ℕ) → option_map f (cond b (Some n) o) ≡ cond b (Some (f n)) (option_map f o)
+map_chosen f true n o = refl
+map_chosen f false n o = refl
+
+pub holds_chosen : (P : ℕ → Type 0) (b : Bool) (n : ℕ) (o : Option ℕ) → P n → IfSome o P → IfSome (cond b (Some n) o) P
+holds_chosen P true n o h g = h
+holds_chosen P false n o h g = g

@@ -1,5 +1,5 @@
 -- In which class a step is, by the hash of a part of its fact. Of the hash only this is used, that it is a function.
-use Rattle.std.specs.Prelude.{ℕ, ◌%◌, ◌++◌, ◌==◌, Bool, ◌||◌, not, List, Option, Some, None, option_map, take, if◌then◌else◌}
+use Rattle.std.specs.Prelude.{ℕ, ◌%◌, ◌++◌, ◌==◌, Bool, ◌||◌, not, List, [], ◌∷◌, Option, Some, None, option_map, take, if◌then◌else◌}
 use Rattle.std.specs.Hash as fed
 use Rattle.std.specs.Hash.FoldHasher as folding
 use Rattle.std.specs.List.{fold}
@@ -11,6 +11,8 @@ use Rattle.depends.specs.Dependence.{is_start}
 use Rattle.saved_steps.specs.Steps.{is_close, is_write}
 use Rattle.saved_steps.specs.declared.fact.Access.{Access}
 use Rattle.saved_steps.specs.declared.fact.Fact.{Fact}
+use Rattle.step_index.specs.declared.buckets.Classing.{Classing}
+use Rattle.step_index.specs.declared.buckets.Classing.TheVariants.{Names, Threads, Execs, Gates, Keys, Writes}
 
 unfoldable pub exec_bucket : List ℕ → ℕ
 exec_bucket exec = folding.finish (fold folding.write folding.initial (fed.str exec)) % 16381
@@ -64,3 +66,25 @@ written (Some a) = if is_write a.mode then Some (key_bucket a.key) else None
 
 abbrev pub by_write : Fact → Option ℕ
 by_write f = written f.access
+
+-- ---- the sets of classes, each of which has a number
+
+abbrev pub by_set : Classing → Fact → Option ℕ
+by_set Names = by_name
+by_set Threads = by_thread
+by_set Execs = by_exec
+by_set Gates = by_gate
+by_set Keys = by_key
+by_set Writes = by_write
+
+abbrev pub set_number : Classing → ℕ
+set_number Names = 0
+set_number Threads = 1
+set_number Execs = 2
+set_number Gates = 3
+set_number Keys = 4
+set_number Writes = 5
+
+-- the class of a step in each set, in their order
+abbrev pub all_classes : Fact → List (Option ℕ)
+all_classes f = by_name f ∷ by_thread f ∷ by_exec f ∷ by_gate f ∷ by_key f ∷ by_write f ∷ []

@@ -2,7 +2,7 @@
 use Rattle.std.specs.Prelude.{◌≡◌, ◌<◌, ◌≤◌, ◌+◌, All, ℕ, true, false, List, [], ◌∷◌, length, map, Option, None, Some, slice_get}
 use Rattle.saved_steps.specs.declared.record.StepRecord.{StepRecord}
 use Rattle.depends.specs.Plans.{depends_on_some}
-use Rattle.step_marks.specs.Marks.{AreMarksOf}
+use Rattle.depends.specs.Marks.{AreMarksOf}
 use Rattle.step_index.specs.Due.{AreDue, IsOpen, is_due}
 use Rattle.step_index.specs.Near.{is_near}
 use Rattle.step_index.specs.declared.found.FoundSteps.{FoundSteps}

@@ -1,6 +1,6 @@
 -- What contracts see of the steps that are left of a hold, by their places among records; and the classes in which they are.
-use Rattle.std.specs.Prelude.{◌≡◌, ◌<◌, ◌==◌, ℕ, Bool, true, false, ◌&&◌, nat_le, List, [], ◌∷◌, filter, length, Option, None, Some, slice_get, if◌then◌else◌}
-use Rattle.linked_classes.specs.Places.{Places}
+use Rattle.std.specs.Prelude.{◌≡◌, ◌<◌, ◌==◌, ℕ, Bool, true, false, ◌&&◌, nat_le, List, [], ◌∷◌, filter, length, map, Option, None, Some, slice_get, if◌then◌else◌}
+use Rattle.linked_classes.specs.Sets.{Classed, set_of}
 use Rattle.saved_steps.specs.declared.fact.Fact.{Fact}
 use Rattle.saved_steps.specs.declared.record.StepRecord.{StepRecord}
 use Rattle.step_index.specs.Buckets.{by_home, by_exec, by_key, by_write}
@@ -45,19 +45,21 @@ abbrev pub IsLastLeft : List Bool → Option ℕ → Type 0
 IsLastLeft ms None = (k : ℕ) → slice_get ms k ≡ Some true → ⊥
 IsLastLeft ms (Some i) = (slice_get ms i ≡ Some true) × ((k : ℕ) → i < k → slice_get ms k ≡ Some true → ⊥)
 
--- ---- inside, the places that are left are in class 0
+-- the classes of a step that is left, in six sets: that of those that are left, its home's, its execution's, none, its key's and
+-- that of the key that it wrote
+abbrev pub left_classes : Fact → List (Option ℕ)
+left_classes f = Some 0 ∷ by_home f ∷ by_exec f ∷ None ∷ by_key f ∷ by_write f ∷ []
+
+-- ---- inside, the places that are left are in class 0 of the first set
 
 abbrev pub is_mark : Option ℕ → Bool
 is_mark None = false
 is_mark (Some c) = c == 0
 
-pub record AreAlongside (left threads execs keys writes : List (Option ℕ)) (marks : List Bool) (count : ℕ) : Type 0 where
-  pub counted : count ≡ count_left marks
-  pub homed : length threads ≡ length left
-  pub run : length execs ≡ length left
-  pub keyed : length keys ≡ length left
-  pub wrote : length writes ≡ length left
+pub record AreAlongside (v : Classed Bool) (count : ℕ) : Type 0 where
+  pub counted : count ≡ count_left v.items
+  pub left : map is_mark (set_of v 0) ≡ v.items
 
--- there is room for one more place, and there are so many classes
-abbrev pub is_open_for : ℕ → Places → Bool
-is_open_for width p = p.has_room && nat_le width p.width
+-- there is room for one more place, and there is each class
+abbrev pub is_open : Classed Bool → Bool
+is_open v = v.has_room && nat_le 16381 v.width

@@ -1,6 +1,6 @@
 -- Which later steps are in a class that a plan opens for one of its steps, and so may be looked at.
-use Rattle.std.specs.Prelude.{ℕ, ◌==◌, ◌||◌, Bool, false, List, Option, None, Some, slice_get, if◌then◌else◌}
-use Rattle.std.specs.List.{list_any}
+use Rattle.std.specs.Prelude.{ℕ, ◌+◌, ◌==◌, ◌||◌, Bool, false, List, Option, None, Some, drop, slice_get, if◌then◌else◌}
+use Rattle.std.specs.List.{count_by, list_any}
 use Rattle.saved_steps.specs.Steps.{is_fork, is_write}
 use Rattle.saved_steps.specs.declared.fact.Access.{Access}
 use Rattle.saved_steps.specs.declared.fact.Fact.{Fact}
@@ -35,3 +35,16 @@ shares_at (Some f) g = shares f.fact g.fact
 -- a step is in a class that is opened for the step at one of these places
 abbrev pub is_near : List StepRecord → List ℕ → StepRecord → Bool
 is_near rs places g = list_any (λ p. shares_at (slice_get rs p) g) places
+
+-- ---- the same of facts alone
+
+abbrev pub fact_shares_at : Option Fact → Fact → Bool
+fact_shares_at None g = false
+fact_shares_at (Some f) g = shares f g
+
+abbrev pub is_near_fact : List Fact → List ℕ → Fact → Bool
+is_near_fact fs places g = list_any (λ p. fact_shares_at (slice_get fs p) g) places
+
+-- how many behind a place are in a class that is opened for the step at one of these places
+abbrev pub near_behind : List Fact → List ℕ → ℕ → ℕ
+near_behind fs places at = count_by (is_near_fact fs places) (drop (at + 1) fs)

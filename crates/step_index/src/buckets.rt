@@ -1,10 +1,11 @@
 //! In which class a step is, by the hash of a part of its fact.
 
-ghost use Rattle.std.specs.Prelude.{◌≡◌, ◌<◌, ◌≤◌, ◌%◌, ◌||◌, IfSome, Some, length};
+ghost use Rattle.std.specs.Prelude.{◌≡◌, ◌<◌, ◌≤◌, ◌%◌, ◌||◌, ℕ, IfSome, Some, length};
 ghost use Rattle.std.specs.Hash.FoldHasher.{finish};
 ghost use Rattle.depends.specs.Dependence.{is_start};
 ghost use Rattle.saved_steps.specs.Steps.{is_fork};
-ghost use Rattle.step_index.specs.Buckets.{above, by_home, by_name, by_thread, by_exec, by_gate, by_key, by_write, name_bucket, thread_bucket, exec_bucket, key_bucket, is_gate};
+ghost use Rattle.step_index.specs.Buckets.{above, by_home, by_name, by_thread, by_exec, by_gate, by_key, by_write, name_bucket, thread_bucket, exec_bucket, key_bucket, is_gate, all_classes, set_number};
+ghost use Rattle.linked_classes.specs.Cells.{cell_at};
 
 use attr_values::Key;
 use item_store::AccessMode;
@@ -14,6 +15,50 @@ use step_names::{StepName, ThreadName};
 
 /// How many classes there are: a prime number.
 pub(crate) const BUCKETS: u32 = 16_381;
+
+/// By what steps are in classes.
+#[derive(Clone, Copy, Debug, Drop)]
+pub(crate) enum Classing {
+    Names,
+    Threads,
+    Execs,
+    /// By their executions, of those alone that close a fork or waited for branches.
+    Gates,
+    Keys,
+    /// By their keys, of those alone that wrote.
+    Writes,
+}
+
+/// The number of a set of classes.
+pub(crate) fn set_number(set: Classing) -> u32
+    ensures number { result ≡ set_number set }
+    ensures below { result < 6 }
+{
+    match set {
+        Classing::Names => 0,
+        Classing::Threads => 1,
+        Classing::Execs => 2,
+        Classing::Gates => 3,
+        Classing::Keys => 4,
+        Classing::Writes => 5,
+    }
+}
+
+/// The class of a step in each set.
+pub(crate) fn all_classes(fact: &Fact) -> [Option<u32>; 6]
+    ensures classes { result ≡ all_classes fact.now }
+    ensures below { (set : ℕ) → set < 6 → IfSome (cell_at result set) (λ c. c < 16381) }
+{
+    let name = &fact.name;
+    [
+        Some(name_bucket(name)),
+        Some(thread_bucket(&name.thread)),
+        Some(exec_bucket(name.thread.exec())),
+        gate_bucket(fact),
+        access_bucket(fact),
+        write_bucket(fact),
+    ]
+}
 
 /// The class of a step's name.
 #[tactic(auto, unfolding(crate::specs::Buckets::name_bucket))]

@@ -3,18 +3,20 @@
 ghost use Rattle.std.specs.Prelude.{◌≡◌, ◌<◌, ◌+◌, ℕ, true, false, List, nat_eq, Some, OnOk};
 ghost use Rattle.std.specs.BinaryHeap.{heap_items};
 ghost use Rattle.std.specs.HashSet.{contains as has_class};
-ghost use Rattle.linked_classes.specs.Places.{place_class};
+ghost use Rattle.linked_classes.specs.Cells.{cell_at};
 ghost use Rattle.saved_steps.specs.declared.record.StepRecord.{StepRecord as Kept};
+ghost use Rattle.step_index.specs.Buckets.{by_set};
 ghost use Rattle.step_index.specs.Due.{AllDue, AreDue, IsBehind, IsFurther, IsGrown, IsOpen, IsOpenByAccess, IsOpenByName, IsTaken, Keeps, is_due};
 ghost use Rattle.step_index.specs.Near.{shares, shares_by_access, shares_by_name};
 ghost use Rattle.step_index.specs.Queue.{has_place};
+ghost use Rattle.step_index.specs.Records.{classes_by, classes_in};
 
-use crate::buckets::{exec_bucket, key_bucket, makes_threads, thread_bucket};
+use crate::buckets::{Classing, exec_bucket, key_bucket, makes_threads, set_number, thread_bucket};
 use crate::looks::CountedRecords;
 use crate::queue::PlaceQueue;
 use item_store::AccessMode;
-use linked_classes::ClassedPlaces;
-use saved_steps::Fact;
+use linked_classes::ClassedVec;
+use saved_steps::{Fact, StepRecord};
 use std::alloc::{AllocError, Global};
 use std::collections::HashSet;
 
@@ -82,18 +84,13 @@ impl DuePlaces {
         if self.execs.contains(&exec) {
             return Ok(());
         }
+        let due = &mut self.places;
         if makes_threads(fact.kind) {
-            return open_class(&mut self.places, &mut self.execs, records.execs(), exec, at);
+            return open_class(due, &mut self.execs, records, Classing::Execs, exec, at);
         }
         let own = thread_bucket(thread);
-        open_class(
-            &mut self.places,
-            &mut self.threads,
-            records.threads(),
-            own,
-            at,
-        )?;
-        open_class(&mut self.places, &mut self.gates, records.gates(), exec, at)
+        open_class(due, &mut self.threads, records, Classing::Threads, own, at)?;
+        open_class(due, &mut self.gates, records, Classing::Gates, exec, at)
     }
 
     /// Opens those of the steps that depend on it for an item. Each of these accessed its key: if all accesses of that are open, they
@@ -114,18 +111,13 @@ impl DuePlaces {
         if self.keys.contains(&key) {
             return Ok(());
         }
+        let due = &mut self.places;
         match access.mode {
             AccessMode::Write => {
-                open_class(&mut self.places, &mut self.keys, records.keys(), key, at)
+                open_class(due, &mut self.keys, records, Classing::Keys, key, at)
             }
             AccessMode::Read => {
-                open_class(
-                    &mut self.places,
-                    &mut self.writes,
-                    records.writes(),
-                    key,
-                    at,
-                )
+                open_class(due, &mut self.writes, records, Classing::Writes, key, at)
             }
         }
     }
@@ -135,39 +127,45 @@ impl DuePlaces {
 fn open_class(
     due: &mut PlaceQueue,
     opened: &mut HashSet<u32>,
-    steps: &ClassedPlaces,
+    records: &CountedRecords,
+    by: Classing,
     class: u32,
     at: usize,
 ) -> Result<(), AllocError>
+    requires { class < 16381 }
     ensures has { OnOk result (has_class nat_eq opened.new class ≡ true) }
     ensures kept { OnOk result (Keeps (has_class nat_eq opened.old) (has_class nat_eq opened.new)) }
-    ensures grown { OnOk result (IsGrown (IsBehind steps.now.classes class at) (has_place (heap_items due.old.heap)) (has_place (heap_items due.new.heap))) }
-    ensures due { OnOk result (AllDue steps.now.classes (at + 1) (has_place (heap_items due.old.heap)) (has_class nat_eq opened.old)
-        → AllDue steps.now.classes (at + 1) (has_place (heap_items due.new.heap)) (has_class nat_eq opened.new)) }
+    ensures grown { OnOk result (IsGrown (IsBehind (classes_by (by_set by) records.now) class at) (has_place (heap_items due.old.heap)) (has_place (heap_items due.new.heap))) }
+    ensures due { OnOk result (AllDue (classes_by (by_set by) records.now) (at + 1) (has_place (heap_items due.old.heap)) (has_class nat_eq opened.old)
+        → AllDue (classes_by (by_set by) records.now) (at + 1) (has_place (heap_items due.new.heap)) (has_class nat_eq opened.new)) }
 {
     if !opened.insert(class)? {
         return Ok(());
     }
-    put_behind(due, steps, class, at)
+    records.put_behind(due, by, class, at)
 }
 
 /// Puts the places of a class behind one to those that are due.
-fn put_behind(
+pub(crate) fn put_behind(
     due: &mut PlaceQueue,
-    steps: &ClassedPlaces,
+    records: &ClassedVec<StepRecord>,
+    by: Classing,
     class: u32,
     at: usize,
 ) -> Result<(), AllocError>
-    ensures all { OnOk result ((k : ℕ) → at < k → place_class steps.now k ≡ Some class → has_place (heap_items due.new.heap) k ≡ true) }
-    ensures grown { OnOk result (IsGrown (IsBehind steps.now.classes class at) (has_place (heap_items due.old.heap)) (has_place (heap_items due.new.heap))) }
+    requires { class < 16381 }
+    ensures all { OnOk result ((k : ℕ) → at < k → cell_at (classes_in records.now by) k ≡ Some class → has_place (heap_items due.new.heap) k ≡ true) }
+    ensures grown { OnOk result (IsGrown (IsBehind (classes_in records.now by) class at) (has_place (heap_items due.old.heap)) (has_place (heap_items due.new.heap))) }
 {
-    let mut last = steps.last(class);
-    while let Some(place) = last {
+    let set = set_number(by);
+    let mut last = records.last(set, class);
+    while let Some(number) = last {
+        let place = records.place(number);
         if place <= at {
             return Ok(());
         }
         due.push(place)?;
-        last = steps.before(place);
+        last = records.before(set, number);
     }
     Ok(())
 }

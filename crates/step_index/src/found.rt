@@ -7,9 +7,9 @@ ghost use Rattle.step_index.specs.Finding.{AreFound, IsNextDue};
 
 use crate::due::DuePlaces;
 use crate::looks::CountedRecords;
+use depends::Marks;
 use saved_steps::Fact;
 use std::alloc::{AllocError, Global};
-use step_marks::Marks;
 
 /// The places of steps that were found, in the order in which they came; the marks that these left; and the later places at which
 /// a step may be that depends directly on one of them.

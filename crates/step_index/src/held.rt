@@ -1,12 +1,14 @@
 //! What is left of a hold, by places among records.
 
-ghost use Rattle.std.specs.Prelude.{◌≡◌, ◌<◌, ◌==◌, ◌∷◌, ◌++◌, [], ℕ, Bool, true, false, List, length, All, IfOk, IfSome, OnOk, Some, position, slice_get};
+ghost use Rattle.std.specs.Prelude.{◌≡◌, ◌<◌, ◌==◌, ◌∷◌, ◌++◌, [], ℕ, Bool, true, false, List, length, All, IfOk, IfSome, OnOk, Some, option_map, position, slice_get};
 ghost use Rattle.std.specs.List.{list_any, remove};
-ghost use Rattle.linked_classes.specs.Places.{place_class};
+ghost use Rattle.linked_classes.specs.Cells.{cell_at};
+ghost use Rattle.linked_classes.specs.Places.{IsNumber, place_in};
+ghost use Rattle.linked_classes.specs.Sets.{set_of};
 ghost use Rattle.saved_steps.specs.declared.record.StepRecord.{StepRecord as Kept};
 ghost use Rattle.depends.specs.Dependence.{conflicts};
 ghost use Rattle.step_index.specs.Buckets.{is_gate};
-ghost use Rattle.step_index.specs.Held.{AreLeft, IsLastLeft, IsLeftAt, LeftFor, count_left, is_mark};
+ghost use Rattle.step_index.specs.Held.{AreLeft, IsLastLeft, IsLeftAt, LeftFor, count_left, left_classes};
 ghost use Rattle.step_index.specs.Walks.{IsFirstFrom, names_need, needed_by};
 
 use crate::buckets::{
@@ -17,10 +19,22 @@ use crate::records::StepRecords;
 use crate::walks::earlier;
 use depends::Plan;
 use item_store::AccessMode;
-use linked_classes::ClassedPlaces;
+use linked_classes::ClassedVec;
 use saved_steps::Fact;
 use std::alloc::{AllocError, Global};
 use std::marker::Model;
+
+/// The sets of classes: of those that are left one class; and of these their homes, their executions, the keys that they touched
+/// and those that they wrote. The number of a set is none of `Classing`.
+const LEFT_SET: u32 = 0;
+
+const HOMES: u32 = 1;
+
+const EXECS: u32 = 2;
+
+const KEYS: u32 = 4;
+
+const WRITES: u32 = 5;
 
 /// The class of the places that are left.
 const LEFT: u32 = 0;
@@ -29,33 +43,31 @@ const LEFT: u32 = 0;
 /// beside the records and goes with them, a place for each. Contracts see which places are left, and the classes of the steps there.
 ///
 /// The steps that are left are in classes: of their threads, their executions, the keys that they touched and those that they
-/// wrote, each by its hash. A place costs 40 bytes, one that is left 70 to 120 more, one that is gone 40, and all together 1,050,000 once.
+/// wrote, each by its hash. A place costs 40 bytes, one that is left 70 to 120 more, one that is gone 32, and all together 1,570,000
+/// once.
 #[derive(Drop)]
 pub struct HeldSteps {
-    left: ClassedPlaces,
-    threads: ClassedPlaces,
-    execs: ClassedPlaces,
-    keys: ClassedPlaces,
-    writes: ClassedPlaces,
+    /// Of each place, whether it is left.
+    places: ClassedVec<bool>,
     count: usize,
 }
 
 impl Model for HeldSteps {
-    ghost use Rattle.std.specs.Prelude.{◌&&◌, map};
-    ghost use Rattle.step_index.specs.Held.{AreAlongside, Held, is_mark, is_open_for};
+    ghost use Rattle.linked_classes.specs.Sets.{set_of};
+    ghost use Rattle.step_index.specs.Held.{AreAlongside, Held, is_open};
 
     ghost Value = { Held };
 
     ghost view = { λ a. record {
-      marks = map is_mark a.left.classes;
-      threads = a.threads.classes;
-      execs = a.execs.classes;
-      keys = a.keys.classes;
-      writes = a.writes.classes;
-      has_room = is_open_for 1 a.left && (is_open_for 16381 a.threads && (is_open_for 16381 a.execs && (is_open_for 16381 a.keys && is_open_for 16381 a.writes)));
+      marks = a.places.items;
+      threads = set_of a.places 1;
+      execs = set_of a.places 2;
+      keys = set_of a.places 4;
+      writes = set_of a.places 5;
+      has_room = is_open a.places;
     } };
 
-    ghost invariant = { λ a. AreAlongside a.left.classes a.threads.classes a.execs.classes a.keys.classes a.writes.classes (map is_mark a.left.classes) a.count };
+    ghost invariant = { λ a. AreAlongside a.places a.count };
 }
 
 impl HeldSteps {
@@ -84,16 +96,12 @@ impl HeldSteps {
         ensures left { AreLeft [] result }
     {
         HeldSteps {
-            left: ClassedPlaces::new(alloc),
-            threads: ClassedPlaces::new(alloc),
-            execs: ClassedPlaces::new(alloc),
-            keys: ClassedPlaces::new(alloc),
-            writes: ClassedPlaces::new(alloc),
+            places: ClassedVec::new(alloc),
             count: 0,
         }
     }
 
-    /// Makes room for one more place. Refused where memory is, and where 4,294,967,295 places have come.
+    /// Makes room for one more place. Refused where memory is, and where 715,827,882 places have come.
     pub fn reserve(&mut self) -> Result<(), AllocError>
         ensures marks { self.new.marks ≡ self.old.marks }
         ensures threads { self.new.threads ≡ self.old.threads }
@@ -102,12 +110,7 @@ impl HeldSteps {
         ensures writes { self.new.writes ≡ self.old.writes }
         ensures room { OnOk result (self.new.has_room ≡ true) }
     {
-        let classes = BUCKETS as usize;
-        self.left.reserve(1)?;
-        self.threads.reserve(classes)?;
-        self.execs.reserve(classes)?;
-        self.keys.reserve(classes)?;
-        self.writes.reserve(classes)
+        self.places.reserve(BUCKETS as usize)
     }
 
     /// Adds a place at the end, of a step that is not left. Takes no memory, and a few steps.
@@ -116,11 +119,8 @@ impl HeldSteps {
         ensures marks { self.new.marks ≡ self.old.marks ++ false ∷ [] }
         ensures left { (rs : List Kept) (r : Kept) → AreLeft rs self.old → AreLeft (rs ++ r ∷ []) self.new }
     {
-        self.left.push(None);
-        self.threads.push(None);
-        self.execs.push(None);
-        self.keys.push(None);
-        self.writes.push(None);
+        self.places
+            .push(false, &[None, None, None, None, None, None]);
     }
 
     /// Adds a place at the end, of a step that is left.
@@ -130,11 +130,8 @@ impl HeldSteps {
         ensures marks { self.new.marks ≡ self.old.marks ++ true ∷ [] }
         ensures left { (rs : List Kept) (r : Kept) → r.fact ≡ fact.now → AreLeft rs self.old → AreLeft (rs ++ r ∷ []) self.new }
     {
-        self.left.push(Some(LEFT));
-        self.threads.push(Some(home_bucket(fact)));
-        self.execs.push(Some(exec_bucket(fact.name.thread.exec())));
-        self.keys.push(access_bucket(fact));
-        self.writes.push(write_bucket(fact));
+        let classes = left_classes(fact);
+        self.places.push(true, &classes);
         self.count += 1;
     }
 
@@ -153,19 +150,15 @@ impl HeldSteps {
         Ok(())
     }
 
-    /// Takes a place out: those behind it come one forward. Takes no memory, a few steps in the classes, and five times the time
-    /// of `RisingNumbers::remove`.
+    /// Takes a place out: those behind it come one forward. Takes no memory, a few steps in the classes, and the time of
+    /// `RisingNumbers::remove`.
     pub fn remove(&mut self, at: usize)
         requires { at < length self.old.marks }
         ensures marks { self.new.marks ≡ remove self.old.marks at }
         ensures left { (rs : List Kept) → AreLeft rs self.old → AreLeft (remove rs at) self.new }
     {
         let count = self.count_without(at);
-        self.left.remove(at);
-        self.threads.remove(at);
-        self.execs.remove(at);
-        self.keys.remove(at);
-        self.writes.remove(at);
+        self.places.remove(at);
         self.count = count;
     }
 
@@ -185,7 +178,7 @@ impl HeldSteps {
         requires { at < length self.now.marks }
         ensures { slice_get self.now.marks at ≡ Some result }
     {
-        is_mark(self.left.class(at))
+        *self.places.get(at)
     }
 
     /// The first place that is left whose step is one on which a later step would depend directly. Takes no memory. Looks at the
@@ -213,7 +206,7 @@ impl HeldSteps {
             return self.first_in_threads(records, fact);
         }
         let class = exec_bucket(fact.name.thread.exec());
-        first_needed_in(records, &self.execs, class, fact)
+        first_needed_in(records, &self.places, EXECS, class, fact)
     }
 
     /// The same for one that neither closes a fork nor waited for branches: among the steps of its thread and of those above it.
@@ -228,7 +221,7 @@ impl HeldSteps {
         let mut found = None;
         for depth in 0..end {
             let class = bucket_above(thread, depth);
-            let here = first_needed_in(records, &self.threads, class, fact);
+            let here = first_needed_in(records, &self.places, HOMES, class, fact);
             found = earlier(found, here);
         }
         found
@@ -245,8 +238,8 @@ impl HeldSteps {
         };
         let class = key_bucket(&access.key);
         match access.mode {
-            AccessMode::Write => first_needed_in(records, &self.keys, class, fact),
-            AccessMode::Read => first_needed_in(records, &self.writes, class, fact),
+            AccessMode::Write => first_needed_in(records, &self.places, KEYS, class, fact),
+            AccessMode::Read => first_needed_in(records, &self.places, WRITES, class, fact),
         }
     }
 
@@ -268,39 +261,58 @@ impl HeldSteps {
     pub fn first(&self) -> Option<usize>
         ensures { result ≡ position (λ m. m) self.now.marks }
     {
-        self.left.first(LEFT)
+        place_of(&self.places, self.places.first(LEFT_SET, LEFT))
     }
 
     /// The last place that is left, in the same time.
     pub fn last(&self) -> Option<usize>
         ensures { IsLastLeft self.now.marks result }
     {
-        self.left.last(LEFT)
+        place_of(&self.places, self.places.last(LEFT_SET, LEFT))
     }
+}
+
+/// The place of a number, if there is one.
+fn place_of(places: &ClassedVec<bool>, number: Option<u32>) -> Option<usize>
+    requires { IfSome number (IsNumber places.now.numbers) }
+    ensures { result ≡ option_map (place_in places.now.numbers) number }
+{
+    match number {
+        Some(number) => Some(places.place(number)),
+        None => None,
+    }
+}
+
+/// The class of a step that is left, in each set.
+fn left_classes(fact: &Fact) -> [Option<u32>; 6]
+    ensures classes { result ≡ left_classes fact.now }
+    ensures below { (set : ℕ) → set < 6 → IfSome (cell_at result set) (λ c. c < 16381) }
+{
+    [
+        Some(LEFT),
+        Some(home_bucket(fact)),
+        Some(exec_bucket(fact.name.thread.exec())),
+        None,
+        access_bucket(fact),
+        write_bucket(fact),
+    ]
 }
 
 /// The first step in a class on which a later one would depend directly: a look at each step there before it.
 fn first_needed_in(
     records: &StepRecords,
-    steps: &ClassedPlaces,
+    steps: &ClassedVec<bool>,
+    set: u32,
     class: u32,
     later: &Fact,
 ) -> Option<usize>
-    requires { length steps.now.classes ≡ length records.now.items }
-    ensures first { IsFirstFrom (λ k. place_class steps.now k ≡ Some class) (needed_by later.now) records.now.items 0 result }
-    ensures member { IfSome result (λ k. place_class steps.now k ≡ Some class) }
+    requires many { length steps.now.items ≡ length records.now.items }
+    requires set { set < 6 }
+    requires class { class < 16381 }
+    ensures first { IsFirstFrom (λ k. cell_at (set_of steps.now set) k ≡ Some class) (needed_by later.now) records.now.items 0 result }
+    ensures member { IfSome result (λ k. cell_at (set_of steps.now set) k ≡ Some class) }
 {
-    crate::walks::first_needed_in(records.listed(), steps, class, later)
-}
-
-/// Whether a class is that of the places that are left.
-fn is_mark(class: Option<u32>) -> bool
-    ensures { result ≡ is_mark class }
-{
-    match class {
-        Some(class) => class == LEFT,
-        None => false,
-    }
+    crate::walks::first_needed_in(records.listed(), steps, set, class, later)
 }
 
 /// Which of so many places are among some.

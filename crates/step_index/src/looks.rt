@@ -1,12 +1,19 @@
 //! Records as a plan sees them: by looks that are counted.
 
-ghost use Rattle.std.specs.Prelude.{◌≡◌, ◌<◌, ◌+◌, length, slice_get, Some};
-ghost use Rattle.saved_steps.specs.declared.record.StepRecord.{StepRecord as Kept};
-ghost use Rattle.step_index.specs.Buckets.{by_thread, by_exec, by_gate, by_key, by_write};
+ghost use Rattle.std.specs.Prelude.{◌≡◌, ◌<◌, ◌+◌, ℕ, true, length, slice_get, Some, OnOk};
+ghost use Rattle.std.specs.BinaryHeap.{heap_items};
+ghost use Rattle.linked_classes.specs.Cells.{cell_at};
+ghost use Rattle.step_index.specs.Buckets.{by_set};
+ghost use Rattle.step_index.specs.Due.{IsBehind, IsGrown};
+ghost use Rattle.step_index.specs.Queue.{has_place};
 ghost use Rattle.step_index.specs.Records.{classes_by};
 
-use linked_classes::{ClassedPlaces, NumberedVec};
+use crate::buckets::Classing;
+use crate::due::put_behind;
+use crate::queue::PlaceQueue;
+use linked_classes::ClassedVec;
 use saved_steps::StepRecord;
+use std::alloc::AllocError;
 use std::marker::Model;
 
 /// How many records were looked at.
@@ -34,12 +41,7 @@ impl Looks {
 /// Records of which only the classes are told, and which are handed out by a call that counts. Contracts see their list.
 #[derive(Drop)]
 pub(crate) struct CountedRecords<'a> {
-    pub(crate) records: &'a NumberedVec<StepRecord>,
-    pub(crate) threads: &'a ClassedPlaces,
-    pub(crate) execs: &'a ClassedPlaces,
-    pub(crate) gates: &'a ClassedPlaces,
-    pub(crate) keys: &'a ClassedPlaces,
-    pub(crate) writes: &'a ClassedPlaces,
+    pub(crate) records: &'a ClassedVec<StepRecord>,
 }
 
 impl<'a> Model for CountedRecords<'a> {
@@ -47,7 +49,7 @@ impl<'a> Model for CountedRecords<'a> {
     ghost use Rattle.saved_steps.specs.declared.record.StepRecord.{StepRecord as Kept};
     ghost use Rattle.saved_steps.specs.contracts.record.StepRecord as record_row;
     ghost use Rattle.std.specs.Coded.{codes};
-    ghost use Rattle.step_index.specs.Records.{AreCounted};
+    ghost use Rattle.step_index.specs.Records.{AreIndexed};
 
     ghost Value = { List Kept };
 
@@ -55,7 +57,7 @@ impl<'a> Model for CountedRecords<'a> {
 
     ghost view = { λ a. a.records.now.items };
 
-    ghost invariant = { λ a. AreCounted a.records.now.items a.threads.now a.execs.now a.gates.now a.keys.now a.writes.now };
+    ghost invariant = { λ a. AreIndexed a.records.now };
 }
 
 impl<'a> CountedRecords<'a> {
@@ -65,39 +67,19 @@ impl<'a> CountedRecords<'a> {
         self.records.len()
     }
 
-    /// The classes of threads.
-    pub(crate) fn threads(&self) -> &'a ClassedPlaces
-        ensures { result.now.classes ≡ classes_by by_thread self.now }
+    /// Puts the places of a class behind one to those that are due. No record is looked at.
+    pub(crate) fn put_behind(
+        &self,
+        due: &mut PlaceQueue,
+        by: Classing,
+        class: u32,
+        at: usize,
+    ) -> Result<(), AllocError>
+        requires { class < 16381 }
+        ensures all { OnOk result ((k : ℕ) → at < k → cell_at (classes_by (by_set by) self.now) k ≡ Some class → has_place (heap_items due.new.heap) k ≡ true) }
+        ensures grown { OnOk result (IsGrown (IsBehind (classes_by (by_set by) self.now) class at) (has_place (heap_items due.old.heap)) (has_place (heap_items due.new.heap))) }
     {
-        self.threads
-    }
-
-    /// The classes of executions.
-    pub(crate) fn execs(&self) -> &'a ClassedPlaces
-        ensures { result.now.classes ≡ classes_by by_exec self.now }
-    {
-        self.execs
-    }
-
-    /// The classes of the executions of steps that close a fork or waited for branches.
-    pub(crate) fn gates(&self) -> &'a ClassedPlaces
-        ensures { result.now.classes ≡ classes_by by_gate self.now }
-    {
-        self.gates
-    }
-
-    /// The classes of the keys that were accessed.
-    pub(crate) fn keys(&self) -> &'a ClassedPlaces
-        ensures { result.now.classes ≡ classes_by by_key self.now }
-    {
-        self.keys
-    }
-
-    /// The classes of the keys that were written.
-    pub(crate) fn writes(&self) -> &'a ClassedPlaces
-        ensures { result.now.classes ≡ classes_by by_write self.now }
-    {
-        self.writes
+        put_behind(due, self.records, by, class, at)
     }
 
     /// Hands out the record at a place, and counts it.

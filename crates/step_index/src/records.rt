@@ -10,8 +10,7 @@ ghost use Rattle.step_index.specs.Near.{is_near};
 ghost use Rattle.step_index.specs.Walks.{ConflictsAt, IsFirstFrom, NeedsByName, needs};
 
 use crate::buckets::{
-    BUCKETS, access_bucket, exec_bucket, gate_bucket, key_bucket, makes_threads, name_bucket,
-    thread_bucket, write_bucket,
+    BUCKETS, Classing, all_classes, exec_bucket, key_bucket, makes_threads, name_bucket,
 };
 use crate::gathered::{gathered_accesses, gathered_of};
 use crate::looks::{CountedRecords, Looks};
@@ -20,7 +19,7 @@ use crate::walks::{earlier, first_named, first_needing, first_needing_in};
 use attr_values::Key;
 use depends::Plan;
 use item_store::AccessMode;
-use linked_classes::{ClassedPlaces, NumberedVec};
+use linked_classes::ClassedVec;
 use saved_steps::StepRecord;
 use std::alloc::{AllocError, Global};
 use std::marker::Model;
@@ -31,20 +30,15 @@ use step_names::StepName;
 ///
 /// The steps are in classes: of their names, their threads, their executions and the keys that they touched, each by its hash.
 /// Those that close a fork or waited for branches are in one of their own as well, by their execution, and those that wrote by
-/// their key. A record costs 150 to 250 bytes for these, one that is gone 56, and all together 1,600,000 once.
+/// their key. All classes are over the numbers of one list. A record costs 112 to 160 bytes for these, one that is gone 32, and
+/// all together 1,570,000 once.
 #[derive(Drop)]
 pub struct StepRecords {
-    records: NumberedVec<StepRecord>,
-    names: ClassedPlaces,
-    threads: ClassedPlaces,
-    execs: ClassedPlaces,
-    gates: ClassedPlaces,
-    keys: ClassedPlaces,
-    writes: ClassedPlaces,
+    records: ClassedVec<StepRecord>,
 }
 
 impl Model for StepRecords {
-    ghost use Rattle.step_index.specs.Records.{Records, AreIndexed, has_room, all_open};
+    ghost use Rattle.step_index.specs.Records.{Records, AreIndexed, has_room};
     ghost use Rattle.saved_steps.specs.contracts.record.StepRecord as record_row;
     ghost use Rattle.std.specs.Coded.{codes};
 
@@ -54,10 +48,10 @@ impl Model for StepRecords {
 
     ghost view = { λ a. record {
       items = a.records.items;
-      has_room = has_room a.records.has_room (all_open a.names a.threads a.execs a.gates a.keys a.writes);
+      has_room = has_room a.records;
     } };
 
-    ghost invariant = { λ a. AreIndexed a.records.items a.names a.threads a.execs a.gates a.keys a.writes };
+    ghost invariant = { λ a. AreIndexed a.records };
 }
 
 impl StepRecords {
@@ -66,18 +60,12 @@ impl StepRecords {
         ensures { result.items ≡ [] }
     {
         StepRecords {
-            records: NumberedVec::new(alloc),
-            names: ClassedPlaces::new(alloc),
-            threads: ClassedPlaces::new(alloc),
-            execs: ClassedPlaces::new(alloc),
-            gates: ClassedPlaces::new(alloc),
-            keys: ClassedPlaces::new(alloc),
-            writes: ClassedPlaces::new(alloc),
+            records: ClassedVec::new(alloc),
         }
     }
 
     /// The records in their order.
-    pub(crate) fn listed(&self) -> &NumberedVec<StepRecord>
+    pub(crate) fn listed(&self) -> &ClassedVec<StepRecord>
         ensures { result.now.items ≡ self.now.items }
     {
         &self.records
@@ -105,19 +93,12 @@ impl StepRecords {
         self.records.is_empty()
     }
 
-    /// Makes room for one more record. Refused where memory is, and where 4,294,967,295 records have come.
+    /// Makes room for one more record. Refused where memory is, and where 715,827,882 records have come.
     pub fn reserve(&mut self) -> Result<(), AllocError>
         ensures items { self.new.items ≡ self.old.items }
         ensures room { OnOk result (self.new.has_room ≡ true) }
     {
-        let classes = BUCKETS as usize;
-        self.records.reserve()?;
-        self.names.reserve(classes)?;
-        self.threads.reserve(classes)?;
-        self.execs.reserve(classes)?;
-        self.gates.reserve(classes)?;
-        self.keys.reserve(classes)?;
-        self.writes.reserve(classes)
+        self.records.reserve(BUCKETS as usize)
     }
 
     /// Adds a record at the end. Takes no memory, and the time to hash its name and its key a few times.
@@ -125,29 +106,17 @@ impl StepRecords {
         requires { self.old.has_room ≡ true }
         ensures { self.new.items ≡ self.old.items ++ kept ∷ [] }
     {
-        let name = &kept.fact.name;
-        self.names.push(Some(name_bucket(name)));
-        self.threads.push(Some(thread_bucket(&name.thread)));
-        self.execs.push(Some(exec_bucket(name.thread.exec())));
-        self.gates.push(gate_bucket(&kept.fact));
-        self.keys.push(access_bucket(&kept.fact));
-        self.writes.push(write_bucket(&kept.fact));
-        self.records.push(kept);
+        let classes = all_classes(&kept.fact);
+        self.records.push(kept, &classes);
     }
 
-    /// Takes the record at a place out: the others stay in their order. Takes no memory, and seven times the time of
-    /// `RisingNumbers::remove`; no record is moved or looked at.
+    /// Takes the record at a place out: the others stay in their order. Takes no memory, a few steps for each class, and the
+    /// time of `RisingNumbers::remove`; no record is moved or looked at.
     pub fn remove(&mut self, at: usize) -> StepRecord
         requires { at < length self.old.items }
         ensures taken { slice_get self.old.items at ≡ Some result }
         ensures items { self.new.items ≡ remove self.old.items at }
     {
-        self.names.remove(at);
-        self.threads.remove(at);
-        self.execs.remove(at);
-        self.gates.remove(at);
-        self.keys.remove(at);
-        self.writes.remove(at);
         self.records.remove(at)
     }
 
@@ -172,7 +141,7 @@ impl StepRecords {
     pub fn find(&self, name: &StepName) -> Option<usize>
         ensures { result ≡ position (λ r. is_same_step r.fact.name name.now) self.now.items }
     {
-        first_named(&self.records, &self.names, name_bucket(name), name)
+        first_named(&self.records, name_bucket(name), name)
     }
 
     /// The places of an execution's steps, in ascending order. Takes memory for these; looks at the steps whose executions have its
@@ -180,7 +149,7 @@ impl StepRecords {
     pub fn of_execution(&self, alloc: Global, exec: &str) -> Result<Vec<usize>, AllocError>
         ensures { IfOk result (λ places. places.items ≡ places_where (is_of exec.now) self.now.items) }
     {
-        gathered_of(alloc, &self.records, &self.execs, exec_bucket(exec), exec)
+        gathered_of(alloc, &self.records, exec_bucket(exec), exec)
     }
 
     /// The places of the steps that accessed a key, in ascending order. Takes memory for these; looks at the accesses of the keys
@@ -188,7 +157,7 @@ impl StepRecords {
     pub fn accesses(&self, alloc: Global, key: &Key) -> Result<Vec<usize>, AllocError>
         ensures { IfOk result (λ places. places.items ≡ places_where (accesses key.now) self.now.items) }
     {
-        gathered_accesses(alloc, &self.records, &self.keys, key_bucket(key), key)
+        gathered_accesses(alloc, &self.records, key_bucket(key), key)
     }
 
     /// The place of the earliest step that depends directly on the one at a place. Takes no memory. Looks, behind it, at the
@@ -212,9 +181,9 @@ impl StepRecords {
             return None;
         };
         match access.mode {
-            AccessMode::Write => first_needing(records, &self.keys, at),
+            AccessMode::Write => first_needing(records, Classing::Keys, at),
             AccessMode::Read => {
-                first_needing_in(records, &self.writes, key_bucket(&access.key), at)
+                first_needing_in(records, Classing::Writes, key_bucket(&access.key), at)
             }
         }
     }
@@ -252,11 +221,6 @@ impl StepRecords {
     {
         CountedRecords {
             records: &self.records,
-            threads: &self.threads,
-            execs: &self.execs,
-            gates: &self.gates,
-            keys: &self.keys,
-            writes: &self.writes,
         }
     }
 
@@ -268,10 +232,10 @@ impl StepRecords {
         let records = &self.records;
         let fact = &records.get(at).fact;
         if makes_threads(fact.kind) {
-            return first_needing(records, &self.execs, at);
+            return first_needing(records, Classing::Execs, at);
         }
         let class = exec_bucket(fact.name.thread.exec());
-        let closing = first_needing_in(records, &self.gates, class, at);
-        earlier(first_needing(records, &self.threads, at), closing)
+        let closing = first_needing_in(records, Classing::Gates, class, at);
+        earlier(first_needing(records, Classing::Threads, at), closing)
     }
 }

@@ -1,32 +1,36 @@
 //! Walks through the places of a class.
 
-ghost use Rattle.std.specs.Prelude.{◌≡◌, ◌<◌, ◌+◌, ℕ, Some, None, IfSome, length, slice_get, if◌then◌else◌};
-ghost use Rattle.linked_classes.specs.Places.{place_class};
+ghost use Rattle.std.specs.Prelude.{◌≡◌, ◌<◌, ◌+◌, ℕ, Some, None, IfSome, length, option_map, slice_get, if◌then◌else◌};
+ghost use Rattle.linked_classes.specs.Cells.{cell_at};
+ghost use Rattle.linked_classes.specs.Places.{IsNumber, place_in};
+ghost use Rattle.linked_classes.specs.Sets.{set_of};
 ghost use Rattle.saved_steps.specs.World.{is_same_step};
 ghost use Rattle.saved_steps.specs.declared.record.StepRecord.{StepRecord as Kept};
+ghost use Rattle.step_index.specs.Records.{classes_in};
 ghost use Rattle.step_index.specs.Walks.{IsFirstFrom, needed_by, needs, earlier};
 
+use crate::buckets::{Classing, set_number};
 use depends::depends;
-use linked_classes::{ClassedPlaces, NumberedVec};
+use linked_classes::ClassedVec;
 use saved_steps::{Fact, StepRecord};
 use step_names::StepName;
 
-/// The first step of a name in a class: a look at each step there before it.
+/// The first step of a name in a class of names: a look at each step there before it.
 pub(crate) fn first_named(
-    records: &NumberedVec<StepRecord>,
-    names: &ClassedPlaces,
+    records: &ClassedVec<StepRecord>,
     class: u32,
     name: &StepName,
 ) -> Option<usize>
-    requires { length names.now.classes ≡ length records.now.items }
-    ensures { IsFirstFrom (λ k. place_class names.now k ≡ Some class) (λ r. is_same_step r.fact.name name.now) records.now.items 0 result }
+    requires { class < 16381 }
+    ensures { IsFirstFrom (λ k. cell_at (classes_in records.now Classing.Names) k ≡ Some class) (λ r. is_same_step r.fact.name name.now) records.now.items 0 result }
 {
-    let mut next = names.first(class);
-    while let Some(place) = next {
-        if is_of_name(records.get(place), name) {
-            return Some(place);
+    let set = set_number(Classing::Names);
+    let mut next = records.first(set, class);
+    while let Some(number) = next {
+        if is_of_name(records.of_number(number), name) {
+            return Some(records.place(number));
         }
-        next = names.next(place);
+        next = records.next(set, number);
     }
     None
 }
@@ -40,83 +44,109 @@ fn is_of_name(taken: &StepRecord, name: &StepName) -> bool
 
 /// The first step in the class of one, behind it, that depends directly on it: a look at each step there before it.
 pub(crate) fn first_needing(
-    records: &NumberedVec<StepRecord>,
-    steps: &ClassedPlaces,
+    records: &ClassedVec<StepRecord>,
+    by: Classing,
     at: usize,
 ) -> Option<usize>
-    requires alike { length steps.now.classes ≡ length records.now.items }
-    requires there { at < length records.now.items }
-    ensures member { (c : ℕ) (f : Kept) → place_class steps.now at ≡ Some c → slice_get records.now.items at ≡ Some f
-        → IsFirstFrom (λ k. place_class steps.now k ≡ Some c) (needs f) records.now.items (at + 1) result }
-    ensures none { place_class steps.now at ≡ None → result ≡ None }
+    requires { at < length records.now.items }
+    ensures member { (c : ℕ) (f : Kept) → cell_at (classes_in records.now by) at ≡ Some c → slice_get records.now.items at ≡ Some f
+        → IsFirstFrom (λ k. cell_at (classes_in records.now by) k ≡ Some c) (needs f) records.now.items (at + 1) result }
+    ensures none { cell_at (classes_in records.now by) at ≡ None → result ≡ None }
 {
-    let mut next = steps.next(at);
-    while let Some(place) = next {
-        if depends(&records.get(at).fact, &records.get(place).fact) {
-            return Some(place);
+    let set = set_number(by);
+    let own = records.number(at);
+    let mut next = records.next(set, own);
+    while let Some(number) = next {
+        if depends(
+            &records.of_number(own).fact,
+            &records.of_number(number).fact,
+        ) {
+            return Some(records.place(number));
         }
-        next = steps.next(place);
+        next = records.next(set, number);
     }
     None
 }
 
 /// The first step in a class, behind a step, that depends directly on that one: a look at each step there behind it.
 pub(crate) fn first_needing_in(
-    records: &NumberedVec<StepRecord>,
-    steps: &ClassedPlaces,
+    records: &ClassedVec<StepRecord>,
+    by: Classing,
     class: u32,
     at: usize,
 ) -> Option<usize>
-    requires alike { length steps.now.classes ≡ length records.now.items }
     requires there { at < length records.now.items }
-    ensures { (f : Kept) → slice_get records.now.items at ≡ Some f → IsFirstFrom (λ k. place_class steps.now k ≡ Some class) (needs f) records.now.items (at + 1) result }
+    requires below { class < 16381 }
+    ensures { (f : Kept) → slice_get records.now.items at ≡ Some f → IsFirstFrom (λ k. cell_at (classes_in records.now by) k ≡ Some class) (needs f) records.now.items (at + 1) result }
 {
+    let set = set_number(by);
+    let own = records.number(at);
     let mut found = None;
-    let mut last = steps.last(class);
-    while let Some(place) = last {
-        if place <= at {
-            return found;
+    let mut last = records.last(set, class);
+    while let Some(number) = last {
+        if !records.is_behind(number, own) {
+            return place_of(records, found);
         }
-        found = nearer(records, at, place, found);
-        last = steps.before(place);
+        found = nearer(records, own, number, found);
+        last = records.before(set, number);
     }
-    found
+    place_of(records, found)
 }
 
-/// A place, if its step depends directly on that at another; and else what was found.
+/// A number, if its step depends directly on that of another; and else what was found.
 fn nearer(
-    records: &NumberedVec<StepRecord>,
-    at: usize,
-    place: usize,
-    found: Option<usize>,
-) -> Option<usize>
-    requires there { at < length records.now.items }
-    requires within { place < length records.now.items }
-    ensures { (f g : Kept) → slice_get records.now.items at ≡ Some f → slice_get records.now.items place ≡ Some g → result ≡ (if needs f g then Some place else found) }
+    records: &ClassedVec<StepRecord>,
+    own: u32,
+    number: u32,
+    found: Option<u32>,
+) -> Option<u32>
+    requires own { IsNumber records.now.numbers own }
+    requires number { IsNumber records.now.numbers number }
+    ensures { (f g : Kept) → slice_get records.now.items (place_in records.now.numbers own) ≡ Some f → slice_get records.now.items (place_in records.now.numbers number) ≡ Some g
+        → result ≡ (if needs f g then Some number else found) }
 {
-    if depends(&records.get(at).fact, &records.get(place).fact) {
-        return Some(place);
+    if depends(
+        &records.of_number(own).fact,
+        &records.of_number(number).fact,
+    ) {
+        return Some(number);
     }
     found
 }
 
-/// The first step in a class on which a later one would depend directly: a look at each step there before it.
+/// The place of a number, if there is one.
+fn place_of(records: &ClassedVec<StepRecord>, number: Option<u32>) -> Option<usize>
+    requires { IfSome number (IsNumber records.now.numbers) }
+    ensures { result ≡ option_map (place_in records.now.numbers) number }
+{
+    match number {
+        Some(number) => Some(records.place(number)),
+        None => None,
+    }
+}
+
+/// The first step in a class of some places beside the records, on which a later one would depend directly: a look at each step
+/// there before it.
 pub(crate) fn first_needed_in(
-    records: &NumberedVec<StepRecord>,
-    steps: &ClassedPlaces,
+    records: &ClassedVec<StepRecord>,
+    steps: &ClassedVec<bool>,
+    set: u32,
     class: u32,
     later: &Fact,
 ) -> Option<usize>
-    requires { length steps.now.classes ≡ length records.now.items }
-    ensures first { IsFirstFrom (λ k. place_class steps.now k ≡ Some class) (needed_by later.now) records.now.items 0 result }
-    ensures member { IfSome result (λ k. place_class steps.now k ≡ Some class) }
+    requires many { length steps.now.items ≡ length records.now.items }
+    requires set { set < 6 }
+    requires class { class < 16381 }
+    ensures first { IsFirstFrom (λ k. cell_at (set_of steps.now set) k ≡ Some class) (needed_by later.now) records.now.items 0 result }
+    ensures member { IfSome result (λ k. cell_at (set_of steps.now set) k ≡ Some class) }
 {
-    let mut next = steps.first(class);
-    while let Some(place) = next {
+    let mut next = steps.first(set, class);
+    while let Some(number) = next {
+        let place = steps.place(number);
         if depends(&records.get(place).fact, later) {
             return Some(place);
         }
-        next = steps.next(place);
+        next = steps.next(set, number);
     }
     None
 }

@@ -1,6 +1,8 @@
 use Rattle.std.proofs.Common.{◌<◌, length}
-use Rattle.std.specs.Prelude.{IfSome}
-use Rattle.linked_classes.specs.Places.{place_class}
+use Rattle.std.specs.Prelude.{IfSome, option_map}
+use Rattle.linked_classes.specs.Cells.{cell_at}
+use Rattle.linked_classes.specs.Places.{IsNumber, place_in}
+use Rattle.linked_classes.specs.Sets.{set_of}
 use Rattle.step_index.specs.Gathered.{accesses}
 use Rattle.step_index.proofs.Collecting.{IsGathered}
 use Rattle.step_index.proofs.Passed.{ahead}
@@ -8,9 +10,10 @@ use Rattle.step_index.proofs.gathered.gathered_accesses.Given as goal
 
 abbrev pub invariant-loop-next : goal.invariant-loop-next
 invariant-loop-next l = record {
-  within : IfSome l.next (λ k. k < length l.records.items);
-  gathered : IsGathered (place_class l.steps) l.class (accesses l.key) l.records.items l.next l.found.items;
+  there : IfSome l.next (IsNumber l.records.numbers);
+  within : IfSome l.next (λ n. place_in l.records.numbers n < length l.records.items);
+  gathered : IsGathered (cell_at (set_of l.records l.set)) l.class (accesses l.key) l.records.items (option_map (place_in l.records.numbers) l.next) l.found.items;
 }
 
 abbrev pub decreases-loop-next : goal.decreases-loop-next
-decreases-loop-next l = ahead (length l.records.items) l.next
+decreases-loop-next l = ahead (length l.records.items) (option_map (place_in l.records.numbers) l.next)

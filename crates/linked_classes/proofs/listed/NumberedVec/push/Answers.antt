@@ -29,8 +29,8 @@ invariant_of-self g c =
     rw (c.push-number.ensures.items, c.push-number.ensures.end, number)
     (filled_more ns end cells c.self.invariant c.put.new.self.cells c.args.value put (omega (arith, long, set, is)))
 
-pub returns : goal.returns
-returns g c =
+pub returns-clause-items : goal.returns-clause-items
+returns-clause-items g c =
     let ns = c.self.inside.numbers.items in
     let cells = c.self.inside.values.cells in
     let end = c.self.inside.numbers.end in

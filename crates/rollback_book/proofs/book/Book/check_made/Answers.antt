@@ -10,8 +10,8 @@ use Rattle.rollback_book.proofs.Needed.{none_needed, one_needed, needed_there, u
 use Rattle.rollback_book.proofs.book.Book.check_made.Goals as goal
 use Rattle.step_history.specs.History.{history_records}
 
-pub returns-in_default : goal.returns-in_default
-returns-in_default c =
+pub returns-in_default-clause-answer : goal.returns-in_default-clause-answer
+returns-in_default-clause-answer c =
     let b = book_view c.self.inside.begin c.self.inside.machines c.self.inside.history c.self.inside.entries c.self.inside.settled c.self.inside.held in
     let free = subst (λ (b : BookView). HasRoomUnlessHeld b.log) (sym c.self.view_is) c.requires in
     subst (λ (b : BookView). MayEnter b.log (fact_made c.args.step.now)) c.self.view_is (unheld_may b c.self.invariant (fact_made c.args.step.now) c.in_default.is free)
@@ -26,8 +26,8 @@ get-needed-requires c =
     let long = ap length c.records-in-Some-2.ensures in
     omega (arith, within, long)
 
-pub returns-in-Some-2 : goal.returns-in-Some-2
-returns-in-Some-2 c =
+pub returns-in-Some-2-clause-answer : goal.returns-in-Some-2-clause-answer
+returns-in-Some-2-clause-answer c =
     let b = book_view c.self.inside.begin c.self.inside.machines c.self.inside.history c.self.inside.entries c.self.inside.settled c.self.inside.held in
     let f = fact_made c.args.step.now in
     let is = subst (λ o. IsHoldOf b.log (history_records b.history) o) c.in-Some.is c.self.invariant.held in
@@ -39,16 +39,16 @@ returns-in-Some-2 c =
       c.in_ok-copy.ensures,
     )
 
-pub returns-then-is_full : goal.returns-then-is_full
-returns-then-is_full c =
+pub returns-then-is_full-clause-answer : goal.returns-then-is_full-clause-answer
+returns-then-is_full-clause-answer c =
     let b = book_view c.self.inside.begin c.self.inside.machines c.self.inside.history c.self.inside.entries c.self.inside.settled c.self.inside.held in
     let f = fact_made c.args.step.now in
     let is = subst (λ o. IsHoldOf b.log (history_records b.history) o) c.in-Some.is c.self.invariant.held in
     let found = rw c.records.ensures at c.in_ok-place.ensures in
     (subst (λ (b : BookView). needed_left b.log f ≡ None) c.self.view_is (none_needed b c.self.invariant c.in-Some.hold f is c.in_ok-place.field-0 found c.in_default-2.is), sym c.is_full.ensures ∙ c.if-is_full.true)
 
-pub returns : goal.returns
-returns c =
+pub returns-clause-answer : goal.returns-clause-answer
+returns-clause-answer c =
     let b = book_view c.self.inside.begin c.self.inside.machines c.self.inside.history c.self.inside.entries c.self.inside.settled c.self.inside.held in
     let f = fact_made c.args.step.now in
     let is = subst (λ o. IsHoldOf b.log (history_records b.history) o) c.in-Some.is c.self.invariant.held in

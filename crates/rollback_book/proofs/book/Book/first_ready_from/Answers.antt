@@ -1,7 +1,7 @@
 use Rattle.std.proofs.Common.{subst, sym}
 use Rattle.std.specs.BTreeSet.{contains}
 use Rattle.std.specs.String.{string_bytes}
-use Rattle.saved_steps.specs.First.{IsFirstReady, NoneFreeBefore}
+use Rattle.saved_steps.specs.First.{IsFirstReady, NoneBeforeThread}
 use Rattle.step_names.specs.Order.{thread_cmp}
 use Rattle.book_log.specs.Log.{world_of}
 use Rattle.rollback_book.specs.Book.{BookView}
@@ -13,7 +13,7 @@ pub first_ready-requires : goal.first_ready-requires
 first_ready-requires c =
     let passed = contains thread_cmp c.args.outside.now in
     let from = string_bytes c.args.from.now in
-    none_there_before _ c.self.invariant passed from (subst (λ (b : BookView). NoneFreeBefore (world_of b.log).frames passed from) (sym c.self.view_is) c.requires)
+    none_there_before _ c.self.invariant passed from c.args.path.now (subst (λ (b : BookView). NoneBeforeThread (world_of b.log).frames passed from c.args.path.now) (sym c.self.view_is) c.requires)
 
 pub returns-in-Ok : goal.returns-in-Ok
 returns-in-Ok c =

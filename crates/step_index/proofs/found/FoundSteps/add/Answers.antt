@@ -1,6 +1,6 @@
 use Rattle.std.proofs.Common.{subst, sym, [], ◌∷◌, ◌++◌}
 use Rattle.saved_steps.specs.declared.fact.Fact.{Fact}
-use Rattle.step_marks.specs.Marks.{AreMarksOf}
+use Rattle.depends.specs.Marks.{AreMarksOf}
 use Rattle.step_index.specs.Due.{IsFurther, IsOpen}
 use Rattle.step_index.specs.Finding.{picked}
 use Rattle.step_index.specs.Near.{shares}

@@ -6,7 +6,7 @@ use Rattle.step_index.proofs.held.HeldSteps.count_without.Goals as goal
 
 pub overflow_sub-result : goal.overflow_sub-result
 overflow_sub-result c =
-    let ms = map is_mark c.self.inside.left.classes in
+    let ms = c.self.inside.places.items in
     let is : slice_get ms c.args.at ≡ Some c.is_left.result = rw (← c.self.view_is) at c.is_left.ensures in
     let e = count_without ms c.args.at true (is ∙ ap Some c.if-is_left.true) in
     let counted = c.self.invariant.counted in
@@ -14,7 +14,7 @@ overflow_sub-result c =
 
 pub returns-then-is_left : goal.returns-then-is_left
 returns-then-is_left c =
-    let ms = map is_mark c.self.inside.left.classes in
+    let ms = c.self.inside.places.items in
     let is : slice_get ms c.args.at ≡ Some c.is_left.result = rw (← c.self.view_is) at c.is_left.ensures in
     let e = count_without ms c.args.at true (is ∙ ap Some c.if-is_left.true) in
     let counted = c.self.invariant.counted in
@@ -22,7 +22,7 @@ returns-then-is_left c =
 
 pub returns : goal.returns
 returns c =
-    let ms = map is_mark c.self.inside.left.classes in
+    let ms = c.self.inside.places.items in
     let is : slice_get ms c.args.at ≡ Some c.is_left.result = rw (← c.self.view_is) at c.is_left.ensures in
     let e = count_without ms c.args.at false (is ∙ ap Some c.if-is_left.false) in
     let counted = c.self.invariant.counted in

@@ -1,9 +1,9 @@
 use Rattle.std.proofs.Common.{◌≡◌, ◌+◌, arith, length, ap, sym, subst, ◌∙◌}
 use Rattle.std.specs.Prelude.{IfSome}
+use Rattle.linked_classes.specs.Sets.{set_of}
 use Rattle.step_index.specs.Buckets.{by_home}
 use Rattle.step_index.specs.Held.{IsLeftAt}
 use Rattle.step_index.specs.Walks.{IsFirstFrom, needed_by}
-use Rattle.step_index.proofs.Left.{as_many_classes}
 use Rattle.step_index.proofs.Needed.{Along, Among, earlier_is, first_above, is_left, more_along, none_along}
 use Rattle.step_index.proofs.held.HeldSteps.first_in_threads.Goals as goal
 
@@ -13,10 +13,10 @@ loop-depth-init c = record {
   left = tt;
 }
 
-pub first_needed_in-here-requires : goal.first_needed_in-here-requires
-first_needed_in-here-requires c =
+pub first_needed_in-here-requires-clause-many : goal.first_needed_in-here-requires-clause-many
+first_needed_in-here-requires-clause-many c =
     let l = rw (← c.self.view_is) at c.requires.beside in
-    ap length l.homed ∙ as_many_classes by_home _ c.args.records.now.items l.many
+    l.many
 
 pub loop-depth-preserved : goal.loop-depth-preserved
 loop-depth-preserved c =
@@ -27,7 +27,7 @@ loop-depth-preserved c =
     let here = c.first_needed_in-here.result in
     let l = rw (← c.self.view_is) at c.requires.beside in
     let first : IsFirstFrom (Among h.threads class) (needed_by later) rs 0 here = rw (← c.self.view_is) c.first_needed_in-here.ensures.first in
-    let left : IfSome here (IsLeftAt h) = rw (← c.self.view_is) (is_left rs _ l by_home c.self.inside.threads.classes l.homed class here c.first_needed_in-here.ensures.member) in
+    let left : IfSome here (IsLeftAt h) = rw (← c.self.view_is) (is_left rs _ l by_home (set_of c.self.inside.places 1) l.homed class here c.first_needed_in-here.ensures.member) in
     record {
       first = subst (λ r. IsFirstFrom (Along h later (c.loop-depth.depth + 1)) (needed_by later) rs 0 r) (sym c.earlier-found.ensures)
           (more_along rs h later c.loop-depth.depth class c.loop-depth.found here c.bucket_above-class.ensures.bucket c.loop-depth.invariant.first first);

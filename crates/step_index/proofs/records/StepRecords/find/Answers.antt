@@ -5,4 +5,4 @@ pub returns : goal.returns
 returns c =
     let i = c.self.inside in
     let found = c.first_named.ensures in
-    rw (← c.self.view_is) (found_by_name i.records.items i.names i.threads i.execs i.gates i.keys i.writes c.self.invariant c.args.name.now c.name_bucket.result c.first_named.result c.name_bucket.ensures.bucket found)
+    rw (← c.self.view_is) (found_by_name i.records c.self.invariant c.args.name.now c.name_bucket.result c.first_named.result c.name_bucket.ensures.bucket found)

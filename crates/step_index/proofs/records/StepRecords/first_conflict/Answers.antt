@@ -12,7 +12,7 @@ returns-in-Write c f h =
     let rs = i.records.items in
     let is : slice_get rs c.args.at ≡ Some f = rw (← c.self.view_is) at h in
     rw (← c.self.view_is)
-    (first_conflict rs i.names i.threads i.execs i.gates i.keys i.writes c.self.invariant c.args.at f is c.first_needing.result
+    (first_conflict i.records c.self.invariant c.args.at f is c.first_needing.result
     (λ class e. (c.first_needing.ensures.member class f e is))
     c.first_needing.ensures.none)
 
@@ -26,4 +26,4 @@ returns-in-Read c f h =
     let has = ap (λ (r : StepRecord). r.fact.access) (sym same) ∙ c.in-Some.is in
     let found = (c.first_needing_in.ensures f is) in
     rw (← c.self.view_is)
-    (first_write rs i.names i.threads i.execs i.gates i.keys i.writes c.self.invariant c.args.at f is c.in-Some.access c.key_bucket.result c.first_needing_in.result has (ap is_write c.in-Read.is) c.key_bucket.ensures.bucket found)
+    (first_write i.records c.self.invariant c.args.at f is c.in-Some.access c.key_bucket.result c.first_needing_in.result has (ap is_write c.in-Read.is) c.key_bucket.ensures.bucket found)

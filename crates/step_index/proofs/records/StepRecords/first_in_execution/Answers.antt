@@ -15,9 +15,9 @@ returns-then-makes_threads c f h =
     let rs = i.records.items in
     let is : slice_get rs c.args.at ≡ Some f = rw (← c.self.view_is) at h in
     let class = exec_bucket f.fact.name.thread.exec in
-    let told = c.first_needing.ensures.member class f (own_exec rs i.names i.threads i.execs i.gates i.keys i.writes c.self.invariant c.args.at f is) is in
+    let told = c.first_needing.ensures.member class f (own_exec i.records c.self.invariant c.args.at f is) is in
     let first = told in
-    rw (← c.self.view_is) (first_of_exec rs i.names i.threads i.execs i.gates i.keys i.writes c.self.invariant c.args.at f is c.first_needing.result first)
+    rw (← c.self.view_is) (first_of_exec i.records c.self.invariant c.args.at f is c.first_needing.result first)
 
 pub returns : goal.returns
 returns c f h =
@@ -30,8 +30,8 @@ returns c f h =
     let none = ap (λ (r : StepRecord). is_start r.fact.kind || is_fork r.fact.kind) (sym same) ∙ sym c.makes_threads.ensures ∙ c.if-makes_threads.false in
     let thread = thread_bucket f.fact.name.thread in
     let own_first =
-    (c.first_needing-2.ensures.member thread f (own_thread rs i.names i.threads i.execs i.gates i.keys i.writes c.self.invariant c.args.at f is) is) in
+    (c.first_needing-2.ensures.member thread f (own_thread i.records c.self.invariant c.args.at f is) is) in
     let closing = (c.first_needing_in-closing.ensures f is) in
     rw (← c.self.view_is)
     (subst (λ r. IsFirstFrom (NeedsByName rs f) (needs f) rs (c.args.at + 1) r) (sym c.earlier.ensures)
-    (first_of_thread_or_gate rs i.names i.threads i.execs i.gates i.keys i.writes c.self.invariant c.args.at f is c.exec_bucket-class.result c.first_needing-2.result c.first_needing_in-closing.result class none own_first closing))
+    (first_of_thread_or_gate i.records c.self.invariant c.args.at f is c.exec_bucket-class.result c.first_needing-2.result c.first_needing_in-closing.result class none own_first closing))

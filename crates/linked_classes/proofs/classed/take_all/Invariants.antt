@@ -1,0 +1,12 @@
+use Rattle.std.proofs.Common.{◌≡◌, [], length}
+use Rattle.linked_classes.specs.Classes.{class_of}
+use Rattle.linked_classes.specs.Sets.{IsPut}
+use Rattle.linked_classes.proofs.classed.take_all.Given as goal
+
+abbrev pub invariant-loop-set : goal.invariant-loop-set
+invariant-loop-set l = record {
+  taken : IsPut (class_of l.fn.slots) (class_of l.slots) l.fn.number l.set [];
+  end : length l.slots.classes ≡ length l.fn.slots.classes;
+  width : l.slots.width ≡ l.fn.slots.width;
+  room : l.slots.room ≡ l.fn.slots.room;
+}
