@@ -7,9 +7,11 @@ use Rattle.book_log.specs.Log.{Log}
 use Rattle.book_log.specs.declared.entry.Entry.{Entry}
 use Rattle.shared_book.specs.Closed.{all_receipts, times, once_within, AllAreLogged, IsClosed}
 use Rattle.shared_book.specs.Numbers.{entry_at}
-use Rattle.shared_book.specs.Views.{PassView}
+use Rattle.shared_book.specs.Views.{PassView, second_half}
 use Rattle.shared_book.specs.declared.receipt.Receipt.{Receipt}
-use Rattle.step_workers.specs.Work.{AllGoOn, AllSteps, IsStep}
+use Rattle.step_workers.specs.Shares.{shares_of}
+use Rattle.step_workers.specs.Work.{AllGoOn, AllSteps, EachGoesOn, IsStep, with_giver}
+use Rattle.step_workers.proofs.Sums.{sum_more, sum_of, sum_shares}
 use Rattle.book_rounds.specs.Rounds.{AreFresh, IsRound, with_entries}
 use Rattle.book_rounds.proofs.Logs.{goes_from, steps_behind, with_none}
 
@@ -19,17 +21,38 @@ steps_joined : (rs more : List Receipt) → AllSteps rs → AllSteps more → Al
 steps_joined [] more a b = b
 steps_joined (r ∷ rs) more a b = (a.0, steps_joined rs more a.1 b)
 
-all_few : (moves : ℕ) (ps qs : List PassView) → AreFresh ps → AllGoOn moves ps qs → AllSteps (all_receipts qs) × (length (all_receipts qs) ≤ moves)
-all_few moves [] [] fresh go = absurd go
-all_few moves [] (q ∷ []) fresh go = subst (λ (rs : List Receipt). AllSteps (rs ++ []) × (length (rs ++ []) ≤ moves)) (sym go) (tt, omega arith)
-all_few moves [] (q ∷ (r ∷ qs)) fresh go = absurd go
-all_few moves (p ∷ ps) [] fresh go = absurd go
-all_few moves (p ∷ ps) (q ∷ qs) fresh go =
-    let its = go.2 in
-    let rest = all_few (moves - go.0) ps qs fresh.1 go.3 in
+each_few : (ns : List ℕ) (ps qs : List PassView) → AreFresh ps → EachGoesOn ns ps qs → AllSteps (all_receipts qs) × (length (all_receipts qs) ≤ sum_of ns)
+each_few [] [] [] fresh go = (tt, omega arith)
+each_few [] [] (q ∷ qs) fresh go = absurd go
+each_few [] (p ∷ ps) qs fresh go = absurd go
+each_few (n ∷ ns) [] qs fresh go = absurd go
+each_few (n ∷ ns) (p ∷ ps) [] fresh go = absurd go
+each_few (n ∷ ns) (p ∷ ps) (q ∷ qs) fresh go =
+    let its = go.0 in
+    let rest = each_few ns ps qs fresh.1 go.1 in
     let is : q.receipts ≡ its.more = its.receipts ∙ ap (λ (rs : List Receipt). rs ++ its.more) fresh.0 in
-    subst (λ (rs : List Receipt). AllSteps (rs ++ all_receipts qs) × (length (rs ++ all_receipts qs) ≤ moves)) (sym is)
-    (steps_joined its.more (all_receipts qs) its.steps rest.0, omega (arith, length-append its.more (all_receipts qs), its.few, go.1, rest.1))
+    subst (λ (rs : List Receipt). AllSteps (rs ++ all_receipts qs) × (length (rs ++ all_receipts qs) ≤ n + sum_of ns)) (sym is)
+    (steps_joined its.more (all_receipts qs) its.steps rest.0, omega (arith, length-append its.more (all_receipts qs), its.few, rest.1))
+
+fresh_with : (ps : List PassView) (p : PassView) → AreFresh ps → p.receipts ≡ [] → AreFresh (ps ++ p ∷ [])
+fresh_with [] p fresh none = (none, tt)
+fresh_with (q ∷ ps) p fresh none = (fresh.0, fresh_with ps p fresh.1 none)
+
+giver_fresh : (ps : List PassView) → AreFresh ps → AreFresh (with_giver ps)
+giver_fresh [] fresh = tt
+giver_fresh (p ∷ ps) fresh = (fresh.0, fresh_with ps (second_half p) fresh.1 refl)
+
+-- without a pass there is nobody to hand out tickets
+nobody : (qs : List PassView) → EachGoesOn (0 ∷ []) [] qs → ⊥
+nobody [] go = go
+nobody (q ∷ qs) go = go
+
+all_few : (moves : ℕ) (ps qs : List PassView) → AreFresh ps → AllGoOn moves ps qs → AllSteps (all_receipts qs) × (length (all_receipts qs) ≤ moves)
+all_few moves [] qs fresh go = absurd (nobody qs go)
+all_few moves (p ∷ ps) qs fresh go =
+    let seats = length (p ∷ ps) in
+    let each = each_few (shares_of moves seats ++ 0 ∷ []) (with_giver (p ∷ ps)) qs (giver_fresh (p ∷ ps) fresh) go in
+    (each.0, omega (arith, each.1, sum_more (shares_of moves seats) 0, sum_shares moves seats (omega arith)))
 
 none_fresh : (ps : List PassView) → AreFresh ps → all_receipts ps ≡ []
 none_fresh [] fresh = refl

@@ -5,9 +5,8 @@ use Rattle.branch_tree.proofs.branch.Branch.TheLaws.TheKnot as k_branch_tree_Bra
 use Rattle.branch_tree.specs.contracts.branch.Branch as branch
 use Rattle.branch_tree.specs.contracts.tree.Tree as tree
 use Rattle.item_store.specs.contracts.store.ItemStore as item_store
-use Rattle.linked_classes.proofs.listed.NumberedVec.TheSendSync as listed
-use Rattle.linked_classes.proofs.places.ClassedPlaces.TheSendSync as places
-use Rattle.rollback_book.below.settled_names.proofs.names.SettledNames.TheSendSync as settled_names
+use Rattle.linked_classes.proofs.classed.ClassedVec.TheSendSync as classed
+use Rattle.rollback_book.below.step_history.proofs.settled_names.SettledNames.TheSendSync as settled_names
 use Rattle.rollback_book.proofs.hold.Hold.TheSendSync as hold
 use Rattle.rollback_book.specs.contracts.book.Book as book
 use Rattle.saved_steps.specs.contracts.executions.Executions as executions
@@ -116,16 +115,16 @@ pub world_sync : IsSync world.the_row
 world_sync = search (executions_send, executions_sync, executions_field_send, executions_field_sync, tree_send, tree_sync, item_send, item_sync, item_store_send, item_store_sync, tree_field_send, tree_field_sync, item_field_send, item_field_sync, item_store_field_send, item_store_field_sync, base) depth 60 fits 20000
 
 pub step_records_field_send : IsSend (step_records.the_field).row
-step_records_field_send = search (step_record_send, step_record_sync, step_record_field_send, step_record_field_sync, places.the_send, places.the_sync, listed.the_send, listed.the_sync, base) depth 60 fits 20000
+step_records_field_send = search (step_record_send, step_record_sync, step_record_field_send, step_record_field_sync, classed.the_send, classed.the_sync, base) depth 60 fits 20000
 
 pub step_records_send : IsSend step_records.the_row
-step_records_send = search (step_record_send, step_record_sync, step_record_field_send, step_record_field_sync, places.the_send, places.the_sync, listed.the_send, listed.the_sync, base) depth 60 fits 20000
+step_records_send = search (step_record_send, step_record_sync, step_record_field_send, step_record_field_sync, classed.the_send, classed.the_sync, base) depth 60 fits 20000
 
 pub step_records_field_sync : IsSync (step_records.the_field).row
-step_records_field_sync = search (step_record_send, step_record_sync, step_record_field_send, step_record_field_sync, places.the_send, places.the_sync, listed.the_send, listed.the_sync, base) depth 60 fits 20000
+step_records_field_sync = search (step_record_send, step_record_sync, step_record_field_send, step_record_field_sync, classed.the_send, classed.the_sync, base) depth 60 fits 20000
 
 pub step_records_sync : IsSync step_records.the_row
-step_records_sync = search (step_record_send, step_record_sync, step_record_field_send, step_record_field_sync, places.the_send, places.the_sync, listed.the_send, listed.the_sync, base) depth 60 fits 20000
+step_records_sync = search (step_record_send, step_record_sync, step_record_field_send, step_record_field_sync, classed.the_send, classed.the_sync, base) depth 60 fits 20000
 
 pub history_field_send : IsSend (history.the_field).row
 history_field_send = search (step_records_send, step_records_sync, step_records_field_send, step_records_field_sync, world_send, world_sync, step_record_send, step_record_sync, world_field_send, world_field_sync, step_record_field_send, step_record_field_sync, base) depth 60 fits 20000

@@ -1,10 +1,15 @@
 -- What a round of workers makes of a book.
-use Rattle.std.specs.Prelude.{◌≡◌, ℕ, ◌≤◌, List, [], ◌∷◌, ◌++◌, length}
+use Rattle.std.specs.Prelude.{◌≡◌, ℕ, ◌≤◌, ◌||◌, Bool, true, false, List, [], ◌∷◌, ◌++◌, length, Option}
+use Rattle.std.specs.List.{list_any}
+use Rattle.std.specs.Option.{is_some}
 use Rattle.book_log.specs.Legal.{GoesOnLegally}
 use Rattle.book_log.specs.Log.{Log}
 use Rattle.book_log.specs.declared.entry.Entry.{Entry}
 use Rattle.shared_book.specs.Views.{PassView}
+use Rattle.shared_book.specs.declared.refusal.SharedRefusal.{SharedRefusal}
 use Rattle.step_workers.specs.Work.{IsStep}
+use Rattle.step_workers.specs.declared.outcome.Stopped.{Stopped}
+use Rattle.step_workers.specs.declared.outcome.Stopped.TheVariants.{Refused}
 use Rattle.book_rounds.specs.declared.rounds.RoundFault.{RoundFault}
 use Rattle.book_rounds.specs.declared.rounds.RoundFault.TheVariants.{NotBegun, Lost}
 
@@ -34,3 +39,12 @@ IsLeft log Lost = Unit {0}
 abbrev pub AreFresh : List PassView → Type 0
 AreFresh [] = Unit {0}
 AreFresh (p ∷ ps) = (p.receipts ≡ []) × AreFresh ps
+
+-- a worker was refused a call, or couldn't be started
+abbrev pub is_refusal : Stopped → Bool
+is_refusal (Refused e) = true
+is_refusal _ = false
+
+-- so it is with one of the workers, or something was refused to the one who handed out tickets
+abbrev pub is_refused : Option SharedRefusal → List Stopped → Bool
+is_refused refused stopped = is_some refused || list_any is_refusal stopped

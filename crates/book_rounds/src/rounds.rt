@@ -1,10 +1,11 @@
 // A book, and a round of workers on it.
 ghost use Rattle.std.specs.Prelude.{◌≡◌, ◌≤◌, ℕ, List, IfOk, IfErr};
+ghost use Rattle.std.specs.List.{list_any};
 ghost use Rattle.shared_book.specs.Closed.{all_receipts};
 ghost use Rattle.shared_book.specs.Views.{PassView};
 ghost use Rattle.step_workers.specs.Work.{AllGoOn};
 ghost use Rattle.book_log.specs.Log.{Log};
-ghost use Rattle.book_rounds.specs.Rounds.{AreFresh, IsLeft, IsRound};
+ghost use Rattle.book_rounds.specs.Rounds.{AreFresh, IsLeft, IsRound, is_refusal, is_refused};
 
 use crate::seats::seats_of;
 use rollback_book::Book;
@@ -89,6 +90,7 @@ fn finish<L: Sharing>(
     outcome: Outcome<L>,
 ) -> Result<Round, RoundFault>
     ensures ok { IfOk result (λ r. (moves : ℕ) → (passes : List PassView) → AreFresh passes → AllGoOn moves passes outcome.passes.items → IsRound moves L.begun r.book.log) }
+    ensures refused { IfOk result (λ r. r.is_refused ≡ is_refused outcome.refused outcome.stopped.items) }
     ensures err { IfErr result (IsLeft L.begun) }
 {
     let Outcome {
@@ -97,7 +99,7 @@ fn finish<L: Sharing>(
         taken: _,
         refused,
     } = outcome;
-    let is_refused = refused.is_some() || is_any_refused(stopped.as_slice());
+    let is_refused = is_any_refused(&refused, stopped.as_slice());
     match close(alloc, shared, passes) {
         Ok(book) => Ok(Round { book, is_refused }),
         Err(refusal) => {
@@ -122,8 +124,20 @@ fn give_back<L: Sharing>(alloc: Global, shared: Shared<Book, L>, passes: Vec<Pas
     }
 }
 
+/// Whether something was refused to the one who handed out tickets, or to a worker.
+fn is_any_refused(refused: &Option<SharedRefusal>, stopped: &[Stopped]) -> bool
+    ensures { result ≡ is_refused refused.now stopped.now }
+{
+    match refused {
+        Some(_) => true,
+        None => is_any_halted(stopped),
+    }
+}
+
 /// Whether a worker made no more moves since something was refused to it.
-fn is_any_refused(stopped: &[Stopped]) -> bool {
+fn is_any_halted(stopped: &[Stopped]) -> bool
+    ensures { result ≡ list_any is_refusal stopped.now }
+{
     for why in stopped {
         if matches!(why, Stopped::Refused(_)) {
             return true;

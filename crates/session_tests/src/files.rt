@@ -1,4 +1,4 @@
-//! A journal over files in memory, of which the log stops after so many calls.
+//! A journal over files in memory that stop after so many calls.
 //!
 //! Each call with a long contract is in a function without one, and what is owned is let go on one way out.
 use book_journal::Journal;
@@ -11,11 +11,16 @@ pub(crate) type Stopping = FileStore<Fuse<Memory>>;
 
 pub(crate) const FOREVER: u64 = u64::MAX;
 
-/// A connection over new files.
+/// A connection over new files, of which the log stops after so many calls.
 pub(crate) fn connected(alloc: Global, calls: u64) -> Option<Connection<Stopping>> {
+    connected_over(alloc, calls, FOREVER)
+}
+
+/// The same, with how many calls of the database's file come through.
+fn connected_over(alloc: Global, calls: u64, of_file: u64) -> Option<Connection<Stopping>> {
     let files = Files {
         log: Fuse::new(Memory::new(alloc), calls),
-        db: Fuse::new(Memory::new(alloc), FOREVER),
+        db: Fuse::new(Memory::new(alloc), of_file),
     };
     if !files.may_be_used() {
         return None;
@@ -31,7 +36,16 @@ pub(crate) fn connected(alloc: Global, calls: u64) -> Option<Connection<Stopping
 
 /// A new journal.
 pub(crate) fn new_journal(alloc: Global, calls: u64) -> Option<Journal<Stopping>> {
-    match connected(alloc, calls) {
+    new_journal_over(alloc, calls, FOREVER)
+}
+
+/// The same, with how many calls of the database's file come through.
+pub(crate) fn new_journal_over(
+    alloc: Global,
+    calls: u64,
+    of_file: u64,
+) -> Option<Journal<Stopping>> {
+    match connected_over(alloc, calls, of_file) {
         Some(conn) => Journal::open(conn).ok(),
         None => None,
     }

@@ -1,7 +1,9 @@
-//! How serving ends at a round whose lines the store refuses, at a writer that takes nothing, and at a flush that fails.
-use crate::files::{FOREVER, Stopping, new_journal};
+//! How serving ends at a round whose lines the store refuses, at a writer that takes nothing, at a flush that fails, and if the reader would
+//! be asked too often.
+use crate::files::{FOREVER, Stopping, new_journal, new_journal_over};
 use crate::streams::{Sink, Source};
-use operator_line::{ServeFault, Session, serve};
+use book_journal::Journal;
+use operator_line::{MOST_READS, ServeFault, Session, serve, serve_at_most};
 use std::alloc::Global;
 use std::sync::Wait;
 use std::thread::Threads;
@@ -18,7 +20,11 @@ fn run<T: Threads + Wait + Sync>(
 }
 
 fn new_session(alloc: Global, calls: u64) -> Option<Session<Stopping>> {
-    match new_journal(alloc, calls) {
+    session_of(alloc, new_journal(alloc, calls))
+}
+
+fn session_of(alloc: Global, journal: Option<Journal<Stopping>>) -> Option<Session<Stopping>> {
+    match journal {
         Some(journal) => Session::open(alloc, journal).ok(),
         None => None,
     }
@@ -32,9 +38,9 @@ fn entries_of(session: &Session<Stopping>) -> Option<usize> {
 }
 
 const BEFORE: &[u8] =
-    b"table items id:S []\ndefine t {\"StartAt\":\"P\",\"States\":{\"P\":{\"Type\":\"Pass\",\"Next\":\"Q\"},\"Q\":{\"Type\":\"Pass\",\"End\":true}}}\nstart a t {}\nstart b t {}\n";
+    b"table items id:S []\ndefine t {\"StartAt\":\"P\",\"States\":{\"P\":{\"Type\":\"Pass\",\"Next\":\"Q\"},\"Q\":{\"Type\":\"Pass\",\"End\":true}}}\nstart a t {}\nstart b t {}\nstart c t {}\n";
 
-const BEFORE_REPLIES: &[u8] = b"ok\nok\nok a#0\nok b#0\n";
+const BEFORE_REPLIES: &[u8] = b"ok\nok\nok a#0\nok b#0\nok c#0\n";
 
 const ROUND: &[u8] = b"work 2 100\nhistory\n";
 
@@ -86,7 +92,7 @@ fn ended<T: Threads + Wait + Sync>(
     let mut sink = Sink::new(alloc);
     let end = run(rt, alloc, &mut source, &mut sink, session);
     let told = sink.taken.as_slice();
-    if end == Ok(()) && told.starts_with(b"ok 4\n") {
+    if end == Ok(()) && told.starts_with(b"ok 6\n") && entries_of(session) == Some(10) {
         Some(Ending::Told)
     } else if end == Err(ServeFault::Journal)
         && told == b"no 24\n".as_slice()
@@ -98,9 +104,25 @@ fn ended<T: Threads + Wait + Sync>(
     }
 }
 
-/// How a round ends on a store that stops; none if a promise is broken.
-fn ended_on<T: Threads + Wait + Sync>(rt: &T, alloc: Global, calls: u64) -> Option<Ending> {
-    match new_session(alloc, calls) {
+/// The two files of a journal.
+#[derive(Clone, Copy)]
+enum Of {
+    Log,
+    Database,
+}
+
+/// How a round ends on a store of which one file stops; none if a promise is broken.
+fn ended_on<T: Threads + Wait + Sync>(
+    rt: &T,
+    alloc: Global,
+    file: Of,
+    calls: u64,
+) -> Option<Ending> {
+    let journal = match file {
+        Of::Log => new_journal_over(alloc, calls, FOREVER),
+        Of::Database => new_journal_over(alloc, FOREVER, calls),
+    };
+    match session_of(alloc, journal) {
         Some(mut session) => {
             let ending = if is_begun(rt, alloc, &mut session) {
                 ended(rt, alloc, &mut session)
@@ -114,11 +136,11 @@ fn ended_on<T: Threads + Wait + Sync>(rt: &T, alloc: Global, calls: u64) -> Opti
     }
 }
 
-/// At how many calls of the log a round is lost, until one is told.
-fn losses<T: Threads + Wait + Sync>(rt: &T, alloc: Global) -> Option<usize> {
+/// At how many calls of a file a round is lost, until one is told.
+fn losses<T: Threads + Wait + Sync>(rt: &T, alloc: Global, file: Of) -> Option<usize> {
     let mut lost = 0usize;
     for calls in 0..1_000u64 {
-        match ended_on(rt, alloc, calls)? {
+        match ended_on(rt, alloc, file, calls)? {
             Ending::NotBegun => {}
             Ending::Told => return Some(lost),
             Ending::Lost => lost = lost.saturating_add(1),
@@ -129,8 +151,15 @@ fn losses<T: Threads + Wait + Sync>(rt: &T, alloc: Global) -> Option<usize> {
 
 #[test]
 fn a_lost_round_fails_the_session(rt: HostRuntime) {
-    let lost = losses(&rt, rt.alloc());
+    let lost = losses(&rt, rt.alloc(), Of::Log);
     assert!(rt; matches!(lost, Some(count) if 0 < count));
+}
+
+/// A round's lines are in the log by then, or all of them are refused.
+#[test]
+fn a_round_on_a_database_that_stops(rt: HostRuntime) {
+    let lost = losses(&rt, rt.alloc(), Of::Database);
+    assert!(rt; lost.is_some());
 }
 
 /// How serving ends, how many entries the log has then, and how often the writer was asked.
@@ -176,4 +205,35 @@ fn a_writer_that_takes_nothing(rt: HostRuntime) {
 fn a_flush_that_fails(rt: HostRuntime) {
     let ended = ended_new(&rt, rt.alloc(), true);
     assert!(rt; matches!(ended, Some((Err(ServeFault::Write), Some(0), _))));
+}
+
+/// How serving ends that asks the reader at most so many times, and how many entries the log has then.
+fn ended_within<T: Threads + Wait + Sync>(
+    rt: &T,
+    alloc: Global,
+    most: u32,
+) -> Option<(Result<(), ServeFault>, Option<usize>)> {
+    match new_session(alloc, FOREVER) {
+        Some(mut session) => {
+            let mut source = Source {
+                rest: b"table items id:S []\nitems",
+            };
+            let mut sink = Sink::new(alloc);
+            let end = serve_at_most(rt, alloc, most, &mut source, &mut sink, &mut session);
+            let ended = (end, entries_of(&session));
+            drop(session);
+            Some(ended)
+        }
+        None => None,
+    }
+}
+
+/// The reader is asked once more than there is input. With fewer calls the lines are kept that had ended.
+#[test]
+fn a_reader_that_is_asked_too_often(rt: HostRuntime) {
+    let alloc = rt.alloc();
+    assert!(rt; MOST_READS == u32::MAX);
+    assert!(rt; ended_within(&rt, alloc, 0) == Some((Err(ServeFault::Read), None)));
+    assert!(rt; ended_within(&rt, alloc, 1) == Some((Err(ServeFault::Read), Some(0))));
+    assert!(rt; ended_within(&rt, alloc, 2) == Some((Ok(()), Some(0))));
 }

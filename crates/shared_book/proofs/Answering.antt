@@ -16,7 +16,9 @@ use Rattle.book_log.specs.declared.moved.Moved.{Moved}
 use Rattle.book_log.specs.declared.refusal.Refusal.{Refusal}
 use Rattle.book_log.specs.declared.refusal.Refusal.TheVariants.{Memory}
 use Rattle.book_log.proofs.LegalRuns.{accepted_is_legal}
-use Rattle.book_events.specs.Commits.{IsFresh}
+use Rattle.book_events.specs.Commits.{AnswersCommit, IsFresh}
+use Rattle.book_events.specs.declared.commits.CommitRefusal.{CommitRefusal}
+use Rattle.book_events.specs.declared.commits.CommitRefusal.TheVariants as turn
 use Rattle.book_events.specs.Planned.{IsPlanned, WasPlanned}
 use Rattle.book_events.specs.Prepared.{Prepared}
 use Rattle.book_events.specs.FirstMove.{IsFirstToMove}
@@ -29,7 +31,7 @@ use Rattle.shared_book.specs.Away.{Away, is_among}
 use Rattle.shared_book.specs.Views.{PassView, Extends, IsCounted}
 use Rattle.shared_book.specs.Calls.{GivesAfter, GivesReceipt, IsCause, IsNotAdmitted, IsRefusedFor, MaySee}
 use Rattle.shared_book.specs.Claims.{IsClaim, IsClaimable, thread_of}
-use Rattle.shared_book.specs.Commits.{GivesTurn}
+use Rattle.shared_book.specs.Commits.{GivesTurn, IsNotTaken, IsNotTakenAt, shared_refusal}
 use Rattle.shared_book.specs.declared.receipt.Receipt.{Receipt}
 use Rattle.shared_book.specs.declared.refusal.SharedRefusal.{SharedRefusal}
 use Rattle.shared_book.specs.declared.refusal.SharedRefusal.TheVariants.{Refused, ForeignPass}
@@ -137,6 +139,17 @@ pub not_admitted : (begun at : Log) (entries : List Entry) (had : PassView) (Cau
 not_admitted begun at entries had Cause (Refused e) goes is legal not memory = subst Cause (sym not) memory
 not_admitted begun at entries had Cause (ForeignPass number there) goes is legal not memory =
     (at, goes, legal, subst (λ (l : List Entry). IsForeign l had.seen (last_of had.receipts) number there) is not)
+
+-- of a turn
+pub turn_not_taken : (begun at : Log) (had : PassView) (t : Thread) (p : Prepared) (r : CommitRefusal) → MaySee begun had at → AnswersCommit at t p (Err r) → IsNotTaken begun t p had (shared_refusal r)
+turn_not_taken begun at had t p (turn.Stale why q) may answer = (at, may, answer)
+turn_not_taken begun at had t p (turn.Held step q) may answer = (at, may, answer)
+turn_not_taken begun at had t p (turn.Refused e) may answer = inr (at, may, answer)
+
+pub turn_not_taken_at : (at : Log) (had : PassView) (t : Thread) (p : Prepared) (r : CommitRefusal) → AnswersCommit at t p (Err r) → IsNotTakenAt at t p had (shared_refusal r)
+turn_not_taken_at at had t p (turn.Stale why q) answer = answer
+turn_not_taken_at at had t p (turn.Held step q) answer = answer
+turn_not_taken_at at had t p (turn.Refused e) answer = inr answer
 
 -- ---- claimed
 

@@ -10,13 +10,13 @@ use Rattle.book_log.specs.declared.entry.Entry.{Entry}
 use Rattle.book_log.specs.declared.moved.Moved.{Moved}
 use Rattle.book_log.specs.declared.refusal.Refusal.{Refusal}
 use Rattle.book_log.specs.declared.refusal.Refusal.TheVariants.{NoMachine, MachineTaken, BadMachine, ExecTaken, NoThread, NotReady, NoStep, HasDependents, Stale as StalePlan, Full, Memory, Settled, Held}
-use Rattle.book_events.specs.Commits.{AnswersCommit}
+use Rattle.book_events.specs.Commits.{AnswersCommit, tells_hold}
 use Rattle.book_events.specs.Planned.{OrMemory}
 use Rattle.book_events.specs.Prepared.{Prepared}
 use Rattle.book_events.specs.declared.commits.CommitRefusal.{CommitRefusal}
-use Rattle.book_events.specs.declared.commits.CommitRefusal.TheVariants.{Stale, Refused}
+use Rattle.book_events.specs.declared.commits.CommitRefusal.TheVariants as turn
 use Rattle.shared_book.specs.Away.{AreMoves, Away, IsMove, PassesNoOther, WasRefused, WereRefused, is_passed}
-use Rattle.shared_book.specs.Calls.{IsNotAdmitted, is_held, tells_hold}
+use Rattle.shared_book.specs.Calls.{IsNotAdmitted, is_held}
 use Rattle.shared_book.specs.Commits.{is_turn_held, shared_refusal}
 use Rattle.shared_book.specs.declared.receipt.Receipt.{Receipt}
 use Rattle.shared_book.specs.declared.refusal.SharedRefusal.{SharedRefusal}
@@ -106,10 +106,9 @@ held_or (Err f) step lacks (inl h) = ap Err (sym h)
 held_or answer step lacks (inr h) = let clash = h.0 in cc
 
 pub held_turn : (log : Log) (t : Thread) (p : Prepared) (r : CommitRefusal) → IsLegal log → AnswersCommit log t p (Err r) → is_turn_held (shared_refusal r) ≡ true → WasRefused log t
-held_turn log t p (Stale why prepared) legal answer h = cc
-held_turn log t p (Refused e) legal answer h =
-    let k = held_is e h in
-    was_now log t k.0 legal (held_or (step_answer log t) k.0 (StepLacks log t) (subst (λ (x : Refusal). OrMemory (step_answer log t) x ⊎ ((x ≡ Memory) × StepLacks log t)) k.1 answer.1))
+held_turn log t p (turn.Stale why prepared) legal answer h = cc
+held_turn log t p (turn.Held step prepared) legal answer h = was_now log t step legal (held_or (step_answer log t) step (StepLacks log t) answer.1)
+held_turn log t p (turn.Refused e) legal answer h = cc
 
 -- a pass that isn't let in is not so refused
 pub not_held : (entries : List Entry) (seen : ℕ) (last : Option Receipt) (e : SharedRefusal) → IsNotAdmitted entries seen last e → is_held e ≡ false

@@ -12,54 +12,21 @@ use Rattle.std.proofs.lemmas.Slice.Eq.{bytes_eq-Decides}
 use Rattle.book_log.specs.Frame.{Frame}
 use Rattle.book_log.specs.Laws.{LeavesOthers}
 use Rattle.book_log.specs.Log.{Log, world_of}
-use Rattle.book_events.specs.First.{IsFirstReady, NoneFreeBefore, free}
+use Rattle.book_events.specs.Cursors.{GoesBack, first_of_all}
+use Rattle.book_events.specs.First.{IsFirstReady}
+use Rattle.book_events.proofs.Cursors.{none_at_first, none_left_out, none_up_to}
 use Rattle.step_names.specs.Order.{thread_cmp}
 use Rattle.step_names.specs.Thread.{Thread, IsThread}
 use Rattle.step_names.proofs.OrderLaws.{thread_same}
 use Rattle.shared_book.specs.Away.{Away, is_among}
-use Rattle.shared_book.specs.Seeking.{GoesBack, IsSought, NoneBefore}
+use Rattle.shared_book.specs.Seeking.{IsSought, NoneBefore}
 
--- ---- names
+-- ---- before the first thread there is nothing
 
-nothing_before : (e : List ℕ) → slice_cmp nat_cmp e [] ≡ Less → ⊥
-nothing_before [] h = cc
-nothing_before (x ∷ xs) h = cc
-
-apart : (exec e : List ℕ) → slice_cmp nat_cmp e exec ≡ Less → bytes_eq exec e ≡ false
-apart exec e less = by (bytes_eq exec e) refl
-  where
-    by : (b : Bool) → bytes_eq exec e ≡ b → b ≡ false
-    by true h =
-        let same : e ≡ exec = sym ((bytes_eq-Decides exec e).0 h) in
-        let equal : is_eq (slice_cmp nat_cmp e exec) ≡ true = is_eq-slice_cmp e exec ∙ (bytes_eq-Decides e exec).1 same in
-        let clash : is_eq Less ≡ true = subst (λ (o : Ordering). is_eq o ≡ true) less equal in
-        cc
-    by false h = refl
-
--- the name of what changed is not before it
-pub lowered : (exec was now : List ℕ) → slice_cmp nat_cmp exec was ≡ Less → (now ≡ exec) ⊎ (now ≡ []) → GoesBack exec was now
-lowered exec was now before (inl same) e less =
-    let at : slice_cmp nat_cmp e exec ≡ Less = subst (λ (x : List ℕ). slice_cmp nat_cmp e x ≡ Less) same less in
-    (nat_list_cmp_total.trans e exec was at before, apart exec e at)
-lowered exec was now before (inr none) e less = absurd (nothing_before e (subst (λ (x : List ℕ). slice_cmp nat_cmp e x ≡ Less) none less))
-
-pub stayed : (exec was : List ℕ) → (slice_cmp nat_cmp exec was ≡ Less → ⊥) → GoesBack exec was was
-stayed exec was not_before e less = (less, by (bytes_eq exec e) refl)
-  where
-    by : (b : Bool) → bytes_eq exec e ≡ b → b ≡ false
-    by true h = absurd (not_before (subst (λ (x : List ℕ). slice_cmp nat_cmp x was ≡ Less) (sym ((bytes_eq-Decides exec e).0 h)) less))
-    by false h = refl
-
--- ---- before an empty name there is nothing
-
-pub none_before_first : (log : Log) (away : Away) (name : List ℕ) → name ≡ [] → NoneBefore log away name
-none_before_first log away name first t named less = absurd (nothing_before t.exec (subst (λ (x : List ℕ). slice_cmp nat_cmp t.exec x ≡ Less) first less))
+pub none_before_first : (log : Log) (away : Away) (place : Thread) → place ≡ first_of_all → NoneBefore log away place
+none_before_first log away place first = subst (NoneBefore log away) (sym first) (none_at_first log (is_among away.outside))
 
 -- ---- other threads are left out
-
-and_false : (b : Bool) → (b && false) ≡ false
-and_false true = refl
-and_false false = refl
 
 fewer : (b was now : Bool) → (was ≡ true → now ≡ true) → (b && not was) ≡ false → (b && not now) ≡ false
 fewer true true now more h = ap not (more refl)
@@ -67,43 +34,28 @@ fewer true false now more h = cc
 fewer false was now more h = refl
 
 module _ (log : Log) (was now : Away) where
-  more_outside : (name : List ℕ) → ((t : Thread) → is_among was.outside t ≡ true → is_among now.outside t ≡ true) → NoneBefore log was name → NoneBefore log now name
-  more_outside name more none t named less = fewer _ (is_among was.outside t) (is_among now.outside t) (more t) (none t named less)
-
-  -- a thread that was found is the first
-  none_before_it : (t : Thread) → IsFirstReady (world_of log).frames (is_among was.outside) (Some t) → NoneBefore log was t.exec
-  none_before_it t first u named less = first.2 u named (rw less refl)
-
-  pub sought : (found : Option Thread) (from to : List ℕ) → ((t : Thread) → is_among was.outside t ≡ true → is_among now.outside t ≡ true)
-      → IsFirstReady (world_of log).frames (is_among was.outside) found → NoneBefore log was from → IsSought found from to → NoneBefore log now to
-  sought None from to more first none is = λ t named less. fewer _ (is_among was.outside t) (is_among now.outside t) (more t) (first t named)
-  sought (Some t) from to more first none (inl is) = subst (NoneBefore log now) (sym is) (more_outside t.exec more (none_before_it t first))
-  sought (Some t) from to more first none (inr (inl is)) = none_before_first log now to is
-  sought (Some t) from to more first none (inr (inr is)) = subst (NoneBefore log now) (sym is) (more_outside from more none)
+  -- one is found, and left out then; or all are
+  pub sought : (found : Option Thread) (to : Thread) → ((t : Thread) → is_among was.outside t ≡ true → is_among now.outside t ≡ true)
+      → IsFirstReady (world_of log).frames (is_among was.outside) found → IsSought found to → NoneBefore log now to
+  sought None to more first is = λ t named less. fewer _ (is_among was.outside t) (is_among now.outside t) (more t) (first t named)
+  sought (Some t) to more first is = none_up_to log (is_among was.outside) (is_among now.outside) t to more first is
 
   -- a thread of an execution isn't left out any more
-  pub given_back : (exec from to : List ℕ) → ((t : Thread) → bytes_eq exec t.exec ≡ false → is_among now.outside t ≡ is_among was.outside t)
+  pub given_back : (exec : List ℕ) (from to : Thread) → ((t : Thread) → bytes_eq exec t.exec ≡ false → is_among now.outside t ≡ is_among was.outside t)
       → GoesBack exec from to → NoneBefore log was from → NoneBefore log now to
   given_back exec from to others back none t named less =
-      let k = back t.exec less in
+      let k = back t less in
       fewer _ (is_among was.outside t) (is_among now.outside t) (λ h. others t k.1 ∙ h) (none t named k.0)
 
 -- ---- an execution has changed
 
-pub none_elsewhere : (before after now : Log) (away : Away) (exec from to : List ℕ) → LeavesOthers exec before after → now ≡ after → GoesBack exec from to → NoneBefore before away from → NoneBefore now away to
+pub none_elsewhere : (before after now : Log) (away : Away) (exec : List ℕ) (from to : Thread) → LeavesOthers exec before after → now ≡ after → GoesBack exec from to → NoneBefore before away from → NoneBefore now away to
 none_elsewhere before after now away exec from to leaves is back none =
-    subst (λ (s : Log). NoneBefore s away to) (sym is) moved
-  where
-    moved : NoneBefore after away to
-    moved t named less =
-        let k = back t.exec less in
-        let same : (λ (p : List (ℕ × ℕ)). (world_of after).frames (record { exec = t.exec; path = p })) ≡ (λ (p : List (ℕ × ℕ)). (world_of before).frames (record { exec = t.exec; path = p })) =
-        fun_ext (λ p. leaves (record { exec = t.exec; path = p }) k.1) in
-        rw same (none t named k.0)
+    subst (λ (s : Log). NoneBefore s away to) (sym is) (none_left_out before after (is_among away.outside) exec from to leaves back none)
 
 -- the same log
-pub none_there_still : (log now : Log) (away : Away) (name : List ℕ) → now ≡ log → NoneBefore log away name → NoneBefore now away name
-none_there_still log now away name is none = subst (λ (s : Log). NoneBefore s away name) (sym is) none
+pub none_there_still : (log now : Log) (away : Away) (place : Thread) → now ≡ log → NoneBefore log away place → NoneBefore now away place
+none_there_still log now away place is none = subst (λ (s : Log). NoneBefore s away place) (sym is) none
 
 -- ---- claims
 

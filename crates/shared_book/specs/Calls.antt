@@ -6,12 +6,12 @@ use Rattle.step_names.specs.declared.step.StepName.{StepName}
 use Rattle.book_events.specs.Frame.{Frame}
 use Rattle.book_log.specs.Legal.{IsLegal}
 use Rattle.book_events.specs.Calls.{IsLatestLeft}
-use Rattle.book_log.specs.Answers.{undo_answer}
-use Rattle.book_log.specs.Log.{Log, appended, left_of, world_of}
+use Rattle.book_events.specs.Commits.{tells_hold}
+use Rattle.book_log.specs.Log.{Log, appended, held, left_of, world_of}
 use Rattle.book_log.specs.declared.entry.Entry.{Entry}
 use Rattle.book_log.specs.declared.entry.Entry.TheVariants.{Step as Stepped, Undo, Rollback, Hold}
 use Rattle.book_log.specs.declared.refusal.Refusal.{Refusal}
-use Rattle.book_log.specs.declared.refusal.Refusal.TheVariants.{Held, Memory, NoStep, NoThread}
+use Rattle.book_log.specs.declared.refusal.Refusal.TheVariants.{Memory, NoStep, NoThread}
 use Rattle.shared_book.specs.Numbers.{IsForeign, IsKnown, last_of}
 use Rattle.shared_book.specs.Away.{passed_by}
 use Rattle.shared_book.specs.Views.{DeskView, PassView, Extends, with_claims}
@@ -66,6 +66,15 @@ IsCause begun answer had e = (e ≡ Memory) ⊎ ((at : Log) × MaySee begun had 
 abbrev pub IsRefused : {T : Type 0} → Log → (Log → Result T Refusal) → PassView → SharedRefusal → Type 0
 IsRefused begun answer had = IsRefusedFor begun had (IsCause begun answer had)
 
+-- refused as foreign to this log, or by the book for a cause of which this holds
+abbrev pub IsRefusedAt : Log → PassView → (Refusal → Type 0) → SharedRefusal → Type 0
+IsRefusedAt at had Cause (Refused e) = Cause e
+IsRefusedAt at had Cause (ForeignPass number there) = IsForeign at.entries had.seen (last_of had.receipts) number there
+
+-- for memory, or as the call is answered
+abbrev pub IsCauseAt : {T : Type 0} → Result T Refusal → Refusal → Type 0
+IsCauseAt answer e = (e ≡ Memory) ⊎ (answer ≡ Err e)
+
 -- refused as foreign for what stands at this number, or for memory
 abbrev pub IsTurnedAway : ℕ → Option Entry → SharedRefusal → Type 0
 IsTurnedAway n entry (Refused e) = e ≡ Memory
@@ -77,10 +86,6 @@ IsNotAdmitted entries seen last (Refused e) = e ≡ Memory
 IsNotAdmitted entries seen last (ForeignPass number there) = IsForeign entries seen last number there
 
 -- ---- held back
-
-abbrev pub tells_hold : Refusal → Bool
-tells_hold (Held step) = true
-tells_hold _ = false
 
 -- refused since the step would depend on what a hold has left
 abbrev pub is_held : SharedRefusal → Bool
@@ -116,13 +121,17 @@ IsLatestUndone at _ = ⊥
 abbrev pub GivesLatest : Log → PassView → PassView → Receipt → Type 0
 GivesLatest begun had has r = (given : GivesReceipt begun had has r) × IsLatestUndone given.before r.entry
 
+-- so, and the log before it is this one
+abbrev pub GivesLatestAt : Log → Log → PassView → PassView → Receipt → Type 0
+GivesLatestAt begun at had has r = GivesAfter begun at had has r × IsLatestUndone at r.entry
+
+-- for memory, or since nothing is held at this log
+abbrev pub IsLatestCauseAt : Log → Refusal → Type 0
+IsLatestCauseAt at e = (e ≡ Memory) ⊎ ((e ≡ NoStep) × (held at ≡ None))
+
 -- for memory, or since nothing is left at a log that the pass can have seen
 abbrev pub IsLatestCause : Log → PassView → Refusal → Type 0
 IsLatestCause begun had e = (e ≡ Memory) ⊎ ((e ≡ NoStep) × ((at : Log) × MaySee begun had at × (left_of at ≡ [])))
-
--- an undoing is refused for memory, or as the log has it at this log
-abbrev pub IsUndoCause : Log → StepName → Refusal → Type 0
-IsUndoCause at step e = (e ≡ Memory) ⊎ (undo_answer at step ≡ Err e)
 
 -- ---- frames
 

@@ -1,8 +1,8 @@
 -- A book that was closed, and why one isn't.
-use Rattle.std.specs.Prelude.{◌≡◌, ℕ, ◌+◌, ◌<◌, ◌≤◌, ◌==◌, Bool, ◌&&◌, ◌||◌, if◌then◌else◌, nat_le, nat_lt, List, [], ◌∷◌, ◌++◌, length, Option, Some, slice_get}
+use Rattle.std.specs.Prelude.{◌≡◌, ◌⊎◌, ℕ, ◌+◌, ◌<◌, ◌≤◌, ◌==◌, Bool, ◌&&◌, ◌||◌, if◌then◌else◌, nat_le, nat_lt, List, [], ◌∷◌, ◌++◌, length, Option, Some, slice_get}
 use Rattle.book_log.specs.Log.{Log}
 use Rattle.book_log.specs.declared.entry.Entry.{Entry}
-use Rattle.shared_book.specs.Numbers.{IsForeign, IsLogged}
+use Rattle.shared_book.specs.Numbers.{IsForeign, IsKnown, IsLogged, last_of}
 use Rattle.shared_book.specs.Views.{PassView, Extends}
 use Rattle.shared_book.specs.declared.receipt.Receipt.{Receipt}
 use Rattle.shared_book.specs.declared.refusal.CloseReason.{CloseReason}
@@ -42,9 +42,14 @@ pub record IsClosed (begun now : Log) (rs : List Receipt) : Type 0 where
 abbrev pub IsForeignAmong : List Entry → ℕ → List Receipt → ℕ → Option Entry → Type 0
 IsForeignAmong entries seen rs number there = (j : ℕ) × IsForeign entries seen (slice_get rs j) number there
 
+-- its last receipt isn't of this log, or it has seen more; or the last one is, and another receipt isn't
+abbrev pub IsForeignPass : List Entry → PassView → ℕ → Option Entry → Type 0
+IsForeignPass entries p number there =
+    IsForeign entries p.seen (last_of p.receipts) number there ⊎ (IsKnown entries p.seen (last_of p.receipts) × IsForeignAmong entries p.seen p.receipts number there)
+
 -- so it is in one of the passes
 abbrev pub SomeForeign : List Entry → List PassView → ℕ → Option Entry → Type 0
-SomeForeign entries ps number there = (i : ℕ) × (p : PassView) × (slice_get ps i ≡ Some p) × IsForeignAmong entries p.seen p.receipts number there
+SomeForeign entries ps number there = (i : ℕ) × (p : PassView) × (slice_get ps i ≡ Some p) × IsForeignPass entries p number there
 
 -- a pass is of another book, or an entry from this number on has no receipt
 abbrev pub IsUnsettled : ℕ → List Entry → List PassView → CloseReason → Type 0

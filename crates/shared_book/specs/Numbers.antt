@@ -28,7 +28,7 @@ abbrev pub IsOther : Option Receipt → ℕ → Option Entry → Type 0
 IsOther None number there = ⊥
 IsOther (Some r) number there = (r.number ≡ number) × (there ≢ Some r.entry)
 
--- the log is shorter than what was seen, or another entry stands at the last receipt's number
+-- another entry stands at the last receipt's number; or the last receipt is logged, and the log is shorter than what was seen
 pub record IsForeign (entries : List Entry) (seen : ℕ) (last : Option Receipt) (number : ℕ) (there : Option Entry) : Type 0 where
   pub is_there : entry_at entries number ≡ there
-  pub why : ((number ≡ seen) × (length entries < seen)) ⊎ IsOther last number there
+  pub why : ((number ≡ seen) × (length entries < seen) × LastIsLogged entries last) ⊎ IsOther last number there

@@ -5,7 +5,7 @@ ghost use Rattle.json_tree.specs.Data.{depth, most_levels};
 ghost use Rattle.json_tree.specs.View.{data_of};
 ghost use Rattle.book_log.specs.Answers.{hold_answer, plan_answer, start_answer, step_answer, undo_answer};
 ghost use Rattle.shared_book.specs.Away.{WasRefused};
-ghost use Rattle.shared_book.specs.Calls.{GivesAfter, GivesLatest, GivesReceipt, IsHoldOf, IsLatestCause, IsRefused, IsRefusedFor, IsRollbackOf, IsStepOf, IsUndoCause, after_refusal, is_held};
+ghost use Rattle.shared_book.specs.Calls.{GivesAfter, GivesLatest, GivesLatestAt, GivesReceipt, IsCauseAt, IsHoldOf, IsLatestCause, IsLatestCauseAt, IsRefused, IsRefusedAt, IsRefusedFor, IsRollbackOf, IsStepOf, after_refusal, is_held};
 ghost use Rattle.shared_book.specs.Views.{with_entry, with_undoing};
 
 use crate::admitting::{admit, known, turned_away};
@@ -34,9 +34,11 @@ impl<B: Events, L: Sharing> Desk<B, L> {
         requires execution { exec.now.path ≡ [] }
         requires shallow { depth (data_of input) ≤ most_levels }
         ensures receipt { IfOk result (GivesReceipt L.begun pass.old pass.new) }
+        ensures after { IfOk result (GivesAfter L.begun self.old.log pass.old pass.new) }
         ensures entry { IfOk result (λ r. r.entry ≡ Entry.Start exec.now machine.now input) }
         ensures entries { IfOk result (λ r. self.new ≡ with_entry self.old r.entry) }
         ensures err { IfErr result (λ e. IsRefused L.begun (λ at. start_answer at exec.now machine.now) pass.old e × (pass.new ≡ pass.old) × (self.new ≡ self.old)) }
+        ensures cause { IfErr result (IsRefusedAt self.old.log pass.old (IsCauseAt (start_answer self.old.log exec.now machine.now))) }
     {
         let (_, entries) = self.book.entries();
         let number = match admit(entries, pass.seen, &mut pass.receipts) {
@@ -75,9 +77,11 @@ impl<B: Events, L: Sharing> Desk<B, L> {
         thread: &ThreadName,
     ) -> Result<Receipt, SharedRefusal>
         ensures receipt { IfOk result (GivesReceipt L.begun pass.old pass.new) }
+        ensures after { IfOk result (GivesAfter L.begun self.old.log pass.old pass.new) }
         ensures entry { IfOk result (λ r. IsStepOf thread.now r.entry) }
         ensures entries { IfOk result (λ r. self.new ≡ with_entry self.old r.entry) }
         ensures err { IfErr result (λ e. IsRefused L.begun (λ at. step_answer at thread.now) pass.old e × (pass.new ≡ pass.old) × (self.new ≡ after_refusal self.old thread.now e)) }
+        ensures cause { IfErr result (IsRefusedAt self.old.log pass.old (IsCauseAt (step_answer self.old.log thread.now))) }
     {
         match self.take_step(alloc, pass, thread) {
             Ok(receipt) => Ok(receipt),
@@ -95,9 +99,11 @@ impl<B: Events, L: Sharing> Desk<B, L> {
         thread: &ThreadName,
     ) -> Result<Receipt, SharedRefusal>
         ensures receipt { IfOk result (GivesReceipt L.begun pass.old pass.new) }
+        ensures after { IfOk result (GivesAfter L.begun self.old.log pass.old pass.new) }
         ensures entry { IfOk result (λ r. IsStepOf thread.now r.entry) }
         ensures entries { IfOk result (λ r. self.new ≡ with_entry self.old r.entry) }
         ensures err { IfErr result (λ e. IsRefused L.begun (λ at. step_answer at thread.now) pass.old e × (pass.new ≡ pass.old) × (self.new ≡ self.old)) }
+        ensures cause { IfErr result (IsRefusedAt self.old.log pass.old (IsCauseAt (step_answer self.old.log thread.now))) }
         ensures held { IfErr result (λ e. is_held e ≡ true → WasRefused self.old.log thread.now) }
     {
         let (_, entries) = self.book.entries();
@@ -135,7 +141,7 @@ impl<B: Events, L: Sharing> Desk<B, L> {
         ensures entry { IfOk result (λ r. r.entry ≡ Entry.Undo step.now) }
         ensures entries { IfOk result (λ r. self.new ≡ with_undoing self.old r.entry) }
         ensures err { IfErr result (λ e. IsRefused L.begun (λ at. undo_answer at step.now) pass.old e × (pass.new ≡ pass.old) × (self.new ≡ self.old)) }
-        ensures cause { IfErr result (IsRefusedFor L.begun pass.old (IsUndoCause self.old.log step.now)) }
+        ensures cause { IfErr result (IsRefusedAt self.old.log pass.old (IsCauseAt (undo_answer self.old.log step.now))) }
     {
         let (_, entries) = self.book.entries();
         let number = admit(entries, pass.seen, &mut pass.receipts)?;
@@ -172,8 +178,10 @@ impl<B: Events, L: Sharing> Desk<B, L> {
         pass: &mut Pass<L>,
     ) -> Result<Receipt, SharedRefusal>
         ensures receipt { IfOk result (GivesLatest L.begun pass.old pass.new) }
+        ensures after { IfOk result (GivesLatestAt L.begun self.old.log pass.old pass.new) }
         ensures entries { IfOk result (λ r. self.new ≡ with_undoing self.old r.entry) }
         ensures err { IfErr result (λ e. IsRefusedFor L.begun pass.old (IsLatestCause L.begun pass.old) e × (pass.new ≡ pass.old) × (self.new ≡ self.old)) }
+        ensures cause { IfErr result (IsRefusedAt self.old.log pass.old (IsLatestCauseAt self.old.log)) }
     {
         let (_, entries) = self.book.entries();
         if let Err(foreign) = known(entries, pass.seen, pass.receipts.last()) {
@@ -197,9 +205,11 @@ impl<B: Events, L: Sharing> Desk<B, L> {
         step: &StepName,
     ) -> Result<Receipt, SharedRefusal>
         ensures receipt { IfOk result (GivesReceipt L.begun pass.old pass.new) }
+        ensures after { IfOk result (GivesAfter L.begun self.old.log pass.old pass.new) }
         ensures entry { IfOk result (λ r. IsRollbackOf step.now r.entry) }
         ensures entries { IfOk result (λ r. self.new ≡ with_undoing self.old r.entry) }
         ensures err { IfErr result (λ e. IsRefused L.begun (λ at. plan_answer at step.now) pass.old e × (pass.new ≡ pass.old) × (self.new ≡ self.old)) }
+        ensures cause { IfErr result (IsRefusedAt self.old.log pass.old (IsCauseAt (plan_answer self.old.log step.now))) }
     {
         let (_, entries) = self.book.entries();
         let number = admit(entries, pass.seen, &mut pass.receipts)?;
@@ -233,9 +243,11 @@ impl<B: Events, L: Sharing> Desk<B, L> {
         step: &StepName,
     ) -> Result<Receipt, SharedRefusal>
         ensures receipt { IfOk result (GivesReceipt L.begun pass.old pass.new) }
+        ensures after { IfOk result (GivesAfter L.begun self.old.log pass.old pass.new) }
         ensures entry { IfOk result (λ r. IsHoldOf step.now r.entry) }
         ensures entries { IfOk result (λ r. self.new ≡ with_undoing self.old r.entry) }
         ensures err { IfErr result (λ e. IsRefused L.begun (λ at. hold_answer at step.now) pass.old e × (pass.new ≡ pass.old) × (self.new ≡ self.old)) }
+        ensures cause { IfErr result (IsRefusedAt self.old.log pass.old (IsCauseAt (hold_answer self.old.log step.now))) }
     {
         let (_, entries) = self.book.entries();
         let number = admit(entries, pass.seen, &mut pass.receipts)?;

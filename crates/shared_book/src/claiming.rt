@@ -2,11 +2,13 @@
 ghost use Rattle.std.specs.Prelude.{◌≡◌, length, IfOk, IfErr, MatchResult, OnErr, OnOk, true};
 ghost use Rattle.book_log.specs.declared.refusal.Refusal.TheVariants.{Memory};
 ghost use Rattle.book_log.specs.Log.{world_of};
+ghost use Rattle.book_events.specs.Cursors.{place_of};
 ghost use Rattle.book_events.specs.First.{IsFirstReady};
 ghost use Rattle.shared_book.specs.Away.{AreAway, AreOutside, LeavesOutMore, PassesNoOther, WasRefused, claim_ended, claimed_with, is_among, passed_by};
 ghost use Rattle.shared_book.specs.Calls.{IsRefusedFor, Sees, after_refusal, is_held};
 ghost use Rattle.shared_book.specs.Claims.{IsClaim, IsClaimable, IsOffer, thread_of, thread_offered};
 ghost use Rattle.shared_book.specs.Commits.{after_turn, is_turn_held};
+ghost use Rattle.shared_book.specs.Seeking.{IsSought};
 ghost use Rattle.shared_book.specs.Views.{with_claims};
 
 use crate::admitting::{known, turned_away};
@@ -15,10 +17,13 @@ use crate::desk::Desk;
 use crate::pass::Pass;
 use crate::refusal::{SharedCommitRefusal, SharedRefusal};
 use crate::sharing::Sharing;
-use book_events::{Events, Ticket};
+use book_events::{Cursor, Events, Ticket};
 use book_log::Refusal;
 use std::alloc::{AllocError, Global};
 use step_names::ThreadName;
+
+/// After each name of an execution.
+const AFTER_ALL: &str = "~";
 
 /// What a caller is offered: a ticket where a thread has a move that nobody has claimed and isn't passed by, and else whether others
 /// are at work.
@@ -57,7 +62,7 @@ impl<B: Events, L: Sharing> Desk<B, L> {
             drop(found);
             return Err(SharedRefusal::Refused(Refusal::Memory));
         }
-        self.cursor.go_on(&found);
+        move_on(&mut self.cursor, &found);
         pass.seen = seen;
         Ok(found)
     }
@@ -135,7 +140,7 @@ impl<B: Events, L: Sharing> Desk<B, L> {
         let outside = self.claims.outside();
         let thread = match self
             .book
-            .first_ready_from(alloc, &self.cursor.name, outside)
+            .first_ready_from(alloc, &self.cursor.exec, &self.cursor.path, outside)
         {
             Ok(Some(thread)) => thread,
             Ok(None) => return Ok(None),
@@ -152,6 +157,21 @@ impl<B: Events, L: Sharing> Desk<B, L> {
         ensures { result ≡ length self.now.claims.claimed }
     {
         self.claims.len()
+    }
+}
+
+/// Goes on to the thread of a ticket, and by all threads if there is none.
+fn move_on(cursor: &mut Cursor, found: &Option<Ticket>)
+    ensures { IsSought (thread_of found.now) (place_of cursor.new) }
+{
+    match found {
+        Some(ticket) => cursor.go_on(ticket.thread()),
+        None => {
+            cursor.path.clear();
+            cursor.exec.clear();
+            // (without memory all are looked at)
+            let _ = cursor.exec.push_str(AFTER_ALL);
+        }
     }
 }
 

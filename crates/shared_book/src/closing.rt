@@ -3,7 +3,7 @@ ghost use Rattle.std.specs.Prelude.{◌≡◌, ◌+◌, ◌≤◌, length, Match
 ghost use Rattle.std.specs.Option.{option_copied};
 ghost use Rattle.book_log.specs.Legal.{IsLegal};
 ghost use Rattle.book_log.specs.Log.{Log};
-ghost use Rattle.shared_book.specs.Closed.{AllAreLogged, IsClosed, IsForeignAmong, IsForeignReason, IsSettled, IsUnsettled, SomeForeign, all_receipts};
+ghost use Rattle.shared_book.specs.Closed.{AllAreLogged, IsClosed, IsForeignAmong, IsForeignPass, IsForeignReason, IsSettled, IsUnsettled, SomeForeign, all_receipts};
 ghost use Rattle.shared_book.specs.Views.{Extends};
 
 use crate::admitting::{Foreign, known};
@@ -34,8 +34,8 @@ pub struct CloseRefusal<B: Events, L: Sharing> {
 ///
 /// # Errors
 ///
-/// `ForeignPass` for the first receipt that isn't of this book, `Memory`, and `Missing` for the first entry without a receipt, in this
-/// order. The shared book and the passes come back.
+/// `ForeignPass` for the last receipt of a pass, if that isn't of this book, and else for the pass's first that isn't; `Memory`, and
+/// `Missing` for the first entry without a receipt, in this order. The shared book and the passes come back.
 pub fn close<B: Events, L: Sharing>(
     alloc: Global,
     shared: Shared<B, L>,
@@ -69,13 +69,21 @@ fn among<'a>(entries: &'a [Entry], seen: usize, receipts: &[Receipt]) -> Result<
     Ok(())
 }
 
+/// Whether the receipts of a pass stand in the log: the last one first.
+fn is_of<'a, L: Ledger>(entries: &'a [Entry], pass: &Pass<L>) -> Result<(), Foreign<'a>>
+    ensures { MatchResult result (λ _. AllAreLogged entries.now pass.now.receipts) (λ f. IsForeignPass entries.now pass.now f.number (option_copied f.there)) }
+{
+    known(entries, pass.seen(), pass.receipts().last())?;
+    among(entries, pass.seen(), pass.receipts())
+}
+
 /// Whether the receipts of each pass stand in the log.
 #[tactic(auto, using(crate::proofs::Counts::stand_all_more))]
 fn all_among<'a, L: Ledger>(entries: &'a [Entry], passes: &[Pass<L>]) -> Result<(), Foreign<'a>>
     ensures { MatchResult result (λ _. AllAreLogged entries.now (all_receipts passes.now)) (λ f. SomeForeign entries.now passes.now f.number (option_copied f.there)) }
 {
     for pass in passes {
-        among(entries, pass.seen(), pass.receipts())?;
+        is_of(entries, pass)?;
     }
     Ok(())
 }

@@ -2,7 +2,7 @@
 ghost use Rattle.std.specs.Prelude.{◌≡◌, true, IfOk, IfErr};
 ghost use Rattle.shared_book.specs.Calls.{IsStepOf};
 ghost use Rattle.shared_book.specs.Away.{WasRefused, claim_ended};
-ghost use Rattle.shared_book.specs.Commits.{GivesTurn, IsNotTaken, after_turn, is_turn_held, shared_refusal};
+ghost use Rattle.shared_book.specs.Commits.{GivesTurn, GivesTurnAt, IsNotTaken, IsNotTakenAt, after_turn, is_turn_held, shared_refusal};
 ghost use Rattle.shared_book.specs.Views.{with_claims, with_entry};
 
 use crate::admitting::admit;
@@ -27,9 +27,11 @@ impl<B: Events, L: Sharing> Desk<B, L> {
         prepared: Prepared,
     ) -> Result<Receipt, SharedCommitRefusal>
         ensures receipt { IfOk result (GivesTurn L.begun ticket.thread prepared pass.old pass.new) }
+        ensures after { IfOk result (GivesTurnAt L.begun self.old.log ticket.thread prepared pass.old pass.new) }
         ensures entry { IfOk result (λ r. IsStepOf ticket.thread r.entry) }
         ensures entries { IfOk result (λ r. self.new ≡ with_claims (with_entry self.old r.entry) (claim_ended self.old.claims ticket.thread)) }
         ensures err { IfErr result (λ e. IsNotTaken L.begun ticket.thread prepared pass.old e × (pass.new ≡ pass.old) × (self.new ≡ after_turn self.old ticket.thread e)) }
+        ensures cause { IfErr result (IsNotTakenAt self.old.log ticket.thread prepared pass.old) }
     {
         match self.take_turn(alloc, pass, ticket.thread(), prepared) {
             Ok(receipt) => {
@@ -51,9 +53,11 @@ impl<B: Events, L: Sharing> Desk<B, L> {
         prepared: Prepared,
     ) -> Result<Receipt, SharedCommitRefusal>
         ensures receipt { IfOk result (GivesTurn L.begun thread.now prepared pass.old pass.new) }
+        ensures after { IfOk result (GivesTurnAt L.begun self.old.log thread.now prepared pass.old pass.new) }
         ensures entry { IfOk result (λ r. IsStepOf thread.now r.entry) }
         ensures entries { IfOk result (λ r. self.new ≡ with_entry self.old r.entry) }
         ensures err { IfErr result (λ e. IsNotTaken L.begun thread.now prepared pass.old e × (pass.new ≡ pass.old) × (self.new ≡ self.old)) }
+        ensures cause { IfErr result (IsNotTakenAt self.old.log thread.now prepared pass.old) }
         ensures held { IfErr result (λ e. is_turn_held e ≡ true → WasRefused self.old.log thread.now) }
     {
         let (_, entries) = self.book.entries();
@@ -94,6 +98,7 @@ fn not_taken(refusal: CommitRefusal) -> SharedCommitRefusal
 {
     match refusal {
         CommitRefusal::Stale(why, prepared) => SharedCommitRefusal::Stale(why, prepared),
+        CommitRefusal::Held(step, prepared) => SharedCommitRefusal::Held(step, prepared),
         CommitRefusal::Refused(refusal) => {
             SharedCommitRefusal::Refused(SharedRefusal::Refused(refusal))
         }

@@ -1,11 +1,7 @@
 // What lies under the lock.
-ghost use Rattle.book_log.specs.Legal.{IsLegal};
-ghost use Rattle.shared_book.specs.Views.{Extends};
-
 use crate::claims::Claims;
-use crate::cursor::Cursor;
 use crate::sharing::Sharing;
-use book_events::Events;
+use book_events::{Cursor, Events};
 use std::marker::Model;
 use std::sync::ledger::{Book, Share};
 
@@ -24,11 +20,11 @@ pub(crate) struct Desk<B: Events, L: Sharing> {
 
 impl<B: Events, L: Sharing> Model for Desk<B, L> {
     ghost use Rattle.std.specs.Prelude.{◌≡◌};
-    ghost use Rattle.std.specs.String.{string_bytes};
     ghost use Rattle.std.specs.Coded.{codes};
     ghost use Rattle.book_log.specs.contracts.begin.Begin as begin_row;
     ghost use Rattle.book_log.specs.contracts.entry.Entry as entry_row;
     ghost use Rattle.shared_book.specs.Away.{WereRefused};
+    ghost use Rattle.book_events.specs.Cursors.{place_of};
     ghost use Rattle.shared_book.specs.Seeking.{NoneBefore};
     ghost use Rattle.shared_book.specs.Views.{DeskView, IsCounted};
 
@@ -39,24 +35,5 @@ impl<B: Events, L: Sharing> Model for Desk<B, L> {
     ghost view = { λ d. record { log = B.log d.book; first = d.first; claims = d.claims } };
 
     ghost invariant = { λ d. IsCounted L.begun (B.log d.book) d.first d.calls.total × (d.spare.amount ≡ 0)
-        × WereRefused (B.log d.book) d.claims × NoneBefore (B.log d.book) d.claims (string_bytes d.cursor.name) };
-}
-
-impl<B: Events, L: Sharing> Desk<B, L> {
-    /// The book.
-    pub(crate) fn into_book(self) -> B
-        ensures goes { Extends L.begun (B.log result) }
-        ensures legal { IsLegal (B.log result) }
-    {
-        let Desk {
-            book,
-            first: _,
-            calls: _,
-            spare: _,
-            claims: _,
-            cursor: _,
-        } = self;
-        let _ = book.entries();
-        book
-    }
+        × WereRefused (B.log d.book) d.claims × NoneBefore (B.log d.book) d.claims (place_of d.cursor) };
 }

@@ -9,7 +9,6 @@ mod claims;
 mod closing;
 mod committing;
 mod copies;
-mod cursor;
 mod desk;
 mod looking;
 mod marks;

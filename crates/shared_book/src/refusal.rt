@@ -6,6 +6,7 @@ ghost use Rattle.shared_book.specs.Commits.{is_turn_held};
 use book_events::Staleness;
 use book_events::turns::Prepared;
 use book_log::{Entry, Refusal};
+use step_names::StepName;
 
 /// Why a call of a shared book is refused. Each refusal leaves the book and the pass as they were, and
 /// but for `commit` and a step that is held back the claims.
@@ -31,8 +32,9 @@ impl SharedRefusal {
 pub enum SharedCommitRefusal {
     /// The turn is no longer its thread's, and comes back.
     Stale(Staleness, Prepared),
-    /// The pass is of another book, the step would depend on what a hold has left, the book is full, or memory was refused. The turn
-    /// is dropped.
+    /// The step would depend directly on this one, which a hold has left. The turn comes back.
+    Held(StepName, Prepared),
+    /// The pass is of another book, the book is full, or memory was refused. The turn is dropped.
     Refused(SharedRefusal),
 }
 
@@ -41,10 +43,7 @@ impl SharedCommitRefusal {
     pub fn is_held(&self) -> bool
         ensures { result ≡ is_turn_held self.now }
     {
-        match self {
-            SharedCommitRefusal::Stale(_, _) => false,
-            SharedCommitRefusal::Refused(refusal) => refusal.is_held(),
-        }
+        matches!(self, SharedCommitRefusal::Held(_, _))
     }
 }
 

@@ -3,18 +3,15 @@ ghost use Rattle.std.specs.Prelude.{◌≡◌, ◌≤◌, ◌+◌, [], length, I
 ghost use Rattle.json_tree.specs.Data.{depth, most_levels};
 ghost use Rattle.json_tree.specs.View.{data_of};
 ghost use Rattle.book_log.specs.Answers.{hold_answer, plan_answer, start_answer, step_answer, undo_answer};
-ghost use Rattle.book_log.specs.Legal.{IsLegal};
 ghost use Rattle.book_log.specs.Log.{left_of};
 ghost use Rattle.book_log.specs.declared.refusal.Refusal.TheVariants.{Memory};
 ghost use Rattle.shared_book.specs.Away.{AreAway, Away};
 ghost use Rattle.shared_book.specs.Calls.{GivesLatest, GivesReceipt, IsHoldOf, IsLatestCause, IsRefused, IsRefusedFor, IsRollbackOf, IsShown, IsStepOf, frame_answer};
 ghost use Rattle.shared_book.specs.Claims.{IsClaim, IsOffer};
 ghost use Rattle.shared_book.specs.Commits.{GivesTurn, IsNotTaken};
-ghost use Rattle.shared_book.specs.Views.{Extends};
 
 use crate::claiming::Offer;
 use crate::claims::Claims;
-use crate::cursor::Cursor;
 use crate::desk::Desk;
 use crate::looking::{HeldLeft, Shown};
 use crate::pass::Pass;
@@ -22,7 +19,7 @@ use crate::receipt::Receipt;
 use crate::refusal::{SharedCommitRefusal, SharedRefusal};
 use crate::sharing::Sharing;
 use book_events::turns::Prepared;
-use book_events::{Events, Ticket};
+use book_events::{Cursor, Events, Ticket};
 use book_log::Entry;
 use json_tree::{Json, Text};
 use std::alloc::Global;
@@ -287,13 +284,5 @@ impl<B: Events, L: Sharing> Shared<B, L> {
     /// Ends the claim of a ticket's thread without a move, if it has one still. Takes no memory.
     pub fn give_back(&self, rt: &impl Wait, ticket: Ticket) {
         self.desk.lock(rt).give_back(ticket)
-    }
-
-    /// The book, whatever receipts there are.
-    pub fn into_book(self) -> B
-        ensures goes { Extends L.begun (B.log result) }
-        ensures legal { IsLegal (B.log result) }
-    {
-        self.desk.into_inner().into_book()
     }
 }

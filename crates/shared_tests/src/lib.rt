@@ -2,6 +2,8 @@
 
 //! Tests of a book that callers share, by calls through several passes.
 #[cfg(test)]
+mod beside;
+#[cfg(test)]
 mod calls;
 #[cfg(test)]
 mod hot;
@@ -11,6 +13,8 @@ mod operator;
 mod passes;
 #[cfg(test)]
 mod rounds;
+#[cfg(test)]
+mod shares;
 #[cfg(test)]
 mod taking_back;
 #[cfg(test)]

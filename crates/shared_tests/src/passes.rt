@@ -1,15 +1,17 @@
-//! Receipts of two passes, and what a close tells of them.
+//! Receipts of two passes, of which another thread has one, and what a close makes of them.
 ghost use Rattle.std.specs.Prelude.{◌≡◌};
 
+use crate::beside::{Undone, undo_beside};
 use crate::calls::{Act, PASS, Seats, book_with, is_told, seats_of};
 use rollback_book::Book;
-use rollback_book::turns::Frame;
-use shared_book::{CloseReason, CloseRefusal, PARTS, Pass, Sharing, close, known};
+use rollback_book::turns::{Frame, Phase};
+use shared_book::{CloseReason, CloseRefusal, PARTS, Pass, Shared, Sharing, close, known};
 use std::alloc::{AllocError, Global};
 use std::marker::Brand;
 use std::sync::Wait;
 use std::sync::ledger::Blank;
 use std::test::Fail;
+use std::thread::Threads;
 use step_names::ThreadName;
 
 // ---- what a close tells
@@ -69,7 +71,7 @@ fn entries_of(book: &Book) -> usize {
     book.entries().1.len()
 }
 
-// ---- a start that one pass sees and the other takes back
+// ---- a start that one thread sees and the other takes back
 
 fn is_seen<L: Sharing>(
     rt: &impl Wait,
@@ -85,7 +87,7 @@ fn is_seen<L: Sharing>(
 }
 
 fn is_unmoved(frame: &Frame) -> bool {
-    frame.count == 0
+    frame.count == 0 && matches!(&frame.phase, Phase::Ready)
 }
 
 /// A log without entries can't be the one of which the pass has this receipt, or has seen so many entries.
@@ -104,7 +106,7 @@ fn is_foreign<L: Sharing>(pass: &Pass<L>) -> bool {
     by_receipt && by_seen
 }
 
-fn start_and_undo<L: Sharing>(
+fn start_first<L: Sharing>(
     rt: &impl Wait,
     alloc: Global,
     seats: &mut Seats<L>,
@@ -118,20 +120,30 @@ fn start_and_undo<L: Sharing>(
         start,
         "2 start a",
     )?;
-    let is_seen = is_seen(rt, alloc, seats, 2)? && is_foreign(&seats.first);
-    let undo = Act::Undo("a#0");
-    let is_undone = is_told(
-        rt,
-        alloc,
-        &seats.shared,
-        &mut seats.second,
-        undo,
-        "3 undo a#0",
-    )?;
-    Ok(is_started && is_seen && is_undone)
+    Ok(is_started && is_seen(rt, alloc, seats, 2)? && is_foreign(&seats.first))
 }
 
-fn one_of_each<L: Sharing, R: Wait>(
+/// Closes the book by both passes, if the other thread has undone the start.
+fn close_undone<L: Sharing>(
+    alloc: Global,
+    shared: Shared<Book, L>,
+    first: Pass<L>,
+    undone: Undone<L>,
+) -> Result<(usize, usize), Fail> {
+    let Undone { pass, is_undone } = undone;
+    let seats = Seats {
+        shared,
+        first,
+        second: pass,
+    };
+    if !is_undone {
+        drop(seats);
+        return Ok((0, 0));
+    }
+    close_twice(alloc, seats)
+}
+
+fn one_of_each<L: Sharing + Send + Sync, R: Threads + Wait + Sync>(
     rt: &R,
     alloc: Global,
     blank: Blank,
@@ -140,17 +152,24 @@ fn one_of_each<L: Sharing, R: Wait>(
     requires { (blank.name ≡ L.name) × (blank.parts ≡ L.parts) × (L.parts ≡ PARTS) × (book.log ≡ L.begun) }
 {
     let mut seats = seats_of::<L>(alloc, blank, book);
-    match start_and_undo(rt, alloc, &mut seats) {
-        Ok(true) => close_twice(alloc, seats),
+    match start_first(rt, alloc, &mut seats) {
+        Ok(true) => {}
         Ok(false) => {
             drop(seats);
-            Ok((0, 0))
+            return Ok((0, 0));
         }
         Err(fail) => {
             drop(seats);
-            Err(fail)
+            return Err(fail);
         }
     }
+    let Seats {
+        shared,
+        first,
+        second,
+    } = seats;
+    let undone = undo_beside(rt, alloc, &shared, second);
+    close_undone(alloc, shared, first, undone)
 }
 
 #[test]

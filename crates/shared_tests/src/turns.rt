@@ -57,13 +57,12 @@ fn is_committed<L: Sharing>(
             drop(prepared);
             Ok(is_stale(&why, want))
         }
-        Err(SharedCommitRefusal::Refused(refusal)) => {
-            if refusal.is_held() {
-                drop(refusal);
-                return Ok(want == "held");
-            }
-            Err(refusal.into())
+        Err(SharedCommitRefusal::Held(step, prepared)) => {
+            drop(step);
+            drop(prepared);
+            Ok(want == "held")
         }
+        Err(SharedCommitRefusal::Refused(refusal)) => Err(refusal.into()),
     }
 }
 

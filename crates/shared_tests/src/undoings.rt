@@ -4,11 +4,10 @@ ghost use Rattle.std.specs.Prelude.{◌≡◌};
 use crate::calls::{Act, is_told};
 use crate::workers::{FORK, Overlap, book_of, can_work, seats_of, step_fork};
 use rollback_book::{Book, Entry};
-use shared_book::{PARTS, Pass, Sharing, close, share};
+use shared_book::{PARTS, Pass, Shared, Sharing, close, share};
 use std::alloc::{AllocError, Global};
 use std::marker::Brand;
 use std::sync::Wait;
-use std::sync::atomic::{AtomicBool, Ordering};
 use std::sync::ledger::Blank;
 use std::test::Fail;
 use std::thread::Threads;
@@ -80,9 +79,24 @@ fn run<L: Sharing + Send + Sync, G: Gate + Sync, R: Threads + Wait + Sync>(
     if !can_work(&passes) {
         return Err("no seats".into());
     }
-    let Ok(outcome) = take_back(rt, alloc, &shared, passes, gate) else {
-        return Err(AllocError.into());
-    };
+    match take_back(rt, alloc, &shared, passes, gate) {
+        Ok(outcome) => told_of(rt, alloc, shared, mine, outcome),
+        Err(passes) => {
+            drop(passes);
+            Err(AllocError.into())
+        }
+    }
+}
+
+/// What the workers say, and the book once it is closed.
+fn told_of<L: Sharing, R: Wait>(
+    rt: &R,
+    alloc: Global,
+    shared: Shared<Book, L>,
+    mine: Pass<L>,
+    outcome: Outcome<L>,
+) -> Result<Told, Fail> {
+    let mut mine = mine;
     let Outcome {
         passes,
         stopped,
@@ -122,21 +136,23 @@ fn run<L: Sharing + Send + Sync, G: Gate + Sync, R: Threads + Wait + Sync>(
     }
 }
 
-/// Two workers of which one undoes while the other one is about to.
+/// Two workers of which one undoes while the other one is about to. Each calls the gate before each undoing and behind it, also before the one
+/// that finds nothing left.
 fn undoes_between<R: Threads + Wait + Sync>(
     rt: &R,
     alloc: Global,
     held: u32,
 ) -> Result<bool, Fail> {
-    let gate = Overlap {
-        held,
-        has_committed: AtomicBool::new(false),
-        is_missed: AtomicBool::new(false),
-    };
+    let gate = Overlap::new(held);
     let book = stepped_book(alloc)?;
     let told = run::<Brand, Overlap, R>(rt, alloc, Blank::new(PARTS), book, &gate)?;
+    let Some(calls) = gate.calls() else {
+        return Ok(false);
+    };
+    let is_each = calls.before == 7 && calls.after == 7;
+    let is_by_both = 0 < calls.before_held && calls.before_held < 7;
     let is_so = told.undoings == 5 && told.idle == 2 && told.left == 0 && told.entries == 13;
-    Ok(is_so && !gate.is_missed.load(Ordering::SeqCst))
+    Ok(is_so && is_each && is_by_both)
 }
 
 #[test]

@@ -9,7 +9,7 @@ use shared_book::{CloseReason, PARTS, Pass, Shared, Sharing, close, share};
 use std::alloc::{AllocError, Global};
 use std::marker::Brand;
 use std::sync::Wait;
-use std::sync::atomic::{AtomicBool, Ordering};
+use std::sync::atomic::{AtomicBool, AtomicU64, Ordering};
 use std::sync::ledger::Blank;
 use std::test::Fail;
 use std::thread;
@@ -183,21 +183,59 @@ pub(crate) fn told(
 
 // ---- rows
 
-/// Holds one seat before its commit until the other one has committed, for so many turns at most.
+/// Holds one seat before its commit until the other one has committed, for so many turns at most, and counts the calls.
 #[derive(Drop)]
 pub(crate) struct Overlap {
-    pub(crate) held: u32,
-    pub(crate) has_committed: AtomicBool,
-    pub(crate) is_missed: AtomicBool,
+    held: u32,
+    has_committed: AtomicBool,
+    is_missed: AtomicBool,
+    before: AtomicU64,
+    before_held: AtomicU64,
+    after: AtomicU64,
+}
+
+/// How often a gate was called: before and after commits, and before those of the seat that it held.
+#[derive(Clone, Copy, Debug, PartialEq, Eq)]
+pub(crate) struct GateCalls {
+    pub(crate) before: u64,
+    pub(crate) before_held: u64,
+    pub(crate) after: u64,
+}
+
+impl Overlap {
+    pub(crate) fn new(held: u32) -> Overlap {
+        Overlap {
+            held,
+            has_committed: AtomicBool::new(false),
+            is_missed: AtomicBool::new(false),
+            before: AtomicU64::new(0),
+            before_held: AtomicU64::new(0),
+            after: AtomicU64::new(0),
+        }
+    }
+
+    /// The calls, if the seat that was held waited until the other one had committed.
+    pub(crate) fn calls(&self) -> Option<GateCalls> {
+        if self.is_missed.load(Ordering::SeqCst) {
+            return None;
+        }
+        Some(GateCalls {
+            before: self.before.load(Ordering::SeqCst),
+            before_held: self.before_held.load(Ordering::SeqCst),
+            after: self.after.load(Ordering::SeqCst),
+        })
+    }
 }
 
 const MOST_TURNS: u32 = 1_000_000;
 
 impl Gate for Overlap {
     fn before_commit(&self, seat: u32) {
+        self.before.fetch_add(1, Ordering::SeqCst);
         if seat != self.held {
             return;
         }
+        self.before_held.fetch_add(1, Ordering::SeqCst);
         for _ in 0..MOST_TURNS {
             if self.has_committed.load(Ordering::SeqCst) {
                 return;
@@ -208,28 +246,29 @@ impl Gate for Overlap {
     }
 
     fn after_commit(&self, seat: u32) {
+        self.after.fetch_add(1, Ordering::SeqCst);
         if seat != self.held {
             self.has_committed.store(true, Ordering::SeqCst);
         }
     }
 }
 
-/// Two workers of which one commits while the other one has prepared its move.
+/// Two workers of which one commits while the other one has prepared its move. Each calls the gate before its move and behind it.
 fn commits_between<R: Threads + Wait + Sync>(
     rt: &R,
     alloc: Global,
     held: u32,
 ) -> Result<bool, Fail> {
-    let gate = Overlap {
-        held,
-        has_committed: AtomicBool::new(false),
-        is_missed: AtomicBool::new(false),
-    };
+    let gate = Overlap::new(held);
     let book = book_of(alloc, PASS, 2)?;
     let round = run::<Brand, Overlap, R>(rt, alloc, Blank::new(PARTS), book, 2, 2, &gate)?;
     let (entries, done, budgets, taken) = told(alloc, round, 2)?;
-    let is_so = entries == 5 && done && budgets == 2 && taken == 2;
-    Ok(is_so && !gate.is_missed.load(Ordering::SeqCst))
+    let each_move = Some(GateCalls {
+        before: 2,
+        before_held: 1,
+        after: 2,
+    });
+    Ok(entries == 5 && done && budgets == 2 && taken == 2 && gate.calls() == each_move)
 }
 
 #[test]

@@ -1,9 +1,10 @@
 -- How receipts go on, call by call.
 use Rattle.std.proofs.Common.{◌≡◌, ℕ, ◌+◌, ◌≤◌, List, [], ◌∷◌, ◌++◌, length, refl, ap, ◌∙◌, arith}
 use Rattle.step_names.specs.Thread.{Thread}
+use Rattle.book_log.specs.Log.{Log}
 use Rattle.book_log.specs.declared.entry.Entry.{Entry}
 use Rattle.book_log.specs.declared.entry.Entry.TheVariants.{Define, Start, Step as Stepped, Undo, Rollback, Settle, Hold}
-use Rattle.shared_book.specs.Calls.{IsStepOf}
+use Rattle.shared_book.specs.Calls.{GivesReceipt, IsStepOf, Sees}
 use Rattle.shared_book.specs.Views.{PassView}
 use Rattle.shared_book.specs.declared.receipt.Receipt.{Receipt}
 use Rattle.step_workers.specs.Work.{AllSteps, GoesOn, IsStep}
@@ -16,6 +17,14 @@ is_step t (Undo _) s = s
 is_step t (Rollback _ _) s = s
 is_step t Settle s = s
 is_step t (Hold _ _) s = s
+
+-- a receipt's number is past all that was seen before it
+pub seen_more : (begun : Log) (had has : PassView) (r : Receipt) → GivesReceipt begun had has r → had.seen ≤ has.seen
+seen_more begun had has r given =
+    let seen = ap (λ (p : PassView). p.seen) given.now in
+    let number = given.number in
+    let long = given.known.long in
+    omega (arith, seen, number, long)
 
 pub append_none : (xs : List Receipt) → xs ≡ xs ++ []
 append_none [] = refl
@@ -33,22 +42,49 @@ steps_both : (xs ys : List Receipt) → AllSteps xs → AllSteps ys → AllSteps
 steps_both [] ys a b = b
 steps_both (x ∷ xs) ys a b = (a.0, steps_both xs ys a.1 b)
 
-pub goes_none : (n : ℕ) (xs : List Receipt) → GoesOn n xs xs
-goes_none n xs = record { more = []; receipts = append_none xs; few = omega arith; steps = tt }
+pub goes_none : (n : ℕ) (p : PassView) → GoesOn n p p
+goes_none n p = record { more = []; receipts = append_none p.receipts; few = omega arith; steps = tt; parts = refl; seen = omega arith }
 
-pub goes_one : (t : Thread) (r : Receipt) (had has : List Receipt) → has ≡ had ++ r ∷ [] → IsStepOf t r.entry → GoesOn 1 had has
-goes_one t r had has now step = record { more = r ∷ []; receipts = now; few = omega arith; steps = (is_step t r.entry step, tt) }
-
-pub goes_more : (n m : ℕ) (a b c : List Receipt) → GoesOn n a b → GoesOn m b c → GoesOn (n + m) a c
-goes_more n m a b c first then = record {
-  more = first.more ++ then.more;
-  receipts = then.receipts ∙ ap (λ (t : List Receipt). t ++ then.more) first.receipts ∙ append_twice a first.more then.more;
-  few = let l = length_both first.more then.more in let f = first.few in let g = then.few in omega (arith, l, f, g);
-  steps = steps_both first.more then.more first.steps then.steps;
+pub goes_one : (t : Thread) (begun : Log) (had has : PassView) (r : Receipt) → GivesReceipt begun had has r → IsStepOf t r.entry → GoesOn 1 had has
+goes_one t begun had has r given step = record {
+  more = r ∷ [];
+  receipts = ap (λ (p : PassView). p.receipts) given.now;
+  few = omega arith;
+  steps = (is_step t r.entry step, tt);
+  parts = ap (λ (p : PassView). p.parts) given.now;
+  seen = seen_more begun had has r given;
 }
 
-pub goes_within : (n m : ℕ) (a b : List Receipt) → n ≤ m → GoesOn n a b → GoesOn m a b
-goes_within n m a b less goes = record { more = goes.more; receipts = goes.receipts; few = let f = goes.few in omega (arith, less, f); steps = goes.steps }
+-- a pass that was shown the log
+pub goes_shown : (begun : Log) (had has : PassView) (at : Log) → Sees begun had has at → GoesOn 0 had has
+goes_shown begun had has at sees = record {
+  more = [];
+  receipts = ap (λ (p : PassView). p.receipts) sees.now ∙ append_none had.receipts;
+  few = omega arith;
+  steps = tt;
+  parts = ap (λ (p : PassView). p.parts) sees.now;
+  seen = let seen = ap (λ (p : PassView). p.seen) sees.now in let long = sees.may.known.long in omega (arith, seen, long);
+}
 
-pub goes_same : (n : ℕ) (had has : PassView) → has ≡ had → GoesOn n had.receipts has.receipts
-goes_same n had has same = rw same (goes_none n had.receipts)
+pub goes_more : (n m : ℕ) (a b c : PassView) → GoesOn n a b → GoesOn m b c → GoesOn (n + m) a c
+goes_more n m a b c first then = record {
+  more = first.more ++ then.more;
+  receipts = then.receipts ∙ ap (λ (t : List Receipt). t ++ then.more) first.receipts ∙ append_twice a.receipts first.more then.more;
+  few = let l = length_both first.more then.more in let f = first.few in let g = then.few in omega (arith, l, f, g);
+  steps = steps_both first.more then.more first.steps then.steps;
+  parts = then.parts ∙ first.parts;
+  seen = let f = first.seen in let g = then.seen in omega (arith, f, g);
+}
+
+pub goes_within : (n m : ℕ) (a b : PassView) → n ≤ m → GoesOn n a b → GoesOn m a b
+goes_within n m a b less goes = record {
+  more = goes.more;
+  receipts = goes.receipts;
+  few = let f = goes.few in omega (arith, less, f);
+  steps = goes.steps;
+  parts = goes.parts;
+  seen = goes.seen;
+}
+
+pub goes_same : (n : ℕ) (had has : PassView) → has ≡ had → GoesOn n had has
+goes_same n had has same = rw same (goes_none n had)

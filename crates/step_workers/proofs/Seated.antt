@@ -1,13 +1,14 @@
 -- Seats, one by one.
-use Rattle.std.proofs.Common.{◌≡◌, ℕ, ◌+◌, ◌-◌, List, [], ◌∷◌, ◌++◌, length, map, refl, ap, sym, ◌∙◌, subst, arith}
+use Rattle.std.proofs.Common.{◌≡◌, ℕ, ◌+◌, ◌<◌, ◌≤◌, List, [], ◌∷◌, ◌++◌, length, map, refl, ap, ◌∙◌, subst, arith}
 use Rattle.std.specs.Prelude.{slice_index_or, slice_set}
 use Rattle.book_events.specs.declared.ticket.Ticket.{Ticket}
-use Rattle.shared_book.specs.Views.{PassView}
+use Rattle.shared_book.specs.Views.{PassView, first_half, second_half}
+use Rattle.slip_queue.specs.declared.giver.Giver.{Giver}
 use Rattle.slip_queue.specs.declared.slips.Slips.{Slips}
-use Rattle.step_workers.specs.Seats.{AllSeated, AllServed, AllWell, HasServed, IsSeated, IsWell, pass_of, pass_served, shares}
+use Rattle.step_workers.specs.Seats.{AllSeated, AllServed, AllWell, HasServed, IsSeated, IsWell, count_served, pass_of, pass_served, share_of}
+use Rattle.step_workers.specs.Shares.{shares_of}
 use Rattle.step_workers.specs.Rooms.{IsTray}
-use Rattle.step_workers.specs.Work.{AllGoOn}
-use Rattle.shared_book.specs.declared.receipt.Receipt.{Receipt}
+use Rattle.step_workers.specs.Work.{AllGoOn, EachAtMost, EachGoesOn, GoesOn, KeepsGiver, with_giver}
 use Rattle.step_workers.specs.declared.gathering.Tray.{Tray}
 use Rattle.step_workers.specs.declared.seat.Seat.{Seat}
 use Rattle.step_workers.specs.declared.seat.Served.{Served}
@@ -64,37 +65,37 @@ module _ {L : Type 0} where
   all_well q (s ∷ ss) [] a = absurd a
   all_well q (s ∷ ss) (d ∷ ds) a = (a.0.well, all_well q ss ds a.1)
 
-  pub all_go_on : (q : Slips Ticket) (ss : List (Seat L)) (ds : List (Served L)) (p : PassView) → p.receipts ≡ [] → AllServed q ss ds → AllGoOn (shares ss) (map pass_of ss) (map pass_served ds ++ p ∷ [])
-  all_go_on q [] [] p none a = none
-  all_go_on q [] (d ∷ ds) p none a = absurd a
-  all_go_on q (s ∷ ss) [] p none a = absurd a
-  all_go_on q (s ∷ ss) (d ∷ ds) p none a =
-      let rest = all_go_on q ss ds p none a.1 in
-      let left : shares ss ≡ (s.share + shares ss) - s.share = omega arith in
-      (s.share, omega arith, a.0.goes, subst (λ (n : ℕ). AllGoOn n (map pass_of ss) (map pass_served ds ++ p ∷ [])) left rest)
+  pub each_goes_on : (q : Slips Ticket) (ss : List (Seat L)) (ds : List (Served L)) (had has : PassView) → GoesOn 0 had has → AllServed q ss ds
+      → EachGoesOn (map share_of ss ++ 0 ∷ []) (map pass_of ss ++ had ∷ []) (map pass_served ds ++ has ∷ [])
+  each_goes_on q [] [] had has none a = (none, tt)
+  each_goes_on q [] (d ∷ ds) had has none a = absurd a
+  each_goes_on q (s ∷ ss) [] had has none a = absurd a
+  each_goes_on q (s ∷ ss) (d ∷ ds) had has none a = (a.0.goes, each_goes_on q ss ds had has none a.1)
 
-nil_is_short : (x : List Receipt) (xs : List (List Receipt)) → [] ≡ x ∷ xs → ⊥
-nil_is_short x xs e = absurd (omega (arith, ap length e))
+  -- the seats and the one who hands out tickets have the passes of the round, and their shares
+  pub round_goes_on : (budget : ℕ) (q : Slips Ticket) (ss : List (Seat L)) (ds : List (Served L)) (ps xs : List PassView) (had has : PassView) → AllServed q ss ds → GoesOn 0 had has
+      → map share_of ss ≡ shares_of budget (length ps) → map pass_of ss ≡ xs → xs ++ had ∷ [] ≡ with_giver ps → AllGoOn budget ps (map pass_served ds ++ has ∷ [])
+  round_goes_on budget q ss ds ps xs had has served none shares seats giver =
+      let qs = map pass_served ds ++ has ∷ [] in
+      subst (λ (ns : List ℕ). EachGoesOn (ns ++ 0 ∷ []) (with_giver ps) qs) shares
+      (subst (λ (zs : List PassView). EachGoesOn (map share_of ss ++ 0 ∷ []) zs qs) (ap (λ (zs : List PassView). zs ++ had ∷ []) seats ∙ giver) (each_goes_on q ss ds had has none served))
 
-abbrev pub receipts_of : PassView → List Receipt
-receipts_of p = p.receipts
+  pub each_took : (q : Slips Ticket) (ss : List (Seat L)) (ds : List (Served L)) → AllServed q ss ds → EachAtMost (map count_served ds) (map share_of ss)
+  each_took q [] [] a = tt
+  each_took q [] (d ∷ ds) a = absurd a
+  each_took q (s ∷ ss) [] a = absurd a
+  each_took q (s ∷ ss) (d ∷ ds) a = (a.0.few, each_took q ss ds a.1)
 
-pub go_on_same : (n : ℕ) (ps ps' qs : List PassView) → map receipts_of ps ≡ map receipts_of ps' → AllGoOn n ps' qs → AllGoOn n ps qs
-go_on_same n [] [] qs same all = all
-go_on_same n [] (p ∷ ps') qs same all = absurd (nil_is_short _ _ same)
-go_on_same n (p ∷ ps) [] qs same all = absurd (nil_is_short _ _ (sym same))
-go_on_same n (p ∷ ps) (p' ∷ ps') [] same all = all
-go_on_same n (p ∷ ps) (p' ∷ ps') (q ∷ qs) same all =
-    let first : p.receipts ≡ p'.receipts = cc in
-    let rest : map receipts_of ps ≡ map receipts_of ps' = cc in
-    (all.0, all.1, rw first all.2, go_on_same (n - all.0) ps ps' qs rest all.3)
+-- at most so many slips more
+pub keeps_within : (n m : ℕ) (q : Slips Ticket) (had now has : Giver Ticket) → now ≡ had → n ≤ m → KeepsGiver n q now has → KeepsGiver m q had has
+keeps_within n m q had now has same less keeps =
+    subst (λ (was : Giver Ticket). KeepsGiver m q was has) same (record { parts = keeps.parts; taken = keeps.taken; few = let few = keeps.few in omega (arith, few, less); giver = keeps.giver })
 
--- the first pass has the same receipts as it had
-pub same_but_first : (ps : List PassView) (was p : PassView) → was ≡ slice_index_or ps 0 was → p.receipts ≡ was.receipts → map receipts_of ps ≡ map receipts_of (slice_set ps 0 p)
-same_but_first [] was p there same = refl
-same_but_first (q ∷ ps) was p there same =
-    let first : p.receipts ≡ q.receipts = same ∙ ap (λ (r : PassView). r.receipts) there in
-    ap (λ (r : List Receipt). r ∷ map receipts_of ps) (sym first)
-
-pub go_on_over : (n m : ℕ) (ps xs ys qs : List PassView) → m ≡ n → xs ≡ ys → map receipts_of ps ≡ map receipts_of ys → AllGoOn m xs qs → AllGoOn n ps qs
-go_on_over n m ps xs ys qs share seats same all = go_on_same n ps ys qs same (subst (λ (k : ℕ). AllGoOn k ys qs) share (subst (λ (zs : List PassView). AllGoOn m zs qs) seats all))
+-- the first pass gave half of its parts
+pub giver_seated : (ps : List PassView) (was first half : PassView) → 0 < length ps → was ≡ slice_index_or ps 0 was → first ≡ first_half was → half ≡ second_half was
+    → slice_set ps 0 first ++ half ∷ [] ≡ with_giver ps
+giver_seated [] was first half some there one other = absurd (omega (arith, some))
+giver_seated (p ∷ ps) was first half some there one other =
+    let f : first ≡ first_half p = one ∙ ap (λ (r : PassView). first_half r) there in
+    let h : half ≡ second_half p = other ∙ ap (λ (r : PassView). second_half r) there in
+    rw (f, h) refl

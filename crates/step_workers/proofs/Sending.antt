@@ -1,8 +1,8 @@
 -- What threads may send to each other and share.
 use denote.Param.Send.{IsSend, IsSync, sendable}
-use Rattle.asl_choice.proofs.choice.Comparison.TheSendSync as s_asl_choice_Comparison
-use Rattle.asl_choice.proofs.choice.InnerTest.TheLaws.TheKnot as k_asl_choice_InnerTest
-use Rattle.asl_choice.proofs.choice.Relation.TheSendSync as s_asl_choice_Relation
+use Rattle.asl_states.proofs.choice.Comparison.TheSendSync as s_asl_states_Comparison
+use Rattle.asl_states.proofs.choice.InnerTest.TheLaws.TheKnot as k_asl_states_InnerTest
+use Rattle.asl_states.proofs.choice.Relation.TheSendSync as s_asl_states_Relation
 use Rattle.asl_errors.proofs.errors.Catcher.TheSendSync as s_asl_errors_Catcher
 use Rattle.asl_errors.proofs.errors.Catchers.TheSendSync as s_asl_errors_Catchers
 use Rattle.asl_errors.proofs.errors.ErrorHandling.TheSendSync as s_asl_errors_ErrorHandling
@@ -101,7 +101,7 @@ use Rattle.book_events.specs.contracts.ticket.Ticket as ticket
 use Rattle.shared_book.specs.contracts.receipt.Receipt as receipt
 use Rattle.shared_book.specs.contracts.refusal.SharedRefusal as refusal
 
-pub ruleset base = (s_asl_choice_Comparison.the_field_send, s_asl_choice_Comparison.the_send, s_asl_choice_Comparison.the_field_sync, s_asl_choice_Comparison.the_sync, s_asl_choice_Relation.the_field_send, s_asl_choice_Relation.the_send, s_asl_choice_Relation.the_field_sync, s_asl_choice_Relation.the_sync, s_asl_errors_Catcher.the_field_send, s_asl_errors_Catcher.the_send, s_asl_errors_Catcher.the_field_sync, s_asl_errors_Catcher.the_sync, s_asl_errors_Catchers.the_send, s_asl_errors_Catchers.the_sync, s_asl_errors_ErrorHandling.the_field_send, s_asl_errors_ErrorHandling.the_send, s_asl_errors_ErrorHandling.the_field_sync, s_asl_errors_ErrorHandling.the_sync, s_asl_errors_ErrorNames.the_send, s_asl_errors_ErrorNames.the_sync, s_asl_errors_Retrier.the_field_send, s_asl_errors_Retrier.the_send, s_asl_errors_Retrier.the_field_sync, s_asl_errors_Retrier.the_sync, s_asl_errors_Retriers.the_send, s_asl_errors_Retriers.the_sync, s_asl_frames_Fault.the_field_send, s_asl_frames_Fault.the_send, s_asl_frames_Fault.the_field_sync, s_asl_frames_Fault.the_sync, s_asl_frames_Origin.the_field_send, s_asl_frames_Origin.the_send, s_asl_frames_Origin.the_field_sync, s_asl_frames_Origin.the_sync, s_asl_frames_Retries.the_send, s_asl_frames_Retries.the_sync, s_asl_states_Fail.the_field_send, s_asl_states_Fail.the_send, s_asl_states_Fail.the_field_sync, s_asl_states_Fail.the_sync, s_asl_states_Resource.the_field_send, s_asl_states_Resource.the_send, s_asl_states_Resource.the_field_sync, s_asl_states_Resource.the_sync, s_asl_states_Transition.the_field_send, s_asl_states_Transition.the_send, s_asl_states_Transition.the_field_sync, s_asl_states_Transition.the_sync, s_asl_tree_Level.the_field_send, s_asl_tree_Level.the_send, s_asl_tree_Level.the_field_sync, s_asl_tree_Level.the_sync, s_asl_tree_LevelPath.the_send, s_asl_tree_LevelPath.the_sync, s_asl_tree_LevelStep.the_field_send, s_asl_tree_LevelStep.the_send, s_asl_tree_LevelStep.the_field_sync, s_asl_tree_LevelStep.the_sync, s_attr_values_Key.the_field_send, s_attr_values_Key.the_send, s_attr_values_Key.the_field_sync, s_attr_values_Key.the_sync, s_attr_values_KeyAttribute.the_field_send, s_attr_values_KeyAttribute.the_send, s_attr_values_KeyAttribute.the_field_sync, s_attr_values_KeyAttribute.the_sync, s_attr_values_KeySchema.the_field_send, s_attr_values_KeySchema.the_send, s_attr_values_KeySchema.the_field_sync, s_attr_values_KeySchema.the_sync, s_attr_values_KeyType.the_field_send, s_attr_values_KeyType.the_send, s_attr_values_KeyType.the_field_sync, s_attr_values_KeyType.the_sync, s_attr_values_KeyPart.the_field_send, s_attr_values_KeyPart.the_send, s_attr_values_KeyPart.the_field_sync, s_attr_values_KeyPart.the_sync, s_attr_values_KeyText.the_send, s_attr_values_KeyText.the_sync, s_attr_values_Number.the_send, s_attr_values_Number.the_sync, s_attr_values_NumberSet.the_send, s_attr_values_NumberSet.the_sync, s_attr_values_TextSet.the_send, s_attr_values_TextSet.the_sync, s_book_log_StepNames.the_send, s_book_log_StepNames.the_sync, s_branch_tree_Counts.the_field_send, s_branch_tree_Counts.the_send, s_branch_tree_Counts.the_field_sync, s_branch_tree_Counts.the_sync, s_std_FoldHasher.the_field_send, s_std_FoldHasher.the_send, s_std_FoldHasher.the_field_sync, s_std_FoldHasher.the_sync, s_std_Memory.the_field_send, s_std_Memory.the_send, s_std_Memory.the_field_sync, s_std_Memory.the_sync, s_book_log_Bucket.the_field_send, s_book_log_Bucket.the_send, s_book_log_Bucket.the_field_sync, s_book_log_Bucket.the_sync, s_book_log_Group.the_field_send, s_book_log_Group.the_send, s_book_log_Group.the_field_sync, s_book_log_Group.the_sync, s_item_store_AccessMode.the_field_send, s_item_store_AccessMode.the_send, s_item_store_AccessMode.the_field_sync, s_item_store_AccessMode.the_sync, s_item_store_Condition.the_field_send, s_item_store_Condition.the_send, s_item_store_Condition.the_field_sync, s_item_store_Condition.the_sync, s_item_store_ConditionKind.the_field_send, s_item_store_ConditionKind.the_send, s_item_store_ConditionKind.the_field_sync, s_item_store_ConditionKind.the_sync, s_item_store_ReturnValues.the_field_send, s_item_store_ReturnValues.the_send, s_item_store_ReturnValues.the_field_sync, s_item_store_ReturnValues.the_sync, s_item_store_Terms.the_field_send, s_item_store_Terms.the_send, s_item_store_Terms.the_field_sync, s_item_store_Terms.the_sync, s_item_store_SlotNo.the_field_send, s_item_store_SlotNo.the_send, s_item_store_SlotNo.the_field_sync, s_item_store_SlotNo.the_sync, s_json_tree_Short.the_send, s_json_tree_Short.the_sync, s_json_tree_Text.the_send, s_json_tree_Text.the_sync, s_json_tree_TextBytes.the_field_send, s_json_tree_TextBytes.the_send, s_json_tree_TextBytes.the_field_sync, s_json_tree_TextBytes.the_sync, s_json_tree_Told.the_field_send, s_json_tree_Told.the_send, s_json_tree_Told.the_field_sync, s_json_tree_Told.the_sync, s_ref_paths_PathStep.the_field_send, s_ref_paths_PathStep.the_send, s_ref_paths_PathStep.the_field_sync, s_ref_paths_PathStep.the_sync, s_ref_paths_RefPath.the_send, s_ref_paths_RefPath.the_sync, s_saved_steps_Access.the_field_send, s_saved_steps_Access.the_send, s_saved_steps_Access.the_field_sync, s_saved_steps_Access.the_sync, s_saved_steps_Fact.the_field_send, s_saved_steps_Fact.the_send, s_saved_steps_Fact.the_field_sync, s_saved_steps_Fact.the_sync, s_saved_steps_Kind.the_field_send, s_saved_steps_Kind.the_send, s_saved_steps_Kind.the_field_sync, s_saved_steps_Kind.the_sync, s_std_Box.the_sync, s_std_Vec.the_sync, s_std_Node.the_sync, s_std_Global.the_field_send, s_std_Global.the_send, s_std_Global.the_field_sync, s_std_Global.the_sync, s_step_names_ExecBytes.the_field_send, s_step_names_ExecBytes.the_send, s_step_names_ExecBytes.the_field_sync, s_step_names_ExecBytes.the_sync, s_step_names_ExecName.the_send, s_step_names_ExecName.the_sync, s_step_names_StepName.the_field_send, s_step_names_StepName.the_send, s_step_names_StepName.the_field_sync, s_step_names_StepName.the_sync, s_step_names_ThreadName.the_send, s_step_names_ThreadName.the_sync, s_std_BuildHasherDefault.the_field_send, s_std_BuildHasherDefault.the_send, s_std_BuildHasherDefault.the_field_sync, s_std_BuildHasherDefault.the_sync, s_std_Option.the_field_send, s_std_Option.the_send, s_std_Option.the_field_sync, s_std_Option.the_sync, s_book_log_Columns.the_send, s_book_log_Columns.the_sync, s_book_log_IndexTable.the_send, s_book_log_IndexTable.the_sync, s_book_log_IndexMap.the_send, s_book_log_IndexMap.the_sync, s_std_Arc.the_send, s_std_Arc.the_sync, s_std_Box.the_send, s_std_String.the_field_send, s_std_String.the_send, s_std_String.the_field_sync, s_std_String.the_sync, s_std_Vec.the_send, s_std_Node.the_send, s_std_Root.the_field_send, s_std_Root.the_send, s_std_Root.the_field_sync, s_std_Root.the_sync, s_std_Tree.the_field_send, s_std_Tree.the_send, s_std_Tree.the_field_sync, s_std_Tree.the_sync, s_std_BTreeMap.the_send, s_std_BTreeMap.the_sync, s_std_BTreeSet.the_send, s_std_BTreeSet.the_sync, MapsCrossing.crosses, Crossing.crosses, sendable)
+pub ruleset base = (s_asl_states_Comparison.the_field_send, s_asl_states_Comparison.the_send, s_asl_states_Comparison.the_field_sync, s_asl_states_Comparison.the_sync, s_asl_states_Relation.the_field_send, s_asl_states_Relation.the_send, s_asl_states_Relation.the_field_sync, s_asl_states_Relation.the_sync, s_asl_errors_Catcher.the_field_send, s_asl_errors_Catcher.the_send, s_asl_errors_Catcher.the_field_sync, s_asl_errors_Catcher.the_sync, s_asl_errors_Catchers.the_send, s_asl_errors_Catchers.the_sync, s_asl_errors_ErrorHandling.the_field_send, s_asl_errors_ErrorHandling.the_send, s_asl_errors_ErrorHandling.the_field_sync, s_asl_errors_ErrorHandling.the_sync, s_asl_errors_ErrorNames.the_send, s_asl_errors_ErrorNames.the_sync, s_asl_errors_Retrier.the_field_send, s_asl_errors_Retrier.the_send, s_asl_errors_Retrier.the_field_sync, s_asl_errors_Retrier.the_sync, s_asl_errors_Retriers.the_send, s_asl_errors_Retriers.the_sync, s_asl_frames_Fault.the_field_send, s_asl_frames_Fault.the_send, s_asl_frames_Fault.the_field_sync, s_asl_frames_Fault.the_sync, s_asl_frames_Origin.the_field_send, s_asl_frames_Origin.the_send, s_asl_frames_Origin.the_field_sync, s_asl_frames_Origin.the_sync, s_asl_frames_Retries.the_send, s_asl_frames_Retries.the_sync, s_asl_states_Fail.the_field_send, s_asl_states_Fail.the_send, s_asl_states_Fail.the_field_sync, s_asl_states_Fail.the_sync, s_asl_states_Resource.the_field_send, s_asl_states_Resource.the_send, s_asl_states_Resource.the_field_sync, s_asl_states_Resource.the_sync, s_asl_states_Transition.the_field_send, s_asl_states_Transition.the_send, s_asl_states_Transition.the_field_sync, s_asl_states_Transition.the_sync, s_asl_tree_Level.the_field_send, s_asl_tree_Level.the_send, s_asl_tree_Level.the_field_sync, s_asl_tree_Level.the_sync, s_asl_tree_LevelPath.the_send, s_asl_tree_LevelPath.the_sync, s_asl_tree_LevelStep.the_field_send, s_asl_tree_LevelStep.the_send, s_asl_tree_LevelStep.the_field_sync, s_asl_tree_LevelStep.the_sync, s_attr_values_Key.the_field_send, s_attr_values_Key.the_send, s_attr_values_Key.the_field_sync, s_attr_values_Key.the_sync, s_attr_values_KeyAttribute.the_field_send, s_attr_values_KeyAttribute.the_send, s_attr_values_KeyAttribute.the_field_sync, s_attr_values_KeyAttribute.the_sync, s_attr_values_KeySchema.the_field_send, s_attr_values_KeySchema.the_send, s_attr_values_KeySchema.the_field_sync, s_attr_values_KeySchema.the_sync, s_attr_values_KeyType.the_field_send, s_attr_values_KeyType.the_send, s_attr_values_KeyType.the_field_sync, s_attr_values_KeyType.the_sync, s_attr_values_KeyPart.the_field_send, s_attr_values_KeyPart.the_send, s_attr_values_KeyPart.the_field_sync, s_attr_values_KeyPart.the_sync, s_attr_values_KeyText.the_send, s_attr_values_KeyText.the_sync, s_attr_values_Number.the_send, s_attr_values_Number.the_sync, s_attr_values_NumberSet.the_send, s_attr_values_NumberSet.the_sync, s_attr_values_TextSet.the_send, s_attr_values_TextSet.the_sync, s_book_log_StepNames.the_send, s_book_log_StepNames.the_sync, s_branch_tree_Counts.the_field_send, s_branch_tree_Counts.the_send, s_branch_tree_Counts.the_field_sync, s_branch_tree_Counts.the_sync, s_std_FoldHasher.the_field_send, s_std_FoldHasher.the_send, s_std_FoldHasher.the_field_sync, s_std_FoldHasher.the_sync, s_std_Memory.the_field_send, s_std_Memory.the_send, s_std_Memory.the_field_sync, s_std_Memory.the_sync, s_book_log_Bucket.the_field_send, s_book_log_Bucket.the_send, s_book_log_Bucket.the_field_sync, s_book_log_Bucket.the_sync, s_book_log_Group.the_field_send, s_book_log_Group.the_send, s_book_log_Group.the_field_sync, s_book_log_Group.the_sync, s_item_store_AccessMode.the_field_send, s_item_store_AccessMode.the_send, s_item_store_AccessMode.the_field_sync, s_item_store_AccessMode.the_sync, s_item_store_Condition.the_field_send, s_item_store_Condition.the_send, s_item_store_Condition.the_field_sync, s_item_store_Condition.the_sync, s_item_store_ConditionKind.the_field_send, s_item_store_ConditionKind.the_send, s_item_store_ConditionKind.the_field_sync, s_item_store_ConditionKind.the_sync, s_item_store_ReturnValues.the_field_send, s_item_store_ReturnValues.the_send, s_item_store_ReturnValues.the_field_sync, s_item_store_ReturnValues.the_sync, s_item_store_Terms.the_field_send, s_item_store_Terms.the_send, s_item_store_Terms.the_field_sync, s_item_store_Terms.the_sync, s_item_store_SlotNo.the_field_send, s_item_store_SlotNo.the_send, s_item_store_SlotNo.the_field_sync, s_item_store_SlotNo.the_sync, s_json_tree_Short.the_send, s_json_tree_Short.the_sync, s_json_tree_Text.the_send, s_json_tree_Text.the_sync, s_json_tree_TextBytes.the_field_send, s_json_tree_TextBytes.the_send, s_json_tree_TextBytes.the_field_sync, s_json_tree_TextBytes.the_sync, s_json_tree_Told.the_field_send, s_json_tree_Told.the_send, s_json_tree_Told.the_field_sync, s_json_tree_Told.the_sync, s_ref_paths_PathStep.the_field_send, s_ref_paths_PathStep.the_send, s_ref_paths_PathStep.the_field_sync, s_ref_paths_PathStep.the_sync, s_ref_paths_RefPath.the_send, s_ref_paths_RefPath.the_sync, s_saved_steps_Access.the_field_send, s_saved_steps_Access.the_send, s_saved_steps_Access.the_field_sync, s_saved_steps_Access.the_sync, s_saved_steps_Fact.the_field_send, s_saved_steps_Fact.the_send, s_saved_steps_Fact.the_field_sync, s_saved_steps_Fact.the_sync, s_saved_steps_Kind.the_field_send, s_saved_steps_Kind.the_send, s_saved_steps_Kind.the_field_sync, s_saved_steps_Kind.the_sync, s_std_Box.the_sync, s_std_Vec.the_sync, s_std_Node.the_sync, s_std_Global.the_field_send, s_std_Global.the_send, s_std_Global.the_field_sync, s_std_Global.the_sync, s_step_names_ExecBytes.the_field_send, s_step_names_ExecBytes.the_send, s_step_names_ExecBytes.the_field_sync, s_step_names_ExecBytes.the_sync, s_step_names_ExecName.the_send, s_step_names_ExecName.the_sync, s_step_names_StepName.the_field_send, s_step_names_StepName.the_send, s_step_names_StepName.the_field_sync, s_step_names_StepName.the_sync, s_step_names_ThreadName.the_send, s_step_names_ThreadName.the_sync, s_std_BuildHasherDefault.the_field_send, s_std_BuildHasherDefault.the_send, s_std_BuildHasherDefault.the_field_sync, s_std_BuildHasherDefault.the_sync, s_std_Option.the_field_send, s_std_Option.the_send, s_std_Option.the_field_sync, s_std_Option.the_sync, s_book_log_Columns.the_send, s_book_log_Columns.the_sync, s_book_log_IndexTable.the_send, s_book_log_IndexTable.the_sync, s_book_log_IndexMap.the_send, s_book_log_IndexMap.the_sync, s_std_Arc.the_send, s_std_Arc.the_sync, s_std_Box.the_send, s_std_String.the_field_send, s_std_String.the_send, s_std_String.the_field_sync, s_std_String.the_sync, s_std_Vec.the_send, s_std_Node.the_send, s_std_Root.the_field_send, s_std_Root.the_send, s_std_Root.the_field_sync, s_std_Root.the_sync, s_std_Tree.the_field_send, s_std_Tree.the_send, s_std_Tree.the_field_sync, s_std_Tree.the_sync, s_std_BTreeMap.the_send, s_std_BTreeMap.the_sync, s_std_BTreeSet.the_send, s_std_BTreeSet.the_sync, MapsCrossing.crosses, Crossing.crosses, sendable)
 
 pub json_field_send : IsSend (json.the_field).row
 json_field_send = search (k_json_tree_JsonFields.crosses, base) depth 60 fits 20000
@@ -212,16 +212,16 @@ pub fail_sync : IsSync fail.the_row
 fail_sync = search (base) depth 60 fits 20000
 
 pub choice_field_send : IsSend (choice.the_field).row
-choice_field_send = search (processing_send, processing_sync, json_send, json_sync, processing_field_send, processing_field_sync, json_field_send, json_field_sync, k_asl_choice_InnerTest.crosses, base) depth 60 fits 20000
+choice_field_send = search (processing_send, processing_sync, json_send, json_sync, processing_field_send, processing_field_sync, json_field_send, json_field_sync, k_asl_states_InnerTest.crosses, base) depth 60 fits 20000
 
 pub choice_send : IsSend choice.the_row
-choice_send = search (processing_send, processing_sync, json_send, json_sync, processing_field_send, processing_field_sync, json_field_send, json_field_sync, k_asl_choice_InnerTest.crosses, base) depth 60 fits 20000
+choice_send = search (processing_send, processing_sync, json_send, json_sync, processing_field_send, processing_field_sync, json_field_send, json_field_sync, k_asl_states_InnerTest.crosses, base) depth 60 fits 20000
 
 pub choice_field_sync : IsSync (choice.the_field).row
-choice_field_sync = search (processing_send, processing_sync, json_send, json_sync, processing_field_send, processing_field_sync, json_field_send, json_field_sync, k_asl_choice_InnerTest.crosses, base) depth 60 fits 20000
+choice_field_sync = search (processing_send, processing_sync, json_send, json_sync, processing_field_send, processing_field_sync, json_field_send, json_field_sync, k_asl_states_InnerTest.crosses, base) depth 60 fits 20000
 
 pub choice_sync : IsSync choice.the_row
-choice_sync = search (processing_send, processing_sync, json_send, json_sync, processing_field_send, processing_field_sync, json_field_send, json_field_sync, k_asl_choice_InnerTest.crosses, base) depth 60 fits 20000
+choice_sync = search (processing_send, processing_sync, json_send, json_sync, processing_field_send, processing_field_sync, json_field_send, json_field_sync, k_asl_states_InnerTest.crosses, base) depth 60 fits 20000
 
 pub wait_field_send : IsSend (wait.the_field).row
 wait_field_send = search (processing_send, processing_sync, processing_field_send, processing_field_sync, base) depth 60 fits 20000

@@ -12,7 +12,7 @@ use Rattle.shared_book.specs.declared.refusal.SharedRefusal.{SharedRefusal}
 use Rattle.shared_book.specs.declared.refusal.SharedRefusal.TheVariants.{Refused, ForeignPass}
 use Rattle.step_workers.specs.declared.outcome.Stopped.{Stopped}
 use Rattle.step_workers.specs.Undoings.{AllStopped, AllTakeBack, AllTookNone, AllUndoings, IsStopped, IsUndoing, TakesBack, stopped_for}
-use Rattle.step_workers.proofs.Going.{append_none, append_twice, length_both}
+use Rattle.step_workers.proofs.Going.{append_none, append_twice, length_both, seen_more}
 
 is_undoing : (at : Log) (e : Entry) → IsLatestUndone at e → IsUndoing e
 is_undoing at (Undo _) s = tt
@@ -27,18 +27,20 @@ undoings_both : (xs ys : List Receipt) → AllUndoings xs → AllUndoings ys →
 undoings_both [] ys a b = b
 undoings_both (x ∷ xs) ys a b = (a.0, undoings_both xs ys a.1 b)
 
-pub takes_none : (n : ℕ) (xs : List Receipt) → TakesBack n xs xs
-takes_none n xs = record { more = []; receipts = append_none xs; few = omega arith; undoings = tt }
+pub takes_none : (n : ℕ) (p : PassView) → TakesBack n p p
+takes_none n p = record { more = []; receipts = append_none p.receipts; few = omega arith; undoings = tt; parts = refl; seen = omega arith }
 
 -- one undoing more
-pub takes_more : (n : ℕ) (begun : Log) (a : List Receipt) (had has : PassView) (r : Receipt) → TakesBack n a had.receipts → GivesLatest begun had has r → TakesBack (n + 1) a has.receipts
+pub takes_more : (n : ℕ) (begun : Log) (a had has : PassView) (r : Receipt) → TakesBack n a had → GivesLatest begun had has r → TakesBack (n + 1) a has
 takes_more n begun a had has r first then =
     let one = r ∷ [] in
     record {
       more = first.more ++ one;
-      receipts = ap (λ (p : PassView). p.receipts) then.0.now ∙ ap (λ (t : List Receipt). t ++ one) first.receipts ∙ append_twice a first.more one;
+      receipts = ap (λ (p : PassView). p.receipts) then.0.now ∙ ap (λ (t : List Receipt). t ++ one) first.receipts ∙ append_twice a.receipts first.more one;
       few = let l = length_both first.more one in let f = first.few in omega (arith, l, f);
       undoings = undoings_both first.more one first.undoings (is_undoing then.0.before r.entry then.1, tt);
+      parts = ap (λ (p : PassView). p.parts) then.0.now ∙ first.parts;
+      seen = let f = first.seen in let g = seen_more begun had has r then.0 in omega (arith, f, g);
     }
 
 -- and so many receipts more
@@ -48,16 +50,23 @@ counts_more n begun a had has r first then =
     let l = length_both had.receipts (r ∷ []) in
     omega (arith, now, l, first)
 
-pub takes_within : (n m : ℕ) (a b : List Receipt) → n ≤ m → TakesBack n a b → TakesBack m a b
-takes_within n m a b less takes = record { more = takes.more; receipts = takes.receipts; few = let f = takes.few in omega (arith, less, f); undoings = takes.undoings }
+pub takes_within : (n m : ℕ) (a b : PassView) → n ≤ m → TakesBack n a b → TakesBack m a b
+takes_within n m a b less takes = record {
+  more = takes.more;
+  receipts = takes.receipts;
+  few = let f = takes.few in omega (arith, less, f);
+  undoings = takes.undoings;
+  parts = takes.parts;
+  seen = takes.seen;
+}
 
-take_back_more : (n : ℕ) (ps qs : List PassView) (p q : PassView) → AllTakeBack n ps qs → TakesBack n p.receipts q.receipts → AllTakeBack n (ps ++ p ∷ []) (qs ++ q ∷ [])
+take_back_more : (n : ℕ) (ps qs : List PassView) (p q : PassView) → AllTakeBack n ps qs → TakesBack n p q → AllTakeBack n (ps ++ p ∷ []) (qs ++ q ∷ [])
 take_back_more n [] [] p q a b = (b, tt)
 take_back_more n [] (e ∷ qs) p q a b = absurd a
 take_back_more n (r ∷ ps) [] p q a b = absurd a
 take_back_more n (r ∷ ps) (e ∷ qs) p q a b = (a.0, take_back_more n ps qs p q a.1 b)
 
-pub takes_back_last : (n : ℕ) (ss ts es ds : List PassView) (s d : PassView) → ss ≡ ts ++ s ∷ [] → es ≡ ds ++ d ∷ [] → AllTakeBack n ts ds → TakesBack n s.receipts d.receipts → AllTakeBack n ss es
+pub takes_back_last : (n : ℕ) (ss ts es ds : List PassView) (s d : PassView) → ss ≡ ts ++ s ∷ [] → es ≡ ds ++ d ∷ [] → AllTakeBack n ts ds → TakesBack n s d → AllTakeBack n ss es
 takes_back_last n ss ts es ds s d gave took all one = rw gave (rw took (take_back_more n ts ds s d all one))
 
 stopped_more : (begun : Log) (ps qs : List PassView) (ss : List Stopped) (p q : PassView) (s : Stopped) → AllStopped begun ps qs ss → IsStopped begun p q s → AllStopped begun (ps ++ p ∷ []) (qs ++ q ∷ []) (ss ++ s ∷ [])

@@ -1,3 +1,4 @@
+pub mod Shares
 pub mod Work
 pub mod Seats
 pub mod Rooms

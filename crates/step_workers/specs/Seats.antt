@@ -19,11 +19,13 @@ abbrev pub AllRoomy : List Allowance → Type 0
 AllRoomy [] = Unit {0}
 AllRoomy (a ∷ as_) = IsRoomy a × AllRoomy as_
 
-abbrev pub allowed : List Allowance → ℕ
-allowed [] = 0
-allowed (a ∷ as_) = a.share + allowed as_
+abbrev pub share_in : Allowance → ℕ
+share_in a = a.share
 
 module _ {L : Type 0} where
+  abbrev pub share_of : Seat L → ℕ
+  share_of s = s.share
+
   abbrev pub shares : List (Seat L) → ℕ
   shares [] = 0
   shares (s ∷ ss) = s.share + shares ss
@@ -33,6 +35,9 @@ module _ {L : Type 0} where
 
   abbrev pub pass_served : Served L → PassView
   pass_served d = d.pass
+
+  abbrev pub count_served : Served L → ℕ
+  count_served d = length d.taken.items
 
   -- it takes of this queue, and has taken nothing so far
   pub record IsSeated (q : Slips Ticket) (s : Seat L) : Type 0 where
@@ -71,7 +76,8 @@ module _ {L : Type 0} where
 
   -- it took no more moves than its share
   pub record HasServed (q : Slips Ticket) (s : Seat L) (d : Served L) : Type 0 where
-    pub goes : GoesOn s.share s.pass.receipts d.pass.receipts
+    pub goes : GoesOn s.share s.pass d.pass
+    pub few : length d.taken.items ≤ s.share
     pub well : IsWell q d
 
   abbrev pub AllServed : Slips Ticket → List (Seat L) → List (Served L) → Type 0

@@ -24,17 +24,19 @@ abbrev pub AllUndoings : List Receipt → Type 0
 AllUndoings [] = Unit {0}
 AllUndoings (r ∷ rs) = IsUndoing r.entry × AllUndoings rs
 
--- at most n receipts more, each of an undoing
-pub record TakesBack (n : ℕ) (had has : List Receipt) : Type 0 where
+-- at most n receipts more, each of an undoing; as many parts as before, and no less seen
+pub record TakesBack (n : ℕ) (had has : PassView) : Type 0 where
   pub more : List Receipt
-  pub receipts : has ≡ had ++ more
+  pub receipts : has.receipts ≡ had.receipts ++ more
   pub few : length more ≤ n
   pub undoings : AllUndoings more
+  pub parts : has.parts ≡ had.parts
+  pub seen : had.seen ≤ has.seen
 
 -- as many passes, each of which goes on so, by at most n receipts
 abbrev pub AllTakeBack : ℕ → List PassView → List PassView → Type 0
 AllTakeBack n [] [] = Unit {0}
-AllTakeBack n (p ∷ ps) (q ∷ qs) = TakesBack n p.receipts q.receipts × AllTakeBack n ps qs
+AllTakeBack n (p ∷ ps) (q ∷ qs) = TakesBack n p q × AllTakeBack n ps qs
 AllTakeBack n _ _ = ⊥
 
 -- why a seat stopped whose pass was this one and is that one now: so many undoings were made; nothing is left at a log that the pass can
@@ -65,4 +67,4 @@ AllTookNone (v ∷ vs) = (v.items ≡ []) × AllTookNone vs
 
 module _ {L : Type 0} where
   abbrev pub HasUndone : Log → Undoer L → Undone L → Type 0
-  HasUndone begun u d = TakesBack 65536 u.pass.receipts d.pass.receipts × IsStopped begun u.pass d.pass d.stopped
+  HasUndone begun u d = TakesBack 65536 u.pass d.pass × IsStopped begun u.pass d.pass d.stopped

@@ -1,7 +1,7 @@
 // The one who hands out tickets.
-ghost use Rattle.std.specs.Prelude.{◌≡◌};
+ghost use Rattle.std.specs.Prelude.{◌≡◌, ◌+◌};
 ghost use Rattle.slip_queue.specs.Slips.{IsGiver};
-ghost use Rattle.step_workers.specs.Work.{KeepsGiver};
+ghost use Rattle.step_workers.specs.Work.{GoesOn, KeepsGiver};
 
 use crate::board::Board;
 use crate::seat::Served;
@@ -35,8 +35,8 @@ pub(crate) fn dispatch<B: Events, L: Sharing>(
     dispatcher: Dispatcher<L>,
 ) -> Dispatcher<L>
     requires { IsGiver board.now.slips dispatcher.giver }
-    ensures giver { KeepsGiver board.now.slips dispatcher.giver result.giver }
-    ensures pass { result.pass.receipts ≡ dispatcher.pass.receipts }
+    ensures giver { KeepsGiver (dispatcher.tickets + dispatcher.workers) board.now.slips dispatcher.giver result.giver }
+    ensures pass { GoesOn 0 dispatcher.pass result.pass }
     ensures served { result.served ≡ dispatcher.served }
 {
     let Dispatcher {
@@ -79,8 +79,8 @@ fn hand_out<B: Events, L: Sharing>(
     limits: Limits,
 ) -> Option<SharedRefusal>
     requires { IsGiver board.now.slips giver.old }
-    ensures giver { KeepsGiver board.now.slips giver.old giver.new }
-    ensures pass { pass.new.receipts ≡ pass.old.receipts }
+    ensures giver { KeepsGiver limits.tickets board.now.slips giver.old giver.new }
+    ensures pass { GoesOn 0 pass.old pass.new }
 {
     let mut left = limits.tickets;
     for _ in rt.forever() {
@@ -104,7 +104,7 @@ fn hand_out<B: Events, L: Sharing>(
 /// A slip without work for each worker.
 fn end_all(rt: &impl Wait, board: &Board, giver: &mut Giver<Ticket>, workers: u32)
     requires { IsGiver board.now.slips giver.old }
-    ensures { KeepsGiver board.now.slips giver.old giver.new }
+    ensures { KeepsGiver workers board.now.slips giver.old giver.new }
 {
     for _worker in 0..workers {
         give(rt, board, giver, None);
@@ -114,7 +114,7 @@ fn end_all(rt: &impl Wait, board: &Board, giver: &mut Giver<Ticket>, workers: u3
 /// Puts a slip into the queue, and waits while it is full.
 fn give(rt: &impl Wait, board: &Board, giver: &mut Giver<Ticket>, work: Option<Ticket>)
     requires { IsGiver board.now.slips giver.old }
-    ensures { KeepsGiver board.now.slips giver.old giver.new }
+    ensures { KeepsGiver 1 board.now.slips giver.old giver.new }
 {
     let mut work = work;
     for _ in rt.forever() {

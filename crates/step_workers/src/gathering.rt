@@ -1,9 +1,9 @@
 // What the workers gave, put together.
 ghost use Rattle.std.specs.Prelude.{◌≡◌, ◌+◌, ◌<◌, ◌≤◌, ◌^◌, ℕ, [], ◌∷◌, ◌++◌, map, IfOk, vec_capacity, vec_len};
-ghost use Rattle.slip_queue.specs.Slips.{IsGiver, all_parts, given_of, parts_of, taken_of, times};
-ghost use Rattle.step_workers.specs.Seats.{AllWell, pass_served};
+ghost use Rattle.slip_queue.specs.Slips.{IsGiver, all_parts, given_of, is_given, parts_of, taken_of, times};
+ghost use Rattle.step_workers.specs.Seats.{AllWell, count_served, pass_served};
 ghost use Rattle.step_workers.specs.Rooms.{IsTray};
-ghost use Rattle.step_workers.specs.Work.{IsWritten, all_taken};
+ghost use Rattle.step_workers.specs.Work.{IsWritten, all_taken, count_of};
 
 use crate::board::Board;
 use crate::dispatching::Dispatcher;
@@ -48,7 +48,8 @@ pub(crate) fn gather<L: Ledger>(
     requires tray { IsTray (vec_len dispatcher.served) tray }
     ensures passes { result.passes.items ≡ map pass_served dispatcher.served.items ++ dispatcher.pass ∷ [] }
     ensures lens { (vec_len result.stopped ≡ vec_len dispatcher.served) × (vec_len result.taken ≡ vec_len dispatcher.served) }
-    ensures once { (x : ℕ) → times x (all_taken result.taken.items) ≤ 1 }
+    ensures counts { map count_of result.taken.items ≡ map count_served dispatcher.served.items }
+    ensures once { (x : ℕ) → times x (all_taken result.taken.items) ≤ is_given x (given_of dispatcher.giver) }
 {
     let Dispatcher {
         mut giver,
@@ -91,6 +92,7 @@ fn lay_out<L: Ledger>(
     ensures parts { parts_of giver.new ≡ parts_of giver.old + vec_len served }
     ensures written { IsWritten (all_taken result.taken.items) (taken_of giver.new) }
     ensures passes { result.passes.items ≡ map pass_served served.items }
+    ensures counts { map count_of result.taken.items ≡ map count_served served.items }
     ensures lens { (vec_len result.passes ≡ vec_len served) × (vec_len result.stopped ≡ vec_len served) × (vec_len result.taken ≡ vec_len served) }
     ensures room { (vec_capacity result.passes ≡ vec_capacity tray.passes) × (vec_capacity result.stopped ≡ vec_capacity tray.stopped) × (vec_capacity result.taken ≡ vec_capacity tray.taken) }
 {

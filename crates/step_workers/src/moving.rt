@@ -21,7 +21,7 @@ pub(crate) fn take_move<B: Events, L: Sharing, G: Gate>(
     pass: &mut Pass<L>,
     ticket: Ticket,
 ) -> Result<(), SharedRefusal>
-    ensures { GoesOn 1 pass.old.receipts pass.new.receipts }
+    ensures { GoesOn 1 pass.old pass.new }
 {
     match ticket.frame().phase {
         Phase::Ready => {
@@ -52,7 +52,7 @@ fn commit<B: Events, L: Sharing>(
     ticket: Ticket,
     prepared: Prepared,
 ) -> Result<(), SharedRefusal>
-    ensures { GoesOn 1 pass.old.receipts pass.new.receipts }
+    ensures { GoesOn 1 pass.old pass.new }
 {
     match shared.commit(rt, alloc, pass, ticket, prepared) {
         Ok(receipt) => {
@@ -61,6 +61,11 @@ fn commit<B: Events, L: Sharing>(
         }
         Err(SharedCommitRefusal::Stale(why, prepared)) => {
             drop(why);
+            drop(prepared);
+            Ok(())
+        }
+        Err(SharedCommitRefusal::Held(step, prepared)) => {
+            drop(step);
             drop(prepared);
             Ok(())
         }
@@ -76,7 +81,7 @@ fn join<B: Events, L: Sharing>(
     pass: &mut Pass<L>,
     ticket: Ticket,
 ) -> Result<(), SharedRefusal>
-    ensures { GoesOn 1 pass.old.receipts pass.new.receipts }
+    ensures { GoesOn 1 pass.old pass.new }
 {
     let answer = shared.step(rt, alloc, pass, ticket.thread());
     shared.give_back(rt, ticket);

@@ -74,7 +74,7 @@ fn take_all<B: Events, L: Sharing, G: Gate, R: Wait>(
     requires taking { IsTaking board.now.slips seat.old }
     requires none { seat.old.taken.items ≡ [] }
     ensures taking { IsTaking board.now.slips seat.new }
-    ensures goes { GoesOn seat.old.share seat.old.pass.receipts seat.new.pass.receipts }
+    ensures goes { GoesOn seat.old.share seat.old.pass seat.new.pass }
     ensures share { seat.new.share ≡ seat.old.share }
 {
     for _ in rt.forever() {

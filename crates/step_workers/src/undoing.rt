@@ -57,7 +57,7 @@ fn undo_each<B: Events, L: Sharing, G: Gate>(
     seat: u32,
     pass: &mut Pass<L>,
 ) -> Stopped
-    ensures receipts { TakesBack 65536 pass.old.receipts pass.new.receipts }
+    ensures receipts { TakesBack 65536 pass.old pass.new }
     ensures stopped { IsStopped L.begun pass.old pass.new result }
 {
     for _done in 0..65_536u32 {

@@ -1,8 +1,9 @@
 // A round of workers.
-ghost use Rattle.std.specs.Prelude.{◌^◌, ◌≡◌, ◌<◌, ◌≤◌, ℕ, IfErr, IfOk, IfSome, slice_get, vec_len};
-ghost use Rattle.slip_queue.specs.Slips.{times};
-ghost use Rattle.step_workers.specs.Work.{AllGoOn, all_taken};
+ghost use Rattle.std.specs.Prelude.{◌^◌, ◌≡◌, ◌+◌, ◌<◌, ◌≤◌, ℕ, IfErr, IfOk, IfSome, map, slice_get, vec_len};
+ghost use Rattle.slip_queue.specs.Slips.{is_given, times};
+ghost use Rattle.step_workers.specs.Work.{AllGoOn, EachAtMost, all_taken, count_of};
 ghost use Rattle.step_workers.specs.Rooms.{HasRoom};
+ghost use Rattle.step_workers.specs.Shares.{shares_of};
 
 use crate::allowance::{Allowance, allowances};
 use crate::board::Board;
@@ -87,7 +88,8 @@ where
     requires seat { IfSome (slice_get passes.items 0) (λ p. 2 ≤ p.parts) }
     ensures passes { IfOk result (λ o. AllGoOn budget passes.items o.passes.items) }
     ensures lens { IfOk result (λ o. (vec_len o.stopped ≡ vec_len passes) × (vec_len o.taken ≡ vec_len passes)) }
-    ensures once { IfOk result (λ o. (x : ℕ) → times x (all_taken o.taken.items) ≤ 1) }
+    ensures few { IfOk result (λ o. EachAtMost (map count_of o.taken.items) (shares_of budget (vec_len passes))) }
+    ensures once { IfOk result (λ o. (x : ℕ) → times x (all_taken o.taken.items) ≤ is_given x (budget + vec_len passes)) }
     ensures err { IfErr result (λ back. back.items ≡ passes.items) }
 {
     let mut passes = passes;
@@ -97,7 +99,7 @@ where
     let Rooms {
         board,
         mut giver,
-        mut allowances,
+        allowances,
         seats,
         served,
         tray,
@@ -105,7 +107,7 @@ where
     let Some(pass) = passes[0].seat() else {
         unreachable!()
     };
-    let seats = seat_all(&board, &mut giver, passes, &mut allowances, seats);
+    let seats = seat_all(&board, &mut giver, passes, allowances, seats);
     let dispatcher = Dispatcher {
         giver,
         pass,

@@ -6,6 +6,6 @@ use Rattle.step_workers.proofs.serving.take_all.Given as goal
 abbrev pub invariant-loop : goal.invariant-loop
 invariant-loop g l = record {
   taking : IsTaking l.board.slips l.seat;
-  goes : GoesOn (length l.seat.taken.items) l.fn.seat.pass.receipts l.seat.pass.receipts;
+  goes : GoesOn (length l.seat.taken.items) l.fn.seat.pass l.seat.pass;
   share : l.seat.share ≡ l.fn.seat.share;
 }

@@ -1,5 +1,5 @@
 use Rattle.std.proofs.Common.{subst, sym}
-use Rattle.std.specs.String.{string_bytes}
+use Rattle.book_events.specs.Cursors.{place_of}
 use Rattle.book_log.specs.Log.{world_of}
 use Rattle.book_events.specs.First.{IsFirstReady}
 use Rattle.shared_book.specs.Away.{LeavesOutMore, PassesNoOther, WereRefused, is_among}
@@ -23,6 +23,5 @@ invariant_of-self-2 g c =
       c.self.invariant.0,
       c.self.invariant.1,
       were_fewer log was now (so_if_ok c.note.result (PassesNoOther was now) ok c.note.ensures.passed) c.self.invariant.2,
-      sought log was now found (string_bytes c.self.inside.cursor.name) (string_bytes c.go_on.new.self.name)
-          (so_if_ok c.note.result (LeavesOutMore was now) ok c.note.ensures.more) ready c.self.invariant.3 c.go_on.ensures,
+      sought log was now found (place_of c.move_on.new.cursor) (so_if_ok c.note.result (LeavesOutMore was now) ok c.note.ensures.more) ready c.move_on.ensures,
     )

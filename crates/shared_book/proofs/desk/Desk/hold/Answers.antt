@@ -8,7 +8,7 @@ use Rattle.shared_book.specs.Calls.{MaySee}
 use Rattle.shared_book.specs.Numbers.{IsKnown, last_of}
 use Rattle.shared_book.specs.Views.{DeskView, PassView}
 use Rattle.shared_book.specs.declared.receipt.Receipt.{Receipt}
-use Rattle.shared_book.proofs.Answering.{counted_more, given, hold_accepted, lacking_cause}
+use Rattle.shared_book.proofs.Answering.{counted_more, given, given_after, hold_accepted, lacking_cause}
 use Rattle.shared_book.proofs.HeldBack.{were_none}
 use Rattle.shared_book.proofs.Sought.{none_before_first}
 use Rattle.shared_book.proofs.desk.Desk.hold.Goals as goal
@@ -19,6 +19,13 @@ returns-clause-receipt g c =
     let appended = hold_accepted _ c.args.step.now count c.in-Ok-hold.ensures.answer in
     rw (← c.pass.view_is) (given _ _ _ _ _ _ _ _ _ c.self.invariant.0.goes c.entries.ensures.entries c.entries.ensures.legal appended c.in_ok-number.ensures.known c.in_ok-number.ensures.number
     (ap (λ (n : StepName). Hold n count) c.in-Ok.ensures.0) (ap (λ (n : StepName). Hold n count) c.in-Ok.ensures.1) (rw c.admit.ensures.same at c.hand_out.ensures.items))
+
+pub returns-clause-after : goal.returns-clause-after
+returns-clause-after g c =
+    let count = c.in-Ok-hold.count in
+    let appended = hold_accepted _ c.args.step.now count c.in-Ok-hold.ensures.answer in
+    rw (← c.self.view_is) (rw (← c.pass.view_is) (given_after _ _ _ _ _ _ _ _ _ c.self.invariant.0.goes c.entries.ensures.entries c.entries.ensures.legal appended c.in_ok-number.ensures.known c.in_ok-number.ensures.number
+    (ap (λ (n : StepName). Hold n count) c.in-Ok.ensures.0) (ap (λ (n : StepName). Hold n count) c.in-Ok.ensures.1) (rw c.admit.ensures.same at c.hand_out.ensures.items)))
 
 pub invariant_of-self-2 : goal.invariant_of-self-2
 invariant_of-self-2 g c = (

@@ -1,5 +1,4 @@
 use Rattle.std.proofs.Common.{ℕ, ap, refl, subst, ◌∙◌, List}
-use Rattle.std.specs.String.{string_bytes}
 use Rattle.book_log.proofs.Elsewhere.{starts_leave_others}
 use Rattle.book_log.specs.Answers.{start_answer}
 use Rattle.book_log.specs.Log.{Log}
@@ -9,10 +8,10 @@ use Rattle.shared_book.specs.Calls.{MaySee}
 use Rattle.shared_book.specs.Numbers.{IsKnown, last_of}
 use Rattle.shared_book.specs.Views.{DeskView, PassView}
 use Rattle.shared_book.specs.declared.receipt.Receipt.{Receipt}
-use Rattle.shared_book.proofs.Answering.{cause, counted_more, given, start_accepted}
+use Rattle.shared_book.proofs.Answering.{cause, counted_more, given, given_after, start_accepted}
 use Rattle.shared_book.proofs.HeldBack.{were_more}
 use Rattle.shared_book.proofs.Sought.{none_elsewhere}
-use Rattle.shared_book.specs.Seeking.{GoesBack}
+use Rattle.book_events.specs.Cursors.{GoesBack, place_of}
 use Rattle.shared_book.proofs.desk.Desk.start.Goals as goal
 
 pub returns-clause-receipt : goal.returns-clause-receipt
@@ -20,6 +19,12 @@ returns-clause-receipt g c =
     let appended = start_accepted _ c.args.exec.now c.args.machine.now c.args.input c.in-Ok-start.name c.in-Ok-start.ensures.answer c.requires.execution c.requires.shallow in
     rw (← c.pass.view_is) (given _ _ _ _ _ _ _ _ _ c.self.invariant.0.goes c.entries.ensures.entries c.entries.ensures.legal appended c.in-Ok.ensures.known c.in-Ok.ensures.number
     c.in-Ok-start_entries.ensures.0 c.in-Ok-start_entries.ensures.1 (rw c.admit.ensures.same at c.hand_out.ensures.items))
+
+pub returns-clause-after : goal.returns-clause-after
+returns-clause-after g c =
+    let appended = start_accepted _ c.args.exec.now c.args.machine.now c.args.input c.in-Ok-start.name c.in-Ok-start.ensures.answer c.requires.execution c.requires.shallow in
+    rw (← c.self.view_is) (rw (← c.pass.view_is) (given_after _ _ _ _ _ _ _ _ _ c.self.invariant.0.goes c.entries.ensures.entries c.entries.ensures.legal appended c.in-Ok.ensures.known c.in-Ok.ensures.number
+    c.in-Ok-start_entries.ensures.0 c.in-Ok-start_entries.ensures.1 (rw c.admit.ensures.same at c.hand_out.ensures.items)))
 
 pub returns-in-Err-start-clause-err : goal.returns-in-Err-start-clause-err
 returns-in-Err-start-clause-err g c =
@@ -38,8 +43,8 @@ returns-in-Err-start-clause-err g c =
 
 pub invariant_of-self-2 : goal.invariant_of-self-2
 invariant_of-self-2 g c =
-    let from = string_bytes c.self.inside.cursor.name in
-    let to = string_bytes c.go_back.new.self.name in
+    let from = place_of c.self.inside.cursor in
+    let to = place_of c.go_back.new.self in
     let appended = start_accepted _ c.args.exec.now c.args.machine.now c.args.input c.in-Ok-start.name c.in-Ok-start.ensures.answer c.requires.execution c.requires.shallow in
     let leaves = starts_leave_others (g.B.Events.log c.self.inside.book) c.args.exec.now c.args.machine.now c.args.input c.entries.ensures.legal appended in
     let back = subst (λ (x : List ℕ). GoesBack x from to) c.exec.ensures.exec c.go_back.ensures in (

@@ -1,0 +1,7 @@
+use Rattle.shared_tests.proofs.shares.a_refused_worker_gives_its_claim_back.Given as goal
+
+abbrev pub ghosts-run-L-Ledger : goal.ghosts-run-L-Ledger
+ghosts-run-L-Ledger g a = record { name = a.blank.name; parts = a.blank.parts }
+
+abbrev pub ghosts-run-L-Sharing : goal.ghosts-run-L-Sharing
+ghosts-run-L-Sharing g a = record { begun = a.book.log }
