@@ -103,17 +103,30 @@ impl<'a> Command<'a> {
         ensures bad { IsErrOf result CommandFault.BadLine ↔ (command_of line.now ≡ None) }
     {
         match str::from_utf8(line) {
-            Ok(text) => read_text(alloc, text),
+            Ok(text) => Command::read_text(alloc, text),
             Err(_) => Err(CommandFault::BadLine),
         }
     }
+
+    /// The same of a line that is text already: it isn't looked at once more for its encoding.
+    ///
+    /// # Errors
+    ///
+    /// Those of `read`.
+    pub fn read_text(alloc: Global, text: &'a str) -> Result<Command<'a>, CommandFault>
+        ensures ok { IfOk result (λ c. command_of text.now ≡ Some (command_view c)) }
+        ensures bad { IsErrOf result CommandFault.BadLine ↔ (command_of text.now ≡ None) }
+    {
+        read_line(alloc, text, text.as_bytes())
+    }
 }
 
-fn read_text(alloc: Global, text: &str) -> Result<Command<'_>, CommandFault>
+fn read_line<'a>(alloc: Global, text: &'a str, bytes: &[u8]) -> Result<Command<'a>, CommandFault>
+    requires { bytes.now ≡ text.now }
     ensures ok { IfOk result (λ c. text_command text.now ≡ Some (command_view c)) }
     ensures bad { IsErrOf result CommandFault.BadLine ↔ (text_command text.now ≡ None) }
 {
-    if is_one_line(text) {
+    if is_one_line(bytes) {
         read_spelled(alloc, text)
     } else {
         Err(CommandFault::BadLine)

@@ -10,10 +10,9 @@ use step_names::is_name_byte;
 pub const LONGEST_LINE: usize = 1_048_576;
 
 /// Whether a text is short enough for a line, and no line feed ends one in it.
-pub(crate) fn is_one_line(text: &str) -> bool
-    ensures { result ≡ is_one_line text.now }
+pub(crate) fn is_one_line(bytes: &[u8]) -> bool
+    ensures { result ≡ is_one_line bytes.now }
 {
-    let bytes = text.as_bytes();
     bytes.len() <= LONGEST_LINE && has_no_feed(bytes)
 }
 

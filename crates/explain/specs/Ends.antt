@@ -8,13 +8,13 @@ use Rattle.item_store.specs.Table.{key_asked, told}
 use Rattle.item_store.specs.declared.call.Call.{Call}
 use Rattle.item_store.specs.declared.call.Request.{Request}
 use Rattle.item_store.specs.declared.fault.CallFault.{CallFault}
-use Rattle.asl_results.specs.Definition.{Definition}
-use Rattle.asl_results.specs.Fault.{Fault}
-use Rattle.asl_results.specs.Frame.{Frame}
-use Rattle.asl_results.specs.Phase.{Phase}
-use Rattle.asl_results.specs.Phase.TheVariants as phase
-use Rattle.asl_results.specs.Results.{work_of, after_answer, after_join, after_branch}
-use Rattle.asl_results.specs.Turn.{located}
+use Rattle.asl_forward.specs.Definition.{Definition}
+use Rattle.asl_forward.specs.Fault.{Fault}
+use Rattle.asl_forward.specs.Frame.{Frame}
+use Rattle.asl_forward.specs.Phase.{Phase}
+use Rattle.asl_forward.specs.Phase.TheVariants as phase
+use Rattle.asl_forward.specs.Results.{work_of, after_answer, after_join, after_branch}
+use Rattle.asl_forward.specs.Turn.{located}
 use Rattle.asl_forward.specs.declared.prepared.Outcome.{Outcome}
 use Rattle.asl_forward.specs.declared.prepared.Outcome.TheVariants as outcome
 

@@ -2,9 +2,9 @@
 use crate::details::Case;
 use crate::results::no_place;
 use crate::why::{Way, field};
-use asl_results::call_fault;
-use asl_results::frame_turns::error_handling::{ErrorHandling, ErrorNames};
-use asl_results::frame_turns::{Fault, Origin, StateError, own_fault};
+use asl_forward::call_fault;
+use asl_forward::frame_turns::error_handling::{ErrorHandling, ErrorNames};
+use asl_forward::frame_turns::{Fault, Origin, StateError, own_fault};
 use json_tree::{Json, Text};
 use std::alloc::{AllocError, Global};
 

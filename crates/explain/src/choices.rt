@@ -6,9 +6,8 @@ ghost use Rattle.asl_forward.specs.Choosing.{chosen};
 use crate::details::{Case, NoRule};
 use crate::templates::{MOST_LEVELS, in_path};
 use crate::why::{Way, field};
-use asl_results::frame_turns::state_parts::Choice;
-use asl_results::frame_turns::state_parts::choices::{
-    Comparison, InnerTest, Relation, Rules, Test, Tests,
+use asl_forward::frame_turns::state_parts::{
+    Choice, Comparison, InnerTest, Relation, Rules, Test, Tests,
 };
 use json_tree::Json;
 use std::alloc::{AllocError, Global};

@@ -1,5 +1,5 @@
 // The state's own fields, as the text of the definition has them.
-use asl_results::frame_turns::Frame;
+use asl_forward::frame_turns::Frame;
 use json_tree::{Json, JsonFault, JsonFields, Text, from_value};
 use serde_json::Value;
 use std::alloc::{AllocError, Global};

@@ -1,13 +1,13 @@
 // The frame that a turn, a join or a terminate comes to.
 ghost use Rattle.std.specs.Prelude.{◌≡◌, ◌+◌, ◌<◌, ◌^◌, Some, IfOk, IfSome, IsSome, option_copied};
 ghost use Rattle.explain.specs.Ends.{frame_after, frame_joined, frame_terminated, failed_with, fault_in};
-ghost use Rattle.asl_results.specs.Turn.{located};
+ghost use Rattle.asl_forward.specs.Turn.{located};
 
 use crate::answers::answer;
+use asl_forward::machine_tree::SharedMachine;
 use asl_forward::{
     Fault, Frame, Outcome, Phase, Prepared, after_branch, finish, joined, located, prepare, work_of,
 };
-use asl_results::machine_tree::SharedMachine;
 use attr_values::Item;
 use item_store::ItemStore;
 use json_tree::JsonList;
@@ -47,7 +47,7 @@ fn frame_after(
         Outcome::Fork(parked, _) => parked.copy(),
         Outcome::Call(call) => {
             let answer = answer(alloc, call, table, item)?;
-            finish(alloc, prepared, answer)
+            finish(alloc, prepared.machine(), prepared.frame(), answer)
         }
     }
 }

@@ -4,7 +4,7 @@ ghost use Rattle.json_tree.specs.View.{data_of};
 ghost use Rattle.explain.specs.Details.{field_in};
 
 use crate::details::Case;
-use asl_results::frame_turns::{Fault, Frame};
+use asl_forward::frame_turns::{Fault, Frame};
 use json_tree::{Json, Text};
 use ref_paths::PathStep;
 use std::alloc::{AllocError, Global};

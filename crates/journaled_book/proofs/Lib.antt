@@ -4,3 +4,4 @@ pub mod Kept
 pub mod Entering
 pub use Rattle.rollback_book.proofs.Threads
 pub mod Unopened
+pub use Rattle.rollback_book.proofs.Cursors

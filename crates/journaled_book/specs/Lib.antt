@@ -9,7 +9,10 @@ pub use Rattle.asl_tree.specs.Definition
 pub use Rattle.rollback_book.specs.Readiness
 pub use Rattle.rollback_book.specs.Book
 pub use Rattle.rollback_book.specs.Making
+pub use Rattle.rollback_book.specs.First
 pub use Rattle.rollback_book.specs.FirstMove
+pub use Rattle.rollback_book.specs.Cursors
+pub use Rattle.rollback_book.specs.Cursor
 pub use Rattle.rollback_book.specs.Planned
 pub use Rattle.rollback_book.specs.contracts.book.Book as BookContract
 pub use Rattle.rollback_book.specs.Steps

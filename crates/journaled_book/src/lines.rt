@@ -47,7 +47,7 @@ fn begin_by_line(alloc: Global, line: &str) -> Result<Book, LineFault>
     ensures ok { IfOk result (λ b. Begins line.now b.log) }
     ensures damaged { result ≡ Err LineFault.Damaged → IsDamaged None line.now }
 {
-    match Command::read(alloc, line.as_bytes()) {
+    match Command::read_text(alloc, line) {
         Ok(command) => begin_by(alloc, command),
         Err(CommandFault::BadLine) => Err(LineFault::Damaged),
         Err(CommandFault::Memory) => Err(LineFault::Memory),
@@ -101,7 +101,7 @@ fn enter_line(alloc: Global, book: &mut Book, line: &str) -> Result<(), LineFaul
     ensures ok { OnOk result (Adds book.old.log line.now book.new.log) }
     ensures damaged { result ≡ Err LineFault.Damaged → IsDamaged (Some book.old.log) line.now }
 {
-    match Command::read(alloc, line.as_bytes()) {
+    match Command::read_text(alloc, line) {
         Ok(command) => enter_command(alloc, book, command),
         Err(CommandFault::BadLine) => Err(LineFault::Damaged),
         Err(CommandFault::Memory) => Err(LineFault::Memory),

@@ -1,6 +1,6 @@
 -- Steps that are taken one after another, while some are left to take.
 use Rattle.std.proofs.Common.{◌≡◌, ◌<◌, ◌+◌, ◌-◌, ◌^◌, ℕ, zero, suc, List, [], ◌∷◌, ◌++◌, map, length, true, false, Bool, not, ◌&&◌, ◌||◌, cond, Option, None, Some, Result, Ok, Err, inl, inr, refl, sym, ap, subst, ◌∙◌, arith}
-use Rattle.std.specs.Prelude.{◌⊎◌, IfOk, IfSome}
+use Rattle.std.specs.Prelude.{◌⊎◌, IfOk, IfSome, OnOk}
 use Rattle.std.specs.BTreeSet.{BTreeSet}
 use Rattle.std.specs.Ordering.{eq_by_cmp}
 use Rattle.std.proofs.lemmas.List.{append_assoc, append-nil, length-append, length-map, map-append}
@@ -9,11 +9,19 @@ use Rattle.step_names.specs.Thread.{Thread}
 use Rattle.step_names.specs.Written.{step_text}
 use Rattle.step_names.specs.declared.step.StepName.{StepName}
 use Rattle.book_log.specs.Answers.{StepLacks, is_enabled, step_answer}
-use Rattle.book_log.specs.Log.{Log}
+use Rattle.book_log.proofs.Elsewhere.{steps_leave_others}
+use Rattle.book_log.specs.Legal.{IsAccepted, IsLegal}
+use Rattle.book_log.specs.Log.{Log, appended, world_of}
+use Rattle.book_log.specs.declared.entry.Entry.TheVariants.{Step as Stepped}
 use Rattle.book_log.specs.declared.moved.Moved.{Moved}
 use Rattle.book_log.specs.declared.refusal.Refusal.{Refusal}
 use Rattle.book_log.specs.declared.refusal.Refusal.TheVariants.{NoMachine, MachineTaken, BadMachine, ExecTaken, NoThread, NotReady, NoStep, HasDependents, Stale, Full, Memory, Settled, Held}
+use Rattle.journaled_book.proofs.Cursors.{none_at_first, none_left_out, none_up_to}
+use Rattle.journaled_book.proofs.Threads.{step_thread}
 use Rattle.journaled_book.specs.Changes.{RefusesChangeOr}
+use Rattle.journaled_book.specs.Cursors.{GoesBack, IsUpTo, LeavesNoneOut, first_of_all, place_of}
+use Rattle.journaled_book.specs.Cursor.{Cursor}
+use Rattle.journaled_book.specs.First.{IsFirstReady}
 use Rattle.journaled_book.specs.Planned.{OrMemory}
 use Rattle.journaled_book.specs.FirstMove.{IsFirstToMove, moves_freely}
 use Rattle.journaled_book.specs.declared.fault.EntryFault.{EntryFault}
@@ -22,7 +30,7 @@ use Rattle.reply_lines.specs.Replies.{names_reply}
 use Rattle.reply_lines.specs.Replying.{AreLines}
 use Rattle.reply_lines.specs.declared.lines.Lines.{Lines}
 use Rattle.operator_line.specs.Answers.{DrivesAtMost, IsLeastEnabled, NeedsHeld, NoneMoves, StopsDrive, Turn, took, skipped, drive_reply, is_held, is_passed, taken_in}
-use Rattle.operator_line.specs.Driving.{IsFirst, KeepsLines, PassesBy, Taken, TakesOne, is_for_hold, passed_in}
+use Rattle.operator_line.specs.Driving.{IsFirst, KeepsLines, LooksAtAll, PassesBy, Taken, TakesOne, is_for_hold, passed_in}
 use Rattle.operator_line.specs.declared.driving.Tried.{Tried}
 use Rattle.operator_line.specs.declared.driving.Tried.TheVariants.{Taken as StepTaken, PassedBy, NoMove}
 
@@ -53,6 +61,10 @@ module _ (P Q : Thread → Bool) (same : (u : Thread) → P u ≡ Q u) (log : Lo
 or_cond : (a b : Bool) → cond a true b ≡ (a || b)
 or_cond true b = refl
 or_cond false b = refl
+
+or_true : (a : Bool) → (a || true) ≡ true
+or_true true = refl
+or_true false = refl
 
 not_true : (a b : Bool) → (a && not b) ≡ true → b ≡ false
 not_true true true h = cc
@@ -248,3 +260,33 @@ drive_done (x ∷ names) stop e = refl
 pub drive_taken : (lines : Lines) (names : List StepName) (stop : Option EntryFault) → AreLines lines (map step_text names) → (lines.count ≡ 0 → ⊥) → drive_reply names stop ≡ names_reply names
 drive_taken lines [] stop h some = absurd (some h.counted)
 drive_taken lines (x ∷ names) stop h some = refl
+
+-- ---- from where on a thread is looked for
+
+pub all_at_first : (o : Option Log) (P : Thread → Bool) (at : Thread) → at ≡ first_of_all → IfSome o (λ log. LeavesNoneOut log P at)
+all_at_first None P at first = tt
+all_at_first (Some log) P at first = subst (LeavesNoneOut log P) (sym first) (none_at_first log P)
+
+-- after a step of the thread
+pub all_after_step : (before : Log) (t : Thread) (m : Moved) (P : Thread → Bool) (from to : Thread) → IsLegal before → step_answer before t ≡ Ok m → GoesBack t.exec from to
+    → LeavesNoneOut before P from → LeavesNoneOut (appended before (Stepped m.name m.kind)) P to
+all_after_step before t m P from to legal answer back none =
+    let own : m.name.thread ≡ t = step_thread before t m answer in
+    let granted : IsAccepted before (Stepped m.name m.kind) = ap (step_answer before) own ∙ answer in
+    let its : GoesBack m.name.thread.exec from to = subst (λ (u : Thread). GoesBack u.exec from to) (sym own) back in
+    none_left_out before (appended before (Stepped m.name m.kind)) P m.name.thread.exec from to (steps_leave_others before m.name m.kind legal granted) its none
+
+-- after it is passed by
+pub all_after_passing : (log : Log) (t : Thread) (fault : EntryFault) (old new : BTreeSet Thread) (at : Thread) (r : Result Tried EntryFault) → PassesBy t fault old new r → OnOk r (IsUpTo t at)
+    → IsFirstReady (world_of log).frames (passed_in old) (Some t) → OnOk r (LeavesNoneOut log (passed_in new) at)
+all_after_passing log t fault old new at (Ok StepTaken) h up first = absurd h
+all_after_passing log t fault old new at (Ok PassedBy) h up first = none_up_to log (passed_in old) (passed_in new) t at more first up
+  where
+    more : (u : Thread) → passed_in old u ≡ true → passed_in new u ≡ true
+    more u was = h.2.has u ∙ ap (λ (b : Bool). eq_by_cmp thread_cmp t u || b) was ∙ or_true (eq_by_cmp thread_cmp t u)
+all_after_passing log t fault old new at (Ok NoMove) h up first = absurd h
+all_after_passing log t fault old new at (Err e) h up first = tt
+
+pub all_in : (o : Option Log) (log : Log) (passed : BTreeSet Thread) (cursor : Cursor) (r : Result Tried EntryFault) → o ≡ Some log → OnOk r (LeavesNoneOut log (passed_in passed) (place_of cursor)) → OnOk r (LooksAtAll o passed cursor)
+all_in o log passed cursor (Ok tried) is h = subst (λ (x : Option Log). LooksAtAll x passed cursor) (sym is) h
+all_in o log passed cursor (Err e) is h = tt

@@ -1,5 +1,5 @@
 -- What a function that takes steps does to a book, to the threads that are passed by and to the lines of a reply.
-use Rattle.std.specs.Prelude.{◌≡◌, ◌+◌, ◌<◌, ◌^◌, ◌||◌, ◌⊎◌, ℕ, List, [], ◌∷◌, ◌++◌, map, Bool, false, Option, None, Some, Result, Ok, Err}
+use Rattle.std.specs.Prelude.{IfSome, ◌≡◌, ◌+◌, ◌<◌, ◌^◌, ◌||◌, ◌⊎◌, ℕ, List, [], ◌∷◌, ◌++◌, map, Bool, false, Option, None, Some, Result, Ok, Err}
 use Rattle.std.specs.BTreeSet.{BTreeSet, btree_set_len, contains}
 use Rattle.std.specs.Ordering.{eq_by_cmp}
 use Rattle.step_names.specs.Order.{thread_cmp}
@@ -7,10 +7,13 @@ use Rattle.step_names.specs.Thread.{Thread}
 use Rattle.step_names.specs.Written.{step_text}
 use Rattle.step_names.specs.declared.step.StepName.{StepName}
 use Rattle.book_log.specs.Answers.{step_answer}
-use Rattle.book_log.specs.Log.{Log, appended}
+use Rattle.book_log.specs.Log.{Log, appended, world_of}
 use Rattle.book_log.specs.declared.entry.Entry.TheVariants.{Step as Stepped}
 use Rattle.book_log.specs.declared.moved.Moved.{Moved}
 use Rattle.book_log.specs.declared.refusal.Refusal.TheVariants.{Held, Memory}
+use Rattle.journaled_book.specs.Cursor.{Cursor}
+use Rattle.journaled_book.specs.Cursors.{LeavesNoneOut, place_of}
+use Rattle.journaled_book.specs.First.{IsFirstReady}
 use Rattle.journaled_book.specs.declared.fault.EntryFault.{EntryFault}
 use Rattle.journaled_book.specs.declared.fault.EntryFault.TheVariants as by
 use Rattle.reply_lines.specs.Replying.{AreLines}
@@ -51,6 +54,16 @@ PassesBy t fault old new (Ok StepTaken) = ⊥
 PassesBy t fault old new (Ok PassedBy) = (needed : StepName) × (fault ≡ by.Book (Held needed)) × AddsThread t old new
 PassesBy t fault old new (Ok NoMove) = ⊥
 PassesBy t fault old new (Err told) = (told ≡ by.Book Memory) ⊎ ((told ≡ fault) × (is_for_hold fault ≡ false))
+
+-- ---- from where on a thread is looked for
+
+-- no thread before it has a move but those that are passed by
+abbrev pub LooksAtAll : Option Log → BTreeSet Thread → Cursor → Type 0
+LooksAtAll log passed from = IfSome log (λ s. LeavesNoneOut s (passed_in passed) (place_of from))
+
+-- the first thread that has a move and isn't passed by, as the frames of threads say it
+abbrev pub IsFound : (Thread → Bool) → Log → Option Thread → Type 0
+IsFound passed log = IsFirstReady (world_of log).frames passed
 
 -- ---- one turn
 

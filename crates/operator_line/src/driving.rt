@@ -1,14 +1,17 @@
 // Steps that are taken one after another.
 ghost use Rattle.std.specs.Prelude.{◌≡◌, ◌+◌, ◌<◌, ◌^◌, [], false, IfOk, IfErr, IfSome, IsSome, string_bytes, string_len, OnOk, OnErr};
+ghost use Rattle.book_log.specs.Legal.{IsLegal};
+ghost use Rattle.journaled_book.specs.Cursors.{IsUpTo, place_of};
 ghost use Rattle.sqlite.specs.Held.{state};
 ghost use Rattle.operator_line.specs.Answers.{AnswersDrive};
-ghost use Rattle.operator_line.specs.Driving.{AddsThread, Grows, IsFirst, PassesBy, TakenOf, TakesOneOf, passed_in};
+ghost use Rattle.operator_line.specs.Driving.{AddsThread, Grows, IsFirst, IsFound, LooksAtAll, PassesBy, TakenOf, TakesOneOf, passed_in};
 ghost use Rattle.operator_line.specs.Sessions.{WasClean, log_in};
 ghost use Rattle.reply_lines.specs.Replying.{AreLines, has_room_for_lines};
 
 use crate::open_session::refuse_change;
 use book_log::Refusal;
 use command_lines::step_line;
+use journaled_book::books::Cursor;
 use journaled_book::{EntryFault, JournaledBook};
 use reply_lines::{Lines, Reply};
 use sqlite::Alter;
@@ -29,7 +32,8 @@ pub(crate) enum Tried {
 
 /// Takes at most so many steps, each of the least thread that has a move then, and writes the reply to them. A thread whose step
 /// needs what is held is passed by. Room for the reply is made before each step, and each stands in the journal by a line of its
-/// own. A step takes what the book's `first_ready` and `step` take.
+/// own. A step takes what the book's `first_ready_from` and `step` take: a thread that is passed by is gone by once, and once more
+/// after each step of its own execution.
 pub(crate) fn drive<S: Alter>(
     alloc: Global,
     book: &mut JournaledBook<S>,
@@ -67,9 +71,10 @@ fn take_steps<S: Alter>(
     ensures clean { WasClean (λ held. state S.Store held) book.old.journal book.new.journal }
 {
     let mut passed = BTreeSet::new(alloc);
+    let mut cursor = Cursor::new(alloc);
     let mut left = count;
     while 0 < left {
-        match take_step(alloc, book, &mut passed, lines, reply) {
+        match take_step(alloc, book, &mut passed, &mut cursor, lines, reply) {
             Ok(Tried::Taken) => left -= 1,
             Ok(Tried::PassedBy) => {}
             Ok(Tried::NoMove) => return None,
@@ -83,14 +88,17 @@ fn take_step<S: Alter>(
     alloc: Global,
     book: &mut JournaledBook<S>,
     passed: &mut BTreeSet<ThreadName>,
+    cursor: &mut Cursor,
     lines: &mut Lines,
     reply: &mut Reply,
 ) -> Result<Tried, EntryFault>
     requires open { IsSome book.old.book }
+    requires all { LooksAtAll (log_in book.old) passed.old cursor.old }
     requires few { lines.old.count + 1 < 2 ^ 32 }
     requires room { has_room_for_lines reply.old.text (string_len lines.old.text) }
     ensures step { TakesOneOf (log_in book.old) (log_in book.new) passed.old passed.new lines.old lines.new result }
     ensures grows { Grows passed.old passed.new result }
+    ensures all { OnOk result (LooksAtAll (log_in book.new) passed.new cursor.new) }
     ensures open { IsSome book.new.book }
     ensures text { string_bytes reply.new.text ≡ string_bytes reply.old.text }
     ensures room { has_room_for_lines reply.new.text (string_len lines.new.text) }
@@ -98,51 +106,61 @@ fn take_step<S: Alter>(
 {
     lines.reserve_step()?;
     reply.reserve_lines(lines)?;
-    let Some(thread) = first_ready(alloc, book, passed)? else {
+    let Some(thread) = first_ready(alloc, book, passed, cursor)? else {
         return Ok(Tried::NoMove);
     };
     let line = step_line(alloc, &thread)?;
     let moved = match book.step(alloc, &thread, line.as_str()) {
         Ok(moved) => moved,
-        Err(fault) => return pass_by(passed, thread, fault),
+        Err(fault) => return pass_by(passed, cursor, thread, fault),
     };
+    cursor.go_back(thread.exec());
     let Ok(()) = lines.add_step(&moved.name) else {
         unreachable!()
     };
     Ok(Tried::Taken)
 }
 
-/// The least thread that has a move and isn't passed by, if there is one.
+/// The least thread that has a move and isn't passed by, if there is one. No look is made before the cursor.
 #[tactic(auto, using(crate::proofs::Taken::first_found, crate::proofs::Taken::first_is_free))]
 fn first_ready<S: Alter>(
     alloc: Global,
     book: &JournaledBook<S>,
     passed: &BTreeSet<ThreadName>,
+    cursor: &Cursor,
 ) -> Result<Option<ThreadName>, Refusal>
-    requires { IsSome book.now.book }
+    requires open { IsSome book.now.book }
+    requires all { LooksAtAll (log_in book.now) passed.now cursor.now }
     ensures first { IfSome (log_in book.now) (λ log. IfOk result (IsFirst (passed_in passed.now) log)) }
+    ensures found { IfSome (log_in book.now) (λ log. IfOk result (IsFound (passed_in passed.now) log)) }
+    ensures legal { IfSome (log_in book.now) IsLegal }
     ensures free { IfOk result (λ found. IfSome found (λ thread. passed_in passed.now thread ≡ false)) }
     ensures memory { IfErr result (λ e. e ≡ Refusal.Memory) }
 {
     let Some(book) = book.book() else {
         unreachable!()
     };
-    book.first_ready(alloc, passed)
+    // promises that the book's log is legal
+    let _ = book.entries();
+    book.first_ready_from(alloc, &cursor.exec, &cursor.path, passed)
 }
 
 /// What comes of a refused step: if it needs what is held, its thread is passed by; else the refusal is answered.
 #[tactic(auto, using(crate::proofs::Taken::not_held))]
 fn pass_by(
     passed: &mut BTreeSet<ThreadName>,
+    cursor: &mut Cursor,
     thread: ThreadName,
     fault: EntryFault,
 ) -> Result<Tried, EntryFault>
     requires { passed_in passed.old thread ≡ false }
     ensures passes { PassesBy thread fault passed.old passed.new result }
     ensures grows { Grows passed.old passed.new result }
+    ensures cursor { OnOk result (IsUpTo thread (place_of cursor.new)) }
 {
     match fault {
         EntryFault::Book(Refusal::Held(_)) => {
+            cursor.go_on(&thread);
             add_thread(passed, thread)?;
             Ok(Tried::PassedBy)
         }

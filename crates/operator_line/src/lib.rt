@@ -14,5 +14,5 @@ pub use journaled_book as journaled;
 pub use journaled_book::books as books;
 pub use laws::refused_lines_change_nothing;
 pub use line::{Line, LineBuffer};
-pub use serving::{ServeFault, flush, serve, write_all};
+pub use serving::{MOST_READS, ServeFault, flush, serve, serve_at_most, write_all};
 pub use session::Session;

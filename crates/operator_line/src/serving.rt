@@ -22,6 +22,9 @@ use thiserror::Error;
 /// How many bytes the reader is asked for at once.
 const PIECE: usize = 65_536;
 
+/// How often `serve` asks the reader at most.
+pub const MOST_READS: u32 = 4_294_967_295;
+
 /// What a refused growth is answered, from no memory.
 const MEMORY: &[u8] = b"no 11\n";
 
@@ -55,7 +58,7 @@ struct Buffers {
 /// Answers each line of the reader, and writes the replies.
 ///
 /// Nothing of a line is applied before the whole line was read. Where a reply can't be written, the command stands. Where
-/// the reader fails, would be asked more than 4,294,967,295 times, or memory for a line is refused, nothing of that line
+/// the reader fails, would be asked more than [`MOST_READS`] times, or memory for a line is refused, nothing of that line
 /// is applied.
 ///
 /// Where the steps of a round can't be written into the journal, serving ends with `Journal`, whether or not that reply could be
@@ -79,16 +82,38 @@ pub fn serve<T: Threads + Wait + Sync, R: Read, W: Write, S: Alter>(
     ensures gone { session.old.is_failed ≡ true → IsGone result session.old session.new (R.remaining reader.old) (R.remaining reader.new) (W.contents writer.old) (W.contents writer.new) }
     ensures handed { IfSome (R.remaining reader.old) (λ input. Hands (KeepsOne (λ held. state S.Store held)) result (lines_of input) session.old.journal session.new.journal) }
 {
+    serve_at_most(rt, alloc, MOST_READS, reader, writer, session)
+}
+
+/// As [`serve`], but asks the reader at most so many times.
+pub fn serve_at_most<T: Threads + Wait + Sync, R: Read, W: Write, S: Alter>(
+    rt: &T,
+    alloc: Global,
+    most: u32,
+    reader: &mut R,
+    writer: &mut W,
+    session: &mut Session<S>,
+) -> Result<(), ServeFault>
+    ensures answers { session.old.is_failed ≡ false → IfSome (R.remaining reader.old) (λ input.
+        Serves result input (session_log session.old) (session_log session.new) (W.contents writer.old) (W.contents writer.new)) }
+    ensures read { result ≡ Err ServeFault.Read → IfSome (R.remaining reader.old) (λ input.
+        AnswersRead input (R.remaining reader.new) (session_log session.old) (session_log session.new) (W.contents writer.old) (W.contents writer.new)) }
+    ensures whole { IfSome (R.remaining reader.old) (λ _. OnOk result (R.remaining reader.new ≡ Some [])) }
+    ensures failed { session.old.is_failed ≡ false → session.new.is_failed ≡ has_failed result }
+    ensures gone { session.old.is_failed ≡ true → IsGone result session.old session.new (R.remaining reader.old) (R.remaining reader.new) (W.contents writer.old) (W.contents writer.new) }
+    ensures handed { IfSome (R.remaining reader.old) (λ input. Hands (KeepsOne (λ held. state S.Store held)) result (lines_of input) session.old.journal session.new.journal) }
+{
     if session.is_failed() {
         return Err(ServeFault::Journal);
     }
-    serve_all(rt, alloc, reader, writer, session)
+    serve_all(rt, alloc, most, reader, writer, session)
 }
 
 /// As `serve`, of a session that hasn't failed.
 fn serve_all<T: Threads + Wait + Sync, R: Read, W: Write, S: Alter>(
     rt: &T,
     alloc: Global,
+    most: u32,
     reader: &mut R,
     writer: &mut W,
     session: &mut Session<S>,
@@ -109,7 +134,7 @@ fn serve_all<T: Threads + Wait + Sync, R: Read, W: Write, S: Alter>(
         line: LineBuffer::new(alloc),
         reply: Reply::new(alloc),
     };
-    for _ in 0..u32::MAX {
+    for _ in 0..most {
         if !serve_read(rt, reader, &mut piece, &mut buffers, writer, session)? {
             return serve_last(rt, &mut buffers, writer, session);
         }

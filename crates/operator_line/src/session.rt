@@ -190,7 +190,7 @@ impl<S: Alter> Session<S> {
         ensures failed { self.new.is_failed ≡ is_lost result }
         ensures clean { WasClean (λ held. state S.Store held) self.old.journal self.new.journal }
     {
-        match Command::read(self.alloc, line.as_bytes()) {
+        match Command::read_text(self.alloc, line) {
             Ok(Command::Work { workers, moves }) => self.work(rt, workers, moves, reply),
             Ok(command) => self.run(command, line, reply),
             Err(CommandFault::BadLine) => refuse_line(reply),

@@ -3,7 +3,9 @@
 //! `rollback`: serves the lines of standard input on standard output, with a journal in memory or of a file.
 
 use journal_copy::open_at;
-use rollback_run::{Mode, ModeRefusal, finish, mode_of, refuse, run, unread_words};
+use rollback_run::{
+    ExitCause, Mode, ModeRefusal, finish, has_to_close, mode_of, refuse, run, unread_words,
+};
 use sqlite::{Connection, Error, ErrorCode, File, FileStore, MemStore};
 use std::alloc::{AllocError, Global};
 use std::env;
@@ -50,7 +52,21 @@ fn run_in_memory<T: Threads + Wait + Sync, W: Write>(
     finish(outcome, Ok(()), &mut rt.stderr())
 }
 
-/// Where the run ended well on a journal, its file is closed: it has all lines then.
+/// Closes a connection if the run has to.
+fn close_after(
+    mode: &Mode,
+    outcome: Result<(), ExitCause>,
+    connection: Connection<FileStore<File>>,
+) -> Result<(), Error> {
+    if has_to_close(mode, outcome) {
+        connection.close()
+    } else {
+        drop(connection);
+        Ok(())
+    }
+}
+
+/// If the run ended well on a journal, its file is closed: it has all lines then.
 fn run_on_file<T: Threads + Wait + Sync, W: Write>(
     rt: &HostRuntime,
     threads: &T,
@@ -67,7 +83,7 @@ fn run_on_file<T: Threads + Wait + Sync, W: Write>(
         writer,
     );
     let closed = match left {
-        Some(connection) => connection.close(),
+        Some(connection) => close_after(mode, outcome, connection),
         None => Ok(()),
     };
     finish(outcome, closed, &mut rt.stderr())

@@ -1,15 +1,20 @@
 -- What a run over a connection comes to: its status, and what it writes.
-use Rattle.std.specs.Prelude.{◌≡◌, ◌⊎◌, ℕ, ◌+◌, Bool, true, false, List, [], ◌∷◌, ◌++◌, length, Option, None, Some, Result, Ok, Err, IfSome, codes, string_bytes}
+use Rattle.std.specs.Prelude.{◌≡◌, ◌⊎◌, ℕ, ◌+◌, Bool, true, false, List, [], ◌∷◌, ◌++◌, length, Option, None, Some, Result, Ok, Err, IfSome, MatchOption, codes, string_bytes}
 use Rattle.std.specs.Fmt.{decimal}
 use Rattle.std.specs.Io.KnownBytes.{Appends, Keeps}
 use Rattle.sqlite.specs.State.{State, HasCleanDisk}
 use Rattle.sqlite.specs.declared.error.Error.{Error}
 use Rattle.operator_line.specs.Log.{Log, remaining}
 use Rattle.book_journal.specs.Faults.{fault_of}
-use Rattle.book_journal.specs.Kept.{lines_in, IsOpened}
+use Rattle.book_journal.specs.Kept.{lines_in, IsOpened, IsSame}
+use Rattle.journaled_book.specs.Changes.{IsRead}
+use Rattle.journaled_book.specs.Journaled.{IsJournalOf}
 use Rattle.operator_line.specs.Opening.{OpensTo, RefusesOpen}
 use Rattle.operator_line.specs.OpenFault.{OpenFault}
+use Rattle.operator_line.specs.Handing.{Hands}
 use Rattle.operator_line.specs.Serving.{Serves}
+use Rattle.operator_line.specs.Sessions.{KeepsOne}
+use Rattle.operator_line.specs.Texts.{lines_of}
 use Rattle.operator_line.specs.declared.serving.ServeFault.{ServeFault}
 use Rattle.rollback_run.specs.Faults.{of_journal, of_open, outcome_status, served, usage_text, IsBegun, IsTold}
 use Rattle.rollback_run.specs.declared.fault.ExitCause.{ExitCause}
@@ -33,32 +38,39 @@ sizes_text sizes = codes "ok " ++ (decimal sizes.0 ++ 32 ∷ (decimal sizes.1 ++
 -- ---- what a connection gives: `show` is what one shows that is held so
 
 module _ {Held : Type 0} (show : Held → State) where
-  -- The connection's journal was opened, and its lines give this book. Of a disk that failed nothing is said.
-  pub record Gives (connection : Held) (book : Option Log) : Type 0 where
+  -- The connection's journal was opened and read, which left it as it was, and its lines give this book. Of a disk that failed nothing is said.
+  pub record Gives (connection loaded : Held) (book : Option Log) : Type 0 where
     pub journal : Held
-    pub loaded : Held
     pub is_opened : HasCleanDisk (show journal) → IsOpened (show connection) (show journal)
+    pub is_read : IsRead (show journal) (show loaded)
     pub gives : HasCleanDisk (show loaded) → OpensTo (lines_in (show journal)) book
 
-  -- the connection's journal was opened, and gives no book for this reason
-  pub record Refuses (connection : Held) (reason : OpenFault) : Type 0 where
+  -- the connection's journal was opened and read, which left it as it was, and gives no book for this reason
+  pub record Refuses (connection left : Held) (reason : OpenFault) : Type 0 where
     pub journal : Held
-    pub left : Held
     pub is_opened : HasCleanDisk (show journal) → IsOpened (show connection) (show journal)
+    pub is_read : IsRead (show journal) (show left)
     pub refuses : HasCleanDisk (show left) → RefusesOpen (show journal) (show left) reason
 
+  -- the database refuses to open a journal, for this cause
+  pub record RefusesJournal (connection left : Held) (fault : ExitCause) : Type 0 where
+    pub cause : Error
+    pub told : fault ≡ of_journal (fault_of cause)
+    pub same : HasCleanDisk (show left) → IsSame (show connection) (show left)
+
   -- the database refuses to open a journal, or the journal gives no book
-  abbrev pub GivesNone : Held → ExitCause → Type 0
-  GivesNone connection fault =
-      ((cause : Error) × (fault ≡ of_journal (fault_of cause))) ⊎ ((reason : OpenFault) × (fault ≡ of_open reason) × Refuses connection reason)
+  abbrev pub GivesNone : Held → Held → ExitCause → Type 0
+  GivesNone connection left fault =
+      RefusesJournal connection left fault ⊎ ((reason : OpenFault) × (fault ≡ of_open reason) × Refuses connection left reason)
 
-  abbrev pub Opens : Result Held Error → Option Log → Type 0
-  Opens (Ok connection) book = Gives connection book
-  Opens (Err cause) book = ⊥
+  abbrev pub Opens : Result Held Error → Held → Option Log → Type 0
+  Opens (Ok connection) loaded book = Gives connection loaded book
+  Opens (Err cause) loaded book = ⊥
 
-  abbrev pub OpensNone : Result Held Error → ExitCause → Type 0
-  OpensNone (Ok connection) fault = GivesNone connection fault
-  OpensNone (Err cause) fault = fault ≡ of_journal (fault_of cause)
+  -- a connection that gives no book is handed out too
+  abbrev pub OpensNone : Result Held Error → Option Held → ExitCause → Type 0
+  OpensNone (Ok connection) left fault = MatchOption left ⊥ (λ held. GivesNone connection held fault)
+  OpensNone (Err cause) left fault = (left ≡ None) × (fault ≡ of_journal (fault_of cause))
 
 -- ---- what is done with the book
 
@@ -89,24 +101,45 @@ is_check InMemory = false
 is_check (Journal file) = false
 is_check (Check file) = true
 
--- the connection is left to be closed where the input was served to its end on a file's journal
-abbrev pub is_left : Mode → Result Unit ExitCause → Bool
-is_left (Journal file) (Ok done) = true
-is_left mode outcome = false
-
--- the mode is done of this book
-pub record IsRun (mode : Mode) (outcome : Result Unit ExitCause) (book : Option Log) (input left old new : Option (List ℕ)) : Type 0 where
-  pub after : Option Log
-  pub is_done : IsDone mode outcome book after input left old new
-
--- ---- the whole run
+-- the connection has to be closed if the input was served to its end on a file's journal
+abbrev pub has_to_close : Mode → Result Unit ExitCause → Bool
+has_to_close (Journal file) (Ok done) = true
+has_to_close mode outcome = false
 
 module _ {Held : Type 0} (show : Held → State) where
-  -- There is a book, of which the mode is done; or there is none for this fault, and then nothing is read or written.
-  abbrev pub HasOutcome : Mode → Result Held Error → Result Unit ExitCause → Option (List ℕ) → Option (List ℕ) → Option (List ℕ) → Option (List ℕ) → Type 0
-  HasOutcome mode connection outcome input left old new =
-      ((book : Option Log) × Opens show connection book × IsRun mode outcome book input left old new)
-      ⊎ ((fault : ExitCause) × (outcome ≡ Err fault) × OpensNone show connection fault × (left ≡ input) × Keeps old new)
+  -- The journal was handed the lines of the input and no others: all of them if serving ended well, else the first ones. A check changes
+  -- nothing. Either way the journal's lines are those of the book then.
+  pub record Leaves (mode : Mode) (outcome : Result Unit ExitCause) (input : Option (List ℕ)) (after : Option Log) (loaded left : Held) : Type 0 where
+    pub handed : is_check mode ≡ false → IfSome input (λ text. Hands (KeepsOne show) outcome (lines_of text) loaded left)
+    pub unchanged : is_check mode ≡ true → left ≡ loaded
+    pub holds : IsJournalOf (show left) after
+
+  -- the mode is done of this book and of its journal
+  pub record IsRun (mode : Mode) (outcome : Result Unit ExitCause) (book : Option Log) (loaded left : Held) (input rest old new : Option (List ℕ)) : Type 0 where
+    pub after : Option Log
+    pub is_done : IsDone mode outcome book after input rest old new
+    pub leaves : Leaves mode outcome input after loaded left
+
+  -- ---- the whole run
+
+  -- there is a book, and the mode is done of it
+  pub record HasBook (mode : Mode) (connection : Result Held Error) (outcome : Result Unit ExitCause) (left : Held) (input rest old new : Option (List ℕ)) : Type 0 where
+    pub book : Option Log
+    pub loaded : Held
+    pub opens : Opens show connection loaded book
+    pub is_run : IsRun mode outcome book loaded left input rest old new
+
+  -- there is none for this fault, and nothing is read or written
+  pub record HasNone (connection : Result Held Error) (outcome : Result Unit ExitCause) (left : Option Held) (input rest old new : Option (List ℕ)) : Type 0 where
+    pub fault : ExitCause
+    pub is_fault : outcome ≡ Err fault
+    pub opens_none : OpensNone show connection left fault
+    pub unread : rest ≡ input
+    pub unwritten : Keeps old new
+
+  abbrev pub HasOutcome : Mode → Result Held Error → Result Unit ExitCause → Option Held → Option (List ℕ) → Option (List ℕ) → Option (List ℕ) → Option (List ℕ) → Type 0
+  HasOutcome mode connection outcome left input rest old new =
+      MatchOption left ⊥ (λ held. HasBook mode connection outcome held input rest old new) ⊎ HasNone connection outcome left input rest old new
 
 -- where all went well, what comes of closing the file
 abbrev pub after_closing : Result Unit ExitCause → Result Unit Error → Result Unit ExitCause

@@ -9,4 +9,4 @@ mod writing;
 pub use fault::{ENDED, ExitCause, FAILED, REFUSED, USAGE};
 pub use mode::{Mode, ModeRefusal, mode_of, unread_words};
 pub use operator_line as lines;
-pub use running::{finish, refuse, run, run_session};
+pub use running::{finish, has_to_close, refuse, run, run_session};

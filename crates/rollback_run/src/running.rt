@@ -1,15 +1,15 @@
 // Running in a mode, over any streams and any store.
-ghost use Rattle.std.specs.Prelude.{◌≡◌, true, false, Err, is_some, option_map, IfOk, IfErr, IfSome};
+ghost use Rattle.std.specs.Prelude.{◌≡◌, true, false, Err, option_map, IfOk, IfErr, IfSome};
 ghost use Rattle.sqlite.specs.Held.{state};
 ghost use Rattle.sqlite.specs.State.{HasCleanDisk};
 ghost use Rattle.book_journal.specs.Faults.{fault_of};
-ghost use Rattle.book_journal.specs.Kept.{IsOpened};
+ghost use Rattle.journaled_book.specs.Journaled.{IsJournalOf};
 ghost use Rattle.operator_line.specs.Handing.{Hands};
 ghost use Rattle.operator_line.specs.Serving.{WritesReply};
 ghost use Rattle.operator_line.specs.Sessions.{KeepsOne, session_log};
 ghost use Rattle.operator_line.specs.Texts.{lines_of};
 ghost use Rattle.rollback_run.specs.Faults.{of_journal};
-ghost use Rattle.rollback_run.specs.Status.{GivesNone, Gives, HasOutcome, IsChecked, IsDone, IsPrinted, IsRefusal, IsRun, IsServed, IsStatus, Opens, OpensNone, Refuses, after_closing, is_check, is_left, sizes_of, sizes_text};
+ghost use Rattle.rollback_run.specs.Status.{GivesNone, Gives, HasOutcome, IsDone, IsPrinted, IsRefusal, IsRun, IsServed, IsStatus, Opens, OpensNone, after_closing, has_to_close, is_check, sizes_of, sizes_text};
 
 use crate::fault::{ENDED, ExitCause, FAILED, USAGE, end};
 use crate::mode::{Mode, ModeRefusal};
@@ -27,8 +27,8 @@ const USAGE_TEXT: &[u8] = b"usage: rollback [--journal FILE | --check FILE]\n";
 
 /// Does what the mode asks for on the journal of this connection, and answers how that ended.
 ///
-/// Where an input was served to its end on a file's journal, the connection is handed out, to be closed: then the file alone has all
-/// lines. [`finish`] is given what that answers.
+/// The connection is handed out again, however the run ended, so that it can be said what the journal holds then. If [`has_to_close`] says
+/// so, it has to be closed, and [`finish`] is given what that answers.
 pub fn run<T: Threads + Wait + Sync, S: Alter + Drop, R: Read, W: Write>(
     rt: &T,
     alloc: Global,
@@ -37,13 +37,23 @@ pub fn run<T: Threads + Wait + Sync, S: Alter + Drop, R: Read, W: Write>(
     reader: &mut R,
     writer: &mut W,
 ) -> (Result<(), ExitCause>, Option<Connection<S>>)
-    ensures outcome { HasOutcome (λ held. state S.Store held) mode.now connection result.0 (R.remaining reader.old) (R.remaining reader.new) (W.contents writer.old) (W.contents writer.new) }
-    ensures left { is_some result.1 ≡ is_left mode.now result.0 }
+    ensures { HasOutcome (λ held. state S.Store held) mode.now connection result.0 result.1 (R.remaining reader.old) (R.remaining reader.new) (W.contents writer.old) (W.contents writer.new) }
 {
     match open(alloc, connection) {
-        Ok(session) => run_owned(rt, alloc, mode, session, reader, writer),
-        Err(fault) => (Err(fault), None),
+        Ok(session) => {
+            let (outcome, left) = run_owned(rt, alloc, mode, session, reader, writer);
+            (outcome, Some(left))
+        }
+        Err((fault, left)) => (Err(fault), left),
     }
+}
+
+/// Whether the connection has to be closed after a run that ended so: if an input was served to its end on a file's journal. The file alone
+/// has all lines then.
+pub fn has_to_close(mode: &Mode, outcome: Result<(), ExitCause>) -> bool
+    ensures { result ≡ has_to_close mode.now outcome }
+{
+    matches!((mode, outcome), (Mode::Journal(_), Ok(())))
 }
 
 /// The program's status for a run that ended so, and for what closing its file answered. A fault is told on `faults`.
@@ -97,31 +107,35 @@ fn show<W: Write>(writer: &mut W, text: &[u8]) -> Result<(), ServeFault>
 fn open<S: Alter + Drop>(
     alloc: Global,
     connection: Result<Connection<S>, Error>,
-) -> Result<Session<S>, ExitCause>
+) -> Result<Session<S>, (ExitCause, Option<Connection<S>>)>
     ensures here { IfOk result (λ s. s.is_failed ≡ false) }
-    ensures ok { IfOk result (λ s. Opens (λ held. state S.Store held) connection (session_log s)) }
-    ensures err { IfErr result (OpensNone (λ held. state S.Store held) connection) }
+    ensures ok { IfOk result (λ s. Opens (λ held. state S.Store held) connection s.journal (session_log s)) }
+    ensures err { IfErr result (λ e. OpensNone (λ held. state S.Store held) connection e.1 e.0) }
 {
     match connection {
-        Ok(connection) => open_connected(alloc, connection),
-        Err(cause) => Err(ExitCause::of_connection(cause)),
+        Ok(connection) => match open_connected(alloc, connection) {
+            Ok(session) => Ok(session),
+            Err((fault, left)) => Err((fault, Some(left))),
+        },
+        Err(cause) => Err((ExitCause::of_connection(cause), None)),
     }
 }
 
+/// The session of a connection's journal, or the connection as it is left if there is none.
 fn open_connected<S: Alter + Drop>(
     alloc: Global,
     connection: Connection<S>,
-) -> Result<Session<S>, ExitCause>
+) -> Result<Session<S>, (ExitCause, Connection<S>)>
     ensures here { IfOk result (λ s. s.is_failed ≡ false) }
-    ensures ok { IfOk result (λ s. Gives (λ held. state S.Store held) connection (session_log s)) }
-    ensures err { IfErr result (GivesNone (λ held. state S.Store held) connection) }
+    ensures ok { IfOk result (λ s. Gives (λ held. state S.Store held) connection s.journal (session_log s)) }
+    ensures err { IfErr result (λ e. GivesNone (λ held. state S.Store held) connection e.1 e.0) }
 {
     match Journal::open(connection) {
         Ok(journal) => match Session::open(alloc, journal) {
             Ok(session) => Ok(session),
-            Err((fault, _)) => Err(ExitCause::of_open(fault)),
+            Err((fault, journal)) => Err((ExitCause::of_open(fault), journal.into_connection())),
         },
-        Err((fault, _)) => Err(ExitCause::of_journal(fault)),
+        Err((fault, left)) => Err((ExitCause::of_journal(fault), left)),
     }
 }
 
@@ -135,32 +149,21 @@ fn run_owned<T: Threads + Wait + Sync, S: Alter + Drop, R: Read, W: Write>(
     session: Session<S>,
     reader: &mut R,
     writer: &mut W,
-) -> (Result<(), ExitCause>, Option<Connection<S>>)
+) -> (Result<(), ExitCause>, Connection<S>)
     requires here { session.is_failed ≡ false }
-    ensures run { IsRun mode.now result.0 (session_log session) (R.remaining reader.old) (R.remaining reader.new) (W.contents writer.old) (W.contents writer.new) }
-    ensures left { is_some result.1 ≡ is_left mode.now result.0 }
+    ensures { IsRun (λ held. state S.Store held) mode.now result.0 (session_log session) session.journal result.1 (R.remaining reader.old) (R.remaining reader.new) (W.contents writer.old) (W.contents writer.new) }
 {
     let mut session = session;
     let outcome = run_session(rt, alloc, mode, &mut session, reader, writer);
-    let left = let_go(mode, outcome, session);
-    (outcome, left)
+    (outcome, let_go(session))
 }
 
-/// Lets a session go. Its connection is left where it is to be closed.
-fn let_go<S: Alter + Drop>(
-    mode: &Mode,
-    outcome: Result<(), ExitCause>,
-    session: Session<S>,
-) -> Option<Connection<S>>
-    ensures { is_some result ≡ is_left mode.now outcome }
+/// The connection of a session, with its journal as it is.
+fn let_go<S: Alter + Drop>(session: Session<S>) -> Connection<S>
+    ensures same { result ≡ session.journal }
+    ensures holds { IsJournalOf (state S.Store result) (session_log session) }
 {
-    match (mode, outcome) {
-        (Mode::Journal(_), Ok(())) => Some(session.into_journal().into_connection()),
-        _ => {
-            drop(session);
-            None
-        }
-    }
+    session.into_journal().into_connection()
 }
 
 /// Does what the mode asks for on a session: serves the reader's lines, or tells the sizes of its journal and its book, for which nothing is

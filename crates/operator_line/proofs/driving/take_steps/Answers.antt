@@ -3,11 +3,12 @@ use Rattle.std.specs.BTreeMap.{is_at}
 use Rattle.std.specs.List.{list_any}
 use Rattle.step_names.specs.Order.{thread_cmp}
 use Rattle.step_names.specs.Thread.{Thread}
-use Rattle.operator_line.specs.Driving.{TakesOneOf}
+use Rattle.journaled_book.specs.Cursors.{place_of}
+use Rattle.operator_line.specs.Driving.{TakesOneOf, passed_in}
 use Rattle.operator_line.specs.Sessions.{log_in}
 use Rattle.operator_line.specs.declared.driving.Tried.{Tried}
 use Rattle.operator_line.proofs.Sessions.{some_log}
-use Rattle.operator_line.proofs.Taken.{all_taken, begins, few_lines, none_left, one_more, one_skipped, stopped}
+use Rattle.operator_line.proofs.Taken.{all_at_first, all_taken, begins, few_lines, none_left, one_more, one_skipped, stopped}
 use Rattle.operator_line.proofs.driving.take_steps.Goals as goal
 
 pub take_step-requires-clause-few : goal.take_step-requires-clause-few
@@ -23,6 +24,7 @@ loop-left-init g c = (
   refl,
   c.requires.room,
   λ clean. clean,
+  all_at_first (log_in c.args.book.now) (passed_in c.new-passed.result) (place_of c.new-cursor.result) c.new-cursor.ensures,
 )
 
 pub loop-left-preserved-in-Ok-Taken : goal.loop-left-preserved-in-Ok-Taken
@@ -35,6 +37,7 @@ loop-left-preserved-in-Ok-Taken g c = (
   c.in-Ok-Taken.ensures.text ∙ c.loop-left.invariant.2,
   c.in-Ok-Taken.ensures.room,
   λ clean. c.loop-left.invariant.4 (c.in-Ok-Taken.ensures.clean clean),
+  c.in-Ok-Taken.ensures.all,
 )
 
 pub loop-left-preserved : goal.loop-left-preserved
@@ -47,6 +50,7 @@ loop-left-preserved g c = (
   c.in-Ok-PassedBy.ensures.text ∙ c.loop-left.invariant.2,
   c.in-Ok-PassedBy.ensures.room,
   λ clean. c.loop-left.invariant.4 (c.in-Ok-PassedBy.ensures.clean clean),
+  c.in-Ok-PassedBy.ensures.all,
 )
 
 pub returns-in-Ok-NoMove-clause-taken : goal.returns-in-Ok-NoMove-clause-taken
