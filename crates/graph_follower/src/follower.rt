@@ -137,7 +137,7 @@ impl<S: Alter> Follower<S> {
 
     /// The threads that a line is about to touch; nothing if it isn't one of a journal.
     fn touched_by(&self, line: &str) -> Result<Option<Touched>, AllocError> {
-        let command = match Command::read(self.alloc, line.as_bytes()) {
+        let command = match Command::read_text(self.alloc, line) {
             Ok(command) => command,
             Err(CommandFault::BadLine) => return Ok(None),
             Err(CommandFault::Memory) => return Err(AllocError),

@@ -25,6 +25,7 @@ Besides the options below, these are questions, in lines or, with --json, as JSO
   FILE --threads ready|since N|THREAD where threads are
   FILE --find TEXT                    steps by name, state, error or key
   FILE --steps FROM COUNT, --log FROM COUNT, --machines, --machine NAME --definition
+A picture, --dot or --html, goes to a file with -o FILE, and to a terminal with --force alone.
 rollback_graph --viewer script|style writes what shows a page.";
 
 /// As CHANGELOG.md counts them.

@@ -1,10 +1,9 @@
 // Why one step is a consequence of another.
 use crate::page::Page;
-use crate::words::record_at;
 use rollback_book::StepRecords;
 use std::alloc::{AllocError, Global};
 use std::collections::VecDeque;
-use step_graph::reason_at;
+use step_graph::{reason_at, record_at};
 
 /// A line for each pair of neighbours on a chain: why the later depends on the earlier. Takes time in their number.
 pub(crate) fn tell_chain(

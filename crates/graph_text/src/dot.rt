@@ -1,11 +1,11 @@
 // A picture as Graphviz reads it.
+use crate::barriers::write_barriers;
 use crate::cutting::{is_longer, shown};
 use crate::page::Page;
 use crate::picture::{Look, Picture};
-use crate::words::{reason_word, record_at};
 use rollback_book::{Fact, StepRecords};
 use std::alloc::{AllocError, Global};
-use step_graph::{Edge, Reason};
+use step_graph::{Edge, Reason, reason_word, record_at};
 use step_names::ThreadName;
 
 const HEAD: &str =
@@ -26,8 +26,11 @@ pub(crate) fn write_dot(
     page.word(HEAD)?;
     write_clusters(page, alloc, records, picture)?;
     for edge in &picture.edges {
-        write_edge(page, alloc, records, *edge)?;
+        if !matches!(edge.reason, Reason::Bound) {
+            write_edge(page, alloc, records, *edge)?;
+        }
     }
+    write_barriers(page, alloc, records, picture)?;
     page.word("}\n")
 }
 

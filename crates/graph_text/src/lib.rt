@@ -2,6 +2,7 @@
 
 //! What operators read of a book's dependences: lists, plans with their reasons, chains, and pictures.
 mod asking;
+mod barriers;
 mod chain;
 mod cutting;
 mod dot;

@@ -1,35 +1,34 @@
 // What a picture shows: steps by their threads, and the dependences among them.
-use crate::words::record_at;
 use rollback_book::StepRecords;
 use std::alloc::{AllocError, Global};
 use std::collections::BTreeMap;
-use step_graph::{Edge, Marks, edges};
+use step_graph::{Edge, Marks, edges, record_at};
 use step_names::ThreadName;
 
-/// How a step stands in a picture.
+/// How a step is shown in a picture.
 #[derive(Clone, Copy, Debug, PartialEq, Eq)]
 pub(crate) enum Look {
     /// It is the step that was asked for.
     Asked,
     /// It is a consequence of that step.
     Following,
-    /// It is shown since a consequence hangs on it, or since all are shown.
+    /// It is shown since a consequence depends on it, or since all are shown.
     Other,
 }
 
-/// The steps that are shown, by their places in their threads, and the dependences among them. Contracts say nothing of it.
+/// The steps that are shown, by their places in their threads, and the dependences among them. A contract says nothing of it.
 #[derive(Drop)]
 pub(crate) struct Picture {
     /// The places of the shown steps of each thread, which ascend.
     pub(crate) threads: BTreeMap<ThreadName, Vec<usize>>,
-    /// By the later step, and then by the earlier one.
+    /// By the later step, and then by the earlier one, but for the one for which it waited, which is the last.
     pub(crate) edges: Vec<Edge>,
     from: Option<usize>,
     marks: Option<Marks>,
 }
 
 impl Picture {
-    /// All steps, or the one at a place with its consequences and the steps on which these hang directly. Takes time in the number of
+    /// All steps, or the one at a place with its consequences and the nearest steps on which these depend. Takes time in the number of
     /// records and, logarithms aside, of what is shown; memory for each step and dependence shown, and each thread and key.
     pub(crate) fn new(
         alloc: Global,
@@ -62,7 +61,15 @@ impl Picture {
         }
     }
 
-    /// How the step at a place stands in it.
+    /// Whether the dependences of the step at a place are shown.
+    pub(crate) fn is_explained(&self, place: usize) -> bool {
+        match &self.marks {
+            Some(marks) => marks.has(place),
+            None => true,
+        }
+    }
+
+    /// How the step at a place is shown.
     pub(crate) fn look(&self, place: usize) -> Look {
         if self.from == Some(place) {
             return Look::Asked;
@@ -94,7 +101,7 @@ fn consequences(
     Ok(Some(marks))
 }
 
-/// The marked places, and those on which they hang.
+/// The marked places, and those on which they depend.
 fn shown(
     alloc: Global,
     marks: &Marks,

@@ -1,14 +1,12 @@
 // A plan with its reasons: what a rollback takes back and why, what that gives back, and what is ready then.
 use crate::page::Page;
-use crate::picture::Picture;
-use crate::words::record_at;
 use attr_values::{Item, Key};
 use item_store::AccessMode;
 use rollback_book::turns::{Frame, Phase};
 use rollback_book::{Book, Fact, Saved, StepRecord, StepRecords};
 use std::alloc::{AllocError, Global};
 use std::collections::BTreeMap;
-use step_graph::{Edge, closed_threads, thread_above};
+use step_graph::{Cause, closed_threads, plan_reasons, record_at, take_reason, thread_above};
 use step_names::ThreadName;
 
 /// The threads that a rollback gives back or takes away, with the frames that they have then.
@@ -20,8 +18,8 @@ const MOST_NAMED: usize = 20;
 /// The items that a plan gives back: each key with the item now and the one that was there before.
 type Changes<'a> = BTreeMap<Key, (Option<&'a Item>, Option<&'a Item>)>;
 
-/// The plan of the step at a place. Takes time in the number of records and, logarithms aside, of the plan's steps and of what they
-/// depend on.
+/// The plan of the step at a place. Takes the time of `StepRecords::plan` and, logarithms aside, time in the number of the plan's steps and of
+/// what they give back.
 pub(crate) fn tell_plan(
     page: &mut Page,
     alloc: Global,
@@ -33,27 +31,16 @@ pub(crate) fn tell_plan(
         return Ok(());
     }
     let plan = records.plan(alloc, at)?;
-    let picture = Picture::new(alloc, records, Some(at))?;
-    let reasons = nearest(alloc, &picture)?;
+    // the latest comes last here, and first in the plan
+    let mut reasons = plan_reasons(alloc, records, plan.places())?;
     tell_head(page, alloc, book, records, plan.places())?;
     let mut frames = BTreeMap::new(alloc);
     for place in plan.places() {
-        tell_step(page, alloc, records, *place, reasons.get(place).copied())?;
+        let reason = take_reason(&mut reasons, *place);
+        tell_step(page, alloc, records, *place, *place == at, reason)?;
         give_back(alloc, &mut frames, records, *place)?;
     }
     tell_ready(page, alloc, &frames)
-}
-
-/// Of each consequence the dependence on the latest step of the plan on which it hangs.
-fn nearest(alloc: Global, picture: &Picture) -> Result<BTreeMap<usize, Edge>, AllocError> {
-    let mut reasons = BTreeMap::new(alloc);
-    for edge in &picture.edges {
-        // (those of one step ascend by the earlier one)
-        if picture.is_marked(edge.earlier) {
-            reasons.insert(edge.later, *edge)?;
-        }
-    }
-    Ok(reasons)
 }
 
 // ---- the head
@@ -79,7 +66,9 @@ fn tell_head(
     page.count(executions.len() as u64, "execution")?;
     tell_names(page, alloc, &executions)?;
     for (key, (now, then)) in changes.iter() {
-        tell_change(page, alloc, key, *now, *then)?;
+        if now != then {
+            tell_change(page, alloc, key, *now, *then)?;
+        }
     }
     Ok(())
 }
@@ -142,35 +131,43 @@ fn tell_change(
 
 // ---- a step
 
+/// A step of a plan, which is the plan's own or a consequence.
 fn tell_step(
     page: &mut Page,
     alloc: Global,
     records: &StepRecords,
     place: usize,
-    reason: Option<Edge>,
+    is_own: bool,
+    reason: Option<Cause>,
 ) -> Result<(), AllocError> {
     let Some(kept) = record_at(records, place) else {
         return Ok(());
     };
-    tell_cause(page, alloc, records, &kept.fact, reason)?;
+    tell_cause(page, alloc, records, &kept.fact, is_own, reason)?;
     page.word("; undone, ")?;
     tell_saved(page, alloc, kept)?;
     page.word("\n")
 }
 
+/// Why a step is in a plan. Of a consequence without a reason the name alone.
 fn tell_cause(
     page: &mut Page,
     alloc: Global,
     records: &StepRecords,
     fact: &Fact,
-    reason: Option<Edge>,
+    is_own: bool,
+    reason: Option<Cause>,
 ) -> Result<(), AllocError> {
-    let Some(edge) = reason else {
+    let Some(cause) = reason else {
         page.step(alloc, &fact.name)?;
-        return page.word(" is the step itself");
+        return if is_own {
+            page.word(" is the step itself")
+        } else {
+            Ok(())
+        };
     };
-    match record_at(records, edge.earlier) {
-        Some(earlier) => page.because(alloc, &earlier.fact, fact, edge.reason),
+    match record_at(records, cause.place) {
+        Some(earlier) => page.because(alloc, &earlier.fact, fact, cause.reason),
         None => Ok(()),
     }
 }

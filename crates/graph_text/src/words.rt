@@ -3,42 +3,9 @@ use crate::page::Page;
 use attr_values::{Item, Key, KeyPart, write_item};
 use item_store::AccessMode;
 use rollback_book::turns::{Frame, Phase};
-use rollback_book::{Access, Fact, Kind, StepRecord, StepRecords};
+use rollback_book::{Access, Fact, Kind};
 use std::alloc::{AllocError, Global};
-use step_graph::Reason;
-
-/// The record at a place, if there is one.
-pub(crate) fn record_at(records: &StepRecords, place: usize) -> Option<&StepRecord> {
-    if place < records.len() {
-        Some(records.get(place))
-    } else {
-        None
-    }
-}
-
-/// The name of a kind, as `history` tells it.
-pub(crate) fn kind_word(kind: Kind) -> &'static str {
-    match kind {
-        Kind::Start => "start",
-        Kind::Plain => "plain",
-        Kind::Call => "call",
-        Kind::Fork => "fork",
-        Kind::Join => "join",
-        Kind::Terminate => "terminate",
-    }
-}
-
-/// The name of a reason, as it stands at an edge.
-pub(crate) fn reason_word(reason: Reason) -> &'static str {
-    match reason {
-        Reason::Thread => "thread",
-        Reason::Start => "start",
-        Reason::Fork => "fork",
-        Reason::Join => "join",
-        Reason::Item => "item",
-        Reason::Bound => "bound",
-    }
-}
+use step_graph::{Reason, kind_word};
 
 impl Page {
     /// A key: each of its attributes as an attribute value.

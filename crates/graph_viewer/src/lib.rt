@@ -1,10 +1,12 @@
 #![tactic(auto)]
 
 //! The viewer: script and style of a page that shows a book, in a browser and without a library.
-pub mod script;
-pub mod style;
+mod script;
+mod style;
 
-pub use script::SCRIPT;
+pub use script::script_parts;
 
 /// The style, in parts that come one behind the other.
-pub const STYLE: &[&str] = &[style::STYLE];
+pub fn style_parts() -> [&'static str; 1] {
+    [style::STYLE]
+}

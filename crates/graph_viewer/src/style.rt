@@ -1,6 +1,6 @@
 //! How the viewer looks: light and dark, as the browser prefers.
 
-pub const STYLE: &str = r####":root {
+pub(crate) const STYLE: &str = r####":root {
     color-scheme: light dark;
     --ground: #ffffff; --raised: #f6f7f9; --sunk: #eef0f3; --line: #d5d9e0; --text: #1c2430; --quiet: #5b6675;
     --accent: #1a5fb4; --accent-ground: #e4eefb; --focus: #1a5fb4;

@@ -1,4 +1,7 @@
 // Reading a file and its log so that they are of one moment.
+ghost use Rattle.std.specs.Prelude.{◌≡◌, take, if◌then◌else◌, Some, None};
+ghost use Rattle.journal_copy.specs.Moment.{is_still};
+
 use std::io;
 
 /// How often reading begins anew at most, if the log is emptied meanwhile.
@@ -24,6 +27,25 @@ pub trait JournalFiles {
 pub struct JournalBytes {
     pub file: Vec<u8>,
     pub log: Vec<u8>,
+}
+
+impl JournalBytes {
+    /// The bytes of a file and then of its log, if these are of one moment: the header of the log was the same before and after, and it is that
+    /// of the log that was read. A log that is shorter than a header is all of it. Takes no memory.
+    pub fn of_moment(
+        before: &[u8],
+        file: Vec<u8>,
+        log: Vec<u8>,
+        after: &[u8],
+    ) -> Option<JournalBytes>
+        ensures { result ≡ (if is_still before.now log.items after.now then Some (record { file = file; log = log }) else None) }
+    {
+        if before == after && before == head_of(log.as_slice()) {
+            Some(JournalBytes { file, log })
+        } else {
+            None
+        }
+    }
 }
 
 /// Why there are none.
@@ -61,14 +83,12 @@ fn read_once<F: JournalFiles>(files: &mut F) -> Result<Option<JournalBytes>, Cop
     let file = of_read(files.file())?;
     let log = of_read(files.log())?;
     let after = of_read(files.log_head(HEADER))?;
-    if before.as_slice() == after.as_slice() && before.as_slice() == head_of(log.as_slice()) {
-        Ok(Some(JournalBytes { file, log }))
-    } else {
-        Ok(None)
-    }
+    Ok(JournalBytes::of_moment(before.as_slice(), file, log, after.as_slice()))
 }
 
-fn head_of(log: &[u8]) -> &[u8] {
+fn head_of(log: &[u8]) -> &[u8]
+    ensures { result.now ≡ take 32 log.now }
+{
     if log.len() < HEADER {
         log
     } else {

@@ -1,21 +1,19 @@
 // The answer to a question.
-use crate::asked::{Asked, Page, answer_after, no_answer};
-use crate::causing::{causes_of, chain_of, plan_of};
-use crate::explaining::explained;
 use crate::finding::found_steps;
-use crate::items::{item_of, items_of};
 use crate::listing::{Filter, executions, put_none};
 use crate::logging::{definition_of, log_from, machines_of};
 use crate::questions::Question;
 use crate::showing::{execution_of, step_of, steps_from, thread_of};
-use crate::threads::{one_thread, ready_threads, threads_since};
-use crate::values::text_value;
+use answer_causes::parts::books::{Book, Refusal};
+use answer_causes::parts::{
+    Asked, Index, Page, answer_after, no_answer, one_thread, ready_threads, text_value,
+    threads_since,
+};
+use answer_causes::{causes_of, chain_of, explained, item_of, items_of, plan_of};
 use attr_values::{ItemFault, Key, KeyType, key_of, read_item};
 use json_tree::{Json, JsonFault, JsonFields, Text, read};
-use question_index::Index;
-use rollback_book::{Book, Refusal};
 use std::alloc::{AllocError, Global};
-use step_names::StepName;
+use step_names::{StepName, ThreadName};
 
 /// The answer to a question, and whether there is what was asked for; if not, the answer has a sentence that says so.
 #[derive(Drop)]
@@ -43,17 +41,19 @@ fn answer_of(asked: &Asked<'_>, question: &Question) -> Result<Answer, AllocErro
             asked, step, question,
         ),
         Question::Why(from, to) => why(asked, from, to),
-        Question::Item(key) => item(asked, key.as_str()),
-        Question::Items(page) => found(items_of(asked, page)?),
+        Question::Item(key, page) => item(asked, key.as_str(), page),
+        Question::Items(page) => items(asked, page),
         Question::List(filter, page) => list(asked, filter, page),
-        Question::Machines => found(machines_of(asked.alloc, asked.index, asked.answer()?)?),
+        Question::Machines(page) => {
+            found(machines_of(asked.alloc, asked.index, asked.answer()?, page)?)
+        }
         Question::Find(text, most) => found(found_steps(asked, text.as_str(), *most)?),
         Question::Steps(from, count) => found(steps_from(asked, *from, *count)?),
         Question::ReadyThreads(page) => found(ready_threads(asked, page)?),
         Question::ThreadsSince(since, page) => found(threads_since(asked, *since, page)?),
         Question::Log(from, count) => found(log_from(asked, *from, *count)?),
-        Question::ShowThread(_)
-        | Question::ShowExecution(_)
+        Question::ShowThread(_, _)
+        | Question::ShowExecution(_, _)
         | Question::Explain(_)
         | Question::Definition(_)
         | Question::Thread(_) => of_name(asked, question),
@@ -61,7 +61,7 @@ fn answer_of(asked: &Asked<'_>, question: &Question) -> Result<Answer, AllocErro
 }
 
 /// The executions of a filter, if its machine is one.
-fn list(asked: &Asked<'_>, filter: &Filter, page: &Page) -> Result<Answer, AllocError> {
+fn list(asked: &Asked<'_>, filter: &Filter, page: &Page<ThreadName>) -> Result<Answer, AllocError> {
     if let Some(machine) = &filter.machine {
         if !asked.index.definitions().contains_key(machine) {
             let name = String::from_str(asked.alloc, machine.as_str())?;
@@ -118,9 +118,9 @@ fn gone(asked: &Asked<'_>, step: &StepName) -> Result<Answer, AllocError> {
 /// The answer to a question of a thread, an execution or a machine.
 fn of_name(asked: &Asked<'_>, question: &Question) -> Result<Answer, AllocError> {
     let (json, name, sentence) = match question {
-        Question::ShowThread(thread) => {
+        Question::ShowThread(thread, page) => {
             (
-                thread_of(asked, thread)?,
+                thread_of(asked, thread, page)?,
                 thread.write_text(asked.alloc)?,
                 " is no thread",
             )
@@ -139,9 +139,9 @@ fn of_name(asked: &Asked<'_>, question: &Question) -> Result<Answer, AllocError>
                 " is no thread",
             )
         }
-        Question::ShowExecution(exec) => {
+        Question::ShowExecution(exec, page) => {
             (
-                execution_of(asked, exec)?,
+                execution_of(asked, exec, page)?,
                 exec.write_text(asked.alloc)?,
                 " is no execution",
             )
@@ -172,12 +172,34 @@ fn or_absent(
 // ---- of an item
 
 /// The accesses of a key, which is an object of attributes or, if the key has one text, this text.
-fn item(asked: &Asked<'_>, text: &str) -> Result<Answer, AllocError> {
+fn item(asked: &Asked<'_>, text: &str, page: &Page<StepName>) -> Result<Answer, AllocError> {
+    if let Some(after) = &page.after {
+        if asked.book.history().find(after).is_none() {
+            return gone(asked, after);
+        }
+    }
     if let Some(key) = key_in(asked, text)? {
-        if let Some(json) = item_of(asked, &key)? {
+        if let Some(json) = item_of(asked, &key, page)? {
             return found(json);
         }
     }
+    no_item(asked, text)
+}
+
+/// The items, from the first one behind a key.
+fn items(asked: &Asked<'_>, page: &Page<String>) -> Result<Answer, AllocError> {
+    let after = match &page.after {
+        Some(text) => match key_in(asked, text.as_str())? {
+            Some(key) => Some(key),
+            None => return no_item(asked, text.as_str()),
+        },
+        None => None,
+    };
+    let most = page.most;
+    found(items_of(asked, &Page { after, most })?)
+}
+
+fn no_item(asked: &Asked<'_>, text: &str) -> Result<Answer, AllocError> {
     let mut sentence = String::from_str(asked.alloc, text)?;
     sentence.push_str(" is no item")?;
     absent(asked.alloc, sentence.as_str())
@@ -233,7 +255,7 @@ fn answer_before(alloc: Global, index: &Index, question: &Question) -> Result<An
     match question {
         Question::Items(_) => answer.put_list("items", Vec::new(alloc))?,
         Question::List(filter, _) => put_none(alloc, &mut answer, filter)?,
-        Question::Machines => answer.put_list("machines", Vec::new(alloc))?,
+        Question::Machines(_) => answer.put_list("machines", Vec::new(alloc))?,
         Question::Find(_, _) | Question::Steps(_, _) => answer.put_list("steps", Vec::new(alloc))?,
         Question::ReadyThreads(_) => answer.put_list("threads", Vec::new(alloc))?,
         Question::ThreadsSince(_, _) => {

@@ -1,10 +1,9 @@
 // Steps whose name, state, error or key has a text.
-use crate::asked::Asked;
-use crate::steps::{frame_after, frame_before, key_value, put_step_row, record_at};
-use crate::values::Object;
+use answer_causes::parts::books::StepRecord;
+use answer_causes::parts::books::turns::Phase;
+use answer_causes::parts::graph::record_at;
+use answer_causes::parts::{Asked, Object, frame_after, frame_before, key_value, put_step_row};
 use json_tree::{Json, write_text};
-use rollback_book::StepRecord;
-use rollback_book::turns::Phase;
 use std::alloc::AllocError;
 
 /// The remaining steps whose name, state, error or key has a text, whatever the case of its letters, the latest first, at most so many.

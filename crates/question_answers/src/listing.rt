@@ -1,10 +1,8 @@
 // Executions: how each stands, and how many of each machine are done, failed or open.
-use crate::asked::{Asked, Page};
-use crate::threads::frame_of;
-use crate::values::{Object, step_value, text_value, thread_value};
+use answer_causes::parts::books::Entry;
+use answer_causes::parts::books::turns::Phase;
+use answer_causes::parts::{Asked, Object, Page, frame_of, text_value, thread_value};
 use json_tree::{Json, JsonList, Text};
-use rollback_book::Entry;
-use rollback_book::turns::Phase;
 use std::alloc::{AllocError, Global};
 use std::collections::BTreeMap;
 use step_names::ThreadName;
@@ -74,7 +72,7 @@ impl Count {
 pub(crate) fn executions(
     asked: &Asked<'_>,
     filter: &Filter,
-    page: &Page,
+    page: &Page<ThreadName>,
 ) -> Result<Json, AllocError> {
     let (all, machines) = counts(asked)?;
     let mut rows = Vec::new(asked.alloc);

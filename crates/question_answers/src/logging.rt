@@ -1,10 +1,10 @@
 // What was accepted, by the numbers of the lines.
-use crate::asked::Asked;
-use crate::values::{Object, step_value, thread_value};
+use answer_causes::parts::books::Entry;
+use answer_causes::parts::graph::kind_word;
+use answer_causes::parts::{Asked, Index, Object, Page, step_value, thread_value};
 use json_tree::{Json, JsonList, Text};
-use question_index::Index;
-use rollback_book::Entry;
 use std::alloc::{AllocError, Global};
+use std::cmp::Ordering;
 use std::collections::BTreeMap;
 use step_names::StepName;
 
@@ -58,7 +58,7 @@ fn put_entry(
         }
         Entry::Step { name, kind } => {
             row.put_text("command", "step")?;
-            row.put_text("kind", crate::steps::kind_word(*kind))?;
+            row.put_text("kind", kind_word(*kind))?;
             row.put_step("step", name)?;
             put_closed(asked, row, line)
         }
@@ -105,20 +105,37 @@ fn put_closed(asked: &Asked<'_>, row: &mut Object, line: usize) -> Result<(), Al
 
 // ---- machines
 
-/// The names of the machines.
+/// The names of the machines, in the order of their bytes.
 pub(crate) fn machines_of(
     alloc: Global,
     index: &Index,
     answer: Object,
+    page: &Page<Text>,
 ) -> Result<Json, AllocError> {
     let mut names = Vec::new(alloc);
+    let mut more = false;
     for (name, _) in index.definitions().iter() {
+        if is_up_to(name, &page.after) {
+            continue;
+        }
+        if page.is_full(names.len()) {
+            more = true;
+            break;
+        }
         names.push(Json::Text(name.copy()?))?;
     }
     let mut answer = answer;
-    answer.put("more", Json::Bool(false))?;
+    answer.put("more", Json::Bool(more))?;
     answer.put("machines", Json::List(JsonList::from_vec(names)?))?;
     Ok(answer.done())
+}
+
+/// Whether a name comes before another, or is that one.
+fn is_up_to(name: &Text, after: &Option<Text>) -> bool {
+    match after {
+        Some(after) => !matches!(name.as_str().cmp(after.as_str()), Ordering::Greater),
+        None => false,
+    }
 }
 
 /// The text of a machine's definition; nothing if there is no such machine.

@@ -1,6 +1,6 @@
 // The grammar of questions.
-use crate::asked::Page;
 use crate::listing::{Filter, Status};
+use answer_causes::parts::Page;
 use json_tree::Text;
 use std::alloc::{AllocError, Global};
 use step_names::{NameFault, StepName, ThreadName};
@@ -14,21 +14,22 @@ pub enum Question {
     /// On which steps one depends; of these alone the writes and the starts, if so asked.
     Causes(StepName, bool),
     /// Who accessed the item of this key, in JSON or, of a key of one text, plain.
-    Item(String),
-    Items(Page),
+    Item(String, Page<StepName>),
+    /// All items; those behind one of a key.
+    Items(Page<String>),
     ShowStep(StepName),
-    ShowThread(ThreadName),
-    ShowExecution(ThreadName),
+    ShowThread(ThreadName, Page<StepName>),
+    ShowExecution(ThreadName, Page<StepName>),
     Explain(ThreadName),
-    List(Filter, Page),
-    Machines,
+    List(Filter, Page<ThreadName>),
+    Machines(Page<Text>),
     Definition(Text),
     Plan(StepName),
     Why(StepName, StepName),
     Find(String, usize),
     Steps(usize, usize),
-    ReadyThreads(Page),
-    ThreadsSince(usize, Page),
+    ReadyThreads(Page<ThreadName>),
+    ThreadsSince(usize, Page<ThreadName>),
     Thread(ThreadName),
     Log(usize, usize),
 }
@@ -57,7 +58,7 @@ impl Question {
             "show" => show(alloc, rest),
             "explain" => Ok(Question::Explain(thread(alloc, rest)?)),
             "list" => list(alloc, rest),
-            "machines" if rest.is_empty() => Ok(Question::Machines),
+            "machines" => machines(alloc, rest),
             "machine" => definition(alloc, rest),
             "plan" => Ok(Question::Plan(step(alloc, rest)?)),
             "why" => why(alloc, rest),
@@ -88,32 +89,80 @@ fn causes(alloc: Global, rest: &str) -> Result<Question, QuestionFault> {
     Ok(Question::Causes(step(alloc, name)?, writes))
 }
 
+/// `KEY`, or nothing for all items; before it `after NAME most N` or `most N`, the name being that of a step, or of all items a key.
 fn item(alloc: Global, rest: &str) -> Result<Question, QuestionFault> {
-    if rest.is_empty() {
-        return Ok(Question::Items(Page::whole()));
+    let (after, left) = item_page(rest);
+    let (count, key) = first_word(left);
+    let Some(most) = number(count) else {
+        return whole_item(alloc, rest);
+    };
+    let most = Some(most);
+    if !key.is_empty() {
+        let key = String::from_str(alloc, key)?;
+        let after = match after {
+            Some(name) => Some(step(alloc, name)?),
+            None => None,
+        };
+        return Ok(Question::Item(key, Page { after, most }));
     }
-    let (word, more) = first_word(rest);
-    if word == "most" {
-        if let Some(most) = number(more) {
-            return Ok(Question::Items(Page {
-                after: None,
-                most: Some(most),
-            }));
-        }
-    }
-    Ok(Question::Item(String::from_str(alloc, rest)?))
+    let after = match after {
+        Some(key) => Some(String::from_str(alloc, key)?),
+        None => None,
+    };
+    Ok(Question::Items(Page { after, most }))
 }
 
-fn show(alloc: Global, name: &str) -> Result<Question, QuestionFault> {
+fn whole_item(alloc: Global, key: &str) -> Result<Question, QuestionFault> {
+    if key.is_empty() {
+        return Ok(Question::Items(Page::whole()));
+    }
+    Ok(Question::Item(String::from_str(alloc, key)?, Page::whole()))
+}
+
+/// The name behind `after`, and what is behind `most`; nothing if it doesn't begin so.
+fn item_page(rest: &str) -> (Option<&str>, &str) {
+    if let Some(left) = rest.strip_prefix("most ") {
+        return (None, left);
+    }
+    let Some(text) = rest.strip_prefix("after ") else {
+        return (None, "");
+    };
+    match text.split_once(" most ") {
+        Some((name, left)) => (Some(name), left),
+        None => (None, ""),
+    }
+}
+
+/// `NAME`, and of a name without a step also `after STEP most N`, either or both or none.
+fn show(alloc: Global, rest: &str) -> Result<Question, QuestionFault> {
+    let (name, more) = first_word(rest);
     if name.contains('#') {
-        return Ok(Question::ShowStep(step(alloc, name)?));
+        if more.is_empty() {
+            return Ok(Question::ShowStep(step(alloc, name)?));
+        }
+        return Err(QuestionFault::NoQuestion);
     }
     let thread = thread(alloc, name)?;
+    let (after, most) = page_words(more)?;
+    let after = match after {
+        Some(after) => Some(step(alloc, after)?),
+        None => None,
+    };
+    let page = Page { after, most };
     if thread.is_execution() {
-        Ok(Question::ShowExecution(thread))
+        Ok(Question::ShowExecution(thread, page))
     } else {
-        Ok(Question::ShowThread(thread))
+        Ok(Question::ShowThread(thread, page))
     }
+}
+
+fn machines(alloc: Global, rest: &str) -> Result<Question, QuestionFault> {
+    let (after, most) = page_words(rest)?;
+    let after = match after {
+        Some(after) => Some(Text::new(alloc, after)?),
+        None => None,
+    };
+    Ok(Question::Machines(Page { after, most }))
 }
 
 fn list(alloc: Global, rest: &str) -> Result<Question, QuestionFault> {
@@ -142,15 +191,15 @@ fn list(alloc: Global, rest: &str) -> Result<Question, QuestionFault> {
 fn take_filter<'a>(
     alloc: Global,
     filter: &mut Filter,
-    page: &mut Page,
+    page: &mut Page<ThreadName>,
     rest: &'a str,
 ) -> Result<&'a str, QuestionFault> {
     let (word, more) = first_word(rest);
     let (value, behind) = first_word(more);
     match word {
-        "failed" => filter.status = Some(Status::Failed),
-        "open" => filter.status = Some(Status::Open),
-        "done" => filter.status = Some(Status::Done),
+        "failed" => set_status(filter, Status::Failed)?,
+        "open" => set_status(filter, Status::Open)?,
+        "done" => set_status(filter, Status::Done)?,
         "all" => {}
         "machine" => {
             filter.machine = Some(Text::new(alloc, value)?);
@@ -171,6 +220,15 @@ fn take_filter<'a>(
         _ => return Err(QuestionFault::NoQuestion),
     }
     Ok(more)
+}
+
+/// A list is of one status at most.
+fn set_status(filter: &mut Filter, status: Status) -> Result<(), QuestionFault> {
+    if filter.status.is_some() {
+        return Err(QuestionFault::NoQuestion);
+    }
+    filter.status = Some(status);
+    Ok(())
 }
 
 fn definition(alloc: Global, rest: &str) -> Result<Question, QuestionFault> {
@@ -216,25 +274,32 @@ fn threads(alloc: Global, rest: &str) -> Result<Question, QuestionFault> {
     }
 }
 
+fn page(alloc: Global, rest: &str) -> Result<Page<ThreadName>, QuestionFault> {
+    let (after, most) = page_words(rest)?;
+    let after = match after {
+        Some(after) => Some(thread(alloc, after)?),
+        None => None,
+    };
+    Ok(Page { after, most })
+}
+
 /// `after NAME most N`, either or both or none.
-fn page(alloc: Global, rest: &str) -> Result<Page, QuestionFault> {
-    let mut page = Page::whole();
+fn page_words(rest: &str) -> Result<(Option<&str>, Option<usize>), QuestionFault> {
     let (word, more) = first_word(rest);
-    let mut left = rest;
-    if word == "after" {
+    let (after, left) = if word == "after" {
         let (name, behind) = first_word(more);
-        page.after = Some(thread(alloc, name)?);
-        left = behind;
-    }
+        (Some(name), behind)
+    } else {
+        (None, rest)
+    };
     if left.is_empty() {
-        return Ok(page);
+        return Ok((after, None));
     }
     let (word, most) = first_word(left);
     if word != "most" {
         return Err(QuestionFault::NoQuestion);
     }
-    page.most = Some(some_number(most)?);
-    Ok(page)
+    Ok((after, Some(some_number(most)?)))
 }
 
 // ---- parts

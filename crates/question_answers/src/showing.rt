@@ -1,25 +1,26 @@
 // One execution, one thread or one step, with all that is known of it.
-use crate::asked::Asked;
 use crate::listing::{machine_of, put_end, status_of};
-use crate::near::near_of;
-use crate::steps::{
-    Around, frame_after, frame_before, frame_value, item_value, items_at, outcome_of, put_step_row,
-    reason_word, record_at,
+use answer_causes::parts::books::turns::Phase;
+use answer_causes::parts::books::{Entry, StepRecord};
+use answer_causes::parts::graph::{branch_of, record_at};
+use answer_causes::parts::{
+    Around, Asked, Move, Object, Page, frame_after, frame_before, frame_of, frame_value,
+    item_value, items_at, move_of, or_null, outcome_of, put_step_row, step_value, text_value,
+    thread_value,
 };
-use crate::threads::{frame_of, move_of};
-use crate::values::{Object, or_null, step_value, text_value};
+use answer_causes::{dependents_of, held_step, put_call};
 use json_tree::{Json, JsonList};
-use rollback_book::turns::Phase;
-use rollback_book::{Entry, StepRecord};
 use std::alloc::AllocError;
+use std::cmp::Ordering;
 use std::collections::BTreeMap;
-use step_graph::reason_at;
 use step_names::{StepName, ThreadName};
 
-/// An execution: its machine, input and status, its output or how it failed, and its threads with their steps, closed branches too.
+/// An execution: its machine, input and status, its output or how it failed, the branches for which it waits, and its threads with
+/// their steps, closed branches too.
 pub(crate) fn execution_of(
     asked: &Asked<'_>,
     exec: &ThreadName,
+    page: &Page<StepName>,
 ) -> Result<Option<Json>, AllocError> {
     let Some(start) = asked.index.executions().get(exec) else {
         return Ok(None);
@@ -36,8 +37,37 @@ pub(crate) fn execution_of(
     answer.put_text("status", status_of(asked, exec).word())?;
     put_end(asked, &mut answer, exec)?;
     put_result(asked, &mut answer, exec)?;
-    answer.put("threads", threads_of(asked, exec)?)?;
+    answer.put("waits_for", waited_for(asked, exec)?)?;
+    answer.put("held", held_step(asked, exec)?)?;
+    let rows = threads_of(asked, exec, page)?;
+    answer.put("more", Json::Bool(rows.more))?;
+    answer.put_list("threads", rows.threads)?;
     Ok(Some(answer.done()))
+}
+
+/// The branches for which an execution's own thread waits: those that aren't done.
+fn waited_for(asked: &Asked<'_>, exec: &ThreadName) -> Result<Json, AllocError> {
+    let mut names = Vec::new(asked.alloc);
+    if let (Some(frame), Some(Move::Waits)) = (frame_of(asked.book, exec), move_of(asked, exec)?) {
+        if let Phase::Parked(branches, _) = &frame.phase {
+            for index in 0..*branches {
+                let Some(branch) = branch_of(asked.alloc, exec, frame.count, index)? else {
+                    break;
+                };
+                if !is_done(asked, &branch) {
+                    names.push(thread_value(asked.alloc, &branch)?)?;
+                }
+            }
+        }
+    }
+    Ok(Json::List(JsonList::from_vec(names)?))
+}
+
+fn is_done(asked: &Asked<'_>, thread: &ThreadName) -> bool {
+    match frame_of(asked.book, thread) {
+        Some(frame) => matches!(&frame.phase, Phase::Done(_)),
+        None => false,
+    }
 }
 
 /// The input with which an execution was started.
@@ -52,7 +82,7 @@ fn input_of(asked: &Asked<'_>, start: usize) -> Result<Json, AllocError> {
     }
 }
 
-/// The output of an execution that is done, the cause and the step of one that failed, and the step for which a hold stops the next move.
+/// The output of an execution that is done, and the cause and the step of one that failed.
 fn put_result(asked: &Asked<'_>, answer: &mut Object, exec: &ThreadName) -> Result<(), AllocError> {
     let alloc = asked.alloc;
     let mut output = Json::Null;
@@ -77,8 +107,94 @@ fn put_result(asked: &Asked<'_>, answer: &mut Object, exec: &ThreadName) -> Resu
     answer.put("step", step)
 }
 
-/// The threads of an execution, in the order of their names, each with its steps.
-fn threads_of(asked: &Asked<'_>, exec: &ThreadName) -> Result<Json, AllocError> {
+/// The threads of a page, each with its steps, and whether more steps or threads follow.
+#[derive(Drop)]
+struct ThreadRows {
+    threads: Vec<Json>,
+    more: bool,
+}
+
+/// The threads of an execution, in the order of their names, each with its steps. A page counts steps; a thread whose steps all come
+/// before it is left out.
+fn threads_of(
+    asked: &Asked<'_>,
+    exec: &ThreadName,
+    page: &Page<StepName>,
+) -> Result<ThreadRows, AllocError> {
+    let by_thread = places_by_thread(asked, exec)?;
+    let mut threads = Vec::new(asked.alloc);
+    let mut steps: usize = 0;
+    for (thread, places) in by_thread.iter() {
+        let place = page.place_of(thread);
+        if place == Ordering::Less {
+            continue;
+        }
+        if page.is_full(steps) {
+            return Ok(ThreadRows {
+                threads,
+                more: true,
+            });
+        }
+        let shown = steps_in(asked, page, places.as_slice(), steps)?;
+        if shown.places.is_empty() && place == Ordering::Equal {
+            continue;
+        }
+        steps = steps.saturating_add(shown.places.len());
+        threads.push(thread_row(asked, thread, shown.places.as_slice())?)?;
+        if shown.more {
+            return Ok(ThreadRows {
+                threads,
+                more: true,
+            });
+        }
+    }
+    Ok(ThreadRows {
+        threads,
+        more: false,
+    })
+}
+
+/// The steps of a thread that are in a page, and whether more of them follow.
+#[derive(Drop)]
+struct StepsInPage {
+    places: Vec<usize>,
+    more: bool,
+}
+
+/// Which of a thread's steps are in a page that has so many rows already.
+fn steps_in(
+    asked: &Asked<'_>,
+    page: &Page<StepName>,
+    places: &[usize],
+    rows: usize,
+) -> Result<StepsInPage, AllocError> {
+    let mut shown = Vec::new(asked.alloc);
+    for place in places {
+        let Some(kept) = record_at(asked.book.history(), *place) else {
+            continue;
+        };
+        if page.passes_by(&kept.fact.name) {
+            continue;
+        }
+        if page.is_full(rows.saturating_add(shown.len())) {
+            return Ok(StepsInPage {
+                places: shown,
+                more: true,
+            });
+        }
+        shown.push(*place)?;
+    }
+    Ok(StepsInPage {
+        places: shown,
+        more: false,
+    })
+}
+
+/// The places of an execution's remaining steps by their threads; each thread that is there has some or none.
+fn places_by_thread(
+    asked: &Asked<'_>,
+    exec: &ThreadName,
+) -> Result<BTreeMap<ThreadName, Vec<usize>>, AllocError> {
     let records = asked.book.history();
     let mut by_thread: BTreeMap<ThreadName, Vec<usize>> = BTreeMap::new(asked.alloc);
     for (thread, _) in asked.index.threads().range(exec..) {
@@ -99,17 +215,14 @@ fn threads_of(asked: &Asked<'_>, exec: &ThreadName) -> Result<Json, AllocError> 
             places.push(*place)?;
         }
     }
-    let mut threads = Vec::new(asked.alloc);
-    for (thread, places) in by_thread.iter() {
-        threads.push(thread_row(asked, thread, places.as_slice())?)?;
-    }
-    Ok(Json::List(JsonList::from_vec(threads)?))
+    Ok(by_thread)
 }
 
 /// One thread with its steps; nothing if it isn't there and no step of it remains.
 pub(crate) fn thread_of(
     asked: &Asked<'_>,
     thread: &ThreadName,
+    page: &Page<StepName>,
 ) -> Result<Option<Json>, AllocError> {
     let records = asked.book.history();
     let mut places = Vec::new(asked.alloc);
@@ -123,9 +236,11 @@ pub(crate) fn thread_of(
     if places.is_empty() && frame_of(asked.book, thread).is_none() {
         return Ok(None);
     }
+    let shown = steps_in(asked, page, places.as_slice(), 0)?;
     let mut threads = Vec::new(asked.alloc);
-    threads.push(thread_row(asked, thread, places.as_slice())?)?;
+    threads.push(thread_row(asked, thread, shown.places.as_slice())?)?;
     let mut answer = asked.answer()?;
+    answer.put("more", Json::Bool(shown.more))?;
     answer.put_list("threads", threads)?;
     Ok(Some(answer.done()))
 }
@@ -178,7 +293,7 @@ fn told_step(asked: &Asked<'_>, place: usize, whole: bool) -> Result<Option<Json
     let mut row = Object::new(alloc);
     put_step_row(asked, &mut row, kept, place)?;
     let line = match asked.index.line_of(&kept.fact.name) {
-        Some(line) => crate::values::whole(line),
+        Some(line) => answer_causes::parts::whole(line),
         None => Json::Null,
     };
     row.put("entry", line)?;
@@ -198,6 +313,7 @@ fn told_step(asked: &Asked<'_>, place: usize, whole: bool) -> Result<Option<Json
         None => Json::Null,
     };
     row.put("output", output)?;
+    put_call(asked, &mut row, kept, place)?;
     if whole {
         row.put("frames", frames_of(asked, kept)?)?;
         row.put("items", items_around(asked, kept, place)?)?;
@@ -236,39 +352,6 @@ pub(crate) fn step_of(asked: &Asked<'_>, place: usize) -> Result<Json, AllocErro
     }
     answer.put("dependents", dependents_of(asked, place)?)?;
     Ok(answer.done())
-}
-
-/// The later steps that depend directly on the one at a place, as a picture has them. They are of its execution, or accessed its key.
-fn dependents_of(asked: &Asked<'_>, place: usize) -> Result<Json, AllocError> {
-    let records = asked.book.history();
-    let mut later = BTreeMap::new(asked.alloc);
-    if let Some(kept) = record_at(records, place) {
-        for other in &records.of_execution(asked.alloc, kept.fact.name.thread.exec())? {
-            later.insert(*other, ())?;
-        }
-        if let Some(access) = &kept.fact.access {
-            for other in &records.accesses(asked.alloc, &access.key)? {
-                later.insert(*other, ())?;
-            }
-        }
-    }
-    let mut rows = Vec::new(asked.alloc);
-    for (other, _) in later.iter() {
-        if *other <= place || reason_at(records, place, *other).is_none() {
-            continue;
-        }
-        for (earlier, reason) in near_of(asked, *other)? {
-            if earlier == place {
-                if let Some(kept) = record_at(records, *other) {
-                    let mut row = Object::new(asked.alloc);
-                    row.put_step("step", &kept.fact.name)?;
-                    row.put_text("reason", reason_word(reason))?;
-                    rows.push(row.done())?;
-                }
-            }
-        }
-    }
-    Ok(Json::List(JsonList::from_vec(rows)?))
 }
 
 /// So many remaining steps from a place on, with their frames and items.

@@ -159,7 +159,7 @@ impl Index {
     }
 
     fn define(&mut self, alloc: Global, line: &str, number: usize) -> Result<(), AllocError> {
-        match Command::read(alloc, line.as_bytes()) {
+        match Command::read_text(alloc, line) {
             Ok(Command::Define { name, definition }) => {
                 keep(alloc, &mut self.definitions, &name, definition, number)
             }

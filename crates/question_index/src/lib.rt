@@ -7,4 +7,4 @@ mod touched;
 
 pub use definitions::Definition;
 pub use index::{Index, Presence};
-pub use touched::Touched;
+pub use touched::{Touched, frame_of, is_waiting};

@@ -237,8 +237,8 @@ impl Touched {
     }
 }
 
-/// The frame of a thread, if it has one.
-pub(crate) fn frame_of<'a>(book: &'a Book, name: &ThreadName) -> Option<&'a Frame> {
+/// The frame of a thread, if it has one. Takes no memory, and time logarithmic in the number of executions.
+pub fn frame_of<'a>(book: &'a Book, name: &ThreadName) -> Option<&'a Frame> {
     match book.show(name) {
         Ok(frame) => Some(frame),
         Err(_) => None,
@@ -254,7 +254,7 @@ fn branches_of(frame: &Frame) -> u32 {
 }
 
 /// Whether a thread waits for others.
-fn is_waiting(book: &Book, name: &ThreadName) -> Result<bool, AllocError> {
+pub fn is_waiting(book: &Book, name: &ThreadName) -> Result<bool, AllocError> {
     match book.ticket(name) {
         Ok(ticket) => {
             drop(ticket);

@@ -2,9 +2,10 @@
 use crate::entries::{add_accesses, add_change, add_entry, add_place, add_writer};
 use crate::executions::{add_counts, add_hold, add_rows, add_shown};
 use crate::fields::{field, is_true, list_in, number_in, text_in};
+use crate::frames::add_frame;
 use crate::lines::Lines;
 use crate::reasons::add_why;
-use crate::steps::{add_cause, add_dependence, add_item, add_outcome, add_step};
+use crate::steps::{add_cause, add_dependence, add_item, add_outcome, add_step, add_whole_step};
 use json_tree::Json;
 use std::alloc::{AllocError, Global};
 
@@ -180,9 +181,10 @@ fn add_show(lines: &mut Lines, answer: &Json) -> Result<(), AllocError> {
     if !matches!(step, Json::Fields(_)) {
         return add_shown(lines, answer);
     }
-    add_step(lines, step)?;
-    add_outcome(lines, step)?;
-    lines.add("\n")?;
+    add_whole_step(lines, step)?;
+    if let Some(frames) = field(step, "frames") {
+        add_moved(lines, text_in(step, "thread"), frames)?;
+    }
     if let Some(items) = field(step, "items") {
         lines.add("  the item before: ")?;
         add_item(lines, field(items, "before"))?;
@@ -191,6 +193,21 @@ fn add_show(lines: &mut Lines, answer: &Json) -> Result<(), AllocError> {
         lines.add("\n")?;
     }
     add_neighbours(lines, step, answer)
+}
+
+/// Where a step's thread was before it, and is after it.
+fn add_moved(lines: &mut Lines, thread: &str, frames: &Json) -> Result<(), AllocError> {
+    if let Some(before) = field(frames, "before") {
+        lines.all(&["  before: ", thread])?;
+        add_frame(lines, before)?;
+        lines.add("\n")?;
+    }
+    if let Some(after) = field(frames, "after") {
+        lines.all(&["  after: ", thread])?;
+        add_frame(lines, after)?;
+        lines.add("\n")?;
+    }
+    Ok(())
 }
 
 /// The steps on which a step depends, and those that depend on it.
@@ -202,6 +219,13 @@ fn add_neighbours(lines: &mut Lines, step: &Json, answer: &Json) -> Result<(), A
             " (",
             text_in(cause, "reason"),
             ")\n",
+        ])?;
+    }
+    if field(step, "waited").is_some() {
+        lines.all(&[
+            "  waited for the branches up to ",
+            text_in(step, "waited"),
+            "\n",
         ])?;
     }
     for later in list_in(answer, "dependents") {

@@ -89,9 +89,27 @@ pub(crate) fn add_shown(lines: &mut Lines, answer: &Json) -> Result<(), AllocErr
             None => lines.add("null")?,
         }
         lines.add("\n")?;
+        add_waiting(lines, answer)?;
     }
     for thread in list_in(answer, "threads") {
         add_thread(lines, thread)?;
     }
     Ok(())
+}
+
+/// The branches for which an execution waits, if it does; and the held step that keeps its next move back.
+fn add_waiting(lines: &mut Lines, answer: &Json) -> Result<(), AllocError> {
+    let branches = list_in(answer, "waits_for");
+    for (place, branch) in branches.iter().enumerate() {
+        if let Json::Text(name) = branch {
+            lines.all(&[if place == 0 { "waits for " } else { ", " }, name.as_str()])?;
+        }
+    }
+    if !branches.is_empty() {
+        lines.add("\n")?;
+    }
+    match text_in(answer, "held") {
+        "" => Ok(()),
+        held => lines.all(&["its next move depends on ", held, ", which is held\n"]),
+    }
 }

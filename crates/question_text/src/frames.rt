@@ -1,7 +1,7 @@
 // Threads: where each is.
 use crate::fields::{field, is_true, list_in, number_in, text_in};
 use crate::lines::Lines;
-use crate::steps::{add_branches, add_outcome, add_step};
+use crate::steps::{add_branches, add_whole_step};
 use json_tree::Json;
 use std::alloc::AllocError;
 
@@ -16,10 +16,7 @@ pub(crate) fn add_thread(lines: &mut Lines, thread: &Json) -> Result<(), AllocEr
     }
     lines.add("\n")?;
     for step in list_in(thread, "steps") {
-        lines.add("  ")?;
-        add_step(lines, step)?;
-        add_outcome(lines, step)?;
-        lines.add("\n")?;
+        add_whole_step(lines, step)?;
     }
     Ok(())
 }

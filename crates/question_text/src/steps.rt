@@ -45,6 +45,22 @@ pub(crate) fn add_step(lines: &mut Lines, step: &Json) -> Result<(), AllocError>
     if field(step, "state").is_some() {
         lines.all(&[" ", text_in(step, "state")])?;
     }
+    add_access(lines, step)
+}
+
+/// The same with the state's type and the step's kind, and what it went on to, in a line.
+pub(crate) fn add_whole_step(lines: &mut Lines, step: &Json) -> Result<(), AllocError> {
+    lines.add(text_in(step, "step"))?;
+    if field(step, "state").is_some() {
+        lines.all(&[" ", text_in(step, "state"), " ", text_in(step, "type")])?;
+    }
+    lines.all(&[" ", text_in(step, "kind")])?;
+    add_access(lines, step)?;
+    add_outcome(lines, step)?;
+    lines.add("\n")
+}
+
+fn add_access(lines: &mut Lines, step: &Json) -> Result<(), AllocError> {
     let Some(key) = field(step, "key") else {
         return Ok(());
     };

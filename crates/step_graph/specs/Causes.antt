@@ -1,5 +1,5 @@
 -- On which earlier steps a step depends, directly or not: those of whose plans it is.
-use Rattle.std.specs.Prelude.{◌≡◌, ◌==◌, ℕ, zero, suc, Bool, List, [], ◌∷◌, Some, map, if◌then◌else◌}
+use Rattle.std.specs.Prelude.{◌≡◌, ◌<◌, ◌==◌, ℕ, zero, suc, Bool, List, [], ◌∷◌, Some, map, if◌then◌else◌}
 use Rattle.std.specs.List.{list_any}
 use Rattle.saved_steps.specs.declared.fact.Fact.{Fact}
 use Rattle.saved_steps.specs.declared.record.StepRecord.{StepRecord}
@@ -25,6 +25,10 @@ causes facts at = causes_below facts at at
 
 abbrev pub causes_of : List StepRecord → ℕ → List ℕ
 causes_of rs at = causes (map (λ r. r.fact) rs) at
+
+-- one is needed for a later step, which depends directly on it, for just this reason
+abbrev pub IsReason : List StepRecord → Cause → Type 0
+IsReason rs c = (c.place < c.needed_for) × (reason_at rs c.place c.needed_for ≡ Some c.reason)
 
 -- the step for which a cause is needed depends directly on it, for just this reason
 abbrev pub IsNeeded : List StepRecord → Cause → Type 0

@@ -2,8 +2,10 @@
 ghost use Rattle.std.specs.Prelude.{◌≡◌, ◌<◌, ◌∷◌, ℕ, All, IfOk, IfSome, None, Some, length, map, true};
 ghost use Rattle.step_graph.specs.Causes.{IsNeeded, causes_of, is_in};
 ghost use Rattle.step_graph.specs.Edges.{reason_at};
+ghost use Rattle.step_graph.specs.Members.{OpensMembers};
 
 use crate::linking::reason_at;
+use crate::opened::OpenPlaces;
 use depends::Reason;
 use std::alloc::{AllocError, Global};
 use step_index::StepRecords;
@@ -20,21 +22,46 @@ pub struct Cause {
 /// The steps on which the one at a place depends, directly or not, the latest first: those whose rollback takes it back too. Each is
 /// needed for the earliest step that depends directly on it, among the one asked for and its other causes.
 ///
-/// Takes memory for the causes, and time in the number of records before the place times that of the causes.
+/// Takes memory for the causes, two bytes for each record, and time in the steps of the executions of the causes and in the accesses
+/// of their keys, each beside the causes that were found before it; of each other record before the place it reads these two bytes.
 pub fn causes(alloc: Global, records: &StepRecords, at: usize) -> Result<Vec<Cause>, AllocError>
     requires { at < length records.now.items }
     ensures places { IfOk result (λ found. map (λ c. c.place) found.items ≡ causes_of records.now.items at) }
     ensures reasons { IfOk result (λ found. All (IsNeeded records.now.items) found.items) }
 {
     let mut found = Vec::new(alloc);
+    let mut near = OpenPlaces::new(alloc, records)?;
+    near.open(alloc, records, at)?;
     let mut place = at;
     while place > 0 {
         place -= 1;
-        if let Some(cause) = needed(records, found.as_slice(), at, place) {
+        if let Some(cause) = needed_open(&near, records, found.as_slice(), at, place) {
+            near.open(alloc, records, place)?;
             found.push(cause)?;
         }
     }
     Ok(found)
+}
+
+/// Why the step at a place is needed for the one asked for or for a cause that was found, if its place is open; at no other is one.
+fn needed_open(
+    near: &OpenPlaces,
+    records: &StepRecords,
+    found: &[Cause],
+    at: usize,
+    place: usize,
+) -> Option<Cause>
+    ensures place { IfSome result (λ c. c.place ≡ place) }
+    ensures after { IfSome result (λ c. place < c.needed_for) }
+    ensures reason { IfSome result (IsNeeded records.now.items) }
+    ensures among { IfSome result (λ c. is_in c.needed_for (at ∷ map (λ c. c.place) found.now) ≡ true) }
+    ensures none { result ≡ None → OpensMembers records.now.items at (map (λ c. c.place) found.now) near.now → (m : ℕ) → place < m
+        → is_in m (at ∷ map (λ c. c.place) found.now) ≡ true → reason_at records.now.items place m ≡ None }
+{
+    if !near.has(place) {
+        return None;
+    }
+    needed(records, found, at, place)
 }
 
 /// Why the step at a place is needed for the one asked for or for a cause that was found, the latest of which was found first.

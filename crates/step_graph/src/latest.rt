@@ -1,4 +1,6 @@
-// The steps so far on which a next one may hang: the last of each thread, and those that last touched each item.
+// The steps so far on which a next one may depend: the last of each thread, the latest of a fork's branches, and those that last touched each
+// item.
+use crate::branch_ends::BranchEnds;
 use attr_values::Key;
 use item_store::AccessMode;
 use saved_steps::{Access, Fact, Kind};
@@ -10,12 +12,14 @@ use step_names::{NameFault, ThreadName};
 /// A thread that has steps, or that has one with steps under it.
 #[derive(Drop)]
 struct Thread {
-    /// The place of its last step; none where its steps are settled.
+    /// The place of its last step; none if its steps are settled.
     last: Option<usize>,
     /// The number of the thread that forked it.
     above: Option<usize>,
     /// The numbers of the threads that it forked and has not closed.
     open: Vec<usize>,
+    /// The latest steps under its last fork.
+    ends: BranchEnds,
 }
 
 /// A step that touched an item: its place, and the number of its thread.
@@ -53,29 +57,28 @@ impl Latest {
         }
     }
 
-    /// Adds the step at the next place, and the places of the steps on which it hangs to `near`, in ascending order. Takes time in
-    /// the number of these, and logarithmic in those of threads and items; for a new thread that of its name too.
+    /// Adds the step at a later place, and the places of the steps on which it depends to `near`, in ascending order; but for the latest one
+    /// of the branches for which it waited, which is the answer. Takes time in the number of these and of the forks above it, and
+    /// logarithmic in those of threads, branches and items; for a new thread that of its name too.
     pub(crate) fn add(
         &mut self,
         alloc: Global,
         fact: &Fact,
         at: usize,
         near: &mut Vec<usize>,
-    ) -> Result<(), AllocError> {
+    ) -> Result<Option<usize>, AllocError> {
         let thread = self.thread(alloc, &fact.name.thread)?;
         self.add_before(thread, near)?;
         if matches!(fact.kind, Kind::Join | Kind::Terminate) {
             self.add_closed(alloc, thread, near)?;
         }
-        if fact.bound != 0 {
-            self.add_awaited(alloc, fact, near)?;
-        }
         if let Some(access) = &fact.access {
             self.add_touched(alloc, access, Touch { place: at, thread }, near)?;
         }
         self.set_last(thread, at);
+        self.note_end(thread, fact.name.thread.path(), at)?;
         near.sort_unstable();
-        Ok(())
+        Ok(self.awaited(thread, fact))
     }
 
     /// The step before in its thread; of the first one that remains, the last step of the thread that forked this one.
@@ -136,35 +139,34 @@ impl Latest {
         }
     }
 
-    /// The last steps of the branches for which a first move waited. Those before them were awaited by the first move of the last
-    /// of these already.
-    fn add_awaited(
-        &self,
-        alloc: Global,
-        fact: &Fact,
-        near: &mut Vec<usize>,
+    /// The latest step of the branches for which a first move waited; nothing of another step.
+    fn awaited(&self, thread: usize, fact: &Fact) -> Option<usize> {
+        let (fork, last) = awaited_branch(fact)?;
+        let above = self.threads.get(self.above(thread)?)?;
+        above.ends.latest(fork, last)
+    }
+
+    /// Notes a thread's step at each fork above it.
+    fn note_end(
+        &mut self,
+        thread: usize,
+        path: &[(u32, u32)],
+        at: usize,
     ) -> Result<(), AllocError> {
-        let path = fact.name.thread.path();
-        let Some(((fork, index), above)) = path.split_last() else {
-            return Ok(());
-        };
-        let Some(last) = index.checked_sub(fact.bound) else {
-            return Ok(());
-        };
-        let over = thread_above(alloc, &fact.name.thread, above.len())?;
-        for back in 0..fact.bound {
-            let Some(branch) = last.checked_sub(back) else {
+        let mut below = thread;
+        for (fork, branch) in path.iter().rev() {
+            let Some(above) = self.above(below) else {
                 break;
             };
-            let Some(name) = branch_of(alloc, &over, *fork, branch)? else {
-                break;
-            };
-            push_some(near, self.last(self.names.get(&name).copied()))?;
+            if above < self.threads.len() {
+                self.threads[above].ends.note(*fork, *branch, at)?;
+            }
+            below = above;
         }
         Ok(())
     }
 
-    /// The steps of other threads that a call of this item hangs on.
+    /// The steps of other threads on which a call of this item depends.
     fn add_touched(
         &mut self,
         alloc: Global,
@@ -224,6 +226,7 @@ impl Latest {
             last: None,
             above,
             open: Vec::new(alloc),
+            ends: BranchEnds::new(alloc),
         })?;
         self.open_under(above, number)?;
         self.names.insert(name, number)?;
@@ -268,6 +271,16 @@ fn push_other(near: &mut Vec<usize>, touch: Touch, own: Touch) -> Result<(), All
         near.push(touch.place)?;
     }
     Ok(())
+}
+
+/// Of a first move that waited under its Map's bound, the fork and the last branch for which it waited. It waited for those before it, too.
+pub fn awaited_branch(fact: &Fact) -> Option<(u32, u32)> {
+    if fact.bound == 0 {
+        return None;
+    }
+    let ((fork, index), _) = fact.name.thread.path().split_last()?;
+    let last = index.checked_sub(fact.bound)?;
+    Some((*fork, last))
 }
 
 /// The thread to which the first so many branches of a name lead: one above it, or itself. Takes memory for a name at each depth.

@@ -16,7 +16,7 @@ pub struct Edge {
     pub reason: Reason,
 }
 
-/// Why the step at a later place depends directly on the one at an earlier place; nothing where it doesn't, or where there is no such
+/// Why the step at a later place depends directly on the one at an earlier place; nothing if it doesn't, or if there is no such
 /// place. Takes no memory, and time in the lengths of the names and keys.
 pub fn reason_at(records: &StepRecords, earlier: usize, later: usize) -> Option<Reason>
     ensures { result ≡ reason_at records.now.items earlier later }
@@ -31,14 +31,15 @@ pub fn reason_at(records: &StepRecords, earlier: usize, later: usize) -> Option<
     reason_of(&records.get(earlier).fact, &records.get(later).fact)
 }
 
-/// Direct dependences from which all others follow, by the later step and then by the earlier one: of each step, or of those at marked places alone.
+/// The nearest direct dependences of each step, or of those at marked places alone, by the later step and then by the earlier one. All others
+/// follow from them, if who reads them knows one thing: a first move that waited for a branch also waited for those before it.
 ///
-/// A step hangs on the step before it in its thread, and a branch's first step on its fork. A join or a terminate hangs on the last step of each
-/// thread that is still open under its fork. A read hangs on the last write of its key, and a write on that one and on the reads since. A first
-/// move that waited hangs on the last step of each branch that it waited for and the first moves of those didn't. Of two steps of one thread
-/// only neighbours are told.
+/// A step depends on the step before it in its thread, and a branch's first step on its fork. A join or a terminate depends on the last step of
+/// each thread that is still open under its fork. A read depends on the last write of its key, and a write on that one and on the reads since. A
+/// first move that waited depends on the latest step of the branches that it waited for, which comes last. Of two steps of one thread only
+/// neighbours have one.
 ///
-/// Takes time in the number of records and of these dependences, logarithms aside, and memory for each thread, each key and each dependence told.
+/// Takes time in the number of records and of these dependences, logarithms aside, and memory for each thread, each key and each dependence.
 pub fn edges(
     alloc: Global,
     records: &StepRecords,
@@ -51,16 +52,17 @@ pub fn edges(
     let mut edges = Vec::new(alloc);
     for at in 0..records.len() {
         near.clear();
-        latest.add(alloc, &records.get(at).fact, at, &mut near)?;
+        let mut awaited = latest.add(alloc, &records.get(at).fact, at, &mut near)?;
         if !is_told(into, at) {
             near.clear();
+            awaited = None;
         }
-        link_all(&mut edges, records, near.as_slice(), at)?;
+        link_step(&mut edges, records, near.as_slice(), awaited, at)?;
     }
     Ok(edges)
 }
 
-/// Whether the dependences of the step at a place are told.
+/// Whether the dependences of the step at a place are asked for.
 fn is_told(into: Option<&Marks>, at: usize) -> bool {
     match into {
         Some(marks) => marks.has(at),
@@ -68,7 +70,23 @@ fn is_told(into: Option<&Marks>, at: usize) -> bool {
     }
 }
 
-/// Adds the dependences of the step at a place on those at earlier ones, which ascend. One that comes twice is told once.
+/// Adds the dependences of the step at a place on those at earlier ones, which ascend, and on the one for which it waited.
+fn link_step(
+    edges: &mut Vec<Edge>,
+    records: &StepRecords,
+    near: &[usize],
+    awaited: Option<usize>,
+    later: usize,
+) -> Result<(), AllocError>
+    requires { later < length records.now.items }
+    ensures { OnOk result (All (IsEdge records.now.items) edges.old.items → All (IsEdge records.now.items) edges.new.items) }
+{
+    link_all(edges, records, near, later)?;
+    link_awaited(edges, records, awaited, later)?;
+    Ok(())
+}
+
+/// Adds the dependences of the step at a place on those at earlier ones, which ascend. One that comes twice is added once.
 fn link_all(
     edges: &mut Vec<Edge>,
     records: &StepRecords,
@@ -86,7 +104,27 @@ fn link_all(
     Ok(())
 }
 
-/// Adds the dependence of a step on an earlier one, where there is one and it is another than that which was told just before.
+/// Adds the dependence of a first move on a step for which it waited, if that is all by which it depends on it: other dependences are among the
+/// nearest ones already, or follow from these.
+fn link_awaited(
+    edges: &mut Vec<Edge>,
+    records: &StepRecords,
+    awaited: Option<usize>,
+    later: usize,
+) -> Result<(), AllocError>
+    requires { later < length records.now.items }
+    ensures { OnOk result (All (IsEdge records.now.items) edges.old.items → All (IsEdge records.now.items) edges.new.items) }
+{
+    let Some(earlier) = awaited else {
+        return Ok(());
+    };
+    match reason_at(records, earlier, later) {
+        Some(Reason::Bound) => link(edges, records, earlier, later, later),
+        _ => Ok(()),
+    }
+}
+
+/// Adds the dependence of a step on an earlier one, if there is one and it isn't the one that was added just before.
 fn link(
     edges: &mut Vec<Edge>,
     records: &StepRecords,

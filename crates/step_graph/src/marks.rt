@@ -1,5 +1,6 @@
 // Marks at places.
 ghost use Rattle.std.specs.Prelude.{◌≡◌, true, false, replicate, slice_get, slice_set, unwrap_or, IfOk};
+ghost use Rattle.step_graph.specs.Opened.{marked};
 
 use std::alloc::{AllocError, Global};
 use std::marker::Model;
@@ -34,6 +35,15 @@ impl Marks {
     {
         if at < self.inner.len() {
             self.inner[at] = true;
+        }
+    }
+
+    /// Marks places, as far as they are there. Takes a step for each.
+    pub(crate) fn mark_all(&mut self, places: &[usize])
+        ensures { self.new ≡ marked self.old places.now }
+    {
+        for place in places {
+            self.mark(*place);
         }
     }
 

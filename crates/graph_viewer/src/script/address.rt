@@ -1,6 +1,10 @@
 //! The address: what is behind `#` says what is chosen, and Back goes back.
 
-pub const ADDRESS: &str = r####"
+pub(crate) fn text() -> &'static str {
+    ADDRESS
+}
+
+const ADDRESS: &str = r####"
 // An address as pairs: `#step=order-2%233&show=plan`. A part without a value, as `#items`, is a name with an empty one.
 function readAddress(hash) {
     const found = new Map();

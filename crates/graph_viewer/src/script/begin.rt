@@ -1,6 +1,10 @@
 //! The beginning: a page begins by itself with the data that it has, and the console's own script begins it with a running book.
 
-pub const BEGIN: &str = r####"
+pub(crate) fn text() -> &'static str {
+    BEGIN
+}
+
+const BEGIN: &str = r####"
 async function begin(source) {
     app.source = source;
     buildFrame();
@@ -14,7 +18,7 @@ async function begin(source) {
 window.rollback = {
     ACCESSES, KINDS, NoAnswer, REASONS, RowTable, Picture, STATUSES,
     addView, addressOf, app, begin, busyButton, button, copyButton, counted, el, executionLink, executionOf, fill, go, itemLink, jsonText,
-    keyText, later, link, notice, put, readJson, route, said, short, showDialog, shown, slots, statusMark, stepAddress, stepLink, steadily, svg, tellNews,
+    keyText, later, link, notice, put, readJson, route, short, showDialog, shown, slots, statusMark, stepAddress, stepLink, steadily, svg, tellNews,
     timeText, valueBlock,
 };
 

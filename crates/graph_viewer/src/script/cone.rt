@@ -1,6 +1,10 @@
 //! What depends on what: the steps on which one depends, or those that depend on it, across executions.
 
-pub const CONE: &str = r####"
+pub(crate) fn text() -> &'static str {
+    CONE
+}
+
+const CONE: &str = r####"
 const MOST_OPEN = 300;
 const COLLAPSED = { w: 196, h: 44, columns: 5 };
 
@@ -32,9 +36,9 @@ class ConeView {
         const { source } = app;
         const answer = await source.ask((this.isPlan ? "plan " : "causes ") + this.step);
         this.answer = answer;
-        this.said = said(answer);
         const own = this.isPlan ? [] : [(await source.ask("show " + this.step)).step];
-        this.rows = [...own, ...(this.isPlan ? answer.steps : answer.causes)].reverse();
+        // copies, since they get outcomes, and the answer is compared with the next one
+        this.rows = [...own, ...(this.isPlan ? answer.steps : answer.causes)].map((row) => ({ ...row })).reverse();
         this.isLarge = this.rows.length > MOST_OPEN;
         this.draw();
         this.findOutcomes();
@@ -129,7 +133,7 @@ class ConeView {
     async look() {
         try {
             const answer = await app.source.ask((this.isPlan ? "plan " : "causes ") + this.step);
-            if (said(answer) === this.said) return;
+            if (saysTheSame(answer, this.answer)) return;
             await this.load();
             this.picture.select(this.boxOf(this.at), false);
         } catch (fault) {
@@ -178,12 +182,13 @@ function distances(rows, step, isPlan) {
     const within = new Set(rows.map((row) => row.step));
     if (isPlan) {
         for (const row of rows) {
-            const above = row.on.filter((on) => within.has(on.step)).map((on) => far.get(on.step));
+            const above = [...row.on.map((on) => on.step), row.after].filter((name) => within.has(name)).map((name) => far.get(name));
             if (row.step !== step) far.set(row.step, 1 + Math.max(0, ...above));
         }
         return far;
     }
     for (const row of [...rows].reverse()) {
+        if (within.has(row.needed_for)) far.set(row.step, Math.max(far.get(row.step) || 0, 1 + far.get(row.needed_for)));
         const own = far.get(row.step) || 0;
         for (const on of row.on) {
             if (within.has(on.step)) far.set(on.step, Math.max(far.get(on.step) || 0, own + 1));
@@ -272,11 +277,28 @@ function coneLines(rows, view) {
     const within = new Set(rows.map((row) => row.step));
     const end = (step) => (view.isOpen(executionOf(step)) ? step : "execution:" + executionOf(step));
     const found = new Map();
-    for (const line of linesOf(rows)) {
+    for (const line of [...linesOf(rows), ...waitLines(rows, within)]) {
         if (!within.has(line.from)) continue;
         const [from, to] = [end(line.from), end(line.to)];
         if (from !== to && !found.has(from + ">" + to)) found.set(from + ">" + to, { ...line, from, to });
     }
     return [...found.values()];
+}
+
+// Lines to first moves from steps for which they waited, and which `on` doesn't name: in a plan the latest one, and of causes those that are
+// needed for nothing else.
+function waitLines(rows, within) {
+    const byName = new Map(rows.map((row) => [row.step, row]));
+    const found = [];
+    const add = (from, row) => {
+        if (!row || !row.waited || row.on.some((on) => on.step === from)) return;
+        const on = { step: from, reason: "bound" };
+        found.push({ from, to: row.step, reason: on.reason, title: () => lineTitle(on, row) });
+    };
+    for (const row of rows) {
+        if (row.after && row.reason === "bound") add(row.after, row);
+        if (row.needed_for && (row.reason === "bound" || !row.reason)) add(row.step, byName.get(row.needed_for));
+    }
+    return found;
 }
 "####;

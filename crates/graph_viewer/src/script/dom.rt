@@ -1,6 +1,10 @@
 //! Elements, and what is copied.
 
-pub const DOM: &str = r####"(function () {
+pub(crate) fn text() -> &'static str {
+    DOM
+}
+
+const DOM: &str = r####"(function () {
 "use strict";
 
 // ---- elements

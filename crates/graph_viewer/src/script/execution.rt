@@ -1,6 +1,10 @@
 //! An execution: what it is, and its steps in lanes.
 
-pub const EXECUTION: &str = r####"
+pub(crate) fn text() -> &'static str {
+    EXECUTION
+}
+
+const EXECUTION: &str = r####"
 const executionName = (params) => (params.has("step") ? executionOf(params.get("step")) : params.get("execution"));
 
 addView("execution", {
@@ -32,8 +36,8 @@ class ExecutionView {
     async load(isAnew) {
         const answer = await app.source.ask("show " + this.name);
         const { threads, ...about } = answer;
-        if (!isAnew && this.said === said(answer)) return;
-        this.said = said(answer);
+        if (!isAnew && saysTheSame(answer, this.answer)) return;
+        this.answer = answer;
         this.steps = new Set(threads.flatMap((thread) => thread.steps.map((row) => row.step)));
         this.drawHead(about, threads);
         const chosen = this.picture.selected;

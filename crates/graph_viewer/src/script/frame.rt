@@ -1,6 +1,10 @@
 //! What is around each view: the head with its search, the panel at the side, notices, and the way from an address to a view.
 
-pub const FRAME: &str = r####"
+pub(crate) fn text() -> &'static str {
+    FRAME
+}
+
+const FRAME: &str = r####"
 // What the console's own script adds: functions that give elements for a place of a view.
 const slots = {};
 const views = new Map();

@@ -1,6 +1,10 @@
 //! Items: the table, and the history of one.
 
-pub const ITEMS: &str = r####"
+pub(crate) fn text() -> &'static str {
+    ITEMS
+}
+
+const ITEMS: &str = r####"
 const ITEM_PAGE = 1000;
 const MOST_ITEMS = 50000;
 
@@ -95,8 +99,8 @@ class ItemView {
 
     async load() {
         const answer = await app.source.ask("item " + this.word);
-        if (this.said === said(answer)) return;
-        this.said = said(answer);
+        if (saysTheSame(answer, this.answer)) return;
+        this.answer = answer;
         const text = jsonText(answer.key);
         const rows = answer.accesses.map((row) => el("tr", { class: "access-" + row.access },
             el("th", { scope: "row" }, stepLink(row.step)),

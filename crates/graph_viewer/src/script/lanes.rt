@@ -1,6 +1,10 @@
 //! Boxes of steps, and the scene of an execution: its threads as lanes, time going down.
 
-pub const LANES: &str = r####"
+pub(crate) fn text() -> &'static str {
+    LANES
+}
+
+const LANES: &str = r####"
 const BOX = { w: 196, h: 62, gapX: 28, gapY: 26, edge: 16 };
 
 function stepBox(row, more) {
@@ -49,7 +53,8 @@ function lanesScene(threads) {
     for (const row of rows) {
         const above = row.on.map((on) => level.get(on.step)).filter((found) => found !== undefined);
         const own = lastOf.has(row.thread) ? lastOf.get(row.thread) + 1 : 0;
-        lowest = Math.max(lowest, own, ...above.map((found) => found + 1));
+        const waited = row.waited ? lowest + 1 : 0; // of the branches for which it waited `on` names one
+        lowest = Math.max(lowest, own, waited, ...above.map((found) => found + 1));
         level.set(row.step, lowest);
         lastOf.set(row.thread, lowest);
     }

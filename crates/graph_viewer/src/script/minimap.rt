@@ -1,6 +1,10 @@
 //! A small map of a picture, with a frame around what is in sight. A press or a drag moves there.
 
-pub const MINIMAP: &str = r####"
+pub(crate) fn text() -> &'static str {
+    MINIMAP
+}
+
+const MINIMAP: &str = r####"
 const MAP_WIDTH = 160;
 const MAP_HEIGHT = 110;
 

@@ -1,6 +1,10 @@
 //! All executions: a row for each, what moved last at first.
 
-pub const OVERVIEW: &str = r####"
+pub(crate) fn text() -> &'static str {
+    OVERVIEW
+}
+
+const OVERVIEW: &str = r####"
 addView("overview", {
     nav: "Executions",
     title: () => "Executions",

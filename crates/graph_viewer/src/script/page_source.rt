@@ -1,7 +1,43 @@
 //! Answers out of the page's own data: the book as it was when the page was written.
 
-pub const PAGE_SOURCE: &str = r####"
+pub(crate) fn text() -> &'static str {
+    PAGE_SOURCE
+}
+
+const PAGE_SOURCE: &str = r####"
 class NoAnswer extends Error {}
+
+// The fork that made a thread, and which of its branches the thread is; nothing of an execution's own.
+function branchOf(thread) {
+    const dot = thread.lastIndexOf(".");
+    return thread.includes("/") ? { fork: thread.slice(0, dot), index: Number(thread.slice(dot + 1)) } : null;
+}
+
+// By fork, each branch with the place of its last step, the first branch first.
+function endsByFork(rows) {
+    const forks = new Map();
+    rows.forEach((row, place) => {
+        const branch = branchOf(row.thread);
+        if (!branch) return;
+        if (!forks.has(branch.fork)) forks.set(branch.fork, new Map());
+        forks.get(branch.fork).set(branch.index, place);
+    });
+    for (const [fork, ends] of forks) forks.set(fork, [...ends].sort(([one], [other]) => one - other));
+    return forks;
+}
+
+// By fork, and by the last branch for which they waited, the places of first moves that waited.
+function waitedAt(rows) {
+    const forks = new Map();
+    rows.forEach((row, place) => {
+        if (!row.waited) return;
+        const { fork, index } = branchOf(row.waited);
+        if (!forks.has(fork)) forks.set(fork, new Map());
+        const waited = forks.get(fork);
+        waited.set(index, [...(waited.get(index) || []), place]);
+    });
+    return forks;
+}
 
 // The book of a page: its answers have the form of those that a running book gives. Nothing can be given to it.
 class PageBook {
@@ -13,6 +49,7 @@ class PageBook {
         this.machines = data.machines;
         this.rows = data.steps.steps;
         this.places = new Map(this.rows.map((row, place) => [row.step, place]));
+        this.before = null;
         this.later = null;
         this.byKey = null;
         this.listeners = [];
@@ -50,47 +87,72 @@ class PageBook {
         return found;
     }
 
-    // Which later steps depend on each one in a picture.
-    dependents() {
-        if (!this.later) {
-            this.later = this.rows.map(() => []);
-            this.rows.forEach((row, place) => {
-                for (const { step } of row.on) {
-                    const earlier = this.places.get(step);
-                    if (earlier !== undefined) this.later[earlier].push(place);
-                }
-            });
-        }
-        return this.later;
+    // The steps on which each one depends, and those that depend on it. Numbers from the count of steps on are barriers: each stands for the
+    // branches of a fork up to one, for which first moves waited.
+    link() {
+        if (this.later) return;
+        this.before = this.rows.map((row) => row.on.map(({ step }) => this.places.get(step)).filter((found) => found !== undefined));
+        const ends = endsByFork(this.rows);
+        for (const [fork, waited] of waitedAt(this.rows)) this.linkBarriers(waited, ends.get(fork) || []);
+        this.later = this.before.map(() => []);
+        this.before.forEach((places, node) => {
+            for (const earlier of places) this.later[earlier].push(node);
+        });
     }
 
+    // The barriers of a fork, each behind the one before: first moves by the last branch for which they waited, and branches with their last steps.
+    linkBarriers(waited, ends) {
+        let barrier = null;
+        let next = 0;
+        for (const [branch, firsts] of [...waited].sort(([one], [other]) => one - other)) {
+            const inputs = barrier === null ? [] : [barrier];
+            for (; next < ends.length && ends[next][0] <= branch; next += 1) inputs.push(ends[next][1]);
+            barrier = this.before.length;
+            this.before.push(inputs);
+            for (const first of firsts) this.before[first].push(barrier);
+        }
+    }
+
+    // The steps that are reached, the latest first, each with the one from which it was reached.
     reached(first, next) {
-        const found = new Set([first]);
+        const found = new Map([[first, null]]);
         const left = [first];
         while (left.length) {
-            for (const place of next(left.pop())) {
+            const node = left.pop();
+            const from = this.isStep(node) ? node : found.get(node);
+            for (const place of next[node]) {
                 if (!found.has(place)) {
-                    found.add(place);
+                    found.set(place, from);
                     left.push(place);
                 }
             }
         }
-        return [...found].sort((one, other) => other - one);
+        return [...found].filter(([node]) => this.isStep(node)).sort(([one], [other]) => other - one);
     }
 
-    earlier(place) {
-        return this.rows[place].on.map(({ step }) => this.places.get(step)).filter((found) => found !== undefined);
+    isStep(node) {
+        return node < this.rows.length;
+    }
+
+    // Of each step and barrier, the latest of some steps on which it depends directly; -1 if it depends on none.
+    latestOf(members) {
+        const of = (node) => this.isStep(node) ? (members.has(node) ? node : -1) : latest[node];
+        const latest = [];
+        for (let node = this.rows.length; node < this.before.length; node += 1) latest[node] = Math.max(-1, ...this.before[node].map(of));
+        for (const node of members) latest[node] = Math.max(-1, ...this.before[node].map(of));
+        return latest;
     }
 
     plan(step) {
-        const later = this.dependents();
-        const places = this.reached(this.place(step), (place) => later[place]);
-        const members = new Set(places);
+        this.link();
+        const places = this.reached(this.place(step), this.later).map(([place]) => place);
+        const latest = this.latestOf(new Set(places));
         const steps = places.map((place) => {
-            const within = this.earlier(place).filter((found) => members.has(found));
-            const after = within.length ? this.rows[Math.max(...within)].step : null;
-            const on = this.rows[place].on.find((found) => found.step === after);
-            return { ...this.rows[place], after, reason: on ? on.reason : null };
+            const row = this.rows[place];
+            if (latest[place] < 0) return { ...row, after: null, reason: null };
+            const after = this.rows[latest[place]].step;
+            const on = row.on.find((found) => found.step === after);
+            return { ...row, after, reason: on ? on.reason : "bound" };
         });
         const executions = [...new Set(steps.map((row) => executionOf(row.step)))].sort();
         return { count: steps.length, executions, items: this.changed(places), step, steps };
@@ -112,15 +174,19 @@ class PageBook {
     }
 
     causes(step) {
-        const [first, ...places] = this.reached(this.place(step), (place) => this.earlier(place));
-        return { causes: places.map((place) => this.rows[place]), step: this.rows[first].step };
+        this.link();
+        const [[first], ...causes] = this.reached(this.place(step), this.before);
+        return { causes: causes.map(([place, from]) => ({ ...this.rows[place], needed_for: this.rows[from].step })), step: this.rows[first].step };
     }
 
     shownStep(step) {
         const place = this.place(step);
-        const dependents = this.dependents()[place].map((later) => {
-            const row = this.rows[later];
-            return { step: row.step, reason: row.on.find((on) => on.step === step).reason };
+        this.link();
+        const behind = (node) => (this.isStep(node) ? [node] : this.later[node].filter((later) => this.isStep(later)));
+        const later = new Set(this.later[place].flatMap(behind));
+        const dependents = [...later].sort((one, other) => one - other).map((found) => {
+            const on = this.rows[found].on.find((one) => one.step === step);
+            return { step: this.rows[found].step, reason: on ? on.reason : "bound" };
         });
         return { dependents, step: this.rows[place] };
     }

@@ -1,6 +1,10 @@
 //! The panel of a step, at the side.
 
-pub const PANEL: &str = r####"
+pub(crate) fn text() -> &'static str {
+    PANEL
+}
+
+const PANEL: &str = r####"
 async function showPanel(step) {
     const isNew = app.panelStep !== step;
     app.panelStep = step;
@@ -14,8 +18,8 @@ async function showPanel(step) {
         return;
     }
     if (app.panelStep !== step) return;
-    if (!isNew && !app.panel.hidden && app.panelSaid === said(answer)) return;
-    app.panelSaid = said(answer);
+    if (!isNew && !app.panel.hidden && saysTheSame(answer, app.panelAnswer)) return;
+    app.panelAnswer = answer;
     app.panel.classList.remove("stale");
     const top = isNew ? 0 : app.panel.scrollTop;
     const open = [...app.panel.querySelectorAll("details[open]")].map((made) => made.dataset.name);
@@ -66,6 +70,7 @@ function panelOf(answer, open) {
             link(stepAddress(row.step), "In " + execution, { class: "pill quiet" })),
         el("div", { class: "acts" }, slot("step", row, answer)),
         related("What it depends on", row.on, "on no other step"),
+        row.waited ? el("p", null, "It waited for all branches up to ", el("bdi", null, row.waited), ".") : null,
         related("What depends on it", answer.dependents, "no step"),
         changedPart("item", "Item", row.items, row.items && row.items.before, row.items && row.items.after, open),
         framePart(row, open),

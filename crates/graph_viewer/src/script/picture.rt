@@ -1,6 +1,10 @@
 //! A picture of boxes and lines, of which those are drawn that are in sight. It zooms, fits, and moves along its lines by keys.
 
-pub const PICTURE: &str = r####"
+pub(crate) fn text() -> &'static str {
+    PICTURE
+}
+
+const PICTURE: &str = r####"
 const BUCKET = 512;
 const AROUND = 250;
 const MOST_DRAWN = 1200;

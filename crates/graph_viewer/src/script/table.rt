@@ -1,6 +1,10 @@
 //! A table of many rows, of which those are drawn that are in sight.
 
-pub const TABLE: &str = r####"
+pub(crate) fn text() -> &'static str {
+    TABLE
+}
+
+const TABLE: &str = r####"
 const ROW_HEIGHT = 32;
 const ROWS_AROUND = 12;
 

@@ -1,6 +1,10 @@
 //! Values as texts: JSON with whole numbers of any size, keys, items, and characters that would hide or turn what is shown.
 
-pub const VALUES: &str = r####"
+pub(crate) fn text() -> &'static str {
+    VALUES
+}
+
+const VALUES: &str = r####"
 // ---- JSON
 
 // Reads JSON. A whole number that a browser's number can't hold becomes a BigInt, where the browser lets its digits be seen.
@@ -31,9 +35,17 @@ function written(value, indent, before) {
     return open + "\n" + inner + parts.join(",\n" + inner) + "\n" + before + close;
 }
 
-// What an answer says, but for the number of lines that it speaks of. If it is as before, the page stays as it is.
-function said(answer) {
-    return jsonText({ ...answer, entries: null });
+// Whether an answer says what an earlier one said, but for the number of lines that they speak of. If so, the page stays as it is.
+function saysTheSame(answer, earlier) {
+    return Boolean(earlier) && isEqual({ ...answer, entries: null }, { ...earlier, entries: null });
+}
+
+function isEqual(one, other) {
+    if (one === other) return true;
+    if (one === null || other === null || typeof one !== "object" || typeof other !== "object") return false;
+    const names = Object.keys(one);
+    return Array.isArray(one) === Array.isArray(other) && names.length === Object.keys(other).length
+        && names.every((name) => Object.hasOwn(other, name) && isEqual(one[name], other[name]));
 }
 
 // ---- texts

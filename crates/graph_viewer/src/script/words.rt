@@ -1,6 +1,10 @@
 //! What is said of steps, statuses and reasons.
 
-pub const WORDS: &str = r####"
+pub(crate) fn text() -> &'static str {
+    WORDS
+}
+
+const WORDS: &str = r####"
 const KINDS = {
     start: "start",
     plain: "state",

@@ -1,7 +1,5 @@
 // What is wrong, as a value.
-use crate::asked::Asked;
-use crate::steps::item_value;
-use crate::values::{Object, step_value, text_value, whole};
+use answer_parts::{Asked, Object, item_value, step_value, text_value, whole};
 use attr_values::{ItemFault, KeyType, write_item};
 use explain::{Case, Detail, Flaw, Why};
 use item_store::ConditionKind;

@@ -1,60 +1,30 @@
 // Steps: what each was, what it was given and what it handed on.
 use crate::asked::Asked;
 use crate::near::near_of;
-use crate::threads::{frame_of, machine_of, type_of, used_between};
+use crate::threads::{machine_of, type_of, used_between};
 use crate::values::{Object, or_null, text_value};
 use asl_states::{Resource, Transition};
 use asl_tree::State;
 use attr_values::{Item, Key, KeyPart, write_item};
 use item_store::AccessMode;
-use json_tree::{Json, JsonFields, JsonList, Text};
+use json_tree::{Json, JsonFields, Text};
+use question_index::frame_of;
 use rollback_book::turns::{Frame, Phase, located};
-use rollback_book::{Access, Kind, Saved, StepRecord, StepRecords};
+use rollback_book::{Access, Fact, Saved, StepRecord};
 use std::alloc::{AllocError, Global};
-use step_graph::{Reason, closed_threads, thread_above};
+use step_graph::{awaited_branch, branch_of, kind_word, reason_word, record_at, thread_above};
 use step_names::{StepName, ThreadName};
 
-/// The record at a place, if there is one.
-pub(crate) fn record_at(records: &StepRecords, place: usize) -> Option<&StepRecord> {
-    if place < records.len() {
-        Some(records.get(place))
-    } else {
-        None
-    }
-}
-
-/// The record of a step that remains.
-pub(crate) fn record_of<'a>(asked: &Asked<'a>, step: &StepName) -> Option<&'a StepRecord> {
+/// The record of a step that remains; none of another step.
+pub fn record_of<'a>(asked: &Asked<'a>, step: &StepName) -> Option<&'a StepRecord> {
     let records = asked.book.history();
     record_at(records, records.find(step)?)
-}
-
-pub(crate) fn kind_word(kind: Kind) -> &'static str {
-    match kind {
-        Kind::Start => "start",
-        Kind::Plain => "plain",
-        Kind::Call => "call",
-        Kind::Fork => "fork",
-        Kind::Join => "join",
-        Kind::Terminate => "terminate",
-    }
-}
-
-pub(crate) fn reason_word(reason: Reason) -> &'static str {
-    match reason {
-        Reason::Thread => "thread",
-        Reason::Start => "start",
-        Reason::Fork => "fork",
-        Reason::Join => "join",
-        Reason::Item => "item",
-        Reason::Bound => "bound",
-    }
 }
 
 // ---- frames
 
 /// The frame that a step's thread had before it; none before a start.
-pub(crate) fn frame_before(kept: &StepRecord) -> Option<&Frame> {
+pub fn frame_before(kept: &StepRecord) -> Option<&Frame> {
     match &kept.saved {
         Saved::Started => None,
         Saved::Framed(frame)
@@ -64,8 +34,9 @@ pub(crate) fn frame_before(kept: &StepRecord) -> Option<&Frame> {
     }
 }
 
-/// The frame that a step's thread had after it: what its next step began with, or what it has now, or had when its branch went.
-pub(crate) fn frame_after<'a>(
+/// The frame that a step's thread had after it: what its next step began with, or what it has now, or had when its branch went. Takes
+/// memory for the name, and what [`closed_frame`] takes.
+pub fn frame_after<'a>(
     asked: &Asked<'a>,
     step: &StepName,
 ) -> Result<Option<&'a Frame>, AllocError> {
@@ -82,8 +53,8 @@ pub(crate) fn frame_after<'a>(
     closed_frame(asked, &step.thread)
 }
 
-/// The frame that a branch had when a join or a terminate took it away.
-pub(crate) fn closed_frame<'a>(
+/// The frame that a branch had when a join or a terminate took it away. Takes a name for each fork above it, and time in their number.
+pub fn closed_frame<'a>(
     asked: &Asked<'a>,
     thread: &ThreadName,
 ) -> Result<Option<&'a Frame>, AllocError> {
@@ -99,17 +70,42 @@ pub(crate) fn closed_frame<'a>(
         let Some(kept) = record_of(asked, &closing) else {
             continue;
         };
-        for (name, frame) in closed_threads(asked.alloc, kept)? {
-            if name == *thread {
-                return Ok(Some(frame));
-            }
+        if let Some(frame) = branch_closed_by(kept, thread.path(), depth) {
+            return Ok(Some(frame));
         }
     }
     Ok(None)
 }
 
-/// A frame: its state, what it was given, and how it ended.
-pub(crate) fn frame_value(alloc: Global, frame: Option<&Frame>) -> Result<Json, AllocError> {
+/// The frame of the branch that a path leads to from a thread of so many branches, among those that the thread's step took away.
+fn branch_closed_by<'a>(
+    kept: &'a StepRecord,
+    path: &[(u32, u32)],
+    depth: usize,
+) -> Option<&'a Frame> {
+    let Saved::Closed { frame: _, kids } = &kept.saved else {
+        return None;
+    };
+    let mut branches = kids.as_slice();
+    // the fork is the step before
+    let mut fork = kept.fact.name.no.saturating_sub(1);
+    let mut found = None;
+    for (number, index) in path.iter().skip(depth) {
+        if *number != fork {
+            return None;
+        }
+        let Some(branch) = branches.get(*index as usize) else {
+            return None;
+        };
+        fork = branch.frame().count;
+        branches = branch.branches();
+        found = Some(branch.frame());
+    }
+    found
+}
+
+/// A frame: its state, what it was given, and how it ended; `null` of none. Takes copies of its JSON.
+pub fn frame_value(alloc: Global, frame: Option<&Frame>) -> Result<Json, AllocError> {
     let Some(frame) = frame else {
         return Ok(Json::Null);
     };
@@ -138,8 +134,8 @@ pub(crate) fn frame_value(alloc: Global, frame: Option<&Frame>) -> Result<Json, 
 
 // ---- keys and items
 
-/// A key: an object of its attributes.
-pub(crate) fn key_value(asked: &Asked<'_>, key: &Key) -> Result<Json, AllocError> {
+/// A key: an object of its attributes, by the names that the table's schema has.
+pub fn key_value(asked: &Asked<'_>, key: &Key) -> Result<Json, AllocError> {
     let (begin, _) = asked.book.entries();
     let mut fields = JsonFields::new(asked.alloc);
     put_part(
@@ -174,8 +170,8 @@ fn put_part(
     Ok(())
 }
 
-/// An item, or `null`.
-pub(crate) fn item_value(alloc: Global, item: Option<&Item>) -> Result<Json, AllocError> {
+/// An item, or `null`. Takes time and memory in its size.
+pub fn item_value(alloc: Global, item: Option<&Item>) -> Result<Json, AllocError> {
     match item {
         Some(item) => write_item(alloc, item),
         None => Ok(Json::Null),
@@ -184,27 +180,29 @@ pub(crate) fn item_value(alloc: Global, item: Option<&Item>) -> Result<Json, All
 
 /// The item of a key before and after a step that accessed it, as its accesses say.
 #[derive(Drop)]
-pub(crate) struct Around<'a> {
-    pub(crate) before: Option<&'a Item>,
-    pub(crate) after: Option<&'a Item>,
+pub struct Around<'a> {
+    pub before: Option<&'a Item>,
+    pub after: Option<&'a Item>,
 }
 
-/// The item before and after the access at a place. Takes time in the number of the key's accesses.
-pub(crate) fn items_at<'a>(
-    asked: &Asked<'a>,
-    place: usize,
-    accesses: &[usize],
-) -> Option<Around<'a>> {
+/// The item before and after the access at a place, of all accesses of its key in order; nothing if there is no such place. Takes time in their
+/// number.
+pub fn items_at<'a>(asked: &Asked<'a>, place: usize, accesses: &[usize]) -> Option<Around<'a>> {
     let kept = record_at(asked.book.history(), place)?;
     let after = replaced_next(asked, place, accesses);
-    let before = match (&kept.fact.access, &kept.saved) {
+    let before = before_access(kept, after);
+    Some(Around { before, after })
+}
+
+/// The item before an access, if it is this one after it: what a write replaced, and the same for a read.
+pub fn before_access<'a>(kept: &'a StepRecord, after: Option<&'a Item>) -> Option<&'a Item> {
+    match (&kept.fact.access, &kept.saved) {
         (Some(access), Saved::Called { old, .. }) => match access.mode {
             AccessMode::Write => old.as_ref(),
             AccessMode::Read => after,
         },
         _ => after,
-    };
-    Some(Around { before, after })
+    }
 }
 
 /// What the next write of the key replaced; if there is none, the item now.
@@ -229,8 +227,8 @@ fn replaced_next<'a>(asked: &Asked<'a>, place: usize, accesses: &[usize]) -> Opt
     }
 }
 
-/// The item now of the key that a step accessed.
-pub(crate) fn item_now<'a>(asked: &Asked<'a>, kept: &StepRecord) -> Option<&'a Item> {
+/// The item now of the key that a step accessed; none of a step that is no call, too. Takes no search.
+pub fn item_now<'a>(asked: &Asked<'a>, kept: &StepRecord) -> Option<&'a Item> {
     match &kept.saved {
         Saved::Called { slot, .. } => asked.book.item_in(*slot),
         _ => None,
@@ -238,7 +236,7 @@ pub(crate) fn item_now<'a>(asked: &Asked<'a>, kept: &StepRecord) -> Option<&'a I
 }
 
 /// How a step accessed a key: it read it, wrote it, or found that its condition doesn't hold.
-pub(crate) fn access_word(asked: &Asked<'_>, kept: &StepRecord, access: &Access) -> &'static str {
+pub fn access_word(asked: &Asked<'_>, kept: &StepRecord, access: &Access) -> &'static str {
     match access.mode {
         AccessMode::Write => "write",
         AccessMode::Read => if is_get(asked, kept) {
@@ -265,8 +263,9 @@ fn is_get(asked: &Asked<'_>, kept: &StepRecord) -> bool {
 
 // ---- a step's row
 
-/// A step's name, thread, kind, state with its type, key with the kind of its access, and the nearest steps on which it depends.
-pub(crate) fn put_step_row(
+/// A step's name, thread, kind, state with its type, key with the kind of its access, for which branch it waited, and the nearest steps on which
+/// it depends. Takes what [`near_of`] takes.
+pub fn put_step_row(
     asked: &Asked<'_>,
     row: &mut Object,
     kept: &StepRecord,
@@ -300,7 +299,25 @@ pub(crate) fn put_step_row(
             row.put("key", Json::Null)?;
         }
     }
+    put_waited(alloc, row, kept)?;
     put_on(asked, row, place)
+}
+
+/// Of a first move that waited under its Map's bound, the last branch for which it waited. It waited for those before it, too.
+fn put_waited(alloc: Global, row: &mut Object, kept: &StepRecord) -> Result<(), AllocError> {
+    match waited_branch(alloc, &kept.fact)? {
+        Some(thread) => row.put_thread("waited", &thread),
+        None => Ok(()),
+    }
+}
+
+fn waited_branch(alloc: Global, fact: &Fact) -> Result<Option<ThreadName>, AllocError> {
+    let Some((fork, branch)) = awaited_branch(fact) else {
+        return Ok(None);
+    };
+    let depth = fact.name.thread.path().len().saturating_sub(1);
+    let over = thread_above(alloc, &fact.name.thread, depth)?;
+    branch_of(alloc, &over, fork, branch)
 }
 
 /// The steps on which the one at a place depends in a picture, each with its reason.
@@ -318,8 +335,9 @@ fn put_on(asked: &Asked<'_>, row: &mut Object, place: usize) -> Result<(), Alloc
     row.put_list("on", on)
 }
 
-/// What a step went on to: a state, the same one again, the end, or branches.
-pub(crate) fn outcome_of(
+/// What a step went on to, by its thread's frames before and after it: a state, the same one again, the end, or branches; `null` if there is
+/// none after it.
+pub fn outcome_of(
     asked: &Asked<'_>,
     before: Option<&Frame>,
     after: Option<&Frame>,
@@ -374,16 +392,4 @@ fn is_caught(asked: &Asked<'_>, before: &Frame, after: &Frame) -> bool {
         Transition::Next(name) => name.as_str() != after.state.as_str(),
         Transition::End => true,
     }
-}
-
-/// The names of some steps.
-pub(crate) fn step_names(asked: &Asked<'_>, places: &[usize]) -> Result<Json, AllocError> {
-    let records = asked.book.history();
-    let mut names = Vec::new(asked.alloc);
-    for place in places {
-        if let Some(kept) = record_at(records, *place) {
-            names.push(crate::values::step_value(asked.alloc, &kept.fact.name)?)?;
-        }
-    }
-    Ok(Json::List(JsonList::from_vec(names)?))
 }

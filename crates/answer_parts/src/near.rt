@@ -1,19 +1,22 @@
 // The nearest steps on which one depends: of each thread and each item the last.
 use crate::asked::Asked;
-use crate::steps::{closed_frame, record_at};
-use crate::threads::frame_of;
+use crate::steps::closed_frame;
 use item_store::AccessMode;
+use question_index::frame_of;
 use rollback_book::{Fact, Kind, StepRecord};
 use std::alloc::AllocError;
 use std::collections::BTreeMap;
-use step_graph::{Reason, branch_of, closed_threads, reason_at, thread_above};
+use step_graph::{
+    Reason, awaited_branch, branch_of, closed_threads, reason_at, record_at, thread_above,
+};
 use step_names::{StepName, ThreadName};
 
 /// The places of the nearest steps on which the one at a place depends directly, ascending, each with the reason: the step before in its
-/// thread, or else the fork or the start above it; of a join or a terminate the last step of each branch; of a first move that waited
-/// those of the branches that it waited for and earlier first moves didn't; and of a call the last write of its key, of a write the
-/// reads since, too. Takes time in their number, and in that of the key's accesses.
-pub(crate) fn near_of(asked: &Asked<'_>, place: usize) -> Result<Vec<(usize, Reason)>, AllocError> {
+/// thread, or else the fork or the start above it; of a join or a terminate the last step of each branch; of a first move that waited that of
+/// the last branch that it waited for, so that it depends on the branches before, too; and of a call the last write of its key, of a write the
+/// reads since, too. Takes time in their number, and in that of the key's accesses; of a first move, if the branch for which it waited is
+/// settled, also in its Map's bound.
+pub fn near_of(asked: &Asked<'_>, place: usize) -> Result<Vec<(usize, Reason)>, AllocError> {
     let mut near = BTreeMap::new(asked.alloc);
     let records = asked.book.history();
     if let Some(kept) = record_at(records, place) {
@@ -21,9 +24,7 @@ pub(crate) fn near_of(asked: &Asked<'_>, place: usize) -> Result<Vec<(usize, Rea
         if matches!(kept.fact.kind, Kind::Join | Kind::Terminate) {
             add_closed(asked, &mut near, kept)?;
         }
-        if kept.fact.bound > 0 {
-            add_awaited(asked, &mut near, &kept.fact)?;
-        }
+        add_awaited(asked, &mut near, &kept.fact, place)?;
         add_touched(asked, &mut near, &kept.fact, place)?;
     }
     let mut found = Vec::new(asked.alloc);
@@ -84,41 +85,54 @@ fn add_closed(asked: &Asked<'_>, near: &mut Near, kept: &StepRecord) -> Result<(
     Ok(())
 }
 
-/// The last steps of the branches for which a first move waited. Those before them were awaited by the first move of the last of these.
-fn add_awaited(asked: &Asked<'_>, near: &mut Near, fact: &Fact) -> Result<(), AllocError> {
-    let Some(((fork, index), above)) = fact.name.thread.path().split_last() else {
+/// The last step of the last branch for which a first move waited; if it is settled, that of the one before that, and so on. A branch further
+/// back than the bound isn't looked at: the last one waited for it. Nor is a step added that is needed for its item, too: the nearest of those are
+/// added as such.
+fn add_awaited(
+    asked: &Asked<'_>,
+    near: &mut Near,
+    fact: &Fact,
+    place: usize,
+) -> Result<(), AllocError> {
+    let Some((fork, last)) = awaited_branch(fact) else {
         return Ok(());
     };
-    let Some(last) = index.checked_sub(fact.bound) else {
-        return Ok(());
-    };
-    let over = thread_above(asked.alloc, &fact.name.thread, above.len())?;
+    let depth = fact.name.thread.path().len().saturating_sub(1);
+    let over = thread_above(asked.alloc, &fact.name.thread, depth)?;
     for back in 0..fact.bound {
         let Some(branch) = last.checked_sub(back) else {
             break;
         };
-        let Some(name) = branch_of(asked.alloc, &over, *fork, branch)? else {
+        let Some(name) = branch_of(asked.alloc, &over, fork, branch)? else {
             break;
         };
-        add_last(asked, near, name)?;
+        if let Some(last) = last_of(asked, name)? {
+            if matches!(
+                reason_at(asked.book.history(), last, place),
+                Some(Reason::Bound)
+            ) {
+                near.insert(last, ())?;
+            }
+            break;
+        }
     }
     Ok(())
 }
 
-/// The last step of a branch that has ended.
-fn add_last(asked: &Asked<'_>, near: &mut Near, thread: ThreadName) -> Result<(), AllocError> {
+/// The place of the last step of a branch that has ended, if it remains.
+fn last_of(asked: &Asked<'_>, thread: ThreadName) -> Result<Option<usize>, AllocError> {
     let frame = match frame_of(asked.book, &thread) {
         Some(frame) => Some(frame),
         None => closed_frame(asked, &thread)?,
     };
-    if let Some(frame) = frame {
-        let last = StepName {
-            thread,
-            no: frame.count,
-        };
-        add_step(asked, near, &last)?;
-    }
-    Ok(())
+    let Some(frame) = frame else {
+        return Ok(None);
+    };
+    let last = StepName {
+        thread,
+        no: frame.count,
+    };
+    Ok(asked.book.history().find(&last))
 }
 
 /// The last write of a call's key before it; of a write the reads since, too.

@@ -1,25 +1,22 @@
 // Why a thread failed, or why its next move would fail.
-use crate::asked::Asked;
 use crate::items::current_item;
 use crate::reasons::why_value;
-use crate::steps::{closed_frame, items_at, record_of};
-use crate::threads::{Move, failed_branch, frame_of, move_of, shared_machine_of};
+use answer_parts::books::turns::{Frame, Outcome, Phase, Prepared};
+use answer_parts::books::{Saved, StepRecord};
+use answer_parts::graph::{branch_of, closed_threads};
+use answer_parts::{
+    Asked, Move, closed_frame, frame_of, items_at, move_of, record_of, shared_machine_of,
+};
 use attr_values::Item;
 use explain::{Why, explain_branch, explain_join, explain_turn, ready_turn};
 use item_store::ItemStore;
 use json_tree::{Json, JsonList};
-use rollback_book::turns::{Frame, Outcome, Phase, Prepared};
-use rollback_book::{Saved, StepRecord};
 use std::alloc::AllocError;
-use step_graph::{branch_of, closed_threads};
 use step_names::{StepName, ThreadName};
 
 /// Why a thread failed, or why its next move would; `null` if neither. Nothing if there is no such thread, and none that a join or a
-/// terminate took away.
-pub(crate) fn explained(
-    asked: &Asked<'_>,
-    thread: &ThreadName,
-) -> Result<Option<Json>, AllocError> {
+/// terminate took away. Takes the time of one turn, of a join that of its branches, and copies of what is told.
+pub fn explained(asked: &Asked<'_>, thread: &ThreadName) -> Result<Option<Json>, AllocError> {
     let frame = match frame_of(asked.book, thread) {
         Some(frame) => frame,
         None => match closed_frame(asked, thread)? {
@@ -190,7 +187,7 @@ fn explain_prepared(
 }
 
 /// The book's table without its items.
-fn table_of(asked: &Asked<'_>) -> Result<ItemStore, AllocError> {
+pub(crate) fn table_of(asked: &Asked<'_>) -> Result<ItemStore, AllocError> {
     let (begin, _) = asked.book.entries();
     Ok(ItemStore::new(asked.alloc, begin.table.copy()?, begin.schema.copy()?))
 }

@@ -1,21 +1,19 @@
 // On which steps one depends, and what a rollback takes back.
-use crate::asked::Asked;
-use crate::steps::{
-    frame_before, item_value, key_value, kind_word, put_step_row, reason_word, record_at,
+use answer_parts::books::{Kind, Saved, StepRecords};
+use answer_parts::graph::{
+    Cause, causes, plan_reasons, reason_at, reason_word, record_at, take_reason, why,
 };
-use crate::values::{Object, thread_value};
+use answer_parts::{Asked, Object, item_now, item_value, key_value, put_step_row, thread_value};
 use attr_values::{Item, Key};
 use item_store::AccessMode;
 use json_tree::{Json, JsonList};
-use rollback_book::{Kind, Saved, StepRecords};
 use std::alloc::{AllocError, Global};
-use std::collections::{BTreeMap, VecDeque};
-use step_graph::{Cause, causes, reason_at, why};
+use std::collections::BTreeMap;
 use step_names::{StepName, ThreadName};
 
 /// The steps on which the one at a place depends, the latest first; of these alone those that wrote an item, and the starts, if so
-/// asked.
-pub(crate) fn causes_of(
+/// asked. Takes the time of [`causes`], and for each row that of [`put_step_row`].
+pub fn causes_of(
     asked: &Asked<'_>,
     step: &StepName,
     at: usize,
@@ -61,16 +59,20 @@ fn cause_row(asked: &Asked<'_>, records: &StepRecords, cause: Cause) -> Result<J
 
 // ---- plans
 
-/// What a rollback of the step at a place takes back, with a head: how many steps of which executions, and the items that change.
-pub(crate) fn plan_of(asked: &Asked<'_>, step: &StepName, at: usize) -> Result<Json, AllocError> {
+/// What a rollback of the step at a place takes back, with a head: how many steps of which executions, and the items that change. Takes the
+/// time of the plan and of [`plan_reasons`], and for each row that of [`put_step_row`].
+pub fn plan_of(asked: &Asked<'_>, step: &StepName, at: usize) -> Result<Json, AllocError> {
     let records = asked.book.history();
     let mut rows = Vec::new(asked.alloc);
     let mut executions = BTreeMap::new(asked.alloc);
     let mut items = BTreeMap::new(asked.alloc);
     if at < records.len() {
         let plan = records.plan(asked.alloc, at)?;
+        // the latest comes last here, and first in the plan
+        let mut reasons = plan_reasons(asked.alloc, records, plan.places())?;
         for place in plan.places() {
-            rows.push(planned_row(asked, records, *place, plan.places())?)?;
+            let reason = take_reason(&mut reasons, *place);
+            rows.push(planned_row(asked, records, *place, reason)?)?;
             note(asked.alloc, records, *place, &mut executions, &mut items)?;
         }
     }
@@ -88,29 +90,19 @@ fn planned_row(
     asked: &Asked<'_>,
     records: &StepRecords,
     place: usize,
-    plan: &[usize],
+    reason: Option<Cause>,
 ) -> Result<Json, AllocError> {
     let mut row = Object::new(asked.alloc);
     let Some(kept) = record_at(records, place) else {
         return Ok(row.done());
     };
     put_step_row(asked, &mut row, kept, place)?;
-    let mut found = None;
-    // (the plan has the latest first)
-    for earlier in plan {
-        if *earlier < place {
-            if let Some(reason) = reason_at(records, *earlier, place) {
-                found = Some((*earlier, reason));
-                break;
-            }
-        }
-    }
-    match found {
-        Some((earlier, reason)) => {
-            if let Some(other) = record_at(records, earlier) {
+    match reason {
+        Some(cause) => {
+            if let Some(other) = record_at(records, cause.place) {
                 row.put_step("after", &other.fact.name)?;
             }
-            row.put_text("reason", reason_word(reason))?;
+            row.put_text("reason", reason_word(cause.reason))?;
         }
         None => {
             row.put("after", Json::Null)?;
@@ -133,7 +125,7 @@ fn note<'a>(
     let Some(kept) = record_at(records, place) else {
         return Ok(());
     };
-    let exec = step_graph::thread_above(alloc, &kept.fact.name.thread, 0)?;
+    let exec = answer_parts::graph::thread_above(alloc, &kept.fact.name.thread, 0)?;
     executions.insert(exec, ())?;
     if let (Some(access), Saved::Called { old, .. }) = (&kept.fact.access, &kept.saved) {
         if matches!(access.mode, AccessMode::Write) {
@@ -157,7 +149,7 @@ fn changes_in(asked: &Asked<'_>, items: &Changed<'_>) -> Result<Json, AllocError
     let mut changes = Vec::new(asked.alloc);
     for (key, (place, old)) in items.iter() {
         let now = match record_at(records, *place) {
-            Some(kept) => crate::steps::item_now(asked, kept),
+            Some(kept) => item_now(asked, kept),
             None => None,
         };
         let now = item_value(asked.alloc, now)?;
@@ -174,12 +166,9 @@ fn changes_in(asked: &Asked<'_>, items: &Changed<'_>) -> Result<Json, AllocError
     Ok(Json::List(JsonList::from_vec(changes)?))
 }
 
-/// A shortest chain of direct dependences from one step to another; nothing if there is none.
-pub(crate) fn chain_of(
-    asked: &Asked<'_>,
-    from: usize,
-    to: usize,
-) -> Result<Option<Json>, AllocError> {
+/// A shortest chain of direct dependences from one step to another; nothing if there is none. Takes the time of [`why`], and for
+/// each row that of [`put_step_row`].
+pub fn chain_of(asked: &Asked<'_>, from: usize, to: usize) -> Result<Option<Json>, AllocError> {
     let records = asked.book.history();
     let Some(chain) = why(asked.alloc, records, from, to)? else {
         return Ok(None);

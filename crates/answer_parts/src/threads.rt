@@ -3,9 +3,9 @@ use crate::asked::{Asked, Page};
 use crate::values::{Object, or_null, text_value, whole};
 use asl_tree::{Level, SharedMachine, State};
 use json_tree::{Json, JsonList};
-use question_index::Presence;
+use question_index::{Presence, frame_of, is_waiting};
 use rollback_book::turns::{Frame, Phase, located};
-use rollback_book::{Book, Entry, Readiness, Refusal, Saved};
+use rollback_book::{Book, Entry, Saved};
 use std::alloc::{AllocError, Global};
 use std::collections::BTreeMap;
 use step_graph::branch_of;
@@ -13,7 +13,7 @@ use step_names::{StepName, ThreadName};
 
 /// What a thread does next.
 #[derive(Clone, Copy, PartialEq, Eq)]
-pub(crate) enum Move {
+pub enum Move {
     Step,
     Join,
     Terminate,
@@ -25,7 +25,7 @@ pub(crate) enum Move {
 
 impl Move {
     /// Its name; none of a thread without a move.
-    pub(crate) fn word(self) -> Option<&'static str> {
+    pub fn word(self) -> Option<&'static str> {
         match self {
             Move::Step => Some("step"),
             Move::Join => Some("join"),
@@ -37,8 +37,8 @@ impl Move {
 
 // ---- questions
 
-/// Each thread that has a move.
-pub(crate) fn ready_threads(asked: &Asked<'_>, page: &Page) -> Result<Json, AllocError> {
+/// Each thread that has a move. Takes time in the number of all threads, and in the branches over which they wait.
+pub fn ready_threads(asked: &Asked<'_>, page: &Page<ThreadName>) -> Result<Json, AllocError> {
     let mut rows = Vec::new(asked.alloc);
     let mut more = false;
     for (thread, presence) in asked.index.threads().iter() {
@@ -63,11 +63,8 @@ pub(crate) fn ready_threads(asked: &Asked<'_>, page: &Page) -> Result<Json, Allo
     Ok(answer.done())
 }
 
-/// One thread, whatever it does; none if there is no such thread.
-pub(crate) fn one_thread(
-    asked: &Asked<'_>,
-    thread: &ThreadName,
-) -> Result<Option<Json>, AllocError> {
+/// One thread, whatever it does; none if there is no such thread. Takes time in the branches over which it waits.
+pub fn one_thread(asked: &Asked<'_>, thread: &ThreadName) -> Result<Option<Json>, AllocError> {
     let Some(presence) = asked.index.threads().get(thread) else {
         return Ok(None);
     };
@@ -82,11 +79,11 @@ pub(crate) fn one_thread(
     Ok(Some(answer.done()))
 }
 
-/// The threads that a line after one touched, and those that are gone since.
-pub(crate) fn threads_since(
+/// The threads that a line after one touched, and those that are gone since. Takes time in the number of threads that these lines touched.
+pub fn threads_since(
     asked: &Asked<'_>,
     since: usize,
-    page: &Page,
+    page: &Page<ThreadName>,
 ) -> Result<Json, AllocError> {
     let mut here = BTreeMap::new(asked.alloc);
     let mut gone = BTreeMap::new(asked.alloc);
@@ -194,7 +191,7 @@ fn put_retries(
 }
 
 /// The retrier that a thread's last step used, if that remains and was a retry, and how often it was used at this visit.
-pub(crate) fn retrier_of(
+fn retrier_of(
     asked: &Asked<'_>,
     thread: &ThreadName,
     frame: &Frame,
@@ -271,8 +268,8 @@ pub(crate) fn machine_of<'a>(
     }
 }
 
-/// The same, shared.
-pub(crate) fn shared_machine_of<'a>(asked: &Asked<'a>, level: &Level) -> Option<&'a SharedMachine> {
+/// The machine of a level, as it was defined and as turns take it; none if the index has no such definition.
+pub fn shared_machine_of<'a>(asked: &Asked<'a>, level: &Level) -> Option<&'a SharedMachine> {
     defined_in(asked.book, asked, level)
 }
 
@@ -287,7 +284,7 @@ fn defined_in<'a>(book: &'a Book, asked: &Asked<'_>, level: &Level) -> Option<&'
 }
 
 /// The state's place in the definition, as a list of names and indexes.
-pub(crate) fn place_of(asked: &Asked<'_>, frame: &Frame) -> Result<Json, AllocError> {
+fn place_of(asked: &Asked<'_>, frame: &Frame) -> Result<Json, AllocError> {
     let alloc = asked.alloc;
     let mut place = Vec::new(alloc);
     let mut here = match asked.index.definitions().get(&frame.level.machine) {
@@ -329,8 +326,8 @@ fn inside<'a>(value: Option<&'a serde_json::Value>, name: &str) -> Option<&'a se
 
 // ---- moves
 
-/// What a thread does next; nothing if it isn't there.
-pub(crate) fn move_of(asked: &Asked<'_>, thread: &ThreadName) -> Result<Option<Move>, AllocError> {
+/// What a thread does next; nothing if it isn't there. Takes time in the number of branches over which it waits, and memory for their names.
+pub fn move_of(asked: &Asked<'_>, thread: &ThreadName) -> Result<Option<Move>, AllocError> {
     let Some(frame) = frame_of(asked.book, thread) else {
         return Ok(None);
     };
@@ -363,7 +360,7 @@ fn closing_of(
 }
 
 /// The first branch that has failed.
-pub(crate) fn failed_branch(
+fn failed_branch(
     alloc: Global,
     book: &Book,
     thread: &ThreadName,
@@ -385,26 +382,5 @@ fn has_failed(book: &Book, thread: &ThreadName) -> bool {
     match frame_of(book, thread) {
         Some(frame) => matches!(&frame.phase, Phase::Failed(_)),
         None => false,
-    }
-}
-
-/// The frame of a thread, if it has one.
-pub(crate) fn frame_of<'a>(book: &'a Book, name: &ThreadName) -> Option<&'a Frame> {
-    match book.show(name) {
-        Ok(frame) => Some(frame),
-        Err(_) => None,
-    }
-}
-
-/// Whether a thread waits for others.
-fn is_waiting(book: &Book, name: &ThreadName) -> Result<bool, AllocError> {
-    match book.ticket(name) {
-        Ok(ticket) => {
-            drop(ticket);
-            Ok(false)
-        }
-        Err(Refusal::NotReady(Readiness::Waiting)) => Ok(true),
-        Err(Refusal::Memory) => Err(AllocError),
-        Err(_) => Ok(false),
     }
 }

@@ -1,0 +1,185 @@
+// Items: who accessed each, and who wrote it last.
+use answer_parts::books::StepRecord;
+use answer_parts::graph::record_at;
+use answer_parts::{
+    Asked, Object, Page, access_word, before_access, item_now, item_value, key_value, step_value,
+};
+use attr_values::{Item, Key, key_of};
+use item_store::AccessMode;
+use json_tree::Json;
+use std::alloc::AllocError;
+use std::cmp::Ordering;
+use step_names::StepName;
+
+/// The steps that accessed a key, in order, with the item before and after each, and the item now; nothing if there is no such item
+/// and no step accessed it. Takes time in the number of the accesses, and without any in that of the items.
+pub fn item_of(
+    asked: &Asked<'_>,
+    key: &Key,
+    page: &Page<StepName>,
+) -> Result<Option<Json>, AllocError> {
+    let records = asked.book.history();
+    let accesses = records.accesses(asked.alloc, key)?;
+    let now = current(asked, key, accesses.as_slice())?;
+    if now.is_none() && accesses.is_empty() {
+        return Ok(None);
+    }
+    let first = first_behind(asked, page);
+    let mut afters = afters_of(asked, accesses.as_slice(), now)?;
+    let mut rows = Vec::new(asked.alloc);
+    let mut more = false;
+    for place in &accesses {
+        let after = afters.pop().flatten();
+        let Some(kept) = record_at(records, *place) else {
+            continue;
+        };
+        if *place < first {
+            continue;
+        }
+        if page.is_full(rows.len()) {
+            more = true;
+            break;
+        }
+        rows.push(access_row(asked, kept, after)?)?;
+    }
+    let mut answer = asked.answer()?;
+    answer.put("key", key_value(asked, key)?)?;
+    answer.put_list("accesses", rows)?;
+    answer.put("more", Json::Bool(more))?;
+    answer.put("now", item_value(asked.alloc, now)?)?;
+    Ok(Some(answer.done()))
+}
+
+/// The item after each access of a key, the last access first: what the next write replaced, or the item now.
+fn afters_of<'a>(
+    asked: &Asked<'a>,
+    accesses: &[usize],
+    now: Option<&'a Item>,
+) -> Result<Vec<Option<&'a Item>>, AllocError> {
+    let records = asked.book.history();
+    let mut after = now;
+    let mut found = Vec::new(asked.alloc);
+    for place in accesses.iter().rev() {
+        found.push(after)?;
+        if let Some(kept) = record_at(records, *place) {
+            after = before_access(kept, after);
+        }
+    }
+    Ok(found)
+}
+
+/// A step that accessed a key, and the item before and after it.
+fn access_row(
+    asked: &Asked<'_>,
+    kept: &StepRecord,
+    after: Option<&Item>,
+) -> Result<Json, AllocError> {
+    let mut row = Object::new(asked.alloc);
+    row.put_step("step", &kept.fact.name)?;
+    if let Some(access) = &kept.fact.access {
+        row.put_text("access", access_word(asked, kept, access))?;
+    }
+    row.put(
+        "before",
+        item_value(asked.alloc, before_access(kept, after))?,
+    )?;
+    row.put("after", item_value(asked.alloc, after)?)?;
+    Ok(row.done())
+}
+
+/// The first place behind the step after which the rows of a page begin.
+fn first_behind(asked: &Asked<'_>, page: &Page<StepName>) -> usize {
+    match &page.after {
+        Some(after) => match asked.book.history().find(after) {
+            Some(place) => place.saturating_add(1),
+            None => 0,
+        },
+        None => 0,
+    }
+}
+
+/// The item of a key now. If no remaining step accessed it, the items are gone through.
+fn current<'a>(
+    asked: &Asked<'a>,
+    key: &Key,
+    accesses: &[usize],
+) -> Result<Option<&'a Item>, AllocError> {
+    if let Some(place) = accesses.first() {
+        return Ok(match record_at(asked.book.history(), *place) {
+            Some(kept) => item_now(asked, kept),
+            None => None,
+        });
+    }
+    let (begin, _) = asked.book.entries();
+    for item in asked.book.items() {
+        if let Ok(own) = key_of(&begin.schema, item) {
+            if own == *key {
+                return Ok(Some(item));
+            }
+        }
+    }
+    Ok(None)
+}
+
+/// The item of a key now.
+pub(crate) fn current_item<'a>(
+    asked: &Asked<'a>,
+    key: &Key,
+) -> Result<Option<&'a Item>, AllocError> {
+    let accesses = asked.book.history().accesses(asked.alloc, key)?;
+    current(asked, key, accesses.as_slice())
+}
+
+/// The items in the order of their keys, each with the step that wrote it last, if that remains. Takes time in the number of
+/// the items, and for each that is told in that of its accesses.
+pub fn items_of(asked: &Asked<'_>, page: &Page<Key>) -> Result<Json, AllocError> {
+    let (begin, _) = asked.book.entries();
+    let mut rows = Vec::new(asked.alloc);
+    let mut more = false;
+    for item in asked.book.items() {
+        let Ok(key) = key_of(&begin.schema, item) else {
+            continue;
+        };
+        if is_up_to(&key, &page.after) {
+            continue;
+        }
+        if page.is_full(rows.len()) {
+            more = true;
+            break;
+        }
+        let mut row = Object::new(asked.alloc);
+        row.put("key", key_value(asked, &key)?)?;
+        row.put("item", item_value(asked.alloc, Some(item))?)?;
+        row.put("writer", writer_of(asked, &key)?)?;
+        rows.push(row.done())?;
+    }
+    let mut answer = asked.answer()?;
+    answer.put("more", Json::Bool(more))?;
+    answer.put_list("items", rows)?;
+    Ok(answer.done())
+}
+
+/// Whether a key comes before another, or is that one.
+fn is_up_to(key: &Key, after: &Option<Key>) -> bool {
+    match after {
+        Some(after) => !matches!(key.cmp(after), Ordering::Greater),
+        None => false,
+    }
+}
+
+/// The step that wrote a key last; `null` if it was settled, or if the table began with the item.
+fn writer_of(asked: &Asked<'_>, key: &Key) -> Result<Json, AllocError> {
+    let records = asked.book.history();
+    let accesses = records.accesses(asked.alloc, key)?;
+    for place in accesses.iter().rev() {
+        let Some(kept) = record_at(records, *place) else {
+            continue;
+        };
+        if let Some(access) = &kept.fact.access {
+            if matches!(access.mode, AccessMode::Write) {
+                return step_value(asked.alloc, &kept.fact.name);
+            }
+        }
+    }
+    Ok(Json::Null)
+}
