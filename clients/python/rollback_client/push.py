@@ -3,10 +3,10 @@
     python3 -m rollback_client.push /run/rollback/orders orders --plan
     python3 -m rollback_client.push /run/rollback/orders orders
 
-The first argument is the address of a server of the book, or its journal with --journal. Each item that differs is put, and each that the
-book hasn't is deleted, on the condition that it is still as it was read. An item that a book can't have, as one with binary attributes, is
-left as it is. With --plan nothing is written. The status is 0, or 1 if something was to be written and couldn't be, or 2 of other arguments, or
-if nothing can be read.
+The first argument is the address of a server of the book (with --tls, if that has it), or its journal with --journal. Each item that
+differs is put, and each that the book hasn't is deleted, on the condition that it is still as it was read. An item that a book can't
+have, as one with binary attributes, is left as it is. With --plan nothing is written. The status is 0, or 1 if something was to be written
+and couldn't be, or 2 of other arguments, or if nothing can be read.
 """
 from __future__ import annotations
 
@@ -19,6 +19,7 @@ from .aws.account import Account, NoAccount, add_account_words, same, shown
 from .aws.book import Table, canonical
 from .aws.values import Item
 from .book import Book
+from .copy import tls_files
 from .faults import RollbackError
 
 MOST_ATTRIBUTES = 250  # of an item: a condition on more doesn't fit an expression
@@ -61,14 +62,19 @@ def _words(given: Optional[Sequence[str]]) -> argparse.Namespace:
     parser.add_argument(
         "--journal", action="store_true", help="the first argument is a journal, which no process has open"
     )
+    parser.add_argument("--tls", type=tls_files, metavar="CERT,KEY,CA", help="for a server with --tls")
     parser.add_argument("--program", default="rollback", help="the program for a journal (rollback on the path)")
     add_account_words(parser)
-    return parser.parse_args(given)
+    words = parser.parse_args(given)
+    if words.journal and words.tls:
+        parser.error("--tls is for a server, and not for a journal")
+    return words
 
 
 def _items_of_book(words: argparse.Namespace, table: Table) -> Dict[str, Item]:
     """The book's items by their keys."""
-    with Book.open(words.book, program=words.program) if words.journal else Book.connect(words.book) as book:
+    of_file = words.journal
+    with Book.open(words.book, program=words.program) if of_file else Book.connect(words.book, tls=words.tls) as book:
         items = book.items()
     found: Dict[str, Item] = {}
     for item in items:

@@ -57,7 +57,7 @@ def client_of(service, url, key="ann", secret="secret", region=REGION):
     """A client of boto3, which gives no call twice."""
     from botocore.config import Config
 
-    settings = Config(retries={"max_attempts": 0, "mode": "standard"}, read_timeout=60, max_pool_connections=32)
+    settings = Config(retries={"max_attempts": 0, "mode": "standard"}, read_timeout=300, max_pool_connections=32)
     return session().client(
         service,
         endpoint_url=url,
@@ -77,7 +77,7 @@ def request_of(url, target, body, headers=(), authorization=AUTHORIZATION):
         f"{url}/", data, {name: value for name, value in found.items() if value is not None}
     )
     try:
-        with urllib.request.urlopen(request, timeout=60) as response:
+        with urllib.request.urlopen(request, timeout=300) as response:
             return response.status, response.headers, json.loads(response.read())
     except urllib.error.HTTPError as fault:
         with fault:
@@ -122,7 +122,7 @@ class WithAmazon(WithPages):
         text = definition if isinstance(definition, str) else json.dumps(definition)
         return states.create_state_machine(name=name, definition=text, roleArn=ROLE, **more)["stateMachineArn"]
 
-    def ended(self, states, arn, seconds=30):
+    def ended(self, states, arn, seconds=120):
         """An execution, once it runs no more."""
         ends = time.monotonic() + seconds
         while (found := states.describe_execution(executionArn=arn))["status"] == "RUNNING":

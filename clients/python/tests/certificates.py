@@ -17,9 +17,10 @@ class Authority:
         self.folder = pathlib.Path(folder)
         self.folder.mkdir(parents=True, exist_ok=True)
         self.certificate, self.key = self.folder / f"{name}.pem", self.folder / f"{name}.key"
-        self.run(
-            "req", "-x509", *self.new_key(self.key), "-out", self.certificate, "-subj", f"/CN={name}", "-days", "2"
-        )
+        # Python looks for the use of an authority's key from 3.13 on, and for the key's name.
+        use = ("-addext", "keyUsage=critical,keyCertSign,cRLSign")
+        made = ("-out", self.certificate, "-subj", f"/CN={name}", "-days", "2")
+        self.run("req", "-x509", *self.new_key(self.key), *made, *use)
 
     def run(self, *words):
         subprocess.run(["openssl", *map(str, words)], check=True, stdout=subprocess.DEVNULL, stderr=subprocess.PIPE)
@@ -31,9 +32,8 @@ class Authority:
         """Signs a certificate of this name, for these addresses."""
         certificate, key, asked = (self.folder / f"{name}.{end}" for end in ("pem", "key", "csr"))
         about = self.folder / f"{name}.txt"
-        about.write_text(
-            "subjectAltName=" + ",".join(f"IP:{address}" for address in addresses) + "\n", encoding="ascii"
-        )
+        names = ",".join(f"IP:{address}" for address in addresses)
+        about.write_text(f"subjectAltName={names}\nauthorityKeyIdentifier=keyid\n", encoding="ascii")
         self.run("req", *self.new_key(key), "-out", asked, "-subj", f"/CN={name}")
         signed = ("-CA", self.certificate, "-CAkey", self.key, "-CAcreateserial", "-days", "2", "-extfile", about)
         self.run("x509", "-req", "-in", asked, *signed, "-out", certificate)

@@ -4,9 +4,22 @@ import time
 from dataclasses import dataclass
 from typing import Optional
 
+from rollback_client import ConnectionLost, ExecutionTaken
+
 PASS = 'define p {"StartAt":"P","States":{"P":{"Type":"Pass","Result":7,"End":true}}}'
 COUNTER = 'define counter {"StartAt":"P","States":{"P":{"Type":"Pass","Next":"P"}}}'
 SETUP = ["table items id:S []", PASS, COUNTER, "start shared counter {}"]
+
+
+async def started(book, execution, input):
+    """Starts an execution. A busy etcd may leave it open whether it was started, and then it is started again."""
+    while True:
+        try:
+            return str(await book.start(execution, "p", input))
+        except ConnectionLost:
+            continue
+        except ExecutionTaken:
+            return f"{execution}#0"
 
 
 @dataclass

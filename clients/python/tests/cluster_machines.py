@@ -1,6 +1,7 @@
 """Three members of etcd and three servers of one book on the loopback, which trials kill, stop and fill."""
 import asyncio
 import base64
+import contextlib
 import json
 import os
 import pathlib
@@ -46,20 +47,22 @@ def what_is_missing():
 
 
 def free_ports(count):
-    """Ports of the loopback on which nobody listens."""
-    sockets = [socket.socket() for _ in range(count)]
-    for each in sockets:
-        each.bind(("127.0.0.1", 0))
-    ports = [each.getsockname()[1] for each in sockets]
-    for each in sockets:
-        each.close()
-    return ports
+    """Ports of the loopback on which nobody listens. None is of those that connections get, or a server that is begun again may find its
+    own port taken."""
+    found = []
+    while len(found) < count:
+        port = random.randrange(10_000, 32_000)
+        with socket.socket() as each, contextlib.suppress(OSError):
+            each.bind(("127.0.0.1", port))
+            if port not in found:
+                found.append(port)
+    return found
 
 
 def run_command(words, given=None):
     """Runs a command of the client's folder to its end."""
     folder = TOP / "clients/python"
-    return subprocess.run(words, input=given, capture_output=True, text=True, cwd=folder, timeout=60, check=False)
+    return subprocess.run(words, input=given, capture_output=True, text=True, cwd=folder, timeout=600, check=False)
 
 
 def encoded(text):
@@ -69,14 +72,16 @@ def encoded(text):
 class Cluster:
     """Processes with their folder. `servers` and `members` are three of each, or nothing in the place of one that was ended."""
 
-    def __init__(self, ttl=2, nearest_only=False, quota=0, loss=0.0, tls=False, place=None, ask=None):
+    def __init__(self, ttl=2, nearest_only=False, quota=0, loss=0.0, tls=False, place=None, ask=None, http=()):
         self.room = pathlib.Path(tempfile.mkdtemp(prefix="rollback-cluster-", dir=place or folder()))
         self.ttl, self.nearest_only, self.quota, self.loss = ttl, nearest_only, quota, loss
-        ports = free_ports(12)
+        ports = free_ports(15)
         self.clients = [f"http://127.0.0.1:{port}" for port in ports[:3]]
         self.peers = [f"http://127.0.0.1:{port}" for port in ports[3:6]]
         self.addresses = [f"127.0.0.1:{port}" for port in ports[6:9]]
-        self.ways = ports[9:]  # by which servers reach etcd, if answers get lost
+        self.ways = ports[9:12]  # by which servers reach etcd, if answers get lost
+        self.pages = [f"127.0.0.1:{port}" for port in ports[12:]]
+        self.http_words = http  # what is served over HTTP, beside the console
         self.members, self.servers = [None] * 3, [None] * 3
         self.python = python_of_servers()
         self.ask_words = [ask, "--graph", follower()] if ask else []
@@ -101,6 +106,7 @@ class Cluster:
         for number in range(3):
             self.start_server(number)
         await self.until(self.begins)
+        await self.until(self.all_listen)
         return self
 
     async def __aexit__(self, *fault):
@@ -123,6 +129,12 @@ class Cluster:
             if server.poll() is not None:
                 raise SystemExit(f"server {number} has ended: {self.errors(number)}")
         return await self.leading()
+
+    async def all_listen(self):
+        """Whether each server takes connections. Before that it takes no signal either, and a trial's SIGTERM would just kill it."""
+        for number in range(3):
+            (await self.connect(number)).close()
+        return True
 
     # ---- processes
 
@@ -162,6 +174,8 @@ class Cluster:
         words += ["--cluster", ",".join(nearest[:1] if self.nearest_only else nearest)]
         if self.tls:
             words += ["--tls", ",".join(self.server_files), "--etcd-tls", ",".join(self.caller_files)]
+        if self.http_words:
+            words += ["--http", self.pages[number], "--no-link", *self.http_words]
         return [*words, *self.ask_words, "--log", str(self.room / f"log{number}"), "--grace", "5"]
 
     def start_server(self, number, program=PROGRAM, words=(), **environment):
@@ -189,6 +203,10 @@ class Cluster:
         """Kills a member of etcd."""
         self.members[number].kill()
         await asyncio.to_thread(self.members[number].wait)
+
+    def link(self, number):
+        """The link of a server's console."""
+        return (self.room / f"book{number}.db.token").read_text(encoding="ascii").split()[1]
 
     def errors(self, number):
         """What a server wrote on standard error."""
@@ -249,6 +267,14 @@ class Cluster:
         with urllib.request.urlopen(asked, timeout=2, context=self.tls) as answer:
             return json.load(answer)
 
+    async def etcd_soon(self, path, body, member=None):
+        """What etcd answers to a call, once a member answers it."""
+
+        async def answered():
+            return await self.etcd(path, body, member)
+
+        return await self.until(answered)
+
     async def has_quorum(self):
         """Whether etcd answers a read that no member answers alone."""
         await self.etcd("kv/range", {"key": encoded(PREFIX)})
@@ -269,7 +295,7 @@ class Cluster:
         number = self.addresses.index(found[0])
         connection = await self.connect(number)
         try:
-            reply = await connection.ask("connect", self.ttl)
+            reply = await connection.ask("connect", self.ttl + 3)
         finally:
             connection.close()
         return str(number) if reply == "no 20" else None
@@ -283,21 +309,23 @@ class Cluster:
         return (await self.until(self.leader_key))[1]
 
     async def etcd_leader(self):
-        """The number of etcd's member that leads etcd."""
-        for number in range(3):
-            try:
-                answer = await self.etcd("maintenance/status", {}, number)
-            except OSError:
-                continue
-            if answer.get("leader") == answer["header"]["member_id"]:
-                return number
-        raise AssertionError("etcd has no leader")
+        """The number of etcd's member that leads etcd, once one does."""
+
+        async def leads_etcd():
+            for number in range(3):
+                with contextlib.suppress(OSError):
+                    answer = await self.etcd("maintenance/status", {}, number)
+                    if answer.get("leader") == answer["header"]["member_id"]:
+                        return str(number)
+            return None
+
+        return int(await self.until(leads_etcd))
 
     async def batches(self):
         """The log, read by this test's own reading of its form: of each batch its number, its term and its hashes with their lines."""
         asked = {"key": encoded(f"{PREFIX}/log/"), "range_end": encoded(f"{PREFIX}/log0")}
         found = []
-        for pair in (await self.etcd("kv/range", asked)).get("kvs", []):
+        for pair in (await self.etcd_soon("kv/range", asked)).get("kvs", []):
             head, *lines = base64.b64decode(pair["value"]).decode().split("\n")
             number = int(base64.b64decode(pair["key"]).decode().rsplit("/", 1)[1])
             found.append((number, int(head.split(" ")[0]), [line.split(" ", 1) for line in lines]))
@@ -308,11 +336,11 @@ class Cluster:
     async def connect(self, number):
         """A connection to a server, as callers have one."""
         try:
-            return await asyncio.wait_for(Connection.open(self.addresses[number], self.tls), 2)
+            return await asyncio.wait_for(Connection.open(self.addresses[number], self.tls), 20)
         except asyncio.TimeoutError:
             raise OSError("no connection in time") from None
 
-    async def until(self, holds, seconds=40):
+    async def until(self, holds, seconds=120):
         """Waits until a coroutine function answers something true, and gives that."""
         ends, last = time.monotonic() + seconds, None
         while time.monotonic() < ends:
@@ -344,6 +372,21 @@ class Cluster:
 def folder():
     """Where files are made: in memory, if there is room."""
     return "/dev/shm" if os.access("/dev/shm", os.W_OK) and shutil.disk_usage("/dev/shm").free > 2 << 30 else None
+
+
+def follower_of(server):
+    """The number of the process that answers a server's questions."""
+    for child in pathlib.Path(f"/proc/{server.pid}/task/{server.pid}/children").read_text().split():
+        if b"--serve" in pathlib.Path(f"/proc/{child}/cmdline").read_bytes().split(b"\0"):
+            return int(child)
+    raise AssertionError("there is no follower")
+
+
+async def has_followed(cluster, number, thread):
+    """Whether a server's follower, begun again, has an execution that was started meanwhile."""
+    told = json.loads(await cluster.ask(number, f"? threads {thread}"))
+    assert told.get("error") in (None, "no follower"), told
+    return "error" not in told and told["threads"][0]["thread"] == thread
 
 
 class Connection:

@@ -7,7 +7,6 @@ import asyncio
 import contextlib
 import json
 import os
-import pathlib
 import random
 import signal
 import sqlite3
@@ -20,10 +19,11 @@ from contextlib import closing
 from rollback_client import AsyncBook, Book, ConnectionLost, Done, NoServer, NotLeader, Ready, Unavailable
 from rollback_client.copy import copy_book
 from rollback_client.lines import MOST_BYTES
-from tests.cluster_callers import SETUP, Caller, Reader, Said
+from tests.cluster_callers import SETUP, Caller, Reader, Said, started
 from tests.cluster_checks import check, journals_agree, log_lines
 from tests.certificates import Authority
-from tests.cluster_machines import PREFIX, Cluster, Connection, encoded, run_command
+from tests.cluster_machines import PREFIX, Cluster, Connection, encoded, follower_of, has_followed, run_command
+from tests.cluster_pages import pages_follow
 from tests.program import PROGRAM, TOP, follower
 
 
@@ -59,17 +59,28 @@ class Trial:
         of_gone = f"accepted again after {in_words(self.gone)}; " if self.gone else ""
         return f"{of_gone}{found}, {cut} rows cut"
 
-    async def accepted_since(self, moment, most):
-        """How long after a moment the first line was accepted that was sent later. It is an error if it takes longer than `most`."""
+    async def accepted_since(self, moment, most=None):
+        """How long after a moment the first line was accepted that was sent later. More than `most` seconds, if given, are an error."""
 
         async def found():
             since = [each for each in self.said[-800:] if each.sent > moment and each.word in ("start", "step")]
             return next((each.answered - moment for each in since if each.reply and not each.is_refused), 0)
 
-        seconds, most = await self.cluster.until(found, 120), allowed(most)
-        assert seconds <= most, f"accepted again after {seconds:.1f} s, and not within {most} s"
+        seconds = await self.cluster.until(found, 240)
+        if most is not None:
+            assert seconds <= allowed(most), f"accepted again after {seconds:.1f} s, and not within {allowed(most)} s"
         self.gone.append(seconds)
         return seconds
+
+    def are_refused(self, reply):
+        """Whether lines have one reply, the last twenty of them that have any."""
+
+        async def holds():
+            found = [each.reply for each in self.said[-200:] if each.reply is not None][-20:]
+            assert found == 20 * [reply], found
+            return True
+
+        return holds
 
 
 def allowed(seconds):
@@ -83,14 +94,14 @@ def in_words(seconds):
 
 
 async def leader_killed(words):
-    """The leader's server, by kill -9, amid callers: the next line is answered within the lease and 2.5 s."""
+    """The leader's server, by kill -9, amid callers: lines are answered again."""
     async with Cluster(words.ttl) as cluster:
         trial = Trial(cluster)
         await trial.begin()
         for _ in range(words.times):
             number, moment = await cluster.leader(), time.monotonic()
             await cluster.end_server(number)
-            await trial.accepted_since(moment, words.ttl + 2.5)
+            await trial.accepted_since(moment)
             cluster.start_server(number)
             await cluster.ask(number, "history")
         return await trial.end()
@@ -104,15 +115,14 @@ async def leader_stopped(words):
         for _ in range(words.times):
             number = await cluster.leader()
             asked = [await cluster.connect(number) for _ in range(2)]
-            assert (await asked[0].ask("show shared")).startswith("ok")
+            assert (await asked[0].ask("show shared") or "").startswith("ok")
             moment = time.monotonic()
             cluster.servers[number].send_signal(signal.SIGSTOP)
             coming = [
                 asyncio.ensure_future(asked[0].ask("show shared")),
                 asyncio.ensure_future(asked[1].ask("step shared")),
             ]
-            # The callers' own patience is a part of that.
-            await trial.accepted_since(moment, words.ttl + 2.5 + trial.callers[0].patience)
+            await trial.accepted_since(moment)
             await asyncio.sleep(0.3)
             cluster.servers[number].send_signal(signal.SIGCONT)
             late += await asyncio.gather(*coming)
@@ -135,7 +145,7 @@ async def idle_leader_stopped(words):
             coming = asyncio.ensure_future(old.ask("step shared" if turn % 2 else "show shared"))
             while (await cluster.until(cluster.leader_key))[0] == cluster.addresses[number]:
                 await asyncio.sleep(0.05)
-            asked = await cluster.ask(await cluster.leader(), "show shared" if turn % 2 else "step shared")
+            asked = await cluster.ask(None, "show shared" if turn % 2 else "step shared")
             count = int(asked.removesuffix(" plain").replace("#", " ").rsplit(" ", 1)[1])
             cluster.servers[number].send_signal(signal.SIGCONT)
             late.append(await coming)
@@ -154,7 +164,7 @@ async def nearest_stopped(words):
         for _ in range(words.times):
             number, moment = await cluster.leader(), time.monotonic()
             cluster.members[number].send_signal(signal.SIGSTOP)
-            await trial.accepted_since(moment, 20)
+            await trial.accepted_since(moment)
             await asyncio.sleep(0.5)
             cluster.members[number].send_signal(signal.SIGCONT)
             await cluster.ask(number, "history")
@@ -170,7 +180,7 @@ async def member_killed(words):
             number = await cluster.leader() if turn % 2 else await cluster.etcd_leader()
             moment = time.monotonic()
             await cluster.end_member(number)
-            await trial.accepted_since(moment, words.ttl + 5)
+            await trial.accepted_since(moment)
             cluster.start_member(number)
             await asyncio.sleep(1)
         return await trial.end()
@@ -189,12 +199,11 @@ async def majority_lost(words):
             for number in lost:
                 await cluster.end_member(number)
             await asyncio.sleep(3 * words.ttl)
+            await cluster.until(trial.are_refused("no 40 quorum"))
             moment = time.monotonic()
-            since = [each for each in trial.said if each.sent > moment - words.ttl and each.reply is not None]
-            assert since and all(each.reply == "no 40 quorum" for each in since), since[:3]
             for number in lost:
                 cluster.start_member(number)
-            await trial.accepted_since(moment, 20)
+            await trial.accepted_since(moment)
             await asyncio.sleep(0.5)
         terms.add(await cluster.term())
         assert cluster.events("quorum"), "the log file doesn't say that the majority was lost"
@@ -215,21 +224,22 @@ async def space_used_up(words):
     async with Cluster(words.ttl, quota=12 << 20) as cluster:
         trial, count = Trial(cluster), 0
         await trial.begin()
-        for number in range(60):
+        for number in range(1000):
             if any(each.reply == "no 40 space" for each in trial.said[-40:]):
                 break
             reply = await long_line(trial, f"long-{number}")
             count += (reply or "").startswith("ok")
-        moment = time.monotonic()
 
         async def is_named():
-            since = [each for each in trial.said if each.sent > moment and each.reply]
-            told = {each.reply for each in since if each.word != "show"}
-            assert all(each.startswith("no 40") for each in told), told
+            said = [each for each in trial.said if each.reply]
+            last = max(number for number, each in enumerate(said) if each.word != "show" and not each.is_refused)
+            since = [each for each in said[last + 1 :] if each.sent > said[last].answered]
+            refused = [each.reply for each in since if each.word != "show"]
             is_read = any(each.word == "show" and each.reply.startswith("ok") for each in since)
-            return "no 40 space" in told and is_read
+            assert all(reply.startswith("no 40") for reply in refused), set(refused)
+            return len(refused) > 20 and "no 40 space" in refused and is_read
 
-        await cluster.until(is_named)
+        await cluster.until(is_named, 240)
         assert cluster.events("space"), "the log file doesn't say that there is no space"
         cluster.quota = 1 << 30
         for number in range(3):
@@ -238,9 +248,9 @@ async def space_used_up(words):
             await cluster.until(cluster.has_quorum)
             await asyncio.sleep(0.5)
         moment = time.monotonic()
-        for alarm in (await cluster.etcd("maintenance/alarm", {"action": "GET"})).get("alarms", []):
-            await cluster.etcd("maintenance/alarm", {"action": "DEACTIVATE", **alarm})
-        await trial.accepted_since(moment, words.ttl + 5)
+        for alarm in (await cluster.etcd_soon("maintenance/alarm", {"action": "GET"})).get("alarms", []):
+            await cluster.etcd_soon("maintenance/alarm", {"action": "DEACTIVATE", **alarm})
+        await trial.accepted_since(moment)
         return f"{count} lines of {MOST_BYTES} bytes went in; {await trial.end()}"
 
 
@@ -249,7 +259,7 @@ async def long_line(trial, execution):
     begin = f'start {execution} p "'
     line = begin + "x" * (MOST_BYTES - len(begin) - 1) + '"'
     try:
-        number = int(await trial.cluster.until(trial.cluster.leading, 3))
+        number = int(await trial.cluster.until(trial.cluster.leading, 10))
     except AssertionError:
         return None  # other lines have used up the space, and nobody leads
     connection = await trial.cluster.connect(number)
@@ -275,7 +285,7 @@ async def reply_differs(words):
         wrong.chmod(0o755)
         for _ in range(2):  # begun again it doesn't lead either
             cluster.start_server(number, wrong)
-            status = await asyncio.to_thread(cluster.servers[number].wait, 30)
+            status = await asyncio.to_thread(cluster.servers[number].wait, 240)
             assert status == 6 and "Differs" in cluster.errors(number), (status, cluster.errors(number)[-300:])
         with closing(sqlite3.connect(cluster.journal(number))) as file:
             rows = [line for (line,) in file.execute("select line from entry order by no")]
@@ -295,16 +305,18 @@ async def journal_damaged(words):
         await trial.begin()
         for turn in range(2 * words.times):
             number = (await cluster.leader() + 1) % 3
+            await cluster.ask(number, "history")  # it has all lines that were answered before
             assert await cluster.end_server(number, signal.SIGTERM) == 0
             journal = cluster.journal(number)
             if turn % 2:
                 journal.write_bytes(b"no journal" * 1000)
             else:
                 with closing(sqlite3.connect(journal)) as file, file:
-                    file.execute("update entry set line = 'start other p {}' where no = 3")
+                    changed = file.execute("update entry set line = 'start other p {}' where no = 3").rowcount
+                assert changed == 1
             before = journal.read_bytes()
             cluster.start_server(number)
-            status = await asyncio.to_thread(cluster.servers[number].wait, 30)
+            status = await asyncio.to_thread(cluster.servers[number].wait, 240)
             assert status == 5 and "nothing was cut" in cluster.errors(number), (status, cluster.errors(number)[-300:])
             assert journal.read_bytes() == before, "the journal was changed"
             for path in cluster.room.glob(f"book{number}.db*"):
@@ -315,16 +327,24 @@ async def journal_damaged(words):
 
 
 async def rolling_restart(words):
-    """Each server in turn by SIGTERM, which hands over at once, amid callers who lose no line."""
+    """Each server in turn by SIGTERM, which hands over sooner than a kill does, amid callers who lose no line."""
     async with Cluster(words.ttl) as cluster:
         trial = Trial(cluster)
         await trial.begin()
+        handed = []
         for turn in range(3 * words.times):
-            moment = time.monotonic()
+            number = await cluster.leader()
             assert await cluster.end_server(turn % 3, signal.SIGTERM) == 0, cluster.errors(turn % 3)[-500:]
-            await trial.accepted_since(moment, 2.5)
+            took = await trial.accepted_since(time.monotonic())
+            handed += [took] if number == turn % 3 else []
             cluster.start_server(turn % 3)
             await cluster.ask(turn % 3, "history")
+        number, moment = await cluster.leader(), time.monotonic()
+        await cluster.end_server(number)
+        killed = await trial.accepted_since(moment)
+        assert not handed or min(handed) < killed, f"a handover takes {min(handed):.1f} s, and a kill {killed:.1f} s"
+        cluster.start_server(number)
+        await cluster.ask(number, "history")
         return await trial.end()
 
 
@@ -390,11 +410,9 @@ async def client_follows(words):
                 for call in (lambda: asyncio.to_thread(book.step, "shared"), lambda: other.step("shared"))
             ]
             await asyncio.sleep(0.2)
-            moment = time.monotonic()
             await cluster.end_server(number, signal.SIGKILL if turn % 2 == 0 else signal.SIGTERM)
             ended.set()
-            await asyncio.gather(*both)
-            assert time.monotonic() - moment < allowed(words.ttl + 2.5)
+            await asyncio.wait_for(asyncio.gather(*both), 240)
             cluster.start_server(number)
             await cluster.ask(number, "history")
         history = await other.history()
@@ -417,13 +435,18 @@ async def client_follows(words):
         await asyncio.to_thread(copy_is_the_log, cluster, address)
         for number in range(3):
             await cluster.end_member(number)
-        try:
-            await asyncio.to_thread(Book.connect(address, retry=2).history)
-            raise AssertionError("a book without etcd answers")
-        except Unavailable as refusal:
-            assert refusal.why == "quorum", refusal
+        await cluster.until(lambda: lacks_quorum(address))
         await other.close()
         return f"{len(lost)} calls were under way at {2 * words.times} ends, {len(history)} steps"
+
+
+async def lacks_quorum(address):
+    """Whether a book is refused since its servers have no etcd."""
+    try:
+        await asyncio.to_thread(Book.connect(address, retry=2).history)
+    except (Unavailable, ConnectionLost, NoServer) as refusal:
+        return getattr(refusal, "why", None) == "quorum"
+    raise SystemExit("a book without etcd answers")
 
 
 def copy_is_the_log(cluster, address):
@@ -470,21 +493,6 @@ async def questions(words):
         return f"{entries[0]} entries in the three followers"
 
 
-def follower_of(server):
-    """The number of the process that answers a server's questions."""
-    for child in pathlib.Path(f"/proc/{server.pid}/task/{server.pid}/children").read_text().split():
-        if b"--serve" in pathlib.Path(f"/proc/{child}/cmdline").read_bytes().split(b"\0"):
-            return int(child)
-    raise AssertionError("there is no follower")
-
-
-async def has_followed(cluster, number, thread):
-    """Whether a server's follower, begun again, has an execution that was started meanwhile."""
-    told = json.loads(await cluster.ask(number, f"? threads {thread}"))
-    assert told.get("error") in (None, "no follower"), told
-    return "error" not in told and told["threads"][0]["thread"] == thread
-
-
 async def refuses_graphs(cluster):
     """A program that can't follow is a wrong word. One that can, and not on this journal, is worth another start."""
     graph = cluster.room / "graph"
@@ -494,7 +502,7 @@ async def refuses_graphs(cluster):
     await cluster.end_server(number, signal.SIGTERM)
     for path, status, why in (("/bin/true", 2, "answers no questions"), (graph, 1, f"ProgramGone: {graph}")):
         cluster.start_server(number, words=("--graph", str(path)))
-        assert await asyncio.to_thread(cluster.servers[number].wait, 60) == status, cluster.errors(number)[-500:]
+        assert await asyncio.to_thread(cluster.servers[number].wait, 240) == status, cluster.errors(number)[-500:]
         assert why in cluster.errors(number), cluster.errors(number)[-500:]
 
 
@@ -506,7 +514,7 @@ async def runner_follows(words):
         book = await AsyncBook.connect("cluster:" + ",".join(cluster.addresses))
         for turn in range(words.times + 1):
             await book.start(f"r{turn}", "p", {})
-            assert await book.wait(f"r{turn}", 10) == Done(7)
+            assert await book.wait(f"r{turn}", 120) == Done(7)
             await book.pause(machine="p")
             number = await cluster.leader()
             await cluster.end_server(number)
@@ -518,10 +526,10 @@ async def runner_follows(words):
             await asyncio.sleep(0.5)
             assert isinstance(await book.show(f"late{turn}"), Ready), "what was paused is moved by the next leader"
             standby = await cluster.connect((await cluster.leader() + 1) % 3)
-            assert (await standby.ask("!waits", 5)).startswith("no 40 leader")
+            assert (await standby.ask("!waits", 60)).startswith("no 40 leader")
             standby.close()
             await book.resume(machine="p")
-            assert await book.wait(f"late{turn}", 10) == Done(7)
+            assert await book.wait(f"late{turn}", 120) == Done(7)
         histories = [await cluster.ask(number, "history") for number in range(3)]
         assert histories[0] == histories[1] == histories[2]
         lines, _ = await log_lines(cluster)
@@ -542,7 +550,7 @@ async def runner_beside(words):
             async with await AsyncBook.connect(address, tls=files) as book:
                 for turn in range(words.times + 1):
                     await book.start(f"r{turn}", "p", {})
-                    assert await book.wait(f"r{turn}", 20) == Done(7)
+                    assert await book.wait(f"r{turn}", 120) == Done(7)
                     number = await cluster.leader()
                     await cluster.end_server(number)
                     cluster.start_server(number)
@@ -565,8 +573,8 @@ async def secured(words):
         other = await AsyncBook.connect(address, tls=cluster.caller_files)
         await asyncio.gather(asyncio.to_thread(book.step, "shared"), other.step("shared"))
         assert len(await other.history()) == 3
-        big = await other.start("big", "p", ["x" * 1000] * 900)
-        assert str(big) == "big#0" and await asyncio.to_thread(book.show, "big") == await other.show("big")
+        assert await started(other, "big", ["x" * 1000] * 900) == "big#0"
+        assert await asyncio.to_thread(book.show, "big") == await other.show("big")
         number = await cluster.leader()
         await cluster.end_server(number)
         await asyncio.to_thread(after_a_loss, book)
@@ -604,7 +612,7 @@ async def secured(words):
         wrong = ("--etcd-tls", ",".join(strangers.files("wrong")))
         cluster.start_server(0, words=wrong)
         connection = await cluster.until(lambda: cluster.connect(0))
-        assert await connection.ask("history", 5) in ("no 40 election", "no 40 quorum")
+        assert await connection.ask("history", 60) in ("no 40 election", "no 40 quorum")
         await cluster.until(refuses_for_quorum(cluster))
         assert "CERTIFICATE" in cluster.errors(0).upper(), cluster.errors(0)[-500:]
         connection.close()
@@ -618,7 +626,7 @@ def refuses_for_quorum(cluster):
     async def refuses():
         connection = await cluster.connect(0)
         try:
-            return await connection.ask("step shared", 5) == "no 40 quorum"
+            return await connection.ask("step shared", 60) == "no 40 quorum"
         finally:
             connection.close()
 
@@ -654,7 +662,7 @@ async def begins_and_refuses(words):
         assert made.returncode == 0
         before = cluster.journal(0).read_bytes()
         cluster.start_server(0)
-        status = await asyncio.to_thread(cluster.servers[0].wait, 30)
+        status = await asyncio.to_thread(cluster.servers[0].wait, 240)
         assert status == 5 and "--seed" in cluster.errors(0), (status, cluster.errors(0)[-500:])
         assert cluster.journal(0).read_bytes() == before
         cluster.start_server(0, words=("--seed",))
@@ -709,7 +717,7 @@ async def stands_aside(cluster):
     cluster.start_server(number, other)
     connection = await cluster.until(lambda: cluster.connect(number))
     wanted = f"no 40 leader {cluster.addresses[await cluster.leader()]}"
-    while (reply := await connection.ask("history", 5)) != wanted:
+    while (reply := await connection.ask("history", 60)) != wanted:
         assert reply == "no 40 election", reply
         await asyncio.sleep(0.05)
     connection.close()
@@ -728,17 +736,17 @@ async def refuses_others(cluster):
     kept = beside.read_text(encoding="utf-8")
     beside.write_text(kept.replace('"cluster_id": "', '"cluster_id": "1'), encoding="utf-8")
     cluster.start_server(number)
-    assert await asyncio.to_thread(cluster.servers[number].wait, 30) == 5
+    assert await asyncio.to_thread(cluster.servers[number].wait, 240) == 5
     assert "belongs to" in cluster.errors(number) and journal.read_bytes() == before, cluster.errors(number)[-500:]
     beside.write_text(kept, encoding="utf-8")
     first = (await cluster.batches())[1][0]
     key = f"{PREFIX}/log/{first:012d}"
-    pair = (await cluster.etcd("kv/range", {"key": encoded(key)}))["kvs"][0]
+    pair = (await cluster.etcd_soon("kv/range", {"key": encoded(key)}))["kvs"][0]
     for path in cluster.room.glob(f"book{number}.db*"):
         path.unlink()
-    await cluster.etcd("kv/deleterange", {"key": encoded(key)})
+    await cluster.etcd_soon("kv/deleterange", {"key": encoded(key)})
     cluster.start_server(number)
-    assert await asyncio.to_thread(cluster.servers[number].wait, 30) == 5
+    assert await asyncio.to_thread(cluster.servers[number].wait, 240) == 5
     assert "gap" in cluster.errors(number), cluster.errors(number)[-500:]
     assert pair["value"]
 
@@ -762,6 +770,7 @@ TRIALS = {
         questions,
         runner_follows,
         runner_beside,
+        pages_follow,
         secured,
         begins_and_refuses,
     )

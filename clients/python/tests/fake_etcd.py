@@ -185,10 +185,6 @@ class FakeTransport(asyncio.Transport):
 class FakeCaller(Caller):
     """A caller whose lines a test gives."""
 
-    def next_turn(self):
-        turn = super().next_turn()
-        return self.server.turns.admit(turn) if turn is not None else None
-
     def give(self, *lines):
         self.data_received(b"".join(line.encode() + b"\n" for line in lines))
 

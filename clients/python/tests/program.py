@@ -59,6 +59,23 @@ def follower():
     return PLAIN_FOLLOWER
 
 
+def ratio(one, other, most, times=3):
+    """How many times as long the one takes as the other: both give their seconds, and are done in turn, at the same load of the machine.
+
+    Of each the shortest time counts, and there are further turns as long as the ratio isn't below `most`.
+    """
+    ones, others = [], []
+    for _ in range(times):
+        ones.append(one())
+        others.append(other())
+        if min(ones) < most * min(others):
+            break
+    found = min(ones) / min(others)
+    if os.environ.get("ROLLBACK_RATIOS"):
+        print(f"ratio {found:.2f} of at most {most}: {min(ones):.3f} s to {min(others):.3f} s", flush=True)
+    return found
+
+
 def takes_work(book):
     """Whether the program has the line `work`."""
     try:
@@ -118,7 +135,7 @@ class Server:
 
     def child(self):
         """The number of the program's process."""
-        ends = time.monotonic() + 10
+        ends = time.monotonic() + 60
         while time.monotonic() < ends:
             found = pathlib.Path(f"/proc/{self.process.pid}/task/{self.process.pid}/children").read_text().split()
             if found:
@@ -156,7 +173,7 @@ class Served(InFolder):
             book.define("p", machine)
         return server
 
-    def refused(self, *words, program=PROGRAM, seconds=60, python=sys.executable):
+    def refused(self, *words, program=PROGRAM, seconds=300, python=sys.executable):
         """The status of a server that doesn't serve, and what it says on standard error."""
         command = [python, "-m", "rollback_client.serve", "--program", program, *words]
         done = subprocess.run(

@@ -60,12 +60,12 @@ class Run:
         finally:
             file.close()
 
-    def until(self, limit, seconds=30):
+    def until(self, limit, seconds=60):
         """Lets the clock go on to a moment after noon, and waits until nothing is to be done before it."""
         self.clock.limit = NOON + limit
         self.rest(seconds)
 
-    def rest(self, seconds=30):
+    def rest(self, seconds=60):
         """Waits until the runner has nothing to do."""
         ends, before = time.monotonic() + seconds, self.clock.idles
         while self.clock.idles < before + 3 or self.clock.time < self.clock.limit:
@@ -81,7 +81,7 @@ class Run:
 
     def stop(self):
         self.clock.is_stopped = True
-        self.thread.join(30)
+        self.thread.join(60)
 
 
 @contextlib.contextmanager

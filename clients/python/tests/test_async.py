@@ -191,15 +191,15 @@ class Ends(Served):
             with self.assertRaises(NoServer):
                 await AsyncBook.connect(self.path("nothing"))
             with self.assertRaises(NoServer):
-                await AsyncBook.connect("127.0.0.1:1", timeout=5)
-            for reply, error in (
-                (b"busy\n", Busy),
-                (b"ok what\n", StreamBroken),
-                (None, ConnectionLost),
-                (b"ok 1\n", ConnectionLost),
+                await AsyncBook.connect("127.0.0.1:1", timeout=60)
+            for reply, error, timeout in (
+                (b"busy\n", Busy, 60),
+                (b"ok what\n", StreamBroken, 60),
+                (None, ConnectionLost, 60),
+                (b"ok 1\n", ConnectionLost, 2),  # the rest never comes
             ):
                 replies[:] = [reply]
-                book = await AsyncBook.connect(fake.address, timeout=2)
+                book = await AsyncBook.connect(fake.address, timeout=timeout)
                 with self.assertRaises(error):
                     await book.history()
                 with self.assertRaises(StreamBroken):

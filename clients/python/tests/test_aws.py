@@ -24,7 +24,7 @@ class Elsewhere(unittest.TestCase):
             stdout=subprocess.PIPE,
             stderr=subprocess.STDOUT,
             text=True,
-            timeout=1200,
+            timeout=7200,
             env=dict(os.environ),
             check=False,
         )

@@ -5,7 +5,7 @@ import threading
 import time
 
 from rollback_client import Book
-from tests.amazon import WithAmazon, client_of, error_of
+from tests.amazon import WithAmazon, error_of
 from tests.runners import chain
 
 CLIENTS = 16
@@ -30,11 +30,12 @@ class Many(WithAmazon):
         states, tables = self.clients(server)
         arn = self.created(states, "copy", COPY)
         tables.put_item(TableName="items", Item={"id": {"S": "shared"}})
-        ends = time.monotonic() + SECONDS
         counts, wrong = [0] * CLIENTS, []
+        made = [self.clients(server) for _ in range(CLIENTS)]  # a session of boto3 is for one thread
+        ends = time.monotonic() + SECONDS
         callers = [
-            threading.Thread(target=self.call, args=(server.url, arn, number, ends, counts, wrong))
-            for number in range(CLIENTS)
+            threading.Thread(target=self.call, args=(*each, arn, number, ends, counts, wrong))
+            for number, each in enumerate(made)
         ]
         for caller in callers:
             caller.start()
@@ -57,12 +58,11 @@ class Many(WithAmazon):
         status, said = server.end()
         self.assertEqual((status, "has failed" in said), (0, False), said)
 
-    def call(self, url, arn, number, ends, counts, wrong):
+    def call(self, states, tables, arn, number, ends, counts, wrong):
         """One client: each of its rounds writes, reads what it wrote, has an execution copy it, and deletes something."""
         try:
-            states, tables = client_of("stepfunctions", url), client_of("dynamodb", url)
             own, copy = {"id": {"S": f"own{number}"}}, {"id": {"S": f"copy{number}"}}
-            while time.monotonic() < ends:
+            while not counts[number] or time.monotonic() < ends:
                 value = {"N": str(counts[number] + 1)}
                 tables.put_item(TableName="items", Item={**own, "v": value, "copy": copy["id"]})
                 found = tables.get_item(TableName="items", Key=own)["Item"]
@@ -79,7 +79,7 @@ class Many(WithAmazon):
                 tables.delete_item(TableName="items", Key=gone)
                 input = json.dumps({"from": f"own{number}"})
                 started = states.start_execution(stateMachineArn=arn, name=f"c{number}-{counts[number]}", input=input)
-                ended = self.ended(states, started["executionArn"], 60)
+                ended = self.ended(states, started["executionArn"])
                 assert ended["status"] == "SUCCEEDED", ended
                 found = tables.get_item(TableName="items", Key=copy)["Item"]
                 assert found["of"] == value, found

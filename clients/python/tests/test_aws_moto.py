@@ -61,7 +61,7 @@ class Beside(WithAmazon):
             stdout=subprocess.PIPE,
             stderr=subprocess.PIPE,
             cwd=TOP / "clients/python",
-            timeout=170,
+            timeout=600,
             check=False,
         )
         assert done.returncode == 0, done.stderr.decode()[-2000:]
@@ -92,8 +92,12 @@ class Beside(WithAmazon):
         """The events of an execution; of one with branches in one order, since these go on side by side."""
         if execution["name"] not in BRANCHING:
             return execution["events"]
+        # moto's threads race: one branch may fail before the other one enters its first state
+        late = "WaitStateEntered" if execution["name"] == "failing" else None
         rows = [
-            {name: value for name, value in row.items() if name not in ("id", "before")} for row in execution["events"]
+            {name: value for name, value in row.items() if name not in ("id", "before")}
+            for row in execution["events"]
+            if row["type"] != late
         ]
         return sorted(rows, key=lambda row: json.dumps(row, sort_keys=True))
 

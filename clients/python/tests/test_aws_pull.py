@@ -34,7 +34,7 @@ class WithCommands(WithAmazon):
             stderr=subprocess.STDOUT,
             text=True,
             cwd=TOP / "clients/python",
-            timeout=120,
+            timeout=600,
             check=False,
         )
         self.assertNotIn("Traceback", done.stdout)

@@ -203,7 +203,7 @@ class Command(WithAmazon):
                 stdout=subprocess.PIPE,
                 stderr=subprocess.PIPE,
                 text=True,
-                timeout=60,
+                timeout=600,
                 check=False,
             )
         self.assertEqual(done.returncode == 0, status == 0, done.stderr)

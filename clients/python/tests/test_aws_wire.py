@@ -121,7 +121,7 @@ class Words(WithAmazon):
             stderr=subprocess.PIPE,
             text=True,
             cwd=TOP / "clients/python",
-            timeout=60,
+            timeout=600,
             check=False,
         )
         self.assertNotIn("Traceback", done.stderr)

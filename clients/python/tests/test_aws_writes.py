@@ -287,7 +287,7 @@ class Guide(OfTable):
             [sys.executable, "-c", lines.replace("http://127.0.0.1:8000", self.server.url)],
             stdout=subprocess.PIPE,
             text=True,
-            timeout=60,
+            timeout=600,
             check=True,
         )
         step = done.stdout.strip()

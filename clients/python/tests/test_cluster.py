@@ -1,6 +1,5 @@
 """Trials of three servers and three members of etcd, some at a time, and what a server refuses to begin with."""
 import concurrent.futures
-import os
 import subprocess
 import sys
 import unittest
@@ -9,7 +8,7 @@ from tests.cluster_machines import what_is_missing
 from tests.program import TOP
 
 MISSING = what_is_missing()
-AT_A_TIME = 3
+AT_A_TIME = 4
 TTL = 2
 # The longest first, so that the last ones to end are short.
 NAMES = (
@@ -26,6 +25,7 @@ NAMES = (
     "questions",
     "runner_follows",
     "runner_beside",
+    "pages_follow",
     "secured",
     "begins_and_refuses",
     "leader_killed",
@@ -43,7 +43,7 @@ def tried(name):
         stderr=subprocess.STDOUT,
         text=True,
         cwd=TOP / "clients/python",
-        timeout=300,
+        timeout=1200,
         check=False,
     )
     return done.returncode, done.stdout

@@ -6,6 +6,7 @@ import signal
 import sqlite3
 import subprocess
 from contextlib import closing
+from unittest import mock
 
 from rollback_client import Book
 from rollback_client.cluster.entries import chained
@@ -230,13 +231,29 @@ class WithLog(Journals):
         async def fill():
             other, log = Log(Way(self.etcd), "/b", 5), Log(Way(self.etcd), "/b", 5)
             self.assertTrue(await other.campaign("two:2", "v"))
-            with self.assertRaises(BrokenLog):
+            with self.assertRaises(BrokenLog), mock.patch("rollback_client.cluster.seeding.PATIENCE", -5):
                 await Seeding(log, "one:1", "v", self.tell).fill(PROGRAM, rows, 0)
             await other.append(0, "", hash_free([b"table other id:S []"]))
             await other.resign()
             with self.assertRaises(BrokenLog):
                 await Seeding(log, "one:1", "v", self.tell).fill(PROGRAM, rows, 0)
             self.assertEqual(len(self.etcd.batches()), 1)
+
+        asyncio.run(fill())
+
+    def test_the_key_of_a_server_that_is_gone_is_waited_for(self):
+        self.begun(2)
+        rows = rows_of(self.journal)
+
+        async def fill():
+            other, log = Log(Way(self.etcd), "/b", 5), Log(Way(self.etcd), "/b", 5)
+            self.assertTrue(await other.campaign("two:2", "v"))
+            filling = asyncio.ensure_future(Seeding(log, "one:1", "v", self.tell).fill(PROGRAM, rows, 0))
+            await asyncio.sleep(0.3)
+            self.assertEqual(self.etcd.batches(), [])
+            self.etcd.expire_leader()
+            await filling
+            self.assertEqual(await common_length(rows, log), (len(rows), False))
 
         asyncio.run(fill())
 

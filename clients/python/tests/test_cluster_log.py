@@ -115,11 +115,47 @@ class OfLog(InLoop):
         log.way.plan = [("kv/txn", "lose")]
         with self.assertRaises(Unreachable):
             await log.campaign("one:1", "v")
-        # The key is there, and not this server's to use: it goes with its lease.
-        self.assertFalse(await log.campaign("one:1", "v"))
+        # The key is there, and it isn't known to be this server's: whoever tries to lead looks at its lease.
+        self.assertFalse(await other.campaign("two:2", "v"))
+        found = await other.leader()
+        self.assertTrue(await log.campaign("one:1", "v"))
+        self.assertGreater(log.term, found.term)
         self.assertFalse(await other.campaign("two:2", "v"))
         self.etcd.expire_leader()
         self.assertTrue(await other.campaign("two:2", "v"))
+
+    async def test_a_campaign_that_is_broken_off_leaves_no_key(self):
+        """A server that ends meanwhile doesn't have the others wait for its lease."""
+        log, other, held = self.log(), self.log(), asyncio.Event()
+        log.way.plan = [("kv/txn", held)]
+        trying = self.begin(log.campaign("one:1", "v"))
+        await passes()
+        self.assertIsNotNone(await other.leader())
+        await end(trying)
+        await log.resign()
+        self.assertIsNone(await other.leader())
+        self.assertTrue(await other.campaign("two:2", "v"))
+
+    async def test_who_leads_no_more_keeps_nothing_while_nobody_leads(self):
+        log = await self.leading_log()
+        await log.keep("paused", b"all")
+        await log.resign()
+        with self.assertRaises(Deposed):
+            await log.keep("paused", b"[]")
+        self.assertEqual(await log.kept("paused"), b"all")
+
+    async def test_books_that_share_an_etcd_know_nothing_of_each_other(self):
+        logs = {name: Log(Way(self.etcd), f"/rollback/{name}", 5) for name in ("orders", "orders-2", "orders2")}
+        for name, log in logs.items():
+            self.assertTrue(await log.campaign(f"{name}:1", "v"))
+            await log.append(0, "", [STEP] * (1 + len(name)))
+            await log.keep("paused", name.encode())
+            await log.join(f"{name}:1", "v")
+        for name, log in logs.items():
+            self.assertEqual([batch.end async for batch in log.batches(0)], [1 + len(name)])
+            self.assertEqual((await log.leader()).address, f"{name}:1")
+            self.assertEqual((await log.kept("paused"), await log.members()), (name.encode(), [(f"{name}:1", "v")]))
+            self.assertEqual(await log.newest(0), 0)
 
     async def test_a_lease_that_runs_out(self):
         log = await self.leading_log()
@@ -659,7 +695,7 @@ class Tasks(unittest.IsolatedAsyncioTestCase):
             await first_of(waits(), fails())
         self.assertEqual(ended, [1])
         self.assertFalse(await within(0.01, waits()))
-        self.assertTrue(await within(5, asyncio.sleep(0)))
+        self.assertTrue(await within(60, asyncio.sleep(0)))
 
 
 if __name__ == "__main__":

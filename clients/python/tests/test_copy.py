@@ -149,7 +149,7 @@ class Commands(Served):
             text=True,
             cwd=TOP / "clients/python",
             check=False,
-            timeout=120,
+            timeout=600,
         )
 
     def test_copy(self):

@@ -34,6 +34,7 @@ class Signals(Served):
         stream.sendall(b"show big\n" * 3 + b"half a line")
         stream.recv(1, socket.MSG_PEEK)  # the lines came together, and the first one is answered
         server.process.send_signal(number)
+        self.until(lambda: not os.path.exists(server.address))  # a server that ends takes its place away
         time.sleep(pause)
         return server, stream
 
@@ -66,12 +67,10 @@ class Signals(Served):
         self.assertIn("1 caller was cut", said)
 
     def test_idle_callers_hold_no_end_up(self):
-        server = self.begun(journal=None)
+        server = self.begun("--grace", "1000", journal=None)
         with Book.connect(server.address):
             self.plain(server)
-            began = time.monotonic()
             self.assertEqual(server.end(), (0, ""))
-            self.assertLess(time.monotonic() - began, 25)
 
     def test_a_long_drive_ends_with_the_piece_at_hand(self):
         server = self.begun(journal=None, machine=LOOP)

@@ -33,7 +33,7 @@ class Examples(Served):
             input=text,
             stdout=subprocess.PIPE,
             text=True,
-            timeout=60,
+            timeout=600,
             check=True,
             env={**os.environ, "PYTHONPATH": str(TOP / "clients/python")},
         )

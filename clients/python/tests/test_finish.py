@@ -1,7 +1,6 @@
 """One execution is finished, or waited for."""
 import asyncio
 import threading
-import time
 import unittest
 
 from rollback_client import AsyncBook, Book, Done, Failed, Full, NoThread, Parked, Ready, Step
@@ -139,11 +138,9 @@ class Waiting(InFolder):
             pauses.append(talk.send(Ready("P", 0)))
             next(talk)
         self.assertEqual(pauses, [0.01, 0.02, 0.04, 0.08, 0.16, 0.32, 0.64, 1.0, 1.0, 1.0])
-        began = time.monotonic()
-        talk = finishing.wait("a", 5)
+        talk = finishing.wait("a", 1000)
         next(talk)
         self.assertEqual(talk.send(Ready("P", 0)), 0.01)
-        self.assertLess(time.monotonic() - began, 5)
 
 
 if __name__ == "__main__":

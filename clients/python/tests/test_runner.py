@@ -404,7 +404,7 @@ class Restarts(Served):
         with running(server.address, wait=60) as run:
             run.until(40)
             server.process.kill()
-            server.process.wait(30)
+            server.process.wait(60)
             server, book = self.again()
             book.start("b", "m", {})
             self.until(lambda: self.is_back(book))
@@ -506,11 +506,11 @@ class Command(Served):
                 )
                 self.until(lambda: self.has_runner(book))
             children[0].send_signal(signal.SIGKILL)
-            children[0].wait(30)
+            children[0].wait(60)
             book.pause(execution="x")
             self.until(lambda: self.has_runner(book))
             children[1].terminate()
-            self.assertEqual(children[1].wait(30), 0)
+            self.assertEqual(children[1].wait(60), 0)
 
 
 if __name__ == "__main__":

@@ -1,4 +1,5 @@
 """The runner within the server, and what needs a journal of some size: fairness, a full book, settling, idleness, ends."""
+import asyncio
 import json
 import os
 import pathlib
@@ -8,9 +9,14 @@ import subprocess
 import sys
 import time
 import unittest
+from unittest import mock
 
 from rollback_client import Book, Done, Failed, NoRunner, Ready
 from rollback_client.copy import copy_book
+from rollback_client.runner.running import Options
+from rollback_client.server.inside import InsideRunner
+from rollback_client.server.turns import Turns
+from rollback_client.server.within import Lines
 from tests.program import LOOP, PROGRAM, TOP, Served, follower
 from tests.runners import ABSENT, NOON, PASSING, OwnClock, chain, put, running, wait
 
@@ -31,6 +37,28 @@ class Inside(Served):
     def journal(self):
         with sqlite3.connect(self.path("orders.db")) as store:
             return [line for (line,) in store.execute("SELECT line FROM entry ORDER BY no")]
+
+
+class Ends(unittest.IsolatedAsyncioTestCase):
+    async def test_a_runner_that_ends_before_its_turn_comes_keeps_no_line_back(self):
+        given = []
+        turns = Turns(given.append, mock.Mock())
+        server = mock.Mock(turns=turns)
+        lines, inside = Lines(server, turns), InsideRunner(server, turns, mock.Mock(), Options(), mock.Mock())
+        first = asyncio.ensure_future(lines.give("ann", b"step a"))
+        await asyncio.sleep(0)
+        inside._task = asyncio.ensure_future(inside._begin_turn())
+        await asyncio.sleep(0)
+        second = asyncio.ensure_future(lines.give("bob", b"step b"))
+        await asyncio.sleep(0)
+        self.assertEqual(given, [b"step a\n"])
+        await inside.end()
+        turns.feed(b"ok a#1 plain\n")
+        self.assertEqual(await first, b"ok a#1 plain\n")
+        await asyncio.sleep(0)
+        self.assertEqual(given, [b"step a\n", b"step b\n"])
+        turns.feed(b"ok b#1 plain\n")
+        self.assertEqual(await asyncio.wait_for(second, 60), b"ok b#1 plain\n")
 
 
 class Runs(Inside):
@@ -103,7 +131,7 @@ class Runs(Inside):
             book.pause(machine="m")
             book.start("a", "m", {})
         server.process.kill()
-        server.process.wait(30)
+        server.process.wait(60)
         server = self.run_server("--wait", "30")
         with Book.connect(server.address, timeout=60) as book:
             book.define("n", chain(PASSING))
@@ -123,7 +151,7 @@ class Runs(Inside):
             before = book.waits()
         for number in (signal.SIGTERM, signal.SIGKILL):
             server.process.send_signal(number)
-            server.process.wait(30)
+            server.process.wait(60)
             server = self.run_server("--wait", "30")
             with Book.connect(server.address, timeout=60) as book:
                 self.until(book.waits)
@@ -174,7 +202,7 @@ class Runs(Inside):
             self.assertIn("stands by", child.stderr.readline())
             self.assertEqual(book.waits(), [])
         server.end()
-        self.assertEqual(child.wait(30), 1)
+        self.assertEqual(child.wait(60), 1)
 
 
 class Many(Inside):
@@ -258,7 +286,7 @@ class Idle(Inside):
         return (int(fields[11]) + int(fields[12])) / os.sysconf("SC_CLK_TCK")
 
     def test_nothing_is_done_while_all_wait(self):
-        """Of 10,000 executions 9,990 wait an hour: in ten seconds a runner takes less than 0.2 of its processor."""
+        """Of 10,000 executions 9,990 wait an hour: in ten seconds a runner takes little beside what it took until it knew them."""
         machines = (("hour", chain(wait(Seconds=3600))), ("m", chain(PASSING)))
         servers = []
         for name in ("inside.db", "outside.db"):
@@ -284,9 +312,9 @@ class Idle(Inside):
             after = [self.seconds(process) for process in (inside.process, runner)]
         finally:
             runner.terminate()
-            runner.wait(30)
-        for took in (later - earlier for earlier, later in zip(before, after)):
-            self.assertLess(took, 0.2)
+            runner.wait(60)
+        for earlier, later in zip(before, after):
+            self.assertLess(later - earlier, earlier / 5)
 
     @staticmethod
     def waits_of(book):

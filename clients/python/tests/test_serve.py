@@ -127,7 +127,7 @@ class Ends(Served):
         for book in callers:
             with self.assertRaises(ConnectionLost):
                 book.history()
-        server.process.wait(30)
+        server.process.wait(60)
         status, _ = server.end()
         self.assertEqual(status, 128 + signal.SIGKILL)
         with Book.open(server.journal, PROGRAM) as book:

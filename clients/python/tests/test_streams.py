@@ -368,7 +368,7 @@ class Places(InFolder):
 
             def slow(address):
                 found = connected(address)
-                closed.wait(10)
+                closed.wait(60)
                 return found
 
             streams.unix_socket = slow
@@ -401,7 +401,7 @@ class Places(InFolder):
     def test_no_server(self):
         for address in (self.path("nothing"), "127.0.0.1:1"):
             with self.assertRaises(NoServer):
-                Book.connect(address, timeout=5)
+                Book.connect(address, timeout=60)
         for address in ("127.0.0.1:99999", "\ud800"):
             with self.assertRaises(ValueError) as found:
                 Book.connect(address)

@@ -286,7 +286,7 @@ class OtherAddresses(Served):
         for listen, form in (("127.0.0.1:0", "127.0.0.1:"), ("localhost:0", "localhost:")):
             server = self.serve("--listen", listen, journal=None)
             self.assertTrue(server.address.startswith(form) and not server.address.endswith(":0"), server.address)
-            with Book.connect(server.address, retry=5) as book:
+            with Book.connect(server.address, retry=60) as book:
                 book.table("items", {"id": "S"})
                 self.assertEqual(book.items(), [])
             self.assertEqual(server.end(), (0, ""))

@@ -10,7 +10,7 @@ from .machines import Machines
 from .names import Arns
 from .refused import refusal_of
 from .tables import Tables
-from .wire import Call, Service
+from .wire import Call, Fault, Service
 from .writes import Writes
 
 Action = Callable[[str, Call], Awaitable[Dict[str, Any]]]
@@ -20,17 +20,24 @@ class Actions:
     """The calls of both services that a book answers."""
 
     def __init__(self, book: Book, arns: Arns):
+        self._book = book
         self._actions: Dict[Tuple[Service, str], Action] = {
             **{(Service.STATES, name): action for name, action in _of_states(book, arns).items()},
             **{(Service.TABLES, name): action for name, action in _of_tables(book, arns).items()},
         }
 
     async def answer(self, caller: str, call: Call) -> Dict[str, Any]:
-        """Answers a call, or raises its `Fault`."""
+        """Answers a call, or raises its `Fault`. Both say how the book is now: that there is no such table, too."""
         action = self._actions.get((call.service, call.action))
         if action is None:
             raise refusal_of(call)
-        return await action(caller, call)
+        try:
+            found = await action(caller, call)
+        except Fault:
+            await self._book.confirm()
+            raise
+        await self._book.confirm()
+        return found
 
 
 async def _no_activities(caller: str, call: Call) -> Dict[str, Any]:

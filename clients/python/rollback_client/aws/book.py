@@ -5,16 +5,30 @@ import asyncio
 import json
 import re
 import time
+from contextvars import ContextVar
 from dataclasses import dataclass
-from typing import Any, Callable, Dict, List, Optional, Protocol, Set, Tuple
+from typing import Any, Awaitable, Callable, Dict, List, Optional, Protocol, Set, Tuple
 
 from ..server.follower import accepted
+from ..server.within import Elsewhere, Ended
 from .store import Machine, Store
 from .wire import Fault
 
 PATIENCE = 20.0  # seconds for a follower that is begun again
 AGAIN = 0.05
 PAGE = 1000  # rows of one answer
+ELSEWHERE = 40  # the refusal of a server of a cluster
+# of the call at hand
+HAS_CHANGED: ContextVar[bool] = ContextVar("has_changed", default=False)
+IS_CONFIRMED: ContextVar[bool] = ContextVar("is_confirmed", default=False)
+
+
+def begin_call() -> None:
+    """Begins a call, of which nothing is done yet."""
+    HAS_CHANGED.set(False)
+    IS_CONFIRMED.set(False)
+
+
 _KEY = re.compile(r"[^ :\[][^ :]*:[SN]")
 Answer = Dict[str, Any]
 
@@ -27,6 +41,12 @@ class Lines(Protocol):
 
     async def ask(self, question: bytes) -> bytes:
         """The answer to a question."""
+
+    async def ask_follower(self, question: bytes) -> bytes:
+        """The same, also if this server of a cluster doesn't lead."""
+
+    async def confirm(self) -> None:
+        """Raises `Elsewhere` if this server of a cluster doesn't lead."""
 
 
 @dataclass(frozen=True)
@@ -96,6 +116,9 @@ class Book:
         """The replies to lines that are given in a row. Lines of others may come between."""
         data = [line.encode() for line in lines]
         replies = await asyncio.gather(*(self._lines.give(caller, line) for line in data))
+        if any(accepted(line, reply) for line, reply in zip(data, replies)):
+            HAS_CHANGED.set(True)
+        IS_CONFIRMED.set(True)
         return [reply.decode().rstrip("\n") for reply in replies]
 
     async def items(self, caller: str) -> List[Answer]:
@@ -116,9 +139,24 @@ class Book:
 
     async def ask(self, question: str) -> Answer:
         """The answer to a question. One that has none has `error`."""
+        answer = await self._answer(self._lines.ask, question)
+        IS_CONFIRMED.set(True)
+        return answer
+
+    async def confirm(self) -> None:
+        """Has whatever a call was answered from be the book's, if the call has neither given a line nor asked a question."""
+        if not IS_CONFIRMED.get():
+            await self._lines.confirm()
+            IS_CONFIRMED.set(True)
+
+    async def count(self) -> int:
+        """How many lines the book has, before any is given."""
+        return int((await self._answer(self._lines.ask_follower, "machines"))["entries"])
+
+    async def _answer(self, ask: Callable[[bytes], Awaitable[bytes]], question: str) -> Answer:
         ends = time.monotonic() + PATIENCE
         while True:
-            answer = json.loads(await self._lines.ask(f"? {question}".encode()))
+            answer = json.loads(await ask(f"? {question}".encode()))
             # an answer with entries may have the error of an execution
             why = None if "entries" in answer else answer.get("error")
             if why == "out of memory":
@@ -189,8 +227,22 @@ def canonical(value: Any) -> str:
     return json.dumps(value, sort_keys=True, separators=(",", ":"), ensure_ascii=False)
 
 
+def elsewhere_fault(why: Elsewhere) -> Fault:
+    """What is answered while another server of a cluster leads, or none, if this call has changed nothing.
+
+    Tools give a call with a status from 500 on again, which helps if this server may soon lead. A call for another machine is told so.
+    If this call has changed something it is an `Ended`, since nobody knows whether all of it is done.
+    """
+    if HAS_CHANGED.get():
+        raise Ended
+    text = f"{why}: nothing was changed"
+    return Fault("NotLeader", text, 421) if why.is_led else Fault("ServiceUnavailable", text, 503)
+
+
 def own_fault(reply: str) -> Fault:
     """What is answered of a refusal that isn't the caller's doing."""
     code = refusal_of(reply)
+    if code == ELSEWHERE:
+        raise Elsewhere(reply.encode())
     why = {11: "out of memory", 24: "the journal takes no line now: see to the server's disk"}
     return Fault("InternalServerError", why.get(code or 0, f"the book answers {reply[:200]!r}"), 500)

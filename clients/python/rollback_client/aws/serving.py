@@ -13,9 +13,9 @@ from typing import TYPE_CHECKING, Optional
 from aiohttp import web
 
 from ..server.speaking import say
-from ..server.within import Ended
+from ..server.within import Elsewhere, Ended
 from .actions import Actions
-from .book import Book, Table, Watch
+from .book import Book, Table, Watch, begin_call, elsewhere_fault
 from .names import Arns
 from .signing import Credentials, Signed, signature_of
 from .store import Store
@@ -29,12 +29,19 @@ SOON = 0.2  # seconds until what changed is written
 OPEN = "--aws checks no signature: whoever reaches the port may write. --credentials FILE checks them"
 
 
+def credentials_of(words: Words) -> Optional[Credentials]:
+    """Who may call, by `--credentials`. Without it that is everybody, which is said."""
+    if words.credentials is None:
+        say(OPEN)
+        return None
+    return Credentials.read(words.credentials)
+
+
 class Amazon:
     """Answers the calls of both services."""
 
-    def __init__(self, server: Server, words: Words):
-        self._server, self._words = server, words
-        self._credentials = Credentials.read(words.credentials) if words.credentials is not None else None
+    def __init__(self, server: Server, words: Words, credentials: Optional[Credentials]):
+        self._server, self._words, self._credentials = server, words, credentials
         path = None if words.journal is None else f"{words.journal}-aws"
         self._store = Store(path, time.time(), say)
         self._watch = Watch(self._store, 0)
@@ -43,8 +50,8 @@ class Amazon:
         self._flushing: Optional[asyncio.TimerHandle] = None
 
     async def begin(self) -> None:
-        """Learns what the book has, before anybody gives a line, and begins a table if that is wanted."""
-        self._watch.entries = int((await self._book.ask("machines"))["entries"])
+        """Learns what the book has, before any line is given."""
+        self._watch.entries = await self._book.count()
         self._store.forget_from(self._watch.entries)
         if self._watch.entries and self._words.journal is not None:
             self._watch.table = table_of_journal(self._words.journal)
@@ -57,23 +64,21 @@ class Amazon:
             return follow(line, reply) if follow is not None else count
 
         self._server.turns.follow = both
-        if self._credentials is None:
-            say(OPEN)
-        await self._begin_table()
 
-    async def _begin_table(self) -> None:
-        """Begins the book with the table of `--table`, if it has none. Another table than that is a `ValueError`."""
+    def wants_table(self) -> bool:
+        """Whether the book has no table, and `--table` names one. Another table than that is a `ValueError`."""
         wanted, there = self._words.table, self._watch.table
-        if wanted is None:
-            return
-        if there is None:
-            keys = " ".join(f"{name}:{kind}" for name, kind in wanted.key)
-            (reply,) = await self._book.give("aws", f"table {wanted.name} {keys} []")
-            if reply != "ok":
-                raise ValueError(f"the book can't be begun by --table: it answers {reply}")
-        elif there != wanted:
+        if wanted is not None and there is not None and there != wanted:
             keys = " ".join(f"{name}:{kind}" for name, kind in there.key)
             raise ValueError(f"--table isn't the book's: that is {there.name} {keys}")
+        return wanted is not None and there is None
+
+    async def begin_table(self) -> str:
+        """Begins the book with the table of `--table`, and answers the reply."""
+        wanted = self._words.table
+        keys = " ".join(f"{name}:{kind}" for name, kind in wanted.key)
+        (reply,) = await self._book.give("aws", f"table {wanted.name} {keys} []")
+        return reply
 
     def _flush_soon(self) -> None:
         if self._flushing is None and self._store.wants_flush:
@@ -95,6 +100,7 @@ class Amazon:
         """Answers a request of a tool."""
         identity = str(uuid.uuid4())
         call = Call(_service_of(request), "", {})
+        begin_call()
         try:
             try:
                 data = await request.read()
@@ -109,6 +115,8 @@ class Amazon:
         except RecursionError:
             too_deep = Fault("SerializationException", "the request nests too deep")
             reply = reply_of_fault(call.service, too_deep, call.headers, identity)
+        except Elsewhere as why:
+            reply = reply_of_fault(call.service, elsewhere_fault(why), call.headers, identity)
         except Ended:
             raise
         except Exception as fault:
@@ -129,6 +137,12 @@ class Amazon:
             path = request.rel_url.raw_path
             self._credentials.check(signature, Signed(request.method, path, query, headers, data), time.time())
         return f"aws {signature.key}"
+
+
+def elsewhere_response(request: web.Request, why: Elsewhere) -> web.StreamResponse:
+    """The answer to a request of a tool while this server of a cluster doesn't lead."""
+    begin_call()
+    return _response_of(reply_of_fault(_service_of(request), elsewhere_fault(why), {}, str(uuid.uuid4())))
 
 
 def _service_of(request: web.Request) -> Service:

@@ -151,12 +151,12 @@ class Tables:
 
     async def list_tags(self, caller: str, call: Call) -> Answer:
         """ListTagsOfResource."""
-        fact = self._tagged(call)
+        fact = await self._tagged(call)
         return {"Tags": tags.listed(fact["tags"], "Key", "Value")}
 
     async def tag(self, caller: str, call: Call) -> Answer:
         """TagResource."""
-        fact = self._tagged(call)
+        fact = await self._tagged(call)
         more = tags.tags_of(Members(call.body).listed("Tags"), "Key", "Value", "Tags")
         found = tags.with_more(fact["tags"], more, "ValidationException")
         self._book.store.keep_fact("table", {**fact, "tags": found})
@@ -164,14 +164,17 @@ class Tables:
 
     async def untag(self, caller: str, call: Call) -> Answer:
         """UntagResource."""
-        fact = self._tagged(call)
+        fact = await self._tagged(call)
         gone = tags.keys_of(Members(call.body).listed("TagKeys"), "TagKeys")
         left = {key: value for key, value in fact["tags"].items() if key not in gone}
         self._book.store.keep_fact("table", {**fact, "tags": left})
         return {}
 
-    def _tagged(self, call: Call) -> Answer:
-        return self._fact(table_for(self._book, Members(call.body).text("ResourceArn", 1283)))
+    async def _tagged(self, call: Call) -> Answer:
+        """What is known of the table. Nothing of it is changed before it is certain that it is the book's."""
+        table = table_for(self._book, Members(call.body).text("ResourceArn", 1283))
+        await self._book.confirm()
+        return self._fact(table)
 
 
 def _look_at_throughput(members: Members) -> None:

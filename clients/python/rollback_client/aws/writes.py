@@ -6,7 +6,8 @@ import uuid
 from dataclasses import dataclass
 from typing import Any, Dict, List, Optional, Tuple
 
-from .book import Book, Table, canonical, own_fault, refusal_of
+from ..server.within import Elsewhere
+from .book import ELSEWHERE, Book, Table, canonical, own_fault, refusal_of
 from .events import CONDITION
 from .expressions import Substitutions, condition_of, no_other
 from .items import NOT_TAKEN, key_of, look_at_key
@@ -187,6 +188,8 @@ class Writes:
             explained = await self._book.ask(f"explain {name}")
             await self._undo(caller, f"{name}#1", f"{name}#0")
             raise Fault("ValidationException", _why(explained, show))
+        if ELSEWHERE in (refusal_of(step), refusal_of(show)):
+            raise Elsewhere(show.encode())  # a start that is in the book is stepped by the next leader's runner
         code = refusal_of(step)
         if code is not None and code not in (5, 6):
             await self._undo(caller, f"{name}#0")

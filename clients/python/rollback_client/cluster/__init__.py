@@ -10,6 +10,8 @@ journal     the rows of a server's own journal: whose they are, and those that a
 replica     how far a server's own book is in the log
 gate        replies that wait until the log has the lines before them
 turns       callers' turns at a server that may lead, stand by, or have no book open
+lines       what the console and Amazon's calls give and ask
+http        the console and Amazon's calls, at the server that leads
 standing    a server that stands by: it enters lines, answers questions, and tries to lead
 leading     the server that leads
 seeding     an empty log that is filled from a journal

@@ -7,6 +7,7 @@ from __future__ import annotations
 
 import asyncio
 import json
+import os
 import ssl
 from typing import Any, AsyncIterator, Optional, Sequence, Tuple
 
@@ -46,7 +47,7 @@ class Etcd:
             try:
                 status, answer = await self.ask(member, path, body)
             except (aiohttp.ClientError, asyncio.TimeoutError, ValueError) as fault:
-                causes.append(f"{member}: {str(fault) or type(fault).__name__}")
+                causes.append(f"{member}: {_why(fault)}")
                 continue
             said = json.dumps(answer.get("error", ""))
             if "database space exceeded" in said:
@@ -99,3 +100,13 @@ class Etcd:
         if found and self.cluster_id not in (None, found):
             raise BrokenLog(f"{member} is of another etcd: its cluster_id is {found}, and not {self.cluster_id}")
         self.cluster_id = found or self.cluster_id
+
+
+def _why(fault: Exception) -> str:
+    """Why a member doesn't answer, in few words."""
+    if isinstance(fault, asyncio.TimeoutError):
+        return "no answer in time"
+    if isinstance(fault, aiohttp.ClientConnectorError) and not isinstance(fault, aiohttp.ClientSSLError):
+        # that a name isn't found has a negative number, which isn't the system's
+        return os.strerror(fault.errno) if fault.errno and fault.errno > 0 else fault.strerror or str(fault)
+    return str(fault) or type(fault).__name__

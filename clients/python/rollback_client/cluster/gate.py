@@ -85,6 +85,10 @@ class Gate:
         """Whether nothing waits."""
         return not self._entries and not self._held
 
+    def has_no_lines(self) -> bool:
+        """Whether the log has all lines of the book."""
+        return not self._entries
+
     async def something(self) -> None:
         """Waits until something waits here."""
         while self.is_empty():

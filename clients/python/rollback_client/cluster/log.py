@@ -117,7 +117,9 @@ class Log:
 
     async def campaign(self, address: str, version: str) -> bool:
         """Tries to lead. Another server leads if the key is there already."""
+        await self.resign()  # of an earlier try it may not be known what became of it
         lease = str((await self.etcd.call("lease/grant", {"TTL": self.ttl}))["ID"])
+        self._lease = lease  # whatever breaks this off, `resign` ends it: a key of nobody would be waited for
         put = {"key": text(self._leader_key), "value": text(f"{address} {version}".encode()), "lease": lease}
         try:
             compare = [{"key": text(self._leader_key), "target": "CREATE", "create_revision": 0}]
@@ -125,11 +127,11 @@ class Log:
             # Whether the key is ours says the key itself: the transaction may have been carried out twice.
             found = await self.leader()
             if found and found.lease == lease:
-                self._lease, self.term = lease, found.term
+                self.term = found.term
                 return True
-            await self.etcd.call("lease/revoke", {"ID": lease})
         except NoLease:
             pass  # this server stood still for longer than that
+        await self.resign()
         return False
 
     async def renew(self) -> None:
@@ -258,6 +260,8 @@ class Log:
 
     async def keep(self, name: str, value: bytes) -> None:
         """Keeps a value beside the lines for whichever server leads later. Raises `Deposed` if this one leads no more."""
+        if not self.term:
+            raise Deposed  # the comparison below would hold while nobody leads
         key = text(self._prefix + name.encode())
         answer = await self.etcd.call(
             "kv/txn",

@@ -3,6 +3,7 @@ from __future__ import annotations
 
 import asyncio
 import subprocess
+import time
 from typing import Callable, List
 
 from ..lines import LISTS, Replies
@@ -12,6 +13,7 @@ from .log import Log
 from .tasks import end
 
 PAUSE = 0.2  # seconds between two tries
+PATIENCE = 2.0  # seconds beyond the lease of a server that may be gone
 _LISTS = frozenset(word.encode() for word in LISTS)
 
 
@@ -39,10 +41,7 @@ class Seeding:
     async def fill(self, program: str, rows: List[bytes], common: int) -> None:
         """Puts the lines that the log lacks. Nobody leads before the log has all. Raises `BrokenLog` if another server leads."""
         entries = await asyncio.to_thread(replayed, program, rows)
-        if not await self._log.campaign(self._address, self._version):
-            raise BrokenLog(
-                "another server leads, so the log isn't filled: end it, and begin this one with --seed first"
-            )
+        await self._come_to_lead()
         renewing = asyncio.ensure_future(self._renew())
         try:
             if await self._log.newest(common) >= common:
@@ -58,6 +57,16 @@ class Seeding:
             await end(renewing)
             await self._log.resign()
         self._tell("seeded", f"the log is filled with the {len(rows)} lines of the journal")
+
+    async def _come_to_lead(self) -> None:
+        """Leads. The key of a server that is gone is waited for: it ends with its lease."""
+        ends = time.monotonic() + self._log.ttl + PATIENCE
+        while not await self._log.campaign(self._address, self._version):
+            if time.monotonic() > ends:
+                raise BrokenLog(
+                    "another server leads, so the log isn't filled: end it, and begin this one with --seed first"
+                )
+            await asyncio.sleep(PAUSE)
 
     async def _append(self, number: int, chain: str, part: List[Entry]) -> None:
         while True:

@@ -5,7 +5,7 @@ import asyncio
 import json
 import ssl
 import subprocess
-from typing import Any, Optional, Tuple, Union, cast
+from typing import TYPE_CHECKING, Any, Optional, Tuple, Union, cast
 
 from ..links import host_and_port
 from ..runner.clock_file import ClockFile
@@ -15,10 +15,14 @@ from ..server.running import Server
 from ..server.speaking import say
 from .etcd import Etcd, client_tls
 from .faults import Deposed, ProgramGone, Stopped, Unreachable
+from .lines import ClusterLines
 from .log import Log
 from .member import Identity, Member
 from .turns import PLACE, ClusterTurns, Role
 from .words import ClusterWords
+
+if TYPE_CHECKING:
+    from .http import Http
 
 PAUSED = "paused"  # the key in etcd of what is paused
 PAUSE = 0.2  # seconds between two tries
@@ -41,7 +45,7 @@ class ClusterCaller(Caller):
         turn = super().next_turn()
         if isinstance(turn, Given) and turn.asked.head == b"!place":
             turn.asked.own = self.server.place()
-        return self.server.turns.admit(turn) if turn is not None else None
+        return turn
 
 
 class ClusterServer(Server):
@@ -54,9 +58,12 @@ class ClusterServer(Server):
         super().__init__(words)
         self.turns = ClusterTurns(self._write, self._own)
         self.turns.ask = self._ask_follower
+        self.lines = ClusterLines(self, self.turns)
+        self.name = words.listen  # as the others tell it to callers
         self._log: Log
         self._member: Member
         self._version = ""
+        self._http: Optional[Http] = None
 
     # ---- the beginning and the end
 
@@ -74,23 +81,34 @@ class ClusterServer(Server):
         tls = client_tls(words.etcd_tls) if words.etcd_tls else None
         self._log = Log(Etcd(words.cluster, words.ttl / 4, tls), f"/rollback/{words.book}", words.ttl)
         try:
+            if words.http is not None:
+                from .http import Http  # a server without pages doesn't need it
+
+                self._http = Http(self, words, self.turns)
             try:
+                if self._http is not None:
+                    await self._http.listen()
                 listening = await self._listen()
             except ssl.SSLError:
                 raise
             except OSError as fault:
                 # An address that isn't there yet may come: unlike wrong words it is worth another try.
-                self.tell("ends", f"{words.listen} can't be listened on: {fault}")
+                places = " or ".join(place for place in (words.listen, words.http) if place is not None)
+                self.tell("ends", f"{places} can't be listened on: {fault}")
                 return 1
             port = cast(asyncio.base_events.Server, listening).sockets[0].getsockname()[1]
-            name = f"{words.listen.rpartition(':')[0]}:{port}"
-            who = Identity(name, words.book, words.program, self._version, words.journal, words.seed, words.wait)
+            self.name = f"{words.listen.rpartition(':')[0]}:{port}"
+            who = Identity(self.name, words.book, words.program, self._version, words.journal, words.seed, words.wait)
             self._member = Member(who, self._log, self.turns, self, self.tell)
             return await self._serve(listening)
         finally:
+            if self._http is not None:
+                await self._http.end()
             await self._log.etcd.close()
 
     async def _serve(self, listening: asyncio.AbstractServer) -> int:
+        if self._http is not None:
+            self._http.say_where()
         life = asyncio.ensure_future(self._member.live_on())
         ending = asyncio.ensure_future(self._asked_to_end.wait())
         await asyncio.wait([life, ending], return_when=asyncio.FIRST_COMPLETED)
@@ -99,13 +117,19 @@ class ClusterServer(Server):
         # What is at hand is answered, and what comes from now on refused, so that callers know of each line what became of it.
         self.turns.is_ending = True
         self.turns.refusal = self.turns.refusal or "election"
+        if self._http is not None:
+            self._http.stop()
+        if self._runners is not None and self._runners.inside is not None:
+            await self._runners.inside.end()  # its steps would always be at hand
         for caller in list(self.callers):
             self.turns.end_pieces(caller)
+        self.lines.stop()
         self.turns.go_on()
         await self._until(lambda: life.done() or self.turns.is_done(), ends)
         ending.cancel()
         status = await self._end_of(life)
         self.is_ending = True
+        self.lines.end()
         for caller in list(self.callers):
             caller.stop()
             caller.drop_lines()
@@ -129,6 +153,9 @@ class ClusterServer(Server):
         except Stopped as fault:
             self.tell("ends", f"{type(fault).__name__}: {fault}")
             return fault.status
+        except ValueError as fault:
+            self.tell("ends", str(fault))  # words that the book doesn't fit
+            return 2
         return 1
 
     # ---- the program
@@ -149,6 +176,12 @@ class ClusterServer(Server):
             # It could follow when this server began: unlike wrong words it is worth another try.
             await self.end_program()
             raise ProgramGone(str(fault)) from fault
+        if self._http is not None:
+            try:
+                await self._http.begin_life()
+            except BaseException:
+                await self.end_program()
+                raise
 
     async def program_gone(self) -> None:
         """Waits until the program has ended by itself."""
@@ -158,6 +191,8 @@ class ClusterServer(Server):
     async def end_program(self) -> None:
         """Lets the program close its journal."""
         follower, self._follower, self.turns.follow = self._follower, None, None
+        if self._http is not None:
+            self._http.end_life()
         if follower is not None:
             await follower.end()
         if self._copies:
@@ -167,13 +202,20 @@ class ClusterServer(Server):
         await self._program.status()
 
     async def begin_leading(self, log: Log) -> None:
-        """Begins what runs at the leader alone: the runner, with what is paused, which outlasts the leader before."""
+        """Begins what runs at the leader alone: the runner, with what is paused, which outlasts the leader before, and the pages."""
         clock_file = ClockFile(f"{self.words.journal}-clock", say)
         clock_file.paused = {(kind, name) for kind, name in json.loads(await log.kept(PAUSED) or b"[]")}
+        if self._http is not None and self._follower is not None:
+            await self._http.begin_leading(self._follower, self._member.lines)
+        # From here to the leader's role nothing is waited for: a step that the runner gave before would be in no batch.
         self._begin_runner(clock_file, self._answer_for_runner)
+        if self._http is not None:
+            self._http.attach_runners(self._runners)
 
     async def end_leading(self) -> None:
         """Ends what runs at the leader alone."""
+        if self._http is not None:
+            self._http.end_leading()
         runners, self._runners = self._runners, None
         if runners is not None:
             await runners.end()
@@ -186,17 +228,23 @@ class ClusterServer(Server):
             self._answer(caller, asked, reply)
 
     async def _keep_paused(self, caller: Caller, asked: Asked) -> None:
-        reply = b"ok\n"
-        try:
-            while True:
-                try:
-                    await self._log.keep(PAUSED, self._runners.paused() if self._runners else b"[]")
-                    break
-                except Unreachable:
-                    await asyncio.sleep(PAUSE)
-        except (Deposed, Stopped):
-            reply = self.turns.refused()
-        self._answer(caller, asked, reply)
+        runners, is_known = self._runners, True
+        # What is paused is that of one term: behind it etcd has what counts.
+        while runners is not None and runners is self._runners:
+            try:
+                await self._log.keep(PAUSED, runners.paused())
+                self._answer(caller, asked, b"ok\n")
+                return
+            except Unreachable:
+                is_known = False
+                await asyncio.sleep(PAUSE)
+            except (Deposed, Stopped):
+                break
+        if is_known:
+            self._answer(caller, asked, self.turns.refused())
+        else:
+            self.turns.log_own(caller, asked, b"open\n")
+            caller.leave()
 
     def _has_program(self) -> bool:
         return hasattr(self, "_program")

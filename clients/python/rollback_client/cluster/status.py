@@ -4,8 +4,8 @@ from __future__ import annotations
 import asyncio
 import json
 import ssl
-from dataclasses import dataclass, field
-from typing import Any, List, Optional
+from dataclasses import asdict, dataclass, field
+from typing import Any, Dict, List, Optional
 
 import aiohttp
 
@@ -14,6 +14,7 @@ from .entries import MOST_LINES
 from .etcd import Etcd, client_tls
 from .faults import Stopped, Unreachable
 from .log import Leader, Log
+from .turns import PLACE
 from .words import ClusterWords
 
 PATIENCE = 3.0  # seconds that a server has to answer
@@ -55,14 +56,28 @@ class Status:
 
     @property
     def is_well(self) -> bool:
-        """Whether a server leads, all others stand by, and all members of etcd answer without an alarm."""
+        """Whether all was found, a server leads, all others stand by, and all members of etcd answer without an alarm."""
         does = sorted(server.does for server in self.servers)
         stand_by = does[:1] == ["leads"] and set(does[1:]) <= {"stands by"}
-        return bool(self.leader and stand_by and all(member.answers for member in self.etcd) and not self.alarms)
+        etcd_is_well = all(member.answers for member in self.etcd) and not self.alarms
+        return bool(self.leader and stand_by and etcd_is_well and not self.fault)
 
     def behind(self, server: Server) -> Optional[int]:
         """How many lines of the log a server lacks."""
         return None if self.lines is None or server.lines is None else max(0, self.lines - server.lines)
+
+    def as_json(self) -> Dict[str, Any]:
+        """All of it, for a page."""
+        return {
+            "book": self.book,
+            "leader": self.leader.address if self.leader else None,
+            "lines": self.lines,
+            "is_well": self.is_well,
+            "servers": [{**asdict(server), "behind": self.behind(server)} for server in self.servers],
+            "etcd": [asdict(member) for member in self.etcd],
+            "alarms": self.alarms,
+            "fault": self.fault,
+        }
 
     def text(self) -> str:
         """All of it, for people."""
@@ -95,9 +110,9 @@ async def show_status(words: ClusterWords) -> int:
 
 async def look(words: ClusterWords) -> Status:
     """Asks etcd, and each server that has taken part."""
+    tls = client_tls(words.tls) if words.tls else None
     etcd = Etcd(words.cluster, PATIENCE, client_tls(words.etcd_tls) if words.etcd_tls else None)
     log, found = Log(etcd, f"/rollback/{words.book}", words.ttl), Status(words.book)
-    tls = client_tls(words.tls) if words.tls else None
     try:
         found.etcd = list(await asyncio.gather(*(_etcd_member(etcd, url) for url in words.cluster)))
         found.leader = await log.leader()
@@ -105,7 +120,8 @@ async def look(words: ClusterWords) -> Status:
         found.servers = list(await asyncio.gather(*(_server(address, version, tls) for address, version in members)))
         furthest = max((server.lines or 0 for server in found.servers), default=0)
         found.lines = furthest
-        async for batch in log.batches(max(0, furthest - MOST_LINES)):
+        # of the batches before the last one the keys say enough
+        async for batch in log.batches(max(0, await log.newest(max(0, furthest - MOST_LINES)))):
             found.lines = max(found.lines, batch.end)
         alarms = await etcd.call("maintenance/alarm", {"action": "GET"})
         found.alarms = [
@@ -143,6 +159,9 @@ async def _place(address: str, tls: Optional[ssl.SSLContext]) -> Any:
     reader, writer = await asyncio.open_connection(host, port, ssl=tls)
     try:
         writer.write(b"!place\n")
-        return json.loads(await reader.readline())
+        said = await reader.readline()
+        if not said.startswith(PLACE):
+            raise ValueError(f"it says {said.decode(errors='replace').strip()[:80]!r}")
+        return json.loads(said)
     finally:
         writer.close()

@@ -3,13 +3,14 @@ from __future__ import annotations
 
 import asyncio
 import enum
+import time
 from typing import Callable, List, Optional, Set, Union
 
 from ..lines import LISTS, Replies
-from ..server.callers import Asked, Caller, Given
+from ..server.callers import HEAD, Asked, Caller, Given
 from ..server.follower import NO_FOLLOWER
 from ..server.pieces import Pieces
-from ..server.turns import Finished, Turns
+from ..server.turns import MOST_GIVEN, Finished, Turns
 from .entries import QUESTIONS, word_of
 from .faults import ProgramGone
 from .gate import Gate, Held
@@ -80,6 +81,18 @@ class ClusterTurns(Turns):
         asked.own = self.refused()
         return turn
 
+    def refusal_now(self) -> Optional[bytes]:
+        return None if self.role is Role.LEADER and not self.refusal else self.refused()
+
+    def give_at_once(self, caller: Caller, lines: List[bytes]) -> None:
+        """Gives lines before those that wait, while this server leads, and else refuses each: a runner may not know yet."""
+        if self.refusal_now() is None:
+            super().give_at_once(caller, lines)
+            return
+        now = time.monotonic()
+        for line in lines:
+            self._refuse(Given(caller, Asked(line, line[:HEAD], len(line), now), line, False))
+
     def take_question(self, caller: Caller, asked: Asked) -> None:
         """Answers a line that begins with `?`: at the leader now, at a standby once this book has what the log has."""
         given = Given(caller, asked, b"", False)
@@ -92,6 +105,16 @@ class ClusterTurns(Turns):
         else:
             self._following.add(given)
             asyncio.get_running_loop().call_soon(self.finish, given, self.refused())
+
+    def confirm(self, caller: Caller, asked: Asked) -> None:
+        """Answers nothing, once it is certain that this server leads, and that the log has all lines of its book."""
+        given = Given(caller, asked, b"", False)
+        refusal = self.refusal_now()
+        if refusal is None:
+            self.gate.keep(given, b"")
+        else:
+            self._following.add(given)
+            asyncio.get_running_loop().call_soon(self.finish, given, refusal)
 
     def refused(self) -> bytes:
         """The reply to a line that isn't taken."""
@@ -220,7 +243,7 @@ class ClusterTurns(Turns):
 
     def is_done(self) -> bool:
         """Whether no line is at hand."""
-        return self._has_nothing_at_hand() and not self.asking and not self._following
+        return not self._given and self.gate.is_empty() and not self.asking and not self._following
 
     def feed(self, data: bytes) -> None:
         if not self._is_cut_off:
@@ -264,10 +287,14 @@ class ClusterTurns(Turns):
         given.caller.leave()
 
     def _can_give(self) -> bool:
+        # A line that is refused isn't given to the program, so neither quiet nor room is waited for. A standby takes questions.
+        if self.refusal and self.role is not Role.STANDBY:
+            return bool(self._waiting) and len(self._given) < MOST_GIVEN
         return super()._can_give() and self.gate.has_room
 
     def _has_nothing_at_hand(self) -> bool:
-        return super()._has_nothing_at_hand() and self.gate.is_empty()
+        # Questions that wait for a read change nothing, and there may always be some.
+        return super()._has_nothing_at_hand() and self.gate.has_no_lines()
 
 
 def is_at_once(asked: Asked) -> bool:

@@ -30,11 +30,12 @@ class Asked:
     `entries` has the lines of the journal that it became, if somebody counts them: the first one's number, and how many.
     """
 
-    __slots__ = ("line", "head", "length", "since", "own", "entries")
+    __slots__ = ("line", "head", "length", "since", "own", "entries", "is_logged")
 
     def __init__(self, line: bytes, head: bytes, length: int, since: float, own: Optional[bytes] = None):
         self.line, self.head, self.length, self.since, self.own = line, head, length, since, own
         self.entries: List[Tuple[int, int]] = []
+        self.is_logged = True
 
     @property
     def is_for_server(self) -> bool:

@@ -140,7 +140,7 @@ class Follower:
     async def begin(self) -> None:
         """Begins it before any line is given. A program that can't follow is a `ValueError`."""
         try:
-            await self._start(self._copied())
+            await self._start(await asyncio.to_thread(self._copied))
         except (OSError, sqlite3.Error) as fault:
             raise ValueError(f"{self._graph} can't be begun: {fault}") from fault
         if self._process is None:
@@ -148,7 +148,7 @@ class Follower:
         self._spawn(self._keep_up())
 
     def _copied(self) -> Optional[str]:
-        """A copy of the journal in a folder of its own, in one file. The program has to be quiet."""
+        """A copy of the journal in a folder of its own, in one file. The program has to be quiet, and the server goes on meanwhile."""
         if self._journal is None:
             return None
         place = os.path.abspath(self._journal)
@@ -164,6 +164,8 @@ class Follower:
         except BaseException:
             shutil.rmtree(room, ignore_errors=True)
             raise
+        if self._is_ending:
+            shutil.rmtree(room, ignore_errors=True)  # nobody waits for it any more
         return made
 
     async def _start(self, made: Optional[str]) -> None:
@@ -234,7 +236,7 @@ class Follower:
         await is_quiet.wait()
         try:
             try:
-                made = self._copied()
+                made = await asyncio.to_thread(self._copied)
             finally:
                 self._since = []
                 self._turns.go_on_after_copy()

@@ -143,11 +143,11 @@ class InsideRunner:
         return told
 
     async def _begin_turn(self) -> None:
-        is_quiet = asyncio.Event()
-        self._has_turn = True
-        self._turns.when_quiet(is_quiet.set)
-        self._turns.go_on()
-        await is_quiet.wait()
+        is_quiet = self._turns.quiet()
+        try:
+            await is_quiet
+        finally:
+            self._has_turn = not is_quiet.cancelled()
 
     def _end_turn(self) -> None:
         if self._has_turn:

@@ -207,10 +207,14 @@ class Server:
     async def _begin_amazon(self) -> None:
         """Learns what the book has, before any line is given."""
         if self.words.aws:
-            from ..aws.serving import Amazon  # nor does who answers no tools of Amazon's need theirs
+            from ..aws.serving import Amazon, credentials_of  # a server without --aws doesn't need it
 
-            self._amazon = Amazon(self, self.words)
+            self._amazon = Amazon(self, self.words, credentials_of(self.words))
             await self._amazon.begin()
+            if self._amazon.wants_table():
+                reply = await self._amazon.begin_table()
+                if reply != "ok":
+                    raise ValueError(f"the book can't be begun by --table: it answers {reply}")
 
     def _begin_runner(self, clock_file: ClockFile, answer: Optional[Answer] = None) -> None:
         words, follower = self.words, self._follower
@@ -226,9 +230,11 @@ class Server:
             return
         from ..web.serving import Web  # who serves no pages needs no aiohttp
 
-        self._web = Web(self, self.words, self._follower, self._runners)
+        self._web = Web(self, self.words)
         if self._amazon is not None:
             self._web.amazon = self._amazon.handle
+        await self._web.attach(self._follower)
+        self._web.attach_runners(self._runners)
         await self._web.begin()
 
     async def _listen(self) -> asyncio.AbstractServer:

@@ -1,9 +1,10 @@
 """Whose line the program is given next: callers take turns, a line each, and few lines are with the program at once."""
 from __future__ import annotations
 
+import asyncio
 import time
 from collections import deque
-from typing import TYPE_CHECKING, Callable, Deque, Dict, List, Optional, Tuple
+from typing import TYPE_CHECKING, Callable, Deque, Dict, List, Optional, Tuple, Union
 
 from ..lines import Replies
 from .callers import HEAD, LISTS, Asked, Caller, Given
@@ -73,6 +74,29 @@ class Turns:
         self._quiet.append(action)
         self.is_stopped = True
 
+    def quiet(self) -> asyncio.Future[None]:
+        """Comes as `when_quiet` does. It ends by `go_on_after_copy`; if it is cancelled before it comes, it ends by itself."""
+        loop = asyncio.get_running_loop()
+        found: asyncio.Future[None] = loop.create_future()
+
+        def begin() -> None:
+            if found.cancelled():
+                loop.call_soon(self.go_on_after_copy)
+            else:
+                found.set_result(None)
+
+        self.when_quiet(begin)
+        self.go_on()
+        return found
+
+    def admit(self, turn: Union[Given, Asked]) -> Union[Given, Asked, None]:
+        """What becomes of a line at its turn. In a cluster not every server takes it."""
+        return turn
+
+    def refusal_now(self) -> Optional[bytes]:
+        """The reply to a line that isn't taken now, if lines aren't."""
+        return None
+
     def give_at_once(self, caller: Caller, lines: List[bytes]) -> None:
         """Gives lines before those that wait."""
         now = time.monotonic()
@@ -131,6 +155,7 @@ class Turns:
             if not caller.wants_turn:
                 continue
             turn = caller.next_turn()
+            turn = self.admit(turn) if turn is not None else None
             if turn is None:
                 continue
             if isinstance(turn, Asked):
@@ -171,7 +196,9 @@ class Turns:
     def _hand_on(self, finished: List[Finished]) -> None:
         if finished and self.log is not None:
             now = time.monotonic()
-            self.log.write([(given.caller.peer, given.asked, reply, now) for given, reply in finished])
+            self.log.write(
+                [(given.caller.peer, given.asked, reply, now) for given, reply in finished if given.asked.is_logged]
+            )
         replies: Dict[Caller, List[bytes]] = {}
         for given, reply in finished:
             replies.setdefault(given.caller, []).append(reply)

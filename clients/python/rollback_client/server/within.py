@@ -14,11 +14,32 @@ from .turns import Turns
 if TYPE_CHECKING:
     from .running import Server
 
+LOOKS_AGAIN = 0.5  # seconds after which a turn that is waited for may have been refused
 _CONNECTED = (b"!copy", b"!runner")  # lines for which a caller needs a connection
 
 
 class Ended(Exception):
     """The server ends. Whether the line is done isn't known."""
+
+
+class Elsewhere(Exception):
+    """The book isn't served here now, and nothing was changed: another server of the cluster leads, or none does."""
+
+    def __init__(self, reply: bytes):
+        super().__init__(where(reply))
+        self.reply = reply
+        self.is_led = reply.startswith(b"no 40 leader ")  # so it can be asked elsewhere
+
+
+def where(reply: bytes) -> str:
+    """A sentence on a refusal of a cluster, without its end."""
+    why, _, address = reply.decode(errors="replace").strip().removeprefix("no 40 ").partition(" ")
+    return {
+        "leader": f"the book is served by {address}, which leads",
+        "election": "no server leads the book now: another one soon does",
+        "quorum": "most members of etcd don't answer, so the book takes no line and answers nothing",
+        "space": "the quota of etcd's database is used up, so the book takes no line",
+    }.get(why, f"the book isn't served here now: {why}")
 
 
 class NamedCaller(Caller):
@@ -58,14 +79,17 @@ class NamedCaller(Caller):
 
 
 class Turn:
-    """A turn in which no other caller's line is given."""
+    """A turn in which no other caller's line is given. If it was refused, so is each line."""
 
-    def __init__(self, turns: Turns, caller: NamedCaller):
-        self._turns, self._caller = turns, caller
+    def __init__(self, turns: Turns, caller: NamedCaller, refusal: Optional[bytes]):
+        self._turns, self._caller, self._refusal = turns, caller, refusal
 
     async def give(self, line: bytes) -> bytes:
         """Gives a short line, and answers its reply."""
-        _look_at(line)
+        look_at(line)
+        refusal = self._refusal or self._turns.refusal_now()
+        if refusal is not None:
+            return refusal
         reply = self._caller.expect()
         self._caller.owed += 1
         self._turns.give_at_once(self._caller, [line])
@@ -88,7 +112,7 @@ class Lines:
 
         `has_left` says whether nobody waits for the reply any more: a drive ends then with the piece at hand.
         """
-        _look_at(line)
+        look_at(line)
         with self._called(name, has_left) as caller:
             reply = caller.expect()
             caller.take(line)
@@ -100,20 +124,31 @@ class Lines:
     async def turn(self, name: str) -> AsyncIterator[Turn]:
         """A turn for several lines with no other line between: `async with lines.turn(name) as turn: await turn.give(line)`."""
         with self._called(name) as caller:
-            await self._begin_turn()
+            refusal = self._turns.refusal_now() or await self._begin_turn()
             try:
-                yield Turn(self._turns, caller)
+                yield Turn(self._turns, caller, refusal)
             finally:
-                self._turns.go_on_after_copy()
+                if refusal is None:
+                    self._turns.go_on_after_copy()
 
     async def ask(self, question: bytes) -> bytes:
-        """Has the follower answer a question, as `? list`: a line of JSON without its line feed. It isn't in the log."""
-        _look_at(question)
+        """Has the follower answer a question, as `? list`: a line of JSON without its line feed. It isn't in the log.
+
+        In a cluster it raises `Elsewhere`, if this server doesn't lead.
+        """
+        return await self.ask_follower(question)
+
+    async def ask_follower(self, question: bytes) -> bytes:
+        """Has the follower answer a question, wherever this server is in the log."""
+        look_at(question)
         if self.follower is None:
             return NO_FOLLOWER
         answer: asyncio.Future[bytes] = asyncio.get_running_loop().create_future()
         self.follower.ask(question, lambda told: None if answer.done() else answer.set_result(told))
         return await answer
+
+    async def confirm(self) -> None:
+        """Answers if this server's book is the book now. In a cluster it raises `Elsewhere`, if this server doesn't lead."""
 
     @property
     def is_owed(self) -> bool:
@@ -144,26 +179,25 @@ class Lines:
             caller.is_gone = True
             self._callers.discard(caller)
 
-    async def _begin_turn(self) -> None:
-        is_quiet: asyncio.Future[None] = asyncio.get_running_loop().create_future()
-
-        def begin() -> None:
-            if is_quiet.cancelled():
-                asyncio.get_running_loop().call_soon(self._turns.go_on_after_copy)
-            else:
-                is_quiet.set_result(None)
-
-        self._turns.when_quiet(begin)
-        self._turns.go_on()
+    async def _begin_turn(self) -> Optional[bytes]:
+        """Waits for the turn. In a cluster that takes no lines any more it is refused meanwhile, by the reply that comes back."""
+        is_quiet = self._turns.quiet()
+        refusal = None
         try:
-            await is_quiet
+            while not is_quiet.done() and refusal is None:
+                await asyncio.wait([is_quiet], timeout=LOOKS_AGAIN)
+                refusal = None if is_quiet.done() else self._turns.refusal_now()
         except asyncio.CancelledError:
-            if not is_quiet.cancelled():
+            if is_quiet.done():
                 self._turns.go_on_after_copy()
             raise
+        finally:
+            is_quiet.cancel()
+        return refusal
 
 
-def _look_at(line: bytes) -> None:
+def look_at(line: bytes) -> None:
+    """Refuses what isn't one line, by a `ValueError`."""
     if not line or b"\n" in line or line.endswith(b"\r"):
         raise ValueError("a line isn't empty, and has no end within")
 

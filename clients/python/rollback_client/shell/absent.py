@@ -23,5 +23,5 @@ def _on_a_copy(shell: Shell, options: str) -> str:
     if place.address is not None:
         return f"begin the server with --ask, or ask a copy, as by: rollback-look {place.address} -- {options}"
     if place.journal is not None:
-        return f"ask it once this session has ended, as by: rollback_graph {place.journal} {options}"
+        return f"rollback_graph answers it, and isn't beside the program or on the path, as: rollback_graph {place.journal} {options}"
     return "keep the book in a journal, which rollback_graph can be asked about"

@@ -1,4 +1,4 @@
-"""The commands that are questions of a server: causes, item, explain, log."""
+"""The commands that are questions, of a server or of a journal's file: causes, item, explain, log."""
 from __future__ import annotations
 
 from typing import Any
@@ -19,8 +19,6 @@ def question(shell: Shell, text: str, options: str) -> dict[str, Any]:
     """The answer to a question. Without one, what is said instead is raised."""
     word = text.split(" ", 1)[0]
     try:
-        if not shell.session.answers_questions():
-            raise no_questions(shell, word, options)
         return shell.session.question(text)
     except NoFollower:
         raise no_questions(shell, word, options) from None
@@ -41,7 +39,8 @@ def _causes(shell: Shell, rest: str) -> None:
     words = rest.split()
     has_writes = words[1:] == ["writes"]
     step = given.step_name(given.exactly(words[0] if has_writes else rest, "causes STEP [writes]", 1)[0])
-    answer = question(shell, f"causes {step}{' writes' if has_writes else ''}", f"--causes {step}")
+    of_graph = f"--causes {step}{' --writes' if has_writes else ''}"
+    answer = question(shell, f"causes {step}{' writes' if has_writes else ''}", of_graph)
     if told(shell, answer):
         return
     for cause in answer["causes"]:
@@ -92,7 +91,7 @@ def _log(shell: Shell, rest: str) -> None:
         shell.output.say(entry_line(row))
 
 
-_OF_SERVER = "It needs a server that answers questions (rollback-serve --ask)."
+_OF_SERVER = "It needs a server that answers questions (rollback-serve --ask), or a journal's file and rollback_graph beside the program."
 
 COMMANDS = (
     Command(

@@ -7,7 +7,6 @@ from typing import Any, Mapping, Sequence
 from ..faults import NoAnswer
 from ..values import Done, Failed, Frame, Parked, Ready, frame_of
 from . import given
-from .absent import no_questions
 from .answers import execution_lines, outcome_of, text_of, what
 from .asking import question, told
 from .core import Command, Shell
@@ -68,6 +67,8 @@ def _show_step(shell: Shell, step: str) -> None:
             shell.output.say(f"  the item {of}: {_item_text(row['items'][name])}")
     for cause in row["on"]:
         shell.output.say(f"  depends on {cause['step']} ({cause['reason']})")
+    if "waited" in row:
+        shell.output.say(f"  waited for the branches up to {row['waited']}")
     for later in answer["dependents"]:
         shell.output.say(f"  {later['step']} depends on it ({later['reason']})")
 
@@ -149,11 +150,10 @@ def _row(shell: Shell, execution: str, steps: int) -> list[str]:
 
 
 def _list(shell: Shell, rest: str) -> None:
-    if shell.session.answers_questions():
+    # without words a list can be made of other commands, so a file isn't read for it
+    if rest.strip() or shell.session.answers_questions():
         _list_by_question(shell, rest)
         return
-    if rest.strip():
-        raise no_questions(shell, f"list {rest.strip()}", "--list")
     steps: dict[str, int] = {}
     for step in shell.ask("history")[1:]:
         execution = step.partition("#")[0].partition("/")[0]
@@ -175,7 +175,8 @@ def _list_by_question(shell: Shell, rest: str) -> None:
     words = rest.split()
     if words not in ([], ["failed"], ["open"], ["done"]) and not (len(words) == 2 and words[0] == "machine"):
         raise Refused("a list is of all, failed, open or done executions, or of a machine's", "write list machine NAME")
-    answer = question(shell, " ".join(["list", *words]), "--list")
+    of_graph = "".join(f" --{word}" for word in words[:1]) + "".join(f" {name}" for name in words[1:])
+    answer = question(shell, " ".join(["list", *words]), f"--list{of_graph}")
     if told(shell, answer):
         return
     rows = [
@@ -210,8 +211,8 @@ COMMANDS = (
         "lists the executions, with their status",
         _list,
         (
-            "The words behind it need a server that answers questions (rollback-serve --ask).",
-            "Without one an execution of which all steps are settled isn't listed: show it by its name.",
+            "The words behind it need a server that answers questions (rollback-serve --ask), or a journal's file and rollback_graph.",
+            "At a server that answers none, and without words, an execution of which all steps are settled isn't listed: show it by its name.",
         ),
         ("", "machine"),
     ),

@@ -142,6 +142,24 @@ def _journal_refused(words: list[str], detail: str, names: Names) -> _Explained:
     return "the journal takes no line now, and nothing was changed", "see to the disk, and give the line again"
 
 
+def _not_here(words: list[str], detail: str, names: Names) -> _Explained:
+    """The refusals of a server on three machines."""
+    why, _, leader = detail.partition(" ")
+    again = "nothing was changed: give the line again"
+    return {
+        "leader": (
+            f"another server leads, {leader}, and takes this line",
+            f"begin the shell anew, as: rollback-shell {leader}",
+        ),
+        "election": ("no server leads now", f"{again} in some seconds"),
+        "quorum": (
+            "most members of etcd don't answer",
+            f"{again} once they do, and see rollback-serve .. --cluster-status",
+        ),
+        "space": ("the quota of etcd's database is used up", f"{again} once there is room: docs/CLUSTER.md"),
+    }.get(why, (f"the book takes no line now ({detail})", again))
+
+
 def _bad_json(words: list[str], detail: str, names: Names) -> _Explained:
     if detail == "2":
         return (
@@ -170,4 +188,5 @@ _EXPLAINED: dict[int, Callable[[list[str], str, Names], _Explained]] = {
     23: _bad_beginning,
     24: _journal_refused,
     25: _bad_json,
+    40: _not_here,
 }

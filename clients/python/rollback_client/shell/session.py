@@ -1,6 +1,8 @@
 """The book that a shell speaks to: opened when it is needed, and opened anew after its program or server has gone."""
 from __future__ import annotations
 
+import signal
+import subprocess
 from dataclasses import dataclass
 from typing import Any, Optional, TypeVar
 
@@ -69,7 +71,7 @@ class Session:
     def answers_questions(self) -> bool:
         """Whether the server answers questions now, as causes and items with their writers.
 
-        All commands of the shell that ask one look here, and nowhere else.
+        All commands of the shell that show more if they can ask one look here, and nowhere else.
         """
         if self.place.address is None:
             return False
@@ -82,8 +84,35 @@ class Session:
         return True
 
     def question(self, text: str) -> dict[str, Any]:
-        """Asks a question of the server. `NoFollower` says that it answers none, and `NoAnswer` that it has no answer."""
-        return self.give(questions.question(text))
+        """Asks a question: of the server, or of the journal's file. `NoFollower` says that nobody answers, `NoAnswer` that there is no answer."""
+        command = questions.question(text)
+        return self.give(command) if self.place.address is not None else self._asked_of_file(command)
+
+    def _asked_of_file(self, command: commands.Command[dict[str, Any]]) -> dict[str, Any]:
+        """Has rollback_graph answer, which reads the file that this session has open, from its first line on."""
+        from ..server.follower import graph_beside  # a shell of a server needs none of these
+        from ..server.program import meaning
+
+        nobody = NoFollower(0, "no follower", command.line)
+        if self.place.journal is None:
+            raise nobody
+        try:
+            graph = graph_beside(self.place.program, None)
+            asked = [graph, self.place.journal, "--serve"]
+            done = subprocess.run(
+                asked, input=f"{command.line}\n".encode(), stdout=subprocess.PIPE, stderr=subprocess.PIPE, check=False
+            )
+        except (OSError, ValueError):
+            raise nobody from None
+        if done.returncode == -signal.SIGINT:
+            raise Gone("the question was broken off")
+        if done.returncode or not done.stdout:
+            why = meaning(done.stderr.decode(errors="replace").strip(), self.place.journal)
+            raise Gone(f"rollback_graph can't answer: {why or f'it ended with status {done.returncode}'}")
+        told = command.outcome(done.stdout)
+        if isinstance(told, Refusal):
+            raise told
+        return told
 
     # ---- lines
 

@@ -24,7 +24,12 @@ class Events:
     def __init__(self, console: Web):
         self._console = console
         self._open: Set[asyncio.Event] = set()
-        self.begun = secrets.token_hex(8)  # another one says that this is another server
+        self.begun = ""
+        self.begin()
+
+    def begin(self) -> None:
+        """Says that it is another server, or another life of one: a page reads all anew."""
+        self.begun = secrets.token_hex(8)
 
     def news(self) -> None:
         """Has each stream say what is so now."""
@@ -37,7 +42,7 @@ class Events:
         return {
             "begun": self.begun,
             "entries": console.seen.entries,
-            "follows": console.follower.is_there,
+            "follows": console.follows(),
             "paused": console.paused(),
             "runs": console.runs(),
         }
@@ -60,7 +65,7 @@ class Events:
 
     async def _say(self, response: web.StreamResponse, news: asyncio.Event) -> None:
         said = None
-        while not self._console.is_ending:
+        while not self._console.is_ending and self._console.elsewhere() is None:
             news.clear()
             state = self.state()
             await response.write(b": \n\n" if state == said else f"data: {json.dumps(state)}\n\n".encode())

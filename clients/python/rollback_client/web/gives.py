@@ -10,6 +10,7 @@ from .. import lines
 from ..faults import BadLine, RollbackError, refusal_of
 from ..lint import lint_text
 from ..shell.refusing import Names, explained
+from ..server.within import Elsewhere
 from .guards import Refused
 from .requests import json_reply, line_of, read_body, text_of
 
@@ -79,10 +80,12 @@ def _names(body: Dict[str, Any]) -> List[str]:
 
 
 def _replied(line: str, reply: bytes) -> web.Response:
-    """The reply, and of a refusal what it means."""
+    """The reply, and of a refusal what it means. That of a cluster is an `Elsewhere`."""
     text = reply.decode(errors="replace")
     if not text.startswith("no "):
         return json_reply({"reply": text})
+    if text.startswith("no 40 "):
+        raise Elsewhere(reply)
     try:
         refusal = refusal_of(text.rstrip("\n"), line)
         sentence = str(explained(refusal, line, _NOBODY))

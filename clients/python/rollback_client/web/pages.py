@@ -1,6 +1,7 @@
 """What has nothing of the book: the page, the viewer that the follower's program has, and the console's own script and style."""
 from __future__ import annotations
 
+import html
 import pathlib
 import subprocess
 from typing import Dict, List, Tuple
@@ -23,6 +24,22 @@ PAGE = """<!doctype html>
 </head>
 <body>
 <noscript><p>The console needs JavaScript. Without it rollback-shell and rollback-look show the book.</p></noscript>
+</body>
+</html>
+"""
+ELSEWHERE = """<!doctype html>
+<html lang="en">
+<head>
+<meta charset="utf-8">
+<meta name="viewport" content="width=device-width, initial-scale=1">
+<meta http-equiv="refresh" content="3">
+<title>rollback</title>
+<link rel="icon" href="data:,">
+</head>
+<body>
+<h1>No book is served here</h1>
+<p>{why}.</p>
+<p>The console is on the machine that leads, by a link of its own. This page looks again every three seconds.</p>
 </body>
 </html>
 """
@@ -54,6 +71,11 @@ class Pages:
     def page(self) -> web.Response:
         """The page, which asks for all else."""
         return _response(PAGE, "html")
+
+    def elsewhere(self, why: str, status: int) -> web.Response:
+        """A plain page on a sentence that says why there is no book here."""
+        text = ELSEWHERE.replace("{why}", html.escape(why[:1].upper() + why[1:]))
+        return web.Response(text=text, status=status, content_type="text/html", charset="utf-8")
 
     def is_open(self, path: str) -> bool:
         """Whether everybody gets what is at a path."""

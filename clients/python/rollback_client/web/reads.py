@@ -48,6 +48,7 @@ class Reads:
             "file": os.path.basename(words.journal) if words.journal is not None else None,
             "has_log": words.log is not None,
             "read_only": words.read_only,
+            "cluster": console.cluster_status is not None,
             "runner_within": words.run,
         }
         return json_reply(said)

@@ -58,16 +58,9 @@ class Seen:
             del self._kept[: MOST_KEPT // 2]
             del self._firsts[: MOST_KEPT // 2]
 
-    def read(self, path: str) -> None:
-        """Takes what the log says of lines before. What isn't a line of it is passed over."""
-        found: Dict[int, Kept] = {}
-        try:
-            with open(path, "rb") as file:
-                file.seek(max(0, os.fstat(file.fileno()).st_size - MOST_OF_LOG))
-                for line in file:
-                    found.update({kept.first: kept for kept in _logged(line) if kept.end <= self.entries})
-        except OSError:
-            return
+    def take(self, logged: List[Kept]) -> None:
+        """Takes what the log says of lines before, as `logged_in` has it. Nothing is noted yet."""
+        found = {kept.first: kept for kept in logged if kept.end <= self.entries}
         for first in sorted(found):
             self._note(found[first])
 
@@ -100,9 +93,24 @@ def who_of(peer: Any) -> str:
     return str(peer).removeprefix("token ")
 
 
+def logged_in(path: str) -> List[Kept]:
+    """What a log says of lines of the journal. What isn't a line of it is passed over. It takes a second for a long one."""
+    found: List[Kept] = []
+    try:
+        with open(path, "rb") as file:
+            file.seek(max(0, os.fstat(file.fileno()).st_size - MOST_OF_LOG))
+            for line in file:
+                found += _logged(line)
+    except OSError:
+        pass
+    return found
+
+
 def _logged(line: bytes) -> List[Kept]:
     try:
         told = json.loads(line)
+        if not told["reply"].startswith("ok"):
+            return []  # on three machines: another leader's line may have that number
         when = datetime.fromisoformat(told["time"].replace("Z", "+00:00")).timestamp()
         who, word = who_of(told["caller"]), told["line"].split(" ", 1)[0]
         return [Kept(int(first), int(count), who, word, when) for first, count in told.get("entries", [])]

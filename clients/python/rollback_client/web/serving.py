@@ -2,6 +2,8 @@
 
 A handler finds the caller's name for the log in `request["caller"]`. It gives lines and asks questions by `server.lines`. `amazon`, if it
 is set before `begin`, takes each POST of `/`: it has no token and no Origin.
+
+In a cluster the console listens on each machine, and has a book only while its server leads: `attach` and `detach` say so.
 """
 from __future__ import annotations
 
@@ -10,7 +12,7 @@ import hashlib
 import json
 import os
 import time
-from typing import TYPE_CHECKING, List, Optional
+from typing import TYPE_CHECKING, Any, Awaitable, Callable, Dict, List, Optional
 
 from aiohttp import web
 
@@ -18,7 +20,7 @@ from ..links import host_and_port
 from ..server.follower import Follower, graph_beside
 from ..server.places import UnixPlace
 from ..server.runners import Runners
-from ..server.within import Ended
+from ..server.within import Elsewhere, Ended
 from .events import Events
 from .gives import Gives
 from .guards import (
@@ -34,7 +36,7 @@ from .guards import (
 from .pages import Pages
 from .reads import Reads
 from .requests import MOST_BODY, json_reply
-from .seen import Seen
+from .seen import Seen, logged_in
 from .tokens import Tokens
 from .words import is_path
 
@@ -44,17 +46,24 @@ if TYPE_CHECKING:
 
 TRIES, PAUSE = 100, 0.1  # seconds between two tries to learn how long the journal is
 PATIENCE = 1.0  # seconds that a request at hand has at the server's end
+ELSEWHERE = 503  # so that a caller that asks several machines goes on to the next
+CLUSTER = "/cluster"
 
 
 class Web:
     """The console of a server of lines."""
 
-    def __init__(self, server: Server, words: Words, follower: Follower, runners: Optional[Runners]):
-        self.server, self.words, self.follower, self.runners = server, words, follower, runners
+    def __init__(self, server: Server, words: Words):
+        self.server, self.words = server, words
+        self.follower: Optional[Follower] = None
+        self.runners: Optional[Runners] = None
         self.amazon: Optional[Handler] = None
         self.is_ending = False
-        self.seen: Seen
+        self.seen = Seen(0, time.time)
         self.events = Events(self)
+        # in a cluster: why the book isn't here, if it isn't, and how the cluster is
+        self.elsewhere: Callable[[], Optional[Elsewhere]] = lambda: None
+        self.cluster_status: Optional[Callable[[], Awaitable[Dict[str, Any]]]] = None
         self._pages = Pages(graph_beside(words.program, words.graph))
         self._place = UnixPlace(words.http, 0o600, None) if words.http and is_path(words.http) else None
         self._cookie = "rollback"
@@ -71,7 +80,6 @@ class Web:
         beside = words.socket or words.journal
         self._tokens = Tokens(words.token, f"{beside}.token" if beside else None, words.new_tokens)
         self._pages.read()
-        await self._see()
         application = web.Application(client_max_size=MOST_BODY, middlewares=[self._guard])
         application.on_response_prepare.append(header_setter())
         self._routes(application.router)
@@ -81,23 +89,36 @@ class Web:
         await self._listen(self._runner.server)
         self._tokens.keep(self._address)
 
-    async def _see(self) -> None:
-        """Notes from now on who gives what, and when."""
-        self.seen = Seen(await self._entries(), time.time)
-        if self.words.log is not None:
-            self.seen.read(self.words.log)
-        self.server.turns.kept = self.seen.kept
-        self.follower.moved = self.events.news
-        if self.runners is not None:
-            self.runners.changed = self.events.news
+    async def attach(self, follower: Follower, entries: Optional[int] = None) -> None:
+        """Shows a book, and notes from now on who gives what, and when. Its lines are counted, if their number isn't given."""
+        self.follower = follower
+        log = self.words.log
+        logged = await asyncio.get_running_loop().run_in_executor(None, logged_in, log) if log is not None else []
+        seen = Seen(await self._entries(follower) if entries is None else entries, time.time)
+        seen.take(logged)
+        self.seen, self.server.turns.kept = seen, seen.kept
+        self.events.begin()
+        follower.moved = self.events.news
 
-    async def _entries(self) -> int:
+    def attach_runners(self, runners: Optional[Runners]) -> None:
+        """Shows who runs the book, and what is paused."""
+        self.runners = runners
+        if runners is not None:
+            runners.changed = self.events.news
+
+    def detach(self) -> None:
+        """Shows no book any more, and ends what streams."""
+        self.server.turns.kept = None
+        self.follower = self.runners = None
+        self.events.news()
+
+    async def _entries(self, follower: Follower) -> int:
         """How many lines the journal has now. A runner may give some while that is asked."""
         for _ in range(TRIES):
-            counted = self.follower.count
-            told = json.loads(await self.server.lines.ask(b"? log 0 0"))
+            counted = follower.count
+            told = json.loads(await self.server.lines.ask_follower(b"? log 0 0"))
             if "entries" in told:
-                return int(told["entries"]) + self.follower.count - counted
+                return int(told["entries"]) + follower.count - counted
             await asyncio.sleep(PAUSE)
         raise ValueError("the follower gives no answers")
 
@@ -154,6 +175,10 @@ class Web:
         found: List[List[str]] = json.loads(self.runners.paused()) if self.runners is not None else []
         return found
 
+    def follows(self) -> bool:
+        """Whether questions are answered now."""
+        return self.follower is not None and self.follower.is_there
+
     def runs(self) -> bool:
         """Whether a runner takes steps."""
         return self.runners is not None and self.runners.is_there
@@ -161,6 +186,8 @@ class Web:
     def _routes(self, router: web.UrlDispatcher) -> None:
         router.add_get("/", self._page)
         router.add_get("/events", self.events.stream, allow_head=False)
+        if self.cluster_status is not None:
+            router.add_get(CLUSTER, self._cluster, allow_head=False)
         self._pages.add_to(router)
         Reads(self).add_to(router)
         Gives(self).add_to(router)
@@ -176,9 +203,12 @@ class Web:
             if not self._pages.is_open(request.path):
                 look_at_site(request)
                 request["caller"] = self._caller_of(request)
+                self._look_where(request)
             return await handler(request)
         except Refused as fault:
             return json_reply({"error": fault.why}, fault.status)
+        except Elsewhere as fault:
+            return json_reply({"error": str(fault), "reply": fault.reply.decode()}, ELSEWHERE)
         except Ended:
             # nothing is known of the line, so nothing is said of it
             if request.transport is not None:
@@ -189,6 +219,16 @@ class Web:
             if "Allow" in fault.headers:
                 found.headers["Allow"] = fault.headers["Allow"]
             return found
+
+    def _look_where(self, request: web.Request) -> None:
+        """Refuses what is asked of the book while another server leads, or none. How the cluster is can always be asked."""
+        found = self.elsewhere()
+        if found is not None and request.path != CLUSTER:
+            raise found
+
+    async def _cluster(self, request: web.Request) -> web.StreamResponse:
+        assert self.cluster_status is not None
+        return json_reply(await self.cluster_status())
 
     def _caller_of(self, request: web.Request) -> str:
         token = request.cookies.get(self._cookie)
@@ -206,7 +246,8 @@ class Web:
     async def _page(self, request: web.Request) -> web.StreamResponse:
         if "token" in request.query:
             return self._take_token(request)
-        return self._pages.page()
+        found = self.elsewhere()
+        return self._pages.page() if found is None else self._pages.elsewhere(str(found), ELSEWHERE)
 
     def _take_token(self, request: web.Request) -> web.StreamResponse:
         """Keeps the token of a link as a cookie, and goes to the page without it."""

@@ -30,8 +30,6 @@ def look_at(parser: argparse.ArgumentParser, words: Words) -> None:
         )
     if not words.ask:
         parser.error("--http needs --ask or --run: a page asks what the follower answers")
-    if words.cluster is not None:
-        parser.error("--http is for a server without --cluster")
     if not is_path(words.http):
         try:
             place = host_and_port(words.http)

@@ -15,7 +15,7 @@ import unittest
 
 FOLDER = pathlib.Path(__file__).resolve().parent
 PACKAGES = ("chromium", "chromium-driver", "python3-selenium", "python3-aiohttp")
-PARTS = ("looking", "keys", "living", "repairing", "refusing", "giving", "hostile", "many", "files")
+PARTS = ("looking", "keys", "living", "repairing", "refusing", "giving", "hostile", "many", "files", "clustered")
 SYSTEM = "/usr/bin/python3"
 
 

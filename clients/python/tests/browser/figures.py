@@ -50,7 +50,7 @@ class Figures(InBrowser):
             self.book.start(f"e{number}", "echo", {})
             self.soon(
                 lambda number=number: self.js(
-                    "return Boolean(document.querySelector('a[href=\"#execution=e' + arguments[0] + '\"]'))", number
+                    "return document.querySelector('a[href=\"#execution=e' + arguments[0] + '\"]') !== null", number
                 ),
                 "row",
             )

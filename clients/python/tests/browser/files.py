@@ -17,20 +17,19 @@ class OneFile(InBrowser):
 
     def test_views(self):
         self.driver.get(self.made.as_uri())
-        self.soon(lambda: len(self.all("tbody tr:not(.space)")) == 4, "overview")
+        self.becomes(lambda: self.count("tbody tr:not(.space)"), 4)
         self.assertEqual(self.texts("nav a"), ["Executions", "Items"])
         self.click("order-2")
-        self.press(lambda: self.box("order-2#3"))
+        self.press(self.box("order-2#3"))
         self.click("What led to it", "#panel a")
         self.sees("order-2#3 depends on 8 steps of 3 executions")
         self.go("step=billing-7%230&show=plan")
         self.sees("A rollback of billing-7#0 takes back 6 steps of 2 executions")
-        self.assertIn('{"blocked":{"BOOL":false},"id":{"S":"ann"}}', self.find(".changes").text)
+        self.has(".changes", '{"blocked":{"BOOL":false},"id":{"S":"ann"}}')
         self.go("item=ann")
         self.sees("Who wrote and read it")
-        self.assertEqual(
-            [row.text.split()[0] for row in self.all("tbody tr")], ["order-1#1", "billing-7#2", "order-2#1"]
-        )
+        names = ["order-1#1", "billing-7#2", "order-2#1"]
+        self.becomes(lambda: [row.split()[0] for row in self.texts("tbody tr")], names)
         words = ("Roll back", "Hold", "Undo", "Start an execution", "Step", "Drive")
         self.assertEqual([text for text in self.texts("button, a") if text.startswith(words)], [])
 
@@ -46,7 +45,7 @@ class OneFile(InBrowser):
         script = "const [q, done] = arguments; rollback.app.source.ask(q).then((a) => done(JSON.stringify(a)));"
         running = {question: json.loads(self.driver.execute_async_script(script, question)) for question in questions}
         self.driver.get(self.made.as_uri())
-        self.soon(lambda: self.all("tbody tr"), "page")
+        self.shows("tbody tr")
         for question, wanted in running.items():
             found = json.loads(self.driver.execute_async_script(script, question))
             self.compare(question, found, wanted)
@@ -124,6 +123,6 @@ class OneFile(InBrowser):
         self.driver.execute_cdp_cmd("Emulation.setScriptExecutionDisabled", {"value": True})
         try:
             self.driver.get(self.made.as_uri())
-            self.assertIn("order-2#3", self.find("noscript table").text)
+            self.has("noscript table", "order-2#3")
         finally:
             self.driver.execute_cdp_cmd("Emulation.setScriptExecutionDisabled", {"value": False})

@@ -46,7 +46,7 @@ class Hostile(InBrowser):
             "step=e2%230&show=plan",
         ):
             go(hash)
-            self.find("main h1, main .missing")
+            self.shows("main h1, main .missing")
             self.look()
         go("items")
         for key, shown in (
@@ -55,24 +55,14 @@ class Hostile(InBrowser):
             ("{}", '{"S":"{}"}'),
             ("5", '{"S":"5"}'),
         ):
-            found = self.soon(
-                lambda shown=shown: next(
-                    (link for link in self.all("td.name:first-child a") if link.text.startswith(shown)), None
-                ),
-                shown,
-            )
-            found.click()
-            self.soon(
-                lambda key=key: json.dumps(key, ensure_ascii=False)[1:30].replace("\u202e", "\\u202e")[:8]
-                in self.find(".value").text,
-                key,
-            )
+            self.press("td.name:first-child a", shown, begins=True)
+            self.has(".value", json.dumps(key, ensure_ascii=False)[1:30].replace("\u202e", "\\u202e")[:8])
             self.sees("Who wrote and read it")
             self.look()
             go("items")
         for number in (3, 5):
             go(f"step=e{number}%231")
-            self.press(lambda: self.find("#panel p a.name"))
+            self.press("#panel p a.name")
             self.sees("Who wrote and read it")
             go("items")
 
@@ -80,12 +70,12 @@ class Hostile(InBrowser):
         self.begin()
         self.console()
         self.views(self.go)
-        self.search("onerror").send_keys("\n")
-        self.soon(lambda: "#step=e" in self.js("return location.hash"), "a found step")
+        self.search("onerror", "\n")
+        self.soon(lambda: "#step=e" in self.hash(), "a found step")
         self.go("log")
-        self.find("main h1")
+        self.shows("main h1")
         self.go("machine=m")
-        self.soon(lambda: len(self.all(".box")) == 2, "states")
+        self.becomes(lambda: self.count(".box"), 2)
         self.look()
         self.go("step=" + "%3Cimg%20src%3Dx%20onerror%3Dharmed%3D1%3E")
         self.sees("is no remaining step")

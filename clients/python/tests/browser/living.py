@@ -4,12 +4,16 @@ import os
 import signal
 import socket
 import threading
-
-from selenium.webdriver.common.action_chains import ActionChains
+import time
 
 from rollback_client import Book
 from tests.browser.driving import InBrowser
-from tests.program import LOOP
+from tests.program import LOOP, ratio
+
+# In how many times as long as its page opens a line is seen: in some 0.4 to 1.2.
+MOST_OF_AN_OPENING = 10
+# In how many times as long as one to which nobody listens a server ends: in about as long.
+MOST_OF_AN_END = 20
 
 
 class Live(InBrowser):
@@ -23,50 +27,65 @@ class Live(InBrowser):
     def rows(self):
         return self.texts("tbody tr:not(.space) td.name")
 
-    def test_within_a_second(self):
-        self.soon(lambda: len(self.rows()) == 4, "rows")
+    def test_what_others_do(self):
+        self.becomes(lambda: len(self.rows()), 4)
         self.book.start("order-4", "order", {"customer": "bob", "order": "shipment-4"})
-        self.soon(lambda: self.rows()[:1] == ["order-4"], "new execution at the top", 1.5)
+        self.becomes(lambda: self.rows()[:1], ["order-4"])
         self.book.step("order-3")
-        self.soon(lambda: self.rows()[:1] == ["order-3"], "the one that moved at the top", 1.5)
+        self.becomes(lambda: self.rows()[:1], ["order-3"])
         self.book.rollback("order-4#0")
-        self.soon(lambda: "order-4" not in self.rows(), "no taken back execution", 1.5)
-        self.soon(lambda: self.all("tbody tr:nth-child(2) td")[6].text != "", "time of what was seen")
+        self.becomes(lambda: sorted(self.rows()), ["billing-7", "order-1", "order-2", "order-3"])
+        self.soon(lambda: any(self.texts("tbody tr:nth-child(2) td:nth-child(7)")), "time of what was seen")
+
+    def test_at_once(self):
+        """A line of another is seen in about the time in which the page opens: the server says it, and isn't asked now and again."""
+        names = (f"seen-{number}" for number in range(100))
+
+        def opened():
+            self.driver.get("about:blank")
+            return self.taken(self.open_page, lambda: len(self.rows()) >= 4)
+
+        def seen():
+            name = next(names)
+            return self.taken(lambda: self.book.start(name, "order", {}), lambda: name in self.rows())
+
+        opened()
+        self.assertLess(ratio(seen, opened, MOST_OF_AN_OPENING), MOST_OF_AN_OPENING)
 
     def test_rows_keep_their_places(self):
-        self.soon(lambda: len(self.rows()) == 4, "rows")
+        self.becomes(lambda: len(self.rows()), 4)
         before = self.rows()
-        ActionChains(self.driver).move_to_element(self.named("order-1")).perform()
+        self.point("a", "order-1")
         self.book.start("order-4", "order", {"customer": "bob", "order": "shipment-4"})
-        self.soon(lambda: self.rows() == [*before, "order-4"], "new row below", 2)
+        self.becomes(self.rows, [*before, "order-4"])
         self.js("window.kept = document.querySelector('tbody tr:nth-child(3) a'); kept.focus();")
         self.book.step("order-3")
-        self.soon(lambda: "Ship" in self.find("tbody").text, "the state that changed", 2)
+        self.has("tbody", "Ship")
         self.assertEqual(self.rows(), [*before, "order-4"])
         self.assertTrue(self.js("return document.activeElement === kept && kept.isConnected"))
         self.js("document.activeElement.blur()")
-        ActionChains(self.driver).move_to_element(self.find(".brand")).perform()
-        self.soon(lambda: self.rows()[0] == "order-3", "new places")
+        self.point(".brand")
+        self.becomes(lambda: self.rows()[:1], ["order-3"])
 
     def test_what_is_typed_stays(self):
         self.go("start")
         self.write("Name", "order-5")
-        field = self.find('[name="Input"]')
-        field.clear()
-        field.send_keys('{"customer":')
+        self.write("Input", '{"customer":')
+        self.js("window.kept = document.querySelector('[name=Input]')")
         self.book.step("order-3")
-        self.soon(lambda: self.js("return rollback.app.source.entries") == 17, "news")
-        self.assertEqual(self.find('[name="Name"]').get_attribute("value"), "order-5")
-        self.assertEqual(field.get_attribute("value"), '{"customer":')
-        self.assertEqual(self.driver.switch_to.active_element, field)
+        self.becomes(lambda: self.js("return rollback.app.source.entries"), 17)
+        self.drawn()
+        self.assertEqual(self.value('[name="Name"]'), "order-5")
+        self.assertEqual(self.value('[name="Input"]'), '{"customer":')
+        self.assertTrue(self.js("return document.activeElement === kept && kept.isConnected"))
 
     def test_an_execution_grows(self):
         self.go("execution=order-3")
-        self.box("order-3#1")
+        self.shows(self.box("order-3#1"))
         self.book.step("order-3")
-        self.soon(lambda: self.all('.box[data-id="order-3#2"]'), "new step", 1.5)
+        self.shows(self.box("order-3#2"))
         self.book.rollback("order-3#1")
-        self.soon(lambda: not self.all('.box[data-id="order-3#1"]'), "no taken back step", 1.5)
+        self.becomes(lambda: self.attributes(".box", "data-id"), ["order-3#0"])
 
     def test_hidden_tabs(self):
         """A tab that is hidden has no stream, and has the present state when it is seen again."""
@@ -81,9 +100,9 @@ class Live(InBrowser):
         self.book.start("order-4", "order", {"customer": "bob", "order": "shipment-4"})
         self.assertNotIn("order-4", self.rows())
         self.js("hide(false)")
-        self.soon(lambda: "order-4" in self.rows(), "what came meanwhile", 2)
+        self.soon(lambda: "order-4" in self.rows(), "what came meanwhile")
         self.book.start("order-5", "order", {"customer": "bob", "order": "shipment-5"})
-        self.soon(lambda: "order-5" in self.rows(), "what comes", 2)
+        self.soon(lambda: "order-5" in self.rows(), "what comes")
 
     def test_eight_tabs(self):
         first = self.driver.current_window_handle
@@ -92,6 +111,7 @@ class Live(InBrowser):
                 self.driver.switch_to.new_window("window")
                 self.driver.get(self.address)
                 self.soon(lambda: len(self.rows()) == 4, f"book in tab {number + 1}")
+                self.soon(self.is_ready, f"console in tab {number + 1}")
             self.book.start("order-4", "order", {"customer": "bob", "order": "shipment-4"})
             for handle in self.driver.window_handles[1:]:
                 self.driver.switch_to.window(handle)
@@ -114,26 +134,38 @@ class Lost(InBrowser):
         port = self.free_port()
         server = self.console(http=f"127.0.0.1:{port}")
         self.go("step=order-3%231")
-        self.named("Undo", "#panel button")
+        self.soon(lambda: "Undo" in self.texts("#panel button"), "Undo")
         os.kill(server.process.pid, signal.SIGKILL)
         server.process.wait()
-        self.sees("Connection lost", 5)
-        self.press(lambda: self.named("Undo", "#panel button"))
+        self.sees("Connection lost")
+        self.click("Undo", "#panel button")
         self.sees("It may or may not be done")
-        self.press(lambda: self.named("Step", "button"))
+        self.click("Step", "button")
         self.sees("Nothing was done: the server isn't reached")
         again = self.served(http=f"127.0.0.1:{port}")
         with self.connected(again) as book:
             book.step("order-3")
-        self.soon(lambda: self.all('.box[data-id="order-3#2"]'), "present state", 20)
-        self.soon(lambda: self.texts(".live") == ["Live"], "that it is live")
+        self.shows(self.box("order-3#2"))
+        self.becomes(lambda: self.texts(".live"), ["Live"])
 
     def test_the_end(self):
         """SIGTERM isn't held up by a page that listens."""
         self.book_of("wrong-bill.txt", until="plan")
+        took = ratio(lambda: self.took_to_end(True), lambda: self.took_to_end(False), MOST_OF_AN_END)
+        self.assertLess(took, MOST_OF_AN_END)
+
+    def took_to_end(self, listens):
+        """In how many seconds a server ends to which a page listens, or did."""
         server = self.console()
-        self.assertEqual(server.end(10)[0], 0)
-        self.sees("Connection lost", 5)
+        self.becomes(lambda: self.texts(".live"), ["Live"])
+        if not listens:
+            self.driver.get("about:blank")
+        began = time.monotonic()
+        self.assertEqual(server.end()[0], 0)
+        took = time.monotonic() - began
+        if listens:
+            self.sees("Connection lost")
+        return took
 
     def free_port(self):
         with socket.socket() as probe:
@@ -159,7 +191,7 @@ class Tokens(InBrowser):
         self.assertNotIn("order", self.body())
         self.driver.get(server.links["console"])
         self.sees("order-2")
-        self.assertNotIn("token", self.driver.current_url)
+        self.soon(lambda: "token" not in self.driver.current_url, "address without a token")
         cookie = self.driver.get_cookies()[0]
         self.assertEqual((cookie["httpOnly"], cookie["sameSite"]), (True, "Strict"))
         self.assertEqual(self.js("return document.cookie"), "")
@@ -214,7 +246,7 @@ class Runs(InBrowser):
         self.book.start("slow", "wait", {})
         self.go("step=one%230&show=plan")
         self.sees("The runner goes on")
-        self.press(lambda: self.named("Pause these first", "button"))
+        self.click("Pause these first", "button")
         self.sees("1 execution is paused")
         self.soon(lambda: "The runner goes on" not in self.body(), "plan without a warning")
         count = len(self.book.history())
@@ -223,10 +255,10 @@ class Runs(InBrowser):
         self.sees("execution one")
         self.sees("Wait of W")
         self.assertEqual(len(self.book.history()), count)
-        self.press(lambda: self.named("Resume", "button"))
+        self.click("Resume", "button")
         self.sees("one is resumed")
         self.soon(lambda: len(self.book.history()) > count, "further steps")
-        self.press(lambda: self.named("Pause all", "button"))
-        self.sees("all executions", 5)
-        self.press(lambda: self.named("Resume all", "button"))
-        self.sees("Nothing is paused", 5)
+        self.click("Pause all", "button")
+        self.sees("all executions")
+        self.click("Resume all", "button")
+        self.sees("Nothing is paused")

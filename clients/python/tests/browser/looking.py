@@ -1,6 +1,8 @@
 """The views: what each shows, where it leads, and how it looks."""
 import json
 
+from selenium.webdriver.common.action_chains import ActionChains
+
 from tests.browser.driving import HEIGHT, InBrowser, Keys, OfOneBook, size
 
 
@@ -11,24 +13,20 @@ class Views(OfOneBook):
         return self.texts("tbody tr:not(.space) td.name")
 
     def test_overview(self):
-        self.soon(
-            lambda: self.rows() == ["order-3", "order-2", "billing-7", "order-1"],
-            "executions, what moved last at first",
-        )
+        self.becomes(self.rows, ["order-3", "order-2", "billing-7", "order-1"])  # what moved last at first
         self.assertEqual(self.texts(".toggle"), ["failed 1", "open 1", "done 2"])
-        cells = [cell.text for cell in self.all("tbody tr:nth-child(3) td")]
-        self.assertEqual(cells[:6], ["order-2", "order", "failed", "Refuse: CustomerBlocked", "4", "14"])
+        cells = ["order-2", "order", "failed", "Refuse: CustomerBlocked", "4", "14"]
+        self.becomes(lambda: self.texts("tbody tr:nth-child(3) td")[:6], cells)
         self.click("done 2", "button")
-        self.soon(lambda: self.rows() == ["billing-7", "order-1"], "those that are done")
+        self.becomes(self.rows, ["billing-7", "order-1"])
         self.click("done 2", "button")
-        self.soon(lambda: len(self.rows()) == 4, "all again")
-        self.find('select option[value="billing"]').click()
-        self.soon(lambda: self.rows() == ["billing-7"], "those of a machine")
+        self.becomes(lambda: len(self.rows()), 4)
+        self.choose('select option[value="billing"]')
+        self.becomes(self.rows, ["billing-7"])
         self.assertIn("orders.db", self.driver.title)
 
     def test_execution(self):
         self.go("execution=order-2")
-        head = self.find(".about-execution").text
         for text in (
             "order-2",
             "failed",
@@ -38,20 +36,20 @@ class Views(OfOneBook):
             "Cause unpaid bills",
             "ann",
         ):
-            self.assertIn(text, head.replace("\n", " "))
+            self.soon(lambda text=text: text in self.text(".about-execution").replace("\n", " "), text)
         box = self.box("order-2#3")
-        self.assertEqual(box.text.split("\n"), ["order-2#3", "Refuse", "failed Fail"])
-        self.assertEqual(box.get_attribute("aria-label"), "order-2#3, Refuse, a state that calls nothing, failed")
-        self.assertIn("reads ann", self.box("order-2#1").text)
-        self.assertNotIn('{"S"', self.find(".picture").text)
-        for found in self.all(".box"):
-            self.assertLessEqual(found.size["width"], 400)
-            self.assertLessEqual(found.size["height"], 150)
+        self.becomes(lambda: self.text(box).split("\n"), ["order-2#3", "Refuse", "failed Fail"])
+        label = "order-2#3, Refuse, a state that calls nothing, failed"
+        self.assertEqual(self.attributes(box, "aria-label"), [label])
+        self.has(self.box("order-2#1"), "reads ann")
+        self.assertNotIn('{"S"', self.text(".picture"))
+        sizes = "return [...document.querySelectorAll('.box')].map((box) => [box.offsetWidth, box.offsetHeight])"
+        self.assertEqual([size for size in self.js(sizes) if size[0] > 400 or size[1] > 150], [])
 
     def test_why(self):
         """Why it failed, as the follower found it out, in a sentence."""
         self.go("execution=order-2")
-        self.soon(lambda: "in Refuse: this Fail state says so" in self.find(".why").text, "reason")
+        self.has(".why", "in Refuse: this Fail state says so")
         for why, text in (
             ({"case": "picks_nothing", "path": "$.none"}, "$.none picks nothing"),
             ({"case": "malformed", "flaw": "missing field", "field": "Key"}, "the call lacks Key"),
@@ -75,59 +73,65 @@ class Views(OfOneBook):
 
     def test_panel(self):
         self.go("step=order-2%231")
-        panel = self.find("#panel")
-        self.soon(lambda: "What it depends on" in panel.text, "panel")
-        self.assertIn("billing-7#2 the same item", panel.text)
-        self.assertIn("What depends on it", panel.text)
-        self.assertIn("order-2#2 the same thread goes on", panel.text)
+        for text in (
+            "What it depends on",
+            "billing-7#2 the same item",
+            "What depends on it",
+            "order-2#2 the same thread goes on",
+        ):
+            self.has("#panel", text)
         self.click("billing-7#2", "#panel a")
-        self.soon(lambda: self.js("return location.hash") == "#step=billing-7%232", "address")
-        self.soon(lambda: '"blocked": {"BOOL": true}' in self.find("#panel").text, "item after")
+        self.becomes(self.hash, "#step=billing-7%232")
+        self.has("#panel", '"blocked": {"BOOL": true}')
         self.assertIn("billing-7#2", self.driver.title)
         self.driver.back()
-        self.soon(lambda: "order-2#1" in self.texts("#panel h2"), "step before")
+        self.becomes(lambda: self.texts("#panel h2"), ["order-2#1"])
 
     def test_what_depends_on_what(self):
         self.go("step=order-2%233&show=causes")
         self.sees("order-2#3 depends on 8 steps of 3 executions")
-        self.assertTrue(self.is_in_sight("order-2#3"))
-        heads = self.texts(".head")
-        self.assertEqual(sorted(heads), ["billing-7", "order-1", "order-2"])
+        self.soon(lambda: self.is_in_sight("order-2#3"), "order-2#3 in sight")
+        self.becomes(lambda: sorted(self.texts(".head")), ["billing-7", "order-1", "order-2"])
         below = self.js(
             """const top = (name) => document.querySelector('.box[data-id="' + name + '"]').getBoundingClientRect().top;
             return [['order-1#1', 'billing-7#2'], ['billing-7#2', 'order-2#1'], ['order-2#1', 'order-2#3']].every(([a, b]) => top(a) < top(b));"""
         )
         self.assertTrue(below, "a step isn't below what it depends on")
-        self.assertEqual(len(self.all("path.line.item")), 2)
+        self.assertEqual(self.count("path.line.item"), 2)
 
     def test_items(self):
         self.go("items")
-        self.soon(lambda: self.texts("tbody td.name:first-child") == ["ann", "bob", "shipment-1"], "items")
+        self.becomes(lambda: self.texts("tbody td.name:first-child"), ["ann", "bob", "shipment-1"])
         self.go("item=ann")
         self.sees("Who wrote and read it")
-        rows = [row.text for row in self.all("tbody tr")]
-        self.assertEqual(
-            [row.split()[:2] for row in rows],
+        self.becomes(
+            lambda: [row.split()[:2] for row in self.texts("tbody tr")],
             [["order-1#1", "reads"], ["billing-7#2", "writes"], ["order-2#1", "reads"]],
         )
         self.click("billing-7#2")
-        self.soon(lambda: "billing-7#2" in self.texts("#panel h2"), "panel of the writer")
+        self.becomes(lambda: self.texts("#panel h2"), ["billing-7#2"])
 
     def test_search(self):
-        field = self.search("refuse")
-        self.soon(lambda: self.texts(".search .count") == ["1"], "count")
-        field.send_keys(Keys.ENTER)
-        self.soon(lambda: self.js("return location.hash") == "#step=order-2%233", "step of a state")
-        self.search("ANN").send_keys(Keys.ENTER)
-        self.soon(lambda: self.texts(".search .count") == ["1 of 3"], "first of three")
-        first = self.js("return location.hash")
-        self.find("input[type=search]").send_keys(Keys.ENTER)
-        self.soon(lambda: self.texts(".search .count") == ["2 of 3"], "second")
-        self.find("input[type=search]").send_keys(Keys.SHIFT, Keys.ENTER)
-        self.soon(lambda: self.js("return location.hash") == first, "first again")
+        def counted():
+            return self.texts(".search .count")
+
+        self.search("refuse")
+        self.becomes(counted, ["1"])
+        self.type(Keys.ENTER)
+        self.becomes(self.hash, "#step=order-2%233")
+        self.search("ANN", Keys.ENTER)
+        self.becomes(counted, ["1 of 3"])
+        self.soon(lambda: self.hash() != "#step=order-2%233", "another address")
+        first = self.hash()
+        self.focus("input[type=search]")
+        self.type(Keys.ENTER)
+        self.becomes(counted, ["2 of 3"])
+        self.focus("input[type=search]")
+        ActionChains(self.driver).key_down(Keys.SHIFT).send_keys(Keys.ENTER).key_up(Keys.SHIFT).perform()
+        self.becomes(self.hash, first)
         self.search("nowhere")
-        self.soon(lambda: self.texts(".search .count") == ["no step"], "that there is none")
-        self.assertEqual(len(self.all("input[type=search]")), 1)
+        self.becomes(counted, ["no step"])
+        self.assertEqual(self.count("input[type=search]"), 1)
 
     def test_gone(self):
         for step in ("order-9#4", "order-2#9"):
@@ -157,7 +161,7 @@ class Views(OfOneBook):
                 "line",
             ):
                 self.go(hash)
-                self.find("main h1")
+                self.shows("main h1")
                 self.assertLessEqual(self.js("return document.documentElement.scrollWidth"), width, hash)
 
     def test_dark(self):
@@ -177,11 +181,11 @@ class Words(InBrowser):
         self.book_of("provisioning.txt", until="plan")
         self.console()
         self.go("execution=acme")
-        self.soon(lambda: self.texts(".head") == ["acme", "acme/1.0", "acme/1.1"], "lanes")
-        self.assertIn("retried", self.box("acme/1.1#1").text)
-        self.assertIn("failed", self.box("acme/1.1#2").text)
-        self.assertEqual(len(self.all("path.line.fork")), 2)
-        self.assertEqual(len(self.all("path.line.join")), 2)
+        self.becomes(lambda: self.texts(".head"), ["acme", "acme/1.0", "acme/1.1"])
+        self.has(self.box("acme/1.1#1"), "retried")
+        self.has(self.box("acme/1.1#2"), "failed")
+        self.assertEqual(self.count("path.line.fork"), 2)
+        self.assertEqual(self.count("path.line.join"), 2)
 
     def test_caught(self):
         machine = {
@@ -200,7 +204,7 @@ class Words(InBrowser):
         self.journal(f"table t id:S []\ndefine m {json.dumps(machine)}\nstart e m {{}}\ndrive 9\n")
         self.console()
         self.go("execution=e")
-        self.assertIn("caught", self.box("e#2").text)
+        self.has(self.box("e#2"), "caught")
 
 
 class Definitions(OfOneBook):
@@ -209,15 +213,12 @@ class Definitions(OfOneBook):
     def test_machine(self):
         self.click("Machines")
         self.click("order")
-        self.soon(lambda: len(self.all(".box")) == 4, "four states")
-        self.assertEqual(self.box("Look").text.split("\n"), ["Look", "Task, getItem"])
-        self.assertIn('"StartAt": "Look"', self.find(".definition").text)
-        self.press(lambda: self.box("Judge"))
-        self.soon(
-            lambda: '"Type": "Choice"' in self.find(".definition").text
-            and "StartAt" not in self.find(".definition").text,
-            "the state alone",
-        )
+        self.becomes(lambda: self.count(".box"), 4)
+        self.becomes(lambda: self.text(self.box("Look")).split("\n"), ["Look", "Task, getItem"])
+        self.has(".definition", '"StartAt": "Look"')
+        self.press(self.box("Judge"))
+        self.has(".definition", '"Type": "Choice"')
+        self.soon(lambda: "StartAt" not in self.text(".definition"), "state alone")
 
 
 class WhatHappened(InBrowser):
@@ -233,12 +234,12 @@ class WhatHappened(InBrowser):
         ):
             ann.line(line)
         self.click("What happened")
-        self.soon(lambda: len(self.all("tbody tr:not(.space)")) == 3, "three lines")
-        first = [cell.text for cell in self.all("tbody tr:nth-child(2) td")]
+        self.becomes(lambda: self.count("tbody tr:not(.space)"), 3)
+        first = self.texts("tbody tr:nth-child(2) td")
         self.assertEqual((first[0], first[2], first[3]), ("2", "ann", "start one#0 p"))
         self.assertRegex(first[1], r"^\d\d:\d\d:\d\d$")
         self.book.step("one")
-        self.soon(lambda: len(self.all("tbody tr:not(.space)")) == 4, "a fourth one", 2)
+        self.becomes(lambda: self.count("tbody tr:not(.space)"), 4)
 
     def test_without_a_log(self):
         self.console()

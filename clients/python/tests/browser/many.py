@@ -1,16 +1,20 @@
 """Many steps: a page of 200 and one of 40,000 open at a step, which is then in sight, and stay quick."""
 import json
-import os
 import pathlib
 import sys
 import tempfile
-import time
 
 from tests.browser.driving import InBrowser, Keys
-from tests.program import TOP
+from tests.program import TOP, ratio
 
-# on a machine that does more than it has processors for, as that of a gate, everything takes longer
-MOST_SECONDS = 3.0 * max(1.0, os.getloadavg()[0] / (os.cpu_count() or 1))
+# In how many times as long as a page of 200 steps one of 40,000 opens, which has 200 times its data: in some 8 to 11 times as long if they
+# are of 4,000 executions, and in some 13 to 37 times as long if all are of one.
+MOST_OF_MANY = 40
+MOST_OF_ONE = 120
+# In how many times as long as a page opens something is done within it. It is some third of that for a search, and less for others.
+MOST_OF_AN_OPENING = 3
+# The same for a page of 200 steps at what depends on what. It is some twice as long.
+MOST_OF_A_SMALL_ONE = 10
 
 
 def big_book(executions, each):
@@ -79,6 +83,11 @@ def _step(thread, number, place, each, before, written, entry):
     }
 
 
+def address_of(step, show):
+    """A step's address within a page."""
+    return f"step={step.replace('#', '%23')}" + (f"&show={show}" if show else "")
+
+
 class Large(InBrowser):
     """Pages as `--html` writes them, from a file."""
 
@@ -87,6 +96,7 @@ class Large(InBrowser):
         super().setUpClass()
         room = tempfile.TemporaryDirectory()
         cls.addClassCleanup(room.cleanup)
+        cls.small = cls.page_file(room.name, 20, 10)
         cls.wide = cls.page_file(room.name, 4000, 10)
 
     @classmethod
@@ -99,53 +109,63 @@ class Large(InBrowser):
         made.write_text(page_of(written(big_book(executions, each)), "", "big.db", None), encoding="utf-8")
         return made
 
-    def opened(self, made, hash, step):
-        """Opens a page at an address, and answers after how many seconds the step was in sight: the best of three, if it has to be."""
-        best = self.opened_once(made, hash, step)
-        for _ in range(2):
-            if best >= MOST_SECONDS:  # the machine may do something else, too
-                best = min(best, self.opened_once(made, hash, step))
-        return best
-
-    def opened_once(self, made, hash, step):
+    def opened(self, made, step, show=""):
+        """Opens a page at a step, and gives after how many seconds that was in sight."""
         self.driver.get("about:blank")
-        began = time.monotonic()
-        self.driver.get(f"{made.as_uri()}#{hash}")
-        self.soon(lambda: self.is_in_sight(step), f"{step} in sight")
-        return time.monotonic() - began
+        address = f"{made.as_uri()}#{address_of(step, show)}"
+        return self.taken(lambda: self.driver.get(address), lambda: self.is_in_sight(step))
+
+    def gone_to(self, step, show):
+        """Goes to a step within a page, and gives after how many seconds it was in sight."""
+        self.go("overview")
+        return self.taken(lambda: self.go(address_of(step, show)), lambda: self.is_in_sight(step))
+
+    def found(self, text):
+        """Searches, and gives after how many seconds a step was found."""
+        self.go("overview")
+        return self.taken(lambda: self.search(text, Keys.ENTER), lambda: self.hash().startswith("#step="))
+
+    def opens_in_time(self, made, step, show, most):
+        """Looks that a page opens at a step in so many times as long as one of 200 steps."""
+        took = ratio(lambda: self.opened(made, step, show), lambda: self.opened(self.small, "order-11#5"), most)
+        self.assertLess(took, most, f"{step} {show}")
+
+    def elements(self):
+        return self.js("return document.querySelectorAll('*').length")
 
     def test_200(self):
-        made = self.page_file(self.room, 20, 10)
-        for hash in ("step=order-11%235", "step=order-11%235&show=plan", "step=order-11%235&show=causes"):
-            self.assertLess(self.opened(made, hash, "order-11#5"), MOST_SECONDS, hash)
+        for show in ("plan", "causes"):
+            self.opens_in_time(self.small, "order-11#5", show, MOST_OF_A_SMALL_ONE)
 
     def test_40000_in_4000_executions(self):
         made = self.wide
         self.assertLess(made.stat().st_size, 40_000 * 500)
-        self.assertLess(self.opened(made, "step=order-2000%234", "order-2000#4"), MOST_SECONDS)
+        self.opens_in_time(made, "order-2000#4", "", MOST_OF_MANY)
         for step, show in (("order-4#1", "plan"), ("order-3999#9", "causes")):
-            began = time.monotonic()
-            self.go(f"step={step.replace('#', '%23')}&show={show}")
-            self.soon(lambda step=step: self.is_in_sight(step), f"{step} in sight")
-            self.assertLess(time.monotonic() - began, MOST_SECONDS)
-            self.assertLess(self.js("return document.querySelectorAll('*').length"), 6000)
+            self.quick_within(made, lambda step=step, show=show: self.gone_to(step, show), f"{show} {step}")
+            self.assertLess(self.elements(), 6000)
         self.go("overview")
-        self.soon(lambda: self.texts(".toggle") == ["failed 445", "open 3,555", "done 0"], "overview")
+        self.becomes(lambda: self.texts(".toggle"), ["failed 445", "open 3,555", "done 0"])
         self.js("const s = document.querySelector('.overview .scroller'); s.scrollTop = s.scrollHeight / 2;")
         self.soon(
             lambda: any(text.startswith("order-19") or text.startswith("order-20") for text in self.texts("td.name")),
             "rows of the middle",
         )
         self.assertLess(self.js("return document.querySelectorAll('tr').length"), 100)
-        began = time.monotonic()
-        self.search("sku-49").send_keys(Keys.ENTER)
-        self.soon(lambda: self.js("return location.hash").startswith("#step="), "a found step")
-        self.assertLess(time.monotonic() - began, MOST_SECONDS)
+        self.quick_within(made, lambda: self.found("sku-49"), "a search")
+
+    def quick_within(self, made, does, what):
+        """Looks that something within a page takes no longer than some openings of it. Afterwards it was done once more."""
+        took = ratio(does, lambda: self.opened(made, "order-2000#4"), MOST_OF_AN_OPENING)
+        self.assertLess(took, MOST_OF_AN_OPENING, what)
+        does()
 
     def test_40000_in_one_execution(self):
         made = self.page_file(self.room, 1, 40_000)
-        self.assertLess(self.opened(made, "step=order-0%2320000", "order-0#20000"), MOST_SECONDS)
-        self.js("document.querySelector('.picture').focus()")
+        self.opens_in_time(made, "order-0#20000", "", MOST_OF_ONE)
+        self.opened(made, "order-0#20000")
+        self.assertLess(self.elements(), 6000)
+        self.focus(".picture")
         self.type(Keys.ARROW_DOWN)
         self.soon(lambda: self.is_in_sight("order-0#20001"), "the next step")
         self.type("0")
@@ -153,15 +173,13 @@ class Large(InBrowser):
         self.assertLess(self.js("return document.querySelectorAll('.box').length"), 5)
 
     def test_bands_are_closed_above_some_hundred_steps(self):
-        self.opened(self.wide, "step=order-4%231&show=plan", "order-4#1")
-        closed = self.soon(lambda: self.all(".box.collapsed"), "closed bands")
-        name = closed[0].find_element("css selector", ".step-name").text
-        closed[0].click()
+        self.opened(self.wide, "order-4#1", "plan")
+        name = self.text(".box.collapsed .step-name")
+        self.press(".box.collapsed .step-name", name)
         self.soon(
-            lambda: any(found.get_attribute("data-id").startswith(f"{name}#") for found in self.all(".box")),
-            f"steps of {name}",
+            lambda: any(step.startswith(f"{name}#") for step in self.attributes(".box", "data-id")), f"steps of {name}"
         )
-        self.assertNotIn(name, [found.text.split("\n")[0] for found in self.all(".box.collapsed")])
+        self.assertNotIn(name, [text.split("\n")[0] for text in self.texts(".box.collapsed")])
 
     def test_a_running_book_of_200_steps(self):
         lines = [
@@ -174,6 +192,6 @@ class Large(InBrowser):
         self.console()
         self.driver.get(self.address + "#step=e11%235")
         self.driver.refresh()
-        self.soon(lambda: self.is_in_sight("e11#5"), "e11#5 in sight", MOST_SECONDS)
+        self.soon(lambda: self.is_in_sight("e11#5"), "e11#5 in sight")
         self.go("step=e3%230&show=plan")
-        self.soon(lambda: self.is_in_sight("e3#0"), "e3#0 in sight", MOST_SECONDS)
+        self.soon(lambda: self.is_in_sight("e3#0"), "e3#0 in sight")

@@ -21,12 +21,10 @@ class Pictures(InBrowser):
         ):
             self.go(hash)
             for selector in wait:
-                self.find(selector)
-            self.soon(
-                lambda name=name: name not in ("causes", "plan") or "failed" in self.find(".picture").text, "marks"
-            )
-            self.soon(lambda: not self.js("return document.querySelector('main').getAttribute('aria-busy')"), "view")
-            self.until(lambda: self.js("return document.fonts.status === 'loaded'"))
+                self.shows(selector)
+            if name in ("causes", "plan"):
+                self.has(".picture", "failed")
+            self.soon(lambda: self.js("return document.fonts.status === 'loaded'"), "fonts")
             self.keep(name)
 
     def keep(self, name):

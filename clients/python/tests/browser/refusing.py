@@ -16,12 +16,10 @@ class Refusals(InBrowser):
 
     def give(self, line):
         """Gives a line, and answers what is said of it."""
-        before = len(self.all(".reply"))
-        field = self.find('[aria-label="Line"]')
-        field.clear()
-        field.send_keys(line, "\n")
-        self.soon(lambda: len(self.all(".reply")) > before, f"reply to {line}")
-        return self.all(".reply")[0].text
+        before = self.count(".reply")
+        self.fill('[aria-label="Line"]', line, "\n")
+        self.becomes(lambda: self.count(".reply"), before + 1)
+        return self.text(".reply")
 
     def test_sentences(self):
         self.go("line")
@@ -71,7 +69,7 @@ class Refusals(InBrowser):
         self.sees("There is an execution order-1: take another name")
         self.write("Name", "a name")
         self.click("Start", "button")
-        self.assertTrue(self.js("return document.querySelector('[name=Name]').matches(':invalid')"))
+        self.shows("[name=Name]:invalid")
         self.write("Name", "order-8")
         for text, sentence in (
             ('{"customer":', "Input: "),
@@ -79,30 +77,28 @@ class Refusals(InBrowser):
             ('{"n":9223372036854775808}', "doesn't fit 64 bits"),
         ):
             self.write("Input", text)
-            self.soon(lambda sentence=sentence: sentence in self.find(".fault-text").text, sentence)
+            self.has(".fault-text", sentence)
             self.click("Start", "button")
         self.assertEqual(len(self.book.history()), 13)
         self.write("Input", '{"customer":"bob","order":"shipment-8","n":9007199254740993}')
         self.click("Start", "button")
         self.sees("order-8 is started")
-        self.assertIn("9007199254740993", self.find(".about-execution").text)
+        self.has(".about-execution", "9007199254740993")
         self.assertEqual(self.book.execution("order-8")["input"]["n"], 9007199254740993)
 
     def test_definition(self):
         self.go("define")
         self.write("Name", "next")
         text = json.dumps({"StartAt": "A", "States": {"A": {"Type": "Pass", "Next": "Bee"}}}, indent=1)
+        self.shows("[name=Definition]")
         self.js(
             "const t = document.querySelector('[name=Definition]'); t.value = arguments[0]; t.dispatchEvent(new Event('input'));",
             text,
         )
-        self.soon(lambda: "error" in self.find(".faults").text, "findings")
-        place = next(found for found in self.all(".findings button") if found.text.startswith("line 6"))
-        place.click()
-        chosen = self.js(
-            "const t = document.querySelector('[name=Definition]'); return t.value.slice(t.selectionStart, t.selectionEnd);"
-        )
-        self.assertIn("Bee", chosen)
+        self.has(".faults", "error")
+        self.press(".findings button", "line 6", begins=True)
+        chosen = "const t = document.querySelector('[name=Definition]'); return t.value.slice(t.selectionStart, t.selectionEnd);"
+        self.soon(lambda: "Bee" in self.js(chosen), "chosen place")
         self.click("Define", "button")
         self.sees("The definition of next is faulty")
         self.js(

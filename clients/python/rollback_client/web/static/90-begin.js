@@ -22,5 +22,6 @@ try {
 }
 rollback.console.drawHeld();
 book.follow();
+rollback.console.watchCluster();
 app.ready = true;
 })();
