@@ -151,6 +151,18 @@ def passed_by(count):
     yield "hold first#1"
 
 
+def branches_passed_by(count):
+    """A held fork of so many branches, and behind them, by name, executions that can move."""
+    yield from one_item_written()
+    processor = workloads.states("Only", Only={"Type": "Pass", "End": True})
+    yield define("map", workloads.states("Each", Each={"Type": "Map", "ItemsPath": "$", "ItemProcessor": processor, "End": True}))
+    yield f"start a map {text_of(list(range(count)))}"
+    yield "step a"
+    for at in range(100):
+        yield f"start run-{at} three {{}}"
+    yield "hold a#1"
+
+
 def filled(count, size):
     """So many executions that stand before a Pass whose template fills so many bytes by paths."""
     fields = {f"field-{at}.$": "$.text" for at in range(size // 32)}
@@ -180,60 +192,107 @@ def large_items(attributes):
     yield from ("step put-0", "step get-0")
 
 
-def single_calls():
-    """Each call as its name, its unit, the lines before it, the lines that are it, and how many they are."""
-    for remain in (600, 6_000, 60_000):
-        base, middle = f"among {remain:,} steps", remain // 4
-        some = range(middle, middle + 50)
+def many_ended(count):
+    """So many executions that ended, and one that hasn't begun."""
+    yield TABLE
+    yield define("one", workloads.ONE_PASS)
+    for at in range(count):
+        yield f"start run-{at:05} one {{}}"
+    yield f"drive {count}"
+    yield "start zz one {}"
 
-        def first(remain=remain):
-            return many_threads(remain)
 
-        yield f"undo of a middle step {base}", "instructions", first, [f"undo run-{at}#1" for at in some], 50
-        yield f"undo of the latest steps {base}", "instructions", first, [f"undo run-{remain // 2 - 1 - at}#1" for at in range(50)], 50
-        yield (f"undo of a middle read of one item {base}", "instructions", lambda remain=remain: one_item_read(remain // 2, False),
-               [f"undo reader-{remain // 4 + at}#1" for at in range(50)], 50)
-        yield f"undo refused for its dependent {base}", "instructions", first, [f"undo run-{at}#0" for at in some], 50
-        yield f"step of a Pass {base}", "instructions", first, [f"step run-{at}" for at in some], 50
-        yield f"start {base}", "instructions", first, [f'start new-{at} two {{"key":"key-7"}}' for at in some], 50
-        yield f"show {base}", "instructions", first, [f"show run-{at}" for at in some], 50
-        yield f"plan of a middle step {base}", "instructions", first, [f"plan run-{at}#1" for at in some], 50
-        yield f"rollback of a step and ten dependents {base}", "instructions", lambda remain=remain: with_dependents(remain), ["rollback first#1"], 1
-        yield f"plan of a step and ten dependents {base}", "instructions", lambda remain=remain: with_dependents(remain), ["plan first#1"] * 20, 20
-    for count in (100, 10_000):
-        def ended(count=count):
-            yield TABLE
-            yield define("one", workloads.ONE_PASS)
-            for at in range(count):
-                yield f"start run-{at:05} one {{}}"
-            yield f"drive {count}"
-            yield "start zz one {}"
+def waiting(count, value="{}"):
+    """So many executions over a value that wait before the first of three Passes."""
+    yield TABLE
+    yield define("three", workloads.chain(3))
+    for at in range(count):
+        yield f"start run-{at} three {value}"
 
-        turns = ["undo run-00000#1", "drive 2", "undo zz#1"] * 20
-        yield f"undo, drive and undo in turn beside {count:,} executions that ended", "instructions", ended, turns, 60
-    for count in (600, 6_000, 40_000):
-        def needing(count=count):
-            return readers_that_went_on(count)
 
-        yield f"plan of {count:,} consequences, a consequence", "instructions", needing, ["plan first#1"], count
-        yield f"rollback of {count:,} consequences, a consequence", "instructions", needing, ["rollback first#1"], count
-    for count in (600, 6_000):
-        def stepped(count=count):
-            return many_threads(count)
+def undoings(remain):
+    """Undoings of steps in the middle and at the end of so many, and one that is refused."""
+    base, middle = f"among {remain:,} steps", range(remain // 4, remain // 4 + 50)
 
-        yield f"settle of {count:,} steps, a step", "instructions", stepped, ["settle"], count
-    for count in (60, 600, 6_000):
-        def waiting(count=count):
-            yield TABLE
-            yield define("three", workloads.chain(3))
-            for at in range(count):
-                yield f"start run-{at} three {{}}"
-        yield f"step by drive, {count:,} executions", "instructions", waiting, ["drive 60"], 60
-        yield f"step by one worker, {count:,} executions", "instructions", waiting, ["work 1 60"], 60
-    for count in (10, 1_000):
-        for moves, said in ((0, "a thread passed by"), (60, "these and 60 steps")):
-            lines = [f"work 1 {count + moves}"]
-            yield f"round of {count:,} threads passed by: {said}", "instructions", lambda count=count: passed_by(count), lines, count + moves
+    def first():
+        return many_threads(remain)
+
+    def reads():
+        return one_item_read(remain // 2, False)
+
+    yield f"undo of a middle step {base}", "instructions", first, [f"undo run-{at}#1" for at in middle], 50
+    yield f"undo of the latest steps {base}", "instructions", first, [f"undo run-{remain // 2 - 1 - at}#1" for at in range(50)], 50
+    yield f"undo of a middle read of one item {base}", "instructions", reads, [f"undo reader-{at}#1" for at in middle], 50
+    yield f"undo refused for its dependent {base}", "instructions", first, [f"undo run-{at}#0" for at in middle], 50
+
+
+def lines_of_threads(remain):
+    """Lines that step, start and show threads among so many steps, and that plan one of these."""
+    base, middle = f"among {remain:,} steps", range(remain // 4, remain // 4 + 50)
+
+    def first():
+        return many_threads(remain)
+
+    yield f"step of a Pass {base}", "instructions", first, [f"step run-{at}" for at in middle], 50
+    yield f"start {base}", "instructions", first, [f'start new-{at} two {{"key":"key-7"}}' for at in middle], 50
+    yield f"show {base}", "instructions", first, [f"show run-{at}" for at in middle], 50
+    yield f"plan of a middle step {base}", "instructions", first, [f"plan run-{at}#1" for at in middle], 50
+
+
+def plans_of_few(remain):
+    """A rollback of a step with few dependents among so many steps, and plans of it."""
+    base = f"a step and ten dependents among {remain:,} steps"
+
+    def first():
+        return with_dependents(remain)
+
+    yield f"rollback of {base}", "instructions", first, ["rollback first#1"], 1
+    yield f"plan of {base}", "instructions", first, ["plan first#1"] * 20, 20
+
+
+def turns_beside_ended(count):
+    """Steps that are undone and taken again in turn, beside so many executions that ended."""
+    turns = ["undo run-00000#1", "drive 2", "undo zz#1"] * 20
+    yield f"undo, drive and undo in turn beside {count:,} executions that ended", "instructions", lambda: many_ended(count), turns, 60
+
+
+def plans_of_many(count):
+    """A plan and a rollback of a step that so many others need."""
+    def needing():
+        return readers_that_went_on(count)
+
+    yield f"plan of {count:,} consequences, a consequence", "instructions", needing, ["plan first#1"], count
+    yield f"rollback of {count:,} consequences, a consequence", "instructions", needing, ["rollback first#1"], count
+
+
+def settlements(count):
+    """A settlement of so many steps."""
+    yield f"settle of {count:,} steps, a step", "instructions", lambda: many_threads(count), ["settle"], count
+
+
+def drives_and_rounds(count):
+    """A drive, and a round of one worker, over so many executions."""
+    yield f"step by drive, {count:,} executions", "instructions", lambda: waiting(count), ["drive 60"], 60
+    yield f"step by one worker, {count:,} executions", "instructions", lambda: waiting(count), ["work 1 60"], 60
+
+
+def passed_threads(count):
+    """Rounds of one worker that pass by so many threads, and that then take steps or none."""
+    for moves, said in ((0, "a thread passed by"), (60, "these and 60 steps")):
+        lines = [f"work 1 {count + moves}"]
+        yield f"round of {count:,} threads passed by: {said}", "instructions", lambda: passed_by(count), lines, count + moves
+
+
+def passed_holds(count):
+    """A drive and a round that pass by so many executions, and by so many branches of a fork, that a hold stops."""
+    for before, said in ((passed_by, "held executions"), (branches_passed_by, "branches of a held fork")):
+        for line in ("drive 1", f"work 1 {count + 1}"):
+            name = f"{line.split(' ')[0]} past {count:,} {said}, each of these"
+            yield name, "instructions", lambda before=before: before(count), [line], count
+
+
+def beside_many_reads():
+    """Steps beside many reads of an item, which are held or not, and the hold of them."""
     for held, said in ((False, "beside 6,000 reads of an item"), (True, "beside a hold of 6,000 reads of an item")):
         def reads(held=held):
             return one_item_read(6_000, held)
@@ -241,25 +300,47 @@ def single_calls():
         yield f"step of a Pass {said}", "instructions", reads, [f"step run-{at}" for at in range(50)], 50
         yield f"write of that item {said}", "instructions", reads, ["step writer-0"], 1
     yield "hold of 6,000 reads of an item", "instructions", lambda: one_item_read(6_000, False), ["hold first#1"], 1
-    for branches in (64, 4_096):
-        for bound, said in ((0, "without a bound"), (10, "with a bound of 10")):
-            def fresh(branches=branches, bound=bound):
-                return one_map(branches, bound)
 
-            yield f"step of a Map of {branches:,} branches {said}", "instructions", fresh, [f"drive {branches + 2}"], branches + 2
-    for size, said in ((2, "an empty input"), (10_000, "an input of 10,000 bytes")):
-        value = "{}" if size == 2 else text_of(workloads.large_input(size))
 
+def maps(branches):
+    """The steps of a Map of so many branches, without a bound and with one."""
+    for bound, said in ((0, "without a bound"), (10, "with a bound of 10")):
+        name = f"step of a Map of {branches:,} branches {said}"
+        yield name, "instructions", lambda bound=bound: one_map(branches, bound), [f"drive {branches + 2}"], branches + 2
+
+
+def over_inputs():
+    """Steps and starts of executions over a small input and over a large one."""
+    for value, said in (("{}", "an empty input"), (text_of(workloads.large_input(10_000)), "an input of 10,000 bytes")):
         def given(value=value):
-            yield TABLE
-            yield define("three", workloads.chain(3))
-            for at in range(100):
-                yield f"start run-{at} three {value}"
+            return waiting(100, value)
+
         yield f"step over {said}", "instructions", given, [f"step run-{at}" for at in range(100)], 100
         yield f"start with {said}", "instructions", given, [f"start new-{at} three {value}" for at in range(100)], 100
+
+
+def large_values():
+    """A field that is placed into a large object, and calls for a large item."""
     yield "a field placed into 10,000", "instructions", lambda: placing(10_000), ["drive 99"], 99
     for call in ("put", "get"):
         yield f"{call} of an item of 5,000 attributes", "instructions", lambda: large_items(5_000), [f"step {call}-{at}" for at in range(1, 10)], 9
+
+
+def single_calls():
+    """Each call as its name, its unit, the lines before it, the lines that are it, and how many they are."""
+    for remain in (600, 6_000, 60_000):
+        yield from undoings(remain)
+        yield from lines_of_threads(remain)
+        yield from plans_of_few(remain)
+    for topic, counts in ((turns_beside_ended, (100, 10_000)), (plans_of_many, (600, 6_000, 40_000)), (settlements, (600, 6_000)),
+                          (drives_and_rounds, (60, 600, 6_000)), (passed_threads, (10, 1_000)), (passed_holds, (256, 4_096))):
+        for count in counts:
+            yield from topic(count)
+    yield from beside_many_reads()
+    for branches in (64, 4_096):
+        yield from maps(branches)
+    yield from over_inputs()
+    yield from large_values()
 
 
 def instructions(program, names, scale, jobs):
@@ -392,72 +473,111 @@ def inserted(file, lines):
     return ended - began
 
 
+class Timer:
+    """Takes the best of some runs of the program over a file of lines."""
+
+    def __init__(self, program, runs, room):
+        self.program, self.runs, self.room = program, runs, room
+        self.file, self.journal = os.path.join(room, "lines.txt"), os.path.join(room, "journal.db")
+        self.nothing = self.best([])
+
+    def best(self, lines, words=()):
+        """The fewest seconds that the program takes to answer these lines."""
+        workloads.write(self.file, lines)
+        return min(taken(self.program, self.file, words) for _ in range(self.runs))
+
+
+def time_workloads(timer, names, scale):
+    """Rows of the workloads that are asked for."""
+    for name, work in workloads.WORKLOADS.items():
+        if not names or name in names:
+            count = workloads.write(timer.file, work(scale))
+            row(name, count / (timer.best(work(scale)) - timer.nothing), "lines a second")
+
+
+def time_kinds(timer, names, scale):
+    """Rows of the kinds of lines that are asked for."""
+    for name, before, lines in kinds_of_lines(max(100, int(30_000 * scale))):
+        if not names or name in names:
+            row(name, len(lines) / max(timer.best(before + lines) - timer.best(before), 1e-6), "lines a second")
+
+
+def time_workers(timer, scale):
+    """Rows of a drive and of rounds of workers over templates, and of two and four workers beside one."""
+    count = max(100, int(3_000 * scale))
+    before = list(filled(count, 16_384))
+    begun = timer.best(before)
+    spent = {line: max(timer.best([*before, f"{line} {count}"]) - begun, 1e-6) for line in ("drive", "work 1", "work 2", "work 4")}
+    for line, seconds in spent.items():
+        row(f"templates of 16 kB, {line}", count / seconds, "steps a second")
+    for line in ("work 2", "work 4"):
+        row(f"{line} beside work 1, on {os.cpu_count()} processors", spent["work 1"] / spent[line], "times as fast")
+
+
+def has_lines(journal, lines):
+    """Whether sqlite3 reads these lines in a journal, and finds it sound."""
+    found = sqlite3.connect(journal)
+    same = found.execute("SELECT line FROM entry ORDER BY no").fetchall() == [(line,) for line in lines]
+    sound = found.execute("PRAGMA integrity_check").fetchall() == [("ok",)]
+    found.close()
+    return same and sound
+
+
+def time_journal(timer, scale):
+    """Rows of a journal on a file, and of as many inserts by Python's sqlite3."""
+    lines = [TABLE, define("one", workloads.ONE_PASS)]
+    for at in range(max(100, int(20_000 * scale)) // 2):
+        lines += [f"start run-{at} one {{}}", f"step run-{at}"]
+    plain = os.path.join(timer.room, "plain.db")
+    # One after another, run by run, so that a disk that is slow for a while is slow for both.
+    times = []
+    workloads.write(timer.file, lines)
+    for _ in range(timer.runs):
+        remove_journal(timer.journal)
+        times.append((taken(timer.program, timer.file, ("--journal", timer.journal)), inserted(plain, lines)))
+    ours, theirs = (min(column) for column in zip(*times))
+    row("journal on a file", len(lines) / (ours - timer.nothing), "lines a second")
+    row("inserts by Python's sqlite3", len(lines) / theirs, "lines a second")
+    row("journal, time beside sqlite3", ours / theirs, "times")
+    if not has_lines(timer.journal, lines):
+        sys.exit("bench: sqlite3 reads other lines in the journal than were given, or finds it unsound")
+
+
+def write_journal(file, lines):
+    """Writes a session's lines into a journal by sqlite3, all at once."""
+    remove_journal(file)
+    written = sqlite3.connect(file, isolation_level=None)
+    written.execute("PRAGMA journal_mode=WAL")
+    written.execute("CREATE TABLE entry(no INTEGER PRIMARY KEY, line TEXT NOT NULL) STRICT")
+    written.execute("BEGIN")
+    written.executemany("INSERT INTO entry VALUES (?, ?)", enumerate(lines))
+    written.execute("COMMIT")
+    written.close()
+
+
+def time_opening(timer, scale):
+    """Rows of a session of many lines, in memory and on a journal that is opened again."""
+    many = [TABLE, define("one", workloads.ONE_PASS)]
+    for at in range(max(100, int(25_000 * scale))):
+        many += [f"start run-{at} one {{}}", f"step run-{at}", f"undo run-{at}#1", f"undo run-{at}#0"]
+    write_journal(timer.journal, many)
+    row("the same lines in memory", len(many) / (timer.best(many) - timer.nothing), "lines a second")
+    row("a journal opened again", len(many) / (timer.best([], ("--check", timer.journal)) - timer.nothing), "lines a second")
+
+
 def clock(program, names, scale, runs, folder):
+    """Rows of all that is asked for, by the clock."""
     with tempfile.TemporaryDirectory(dir=folder) as room:
-        file = os.path.join(room, "lines.txt")
-
-        def best(lines, words=(), before=lambda: None):
-            workloads.write(file, lines)
-            times = []
-            for _ in range(runs):
-                before()
-                times.append(taken(program, file, words))
-            return min(times)
-
-        nothing = best([])
+        timer = Timer(program, runs, room)
         if not names or "nothing" in names:
-            row("an empty input", nothing * 1_000_000, "microseconds")
-        for name, work in workloads.WORKLOADS.items():
-            if not names or name in names:
-                count = workloads.write(file, work(scale))
-                row(name, count / (best(work(scale)) - nothing), "lines a second")
-        count = max(100, int(30_000 * scale))
-        for name, before, lines in kinds_of_lines(count):
-            if not names or name in names:
-                row(name, count / max(best(before + lines) - best(before), 1e-6), "lines a second")
+            row("an empty input", timer.nothing * 1_000_000, "microseconds")
+        time_workloads(timer, names, scale)
+        time_kinds(timer, names, scale)
         if not names or "workers" in names:
-            count = max(100, int(3_000 * scale))
-            before = list(filled(count, 16_384))
-            begun = best(before)
-            spent = {line: max(best([*before, f"{line} {count}"]) - begun, 1e-6) for line in ("drive", "work 1", "work 2", "work 4")}
-            for line, seconds in spent.items():
-                row(f"templates of 16 kB, {line}", count / seconds, "steps a second")
-            for line in ("work 2", "work 4"):
-                row(f"{line} beside work 1, on {os.cpu_count()} processors", spent["work 1"] / spent[line], "times as fast")
-        if names and "journal" not in names:
-            return
-        count = max(100, int(20_000 * scale))
-        lines = [TABLE, define("one", workloads.ONE_PASS)] + [f"{word} run-{at}{rest}" for at in range(count // 2) for word, rest in (("start", " one {}"), ("step", ""))]
-        journal, plain = os.path.join(room, "journal.db"), os.path.join(room, "plain.db")
-        # One after another, run by run, so that a disk that is slow for a while is slow for both.
-        times = []
-        workloads.write(file, lines)
-        for _ in range(runs):
-            remove_journal(journal)
-            times.append((taken(program, file, ("--journal", journal)), inserted(plain, lines)))
-        row("journal on a file", len(lines) / (min(ours for ours, _ in times) - nothing), "lines a second")
-        row("inserts by Python's sqlite3", len(lines) / min(theirs for _, theirs in times), "lines a second")
-        row("journal, time beside sqlite3", min(ours for ours, _ in times) / min(theirs for _, theirs in times), "times")
-        found = sqlite3.connect(journal)
-        same = found.execute("SELECT line FROM entry ORDER BY no").fetchall() == [(line,) for line in lines]
-        sound = found.execute("PRAGMA integrity_check").fetchall() == [("ok",)]
-        found.close()
-        if not (same and sound):
-            sys.exit("bench: sqlite3 reads other lines in the journal than were given, or finds it unsound")
-        # Many more lines to open again: those of a session in memory are written by sqlite3 at once.
-        many = [TABLE, define("one", workloads.ONE_PASS)]
-        for at in range(max(100, int(25_000 * scale))):
-            many += [f"start run-{at} one {{}}", f"step run-{at}", f"undo run-{at}#1", f"undo run-{at}#0"]
-        remove_journal(journal)
-        written = sqlite3.connect(journal, isolation_level=None)
-        written.execute("PRAGMA journal_mode=WAL")
-        written.execute("CREATE TABLE entry(no INTEGER PRIMARY KEY, line TEXT NOT NULL) STRICT")
-        written.execute("BEGIN")
-        written.executemany("INSERT INTO entry VALUES (?, ?)", enumerate(many))
-        written.execute("COMMIT")
-        written.close()
-        row("the same lines in memory", len(many) / (best(many) - nothing), "lines a second")
-        row("a journal opened again", len(many) / (best([], ("--check", journal)) - nothing), "lines a second")
+            time_workers(timer, scale)
+        if not names or "journal" in names:
+            time_journal(timer, scale)
+            time_opening(timer, scale)
 
 
 def main():

@@ -23,7 +23,8 @@ in half of them holds, in some settlements, and lines of all kinds that are refu
 
 One session in eight is on a journal file, which is checked and opened again at its end.
 
-Session I of seed S is the same each time. Without --seconds, 400 sessions are run. --session runs the one alone. A session in
+Session I of seed S is the same each time, up to its first `work`: later lines go by the steps that the workers took. Without --seconds, 400
+sessions are run. --session runs the one alone. A session in
 which something differs is cut short, line by line, while something still differs, and is printed. The last line is
 `N passed, M failed`; the status is 1 where one failed, or none was run.
 """
@@ -144,18 +145,11 @@ def drawn_machine(chance, table, depth):
 
 
 def drawn_state(chance, table, depth, kind, name, names):
+    """A state of a kind, without what comes next: its own fields, and how its errors are handled."""
     if kind in CALLS or kind == "wrong":
-        state = {"Type": "Task", **drawn_call(chance, table, kind, name)}
-        state.update(chance.choice(({"ResultPath": None}, {"ResultPath": "$.found"}) * 4 + ({"ResultPath": "$.v.no"}, {})))
-        if "ResultPath" in state and chance.random() < 0.1:
-            state["ResultSelector"] = chance.choice(({"Item.$": "$.Item"}, {"all.$": "$", "n": 1}))
+        state = drawn_task(chance, table, kind, name)
     elif kind == "pass":
-        state = {"Type": "Pass", "Result": chance.randrange(9), "ResultPath": "$.r"}
-        if chance.random() < 0.3:
-            state = {"Type": "Pass", **chance.choice((
-                {}, {"Parameters": {"v.$": "$.v", "l": [1, {"n.$": "$.n"}]}, "ResultPath": "$.p"}, {"InputPath": "$.found", "ResultPath": "$.was"},
-                {"InputPath": "$.v", "ResultPath": "$.was"},
-                {"Result": 7}, {"OutputPath": "$.found"}))}
+        state = drawn_pass(chance)
     elif kind == "wait":
         state = {"Type": "Wait", "Seconds": 3}
     elif kind == "succeed":
@@ -163,29 +157,69 @@ def drawn_state(chance, table, depth, kind, name, names):
     elif kind == "fail":
         state = {"Type": "Fail", "Error": chance.choice(("X", "Y")), "Cause": "as drawn"}
     elif kind == "choice":
-        tests = (
-            {"Variable": "$.found.Item", "IsPresent": True}, {"Variable": "$.n", "NumericGreaterThan": 1},
-            {"And": [{"Variable": "$.found.Item.v.S", "IsPresent": True}, {"Not": {"Variable": "$.found.Item.v.S", "StringEquals": "first"}}]},
-            {"Or": [{"Variable": "$.n", "NumericEquals": 0}, {"Variable": "$.error", "IsPresent": True}]})
-        state = {"Type": "Choice", "Choices": [dict(test, Next=chance.choice(names)) for test in chance.sample(tests, chance.choice((1, 2)))]}
-        if chance.random() < 0.9:
-            state["Default"] = names[-1] if chance.random() < 0.8 else chance.choice(names)
+        state = drawn_choice(chance, names)
     elif kind == "parallel":
-        branches = [drawn_machine(chance, table, depth - 1) for _ in range(chance.choice((0, 1, 2, 2, 2, 3)))]
-        state = {"Type": "Parallel", "Branches": branches, **chance.choice(({"ResultPath": None}, {"ResultPath": "$.found"}, {}))}
+        state = drawn_parallel(chance, table, depth)
     else:
-        state = {"Type": "Map", "ItemsPath": "$.list", "ItemProcessor": drawn_machine(chance, table, depth - 1)}
-        state.update(chance.choice(({"ResultPath": None}, {"ResultPath": "$.found"}, {})))
-        if (bound := int(name.split(" ")[2])) or chance.random() < 0.1:
-            state["MaxConcurrency"] = bound
-        if chance.random() < 0.6:
-            state["ItemSelector"] = {"key.$": "$$.Map.Item.Value.key", "n.$": "$$.Map.Item.Index", "v.$": "$.v", "list.$": "$.list"}
+        state = drawn_map(chance, table, depth, name)
     if kind in CALLS or kind in ("wrong", "parallel", "map"):
-        if chance.random() < 0.35:
-            state["Retry"] = [{"ErrorEquals": chance.choice(ERRORS), "MaxAttempts": chance.choice((0, 1, 1, 2)), "BackoffRate": 2.0}]
-        if chance.random() < 0.4:
-            state["Catch"] = [{"ErrorEquals": chance.choice(ERRORS[:2]), "ResultPath": chance.choice((None, "$.error", "$.error")), "Next": chance.choice(names)}]
+        state.update(drawn_handlers(chance, names))
     return state
+
+
+def drawn_task(chance, table, kind, name):
+    state = {"Type": "Task", **drawn_call(chance, table, kind, name)}
+    state.update(chance.choice(({"ResultPath": None}, {"ResultPath": "$.found"}) * 4 + ({"ResultPath": "$.v.no"}, {})))
+    if "ResultPath" in state and chance.random() < 0.1:
+        state["ResultSelector"] = chance.choice(({"Item.$": "$.Item"}, {"all.$": "$", "n": 1}))
+    return state
+
+
+def drawn_pass(chance):
+    state = {"Type": "Pass", "Result": chance.randrange(9), "ResultPath": "$.r"}
+    if chance.random() < 0.3:
+        state = {"Type": "Pass", **chance.choice((
+            {}, {"Parameters": {"v.$": "$.v", "l": [1, {"n.$": "$.n"}]}, "ResultPath": "$.p"}, {"InputPath": "$.found", "ResultPath": "$.was"},
+            {"InputPath": "$.v", "ResultPath": "$.was"},
+            {"Result": 7}, {"OutputPath": "$.found"}))}
+    return state
+
+
+def drawn_choice(chance, names):
+    tests = (
+        {"Variable": "$.found.Item", "IsPresent": True}, {"Variable": "$.n", "NumericGreaterThan": 1},
+        {"And": [{"Variable": "$.found.Item.v.S", "IsPresent": True}, {"Not": {"Variable": "$.found.Item.v.S", "StringEquals": "first"}}]},
+        {"Or": [{"Variable": "$.n", "NumericEquals": 0}, {"Variable": "$.error", "IsPresent": True}]})
+    state = {"Type": "Choice", "Choices": [dict(test, Next=chance.choice(names)) for test in chance.sample(tests, chance.choice((1, 2)))]}
+    if chance.random() < 0.9:
+        state["Default"] = names[-1] if chance.random() < 0.8 else chance.choice(names)
+    return state
+
+
+def drawn_parallel(chance, table, depth):
+    branches = [drawn_machine(chance, table, depth - 1) for _ in range(chance.choice((0, 1, 2, 2, 2, 3)))]
+    return {"Type": "Parallel", "Branches": branches, **chance.choice(({"ResultPath": None}, {"ResultPath": "$.found"}, {}))}
+
+
+def drawn_map(chance, table, depth, name):
+    state = {"Type": "Map", "ItemsPath": "$.list", "ItemProcessor": drawn_machine(chance, table, depth - 1)}
+    state.update(chance.choice(({"ResultPath": None}, {"ResultPath": "$.found"}, {})))
+    if (bound := int(name.split(" ")[2])) or chance.random() < 0.1:
+        state["MaxConcurrency"] = bound
+    if chance.random() < 0.6:
+        state["ItemSelector"] = {"key.$": "$$.Map.Item.Value.key", "n.$": "$$.Map.Item.Index", "v.$": "$.v", "list.$": "$.list"}
+    return state
+
+
+def drawn_handlers(chance, names):
+    """Now and then a retrier and a catcher of a state's errors."""
+    handlers = {}
+    if chance.random() < 0.35:
+        handlers["Retry"] = [{"ErrorEquals": chance.choice(ERRORS), "MaxAttempts": chance.choice((0, 1, 1, 2)), "BackoffRate": 2.0}]
+    if chance.random() < 0.4:
+        errors, path = chance.choice(ERRORS[:2]), chance.choice((None, "$.error", "$.error"))
+        handlers["Catch"] = [{"ErrorEquals": errors, "ResultPath": path, "Next": chance.choice(names)}]
+    return handlers
 
 
 def drawn_call(chance, table, kind, name):
@@ -680,7 +714,8 @@ def run_session(program, seed, number, count):
     return number, given, checks, "\n".join(text + ["    " + ascii(line)[1:-1].replace("\\\\", "\\") for line in lines] + [f"there: {shorter}"])
 
 
-def main():
+def asked_for():
+    """What the command line asks for."""
     parser = argparse.ArgumentParser(description="Tests the program's headline by sessions that are drawn at random.")
     parser.add_argument("--program", default=PROGRAM)
     parser.add_argument("--sessions", type=int)
@@ -689,19 +724,21 @@ def main():
     parser.add_argument("--session", type=int, help="this one alone")
     parser.add_argument("--lines", type=int, default=60, help="about how many lines a session has")
     parser.add_argument("--jobs", type=int, default=os.cpu_count() or 1)
-    asked = parser.parse_args()
-    if not os.access(asked.program, os.X_OK):
-        print(f"drawn: no program {os.path.relpath(asked.program)}: run rt run in crates/rollback_program first", file=sys.stderr)
-        print("0 passed, 0 failed")
-        return 1
+    return parser.parse_args()
+
+
+def numbers_of(asked):
+    """The numbers of the sessions to run. Where a time is given there is no last one."""
     if asked.session is not None:
-        numbers = iter([asked.session])
-    elif asked.seconds is not None:
-        numbers = iter(range(1, 1 << 60))
-    else:
-        numbers = iter(range(1, (asked.sessions if asked.sessions is not None else 400) + 1))
-    began = time.monotonic()
-    passed = failed = lines = checks = 0
+        return iter([asked.session])
+    if asked.seconds is not None:
+        return iter(range(1, 1 << 60))
+    return iter(range(1, (asked.sessions if asked.sessions is not None else 400) + 1))
+
+
+def results(asked, began):
+    """Runs the sessions, some at a time, and gives the result of each one that has ended."""
+    numbers = numbers_of(asked)
     with concurrent.futures.ProcessPoolExecutor(asked.jobs) as pool:
         running = set()
 
@@ -716,14 +753,25 @@ def main():
         while running:
             done, running = concurrent.futures.wait(running, return_when=concurrent.futures.FIRST_COMPLETED)
             for one in done:
-                _, given, checked, difference = one.result()
-                lines, checks = lines + given, checks + checked
-                if difference is None:
-                    passed += 1
-                else:
-                    failed += 1
-                    print(difference, flush=True)
+                yield one.result()
                 more()
+
+
+def main():
+    asked = asked_for()
+    if not os.access(asked.program, os.X_OK):
+        print(f"drawn: no program {os.path.relpath(asked.program)}: run rt run in crates/rollback_program first", file=sys.stderr)
+        print("0 passed, 0 failed")
+        return 1
+    began = time.monotonic()
+    passed = failed = lines = checks = 0
+    for _, given, checked, difference in results(asked, began):
+        lines, checks = lines + given, checks + checked
+        if difference is None:
+            passed += 1
+        else:
+            failed += 1
+            print(difference, flush=True)
     print(f"{lines} lines in {passed + failed} drawn sessions of seed {asked.seed}, {checks} checks, in {time.monotonic() - began:.0f} s")
     print(f"{passed} passed, {failed} failed")
     return 1 if failed or not passed else 0

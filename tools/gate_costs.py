@@ -32,7 +32,9 @@ class Costs:
 
     def see(self, process, kind, seconds):
         now = time.monotonic() - self.began
-        self.kinds.setdefault(process, kind)
+        # one that was seen before it became the prover had its parent's words
+        if self.kinds.get(process, ("", OTHER)) == ("", OTHER):
+            self.kinds[process] = kind
         self.seconds[process] = max(seconds, self.seconds.get(process, 0))
         self.first.setdefault(self.kinds[process], now)
         self.last[self.kinds[process]] = now

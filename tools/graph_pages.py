@@ -4,6 +4,7 @@ import collections
 import hashlib
 import html.parser
 import json
+import re
 
 from drawn_steps import Difference
 
@@ -97,13 +98,41 @@ def cells_of(row):
     return [row["step"], row["kind"], row["state"] or "", key, " ".join(went), causes]
 
 
+def lies_in(step, fork, last):
+    """Whether a step is of one of a fork's branches up to one; the fork as a barrier names it."""
+    above, _, number = fork.removeprefix("barrier ").rpartition("#")
+    found = re.match(rf"{re.escape(above)}/{number}\.(\d+)#", step)
+    return found is not None and int(found[1]) <= last
+
+
+def check_waits(rows, graph, bounds):
+    """The branches for which first moves waited are the barriers before them, and a step at a `bound` leads through its barrier."""
+    barriers = {}
+    for row in rows:
+        if "waited" in row:
+            fork, _, branch = row["waited"].rpartition(".")
+            above, _, number = fork.rpartition("/")
+            barriers[row["step"]] = f"barrier {above}#{number} {branch}"
+    for step, found in graph.behind.items():
+        ensure(found == [barriers.get(step)], f"{step} waited for another branch than at {found}")
+    for step, barrier in barriers.items():
+        fork = barrier.rpartition(" ")[0]
+        is_shown = any(lies_in(name, fork, int(barrier.rpartition(" ")[2])) for name in graph.nodes)
+        ensure((step in graph.behind) == is_shown, f"{step} waited, and has {graph.behind.get(step)} before it")
+    for earlier, later in bounds:
+        ensure(earlier in graph.waited(later), f"{later} depends on {earlier} by no barrier")
+    ensure(len({later for _, later in bounds}) == len(bounds), "two branches of one bound")
+
+
 def check_page(text, graph, step=None):
     """A page against the whole picture for Graphviz: the same steps and dependences, in the data and in the table."""
     page = Page(text)
     rows = page.data["steps"]["steps"]
     ensure({row["step"]: words_of(row) for row in rows} == graph.nodes, "other steps than nodes")
     found = {(cause["step"], row["step"]): cause["reason"] for row in rows for cause in row["on"]}
-    ensure(found == {pair: label.split(" ")[0] for pair, label in graph.edges.items()}, "other dependences than edges")
+    drawn = {pair: why for pair, why in found.items() if why != "bound"}
+    ensure(drawn == {pair: label.split(" ")[0] for pair, label in graph.edges.items()}, "other dependences than edges")
+    check_waits(rows, graph, {pair for pair, why in found.items() if why == "bound"})
     ensure(page.data["show"] == step, f"opens at {page.data['show']}")
     ensure(page.title == (page.data["name"] if step is None else f"{page.data['name']}: {step}"), f"another title: {page.title}")
     ensure(page.rows == [cells_of(row) for row in rows], "other rows of the table")

@@ -9,9 +9,11 @@ status. The head of rows/graph/tutorials.txt says how rows are written.
 A drawn session starts executions of drawn machines over few keys, takes steps, undoes, rolls back and settles. Dependence is worked out here,
 from its definition, pair by pair. Then
 
-- the nodes of --dot have to be the remaining steps, with their kinds and keys; each edge a direct dependence for its first reason; and
-  what follows from the edges has to be what follows from all direct dependences;
-- with --from the edges have to be those whose later step is in the plan, the nodes these steps and those at the edges, and the marks the plan;
+- the nodes of --dot have to be the remaining steps, with their kinds and keys; each edge a direct dependence for its first reason; the steps
+  that lead to one through a barrier those for which it waited under its Map's bound; and what follows from edges and barriers has to be what
+  follows from all direct dependences;
+- with --from the edges have to be those whose later step is in the plan, the nodes these steps and those at the edges and barriers, and the marks
+  the plan; and what follows within the plan has to be the same as in the whole picture;
 - --why has to be a shortest chain, of direct dependences each with its reason; or to end with status 1 where the plan lacks the step;
 - --plan has to list the plan, each step with a direct dependence on another one of the plan; its last lines have to be the threads that
   `show` tells to be ready after the rollback, of those that stood elsewhere before;
@@ -26,6 +28,7 @@ none was run.
 import argparse
 import collections
 import glob
+import itertools
 import json
 import os
 import pathlib
@@ -392,6 +395,7 @@ class Drawn:
 
 NODE = re.compile(r'^ {6}"([^"]+)" \[label="([^"#]+#\d+)\\n((?:[^"\\]|\\.)*)"(.*)\];$')
 EDGE = re.compile(r'^ {2}"([^"]+)" -> "([^"]+)" \[label="((?:[^"\\]|\\.)*)"\];$')
+BARRIER = re.compile(r'^ {2}"barrier ([^" ]+) (\d+)" \[shape=point, tooltip="branches up to (\d+) of ([^"]+)"\];$')
 OTHERS = re.compile(r'^(digraph rollback \{| {2}newrank=true;| {2}node .*| {2}edge .*| *subgraph "cluster (execution|thread) [^"]+" \{| *label="[^"]+";| *\})$')
 
 
@@ -400,13 +404,20 @@ def unquoted(text):
 
 
 class Graph:
-    """A picture that was read: nodes with their words and marks, and edges with their labels."""
+    """A picture that was read: nodes with their words and marks, edges with their labels, and what leads to each barrier and to each step behind one."""
 
     def __init__(self, text):
-        self.nodes, self.edges, self.marks, self.asked = {}, {}, set(), None
+        self.nodes, self.edges, self.marks, self.asked, self.barriers, self.behind = {}, {}, set(), None, {}, {}
         for line in text.split("\n")[:-1]:
-            node, edge = NODE.match(line), EDGE.match(line)
-            if node:
+            node, edge, barrier = NODE.match(line), EDGE.match(line), BARRIER.match(line)
+            if barrier:
+                name = f"barrier {barrier[1]} {barrier[2]}"
+                if name in self.barriers or (barrier[3], barrier[4]) != (barrier[2], barrier[1]):
+                    raise Difference(f"a barrier twice or of other words: {line}")
+                self.barriers[name] = []
+            elif edge and (edge[1] in self.barriers or edge[2] in self.barriers):
+                self.lead(edge[1], edge[2], edge[3])
+            elif node:
                 if node[1] in self.nodes or node[1] != node[2]:
                     raise Difference(f"a node twice or of another name: {line}")
                 self.nodes[node[1]] = unquoted(node[3])
@@ -420,6 +431,37 @@ class Graph:
                 self.edges[edge[1], edge[2]] = unquoted(edge[3])
             elif not OTHERS.match(line):
                 raise Difference(f"a line of another form: {line}")
+
+    def lead(self, earlier, later, label):
+        """An arrow to a barrier, or from one."""
+        into = self.barriers[later] if later in self.barriers else self.behind.setdefault(later, [])
+        if earlier in into or label != "bound":
+            raise Difference(f"an arrow twice or of another label: {earlier} -> {later} {label}")
+        into.append(earlier)
+
+    def waited(self, step):
+        """The steps that lead to one through barriers."""
+        left, found = list(self.behind.get(step, ())), set()
+        while left:
+            name = left.pop()
+            if name not in found:
+                found.add(name)
+                left += self.barriers.get(name, ())
+        return sorted(found - set(self.barriers))
+
+
+def check_barriers(reference, graph, explained):
+    """A first move that waited has one barrier, and the steps before it are those for which it waited."""
+    for step in explained:
+        barriers = graph.behind.get(step.name, [])
+        ensure(len(barriers) <= 1, f"{step.name} has barriers {barriers}")
+        for name in graph.waited(step.name):
+            ensure(awaits(step, reference.steps[reference.places[name]]), f"{step.name} didn't wait for {name}")
+        for barrier in barriers:
+            above, _, branch = step.thread.rpartition("/")
+            fork, number = branch.split(".")
+            ensure(barrier == f"barrier {above}#{fork} {int(number) - step.bound}", f"{step.name} is behind {barrier}")
+    ensure(set(graph.behind) <= {step.name for step in explained}, "a barrier of another step")
 
 
 def check_edges(reference, graph):
@@ -437,19 +479,35 @@ def check_whole(reference, graph):
     for step in steps:
         ensure(graph.nodes[step.name] == step.node(), f"{step.name} is told as {graph.nodes[step.name]}, wanted {step.node()}")
     check_edges(reference, graph)
-    direct = [[] for _ in steps]
-    for earlier, later in graph.edges:
-        direct[reference.places[later]].append(reference.places[earlier])
-    for place, found in enumerate(closure(direct)):
-        ensure(found == reference.all[place], f"what {steps[place].name} hangs on isn't what follows from the edges")
+    check_barriers(reference, graph, steps)
+    for place, found in enumerate(closure(links(reference, graph))):
+        ensure(found == reference.all[place], f"what {steps[place].name} depends on isn't what follows from the edges")
     ensure(not graph.marks, "a mark in a whole picture")
 
 
+def links(reference, graph):
+    """Of each step the places of those that lead to it, through barriers too."""
+    direct = [[] for _ in reference.steps]
+    for earlier, later in graph.edges:
+        direct[reference.places[later]].append(reference.places[earlier])
+    for later in graph.behind:
+        direct[reference.places[later]] += [reference.places[earlier] for earlier in graph.waited(later)]
+    return direct
+
+
 def check_from(reference, whole, graph, at):
-    plan = {reference.steps[place].name for place in reference.plan(at)}
+    places = reference.plan(at)
+    plan = {reference.steps[place].name for place in places}
     wanted = {pair: label for pair, label in whole.edges.items() if pair[1] in plan}
     ensure(graph.edges == wanted, f"other edges from {reference.steps[at].name}")
-    ensure(set(graph.nodes) == plan | {earlier for earlier, _ in wanted}, "other nodes with --from")
+    check_barriers(reference, graph, [reference.steps[place] for place in places])
+    least = plan | {earlier for earlier, _ in wanted}
+    more = {name for step in plan for name in graph.waited(step)}
+    ensure(least <= set(graph.nodes) and all(name in least or name in more for name in graph.nodes), "other nodes with --from")
+    within = sum(1 << place for place in places)
+    for place, found in enumerate(closure(links(reference, graph))):
+        if within >> place & 1:
+            ensure(found & within == reference.all[place] & within, f"another part of the plan leads to {reference.steps[place].name}")
     ensure(graph.marks == plan and graph.asked == reference.steps[at].name, "other marks")
 
 
@@ -480,9 +538,14 @@ def check_plan(reference, text, at):
     count = lambda number, thing: f"{number} {thing}{'' if number == 1 else 's'}"  # noqa: E731
     ensure(lines[0] == f"{count(len(plan), 'step')} of {count(len(executions), 'execution')}: {', '.join(executions)}", f"the head: {lines[0]}")
     keys = sorted({steps[place].access[0] for place in plan if steps[place].access and steps[place].access[1]})
-    changes = lines[1 : 1 + len(keys)]
-    ensure([line.partition(": ")[0] for line in changes] == [f"item {key_text(key)}" for key in keys], f"other items change: {changes}")
-    lines = lines[1 + len(keys) :]
+    changes = list(itertools.takewhile(lambda line: line.startswith("item "), lines[1:]))
+    named = [line.partition(": ")[0] for line in changes]
+    # a write of what was there changes nothing
+    ensure(named == [name for name in (f"item {key_text(key)}" for key in keys) if name in named], f"other items change: {changes}")
+    for line in changes:
+        now, _, then = line.partition(": ")[2].partition(" becomes ")
+        ensure(now != then, f"an item that stays: {line}")
+    lines = lines[1 + len(changes) :]
     told = lines[: len(plan)]
     ensure([line.split(" ")[0] for line in told] == [steps[place].name for place in plan], "another plan")
     ensure(lines[len(plan) : len(plan) + 1] == ["ready again afterwards:"], "no line of what is ready again")

@@ -24,7 +24,7 @@ import tempfile
 sys.dont_write_bytecode = True
 from drawn import PROGRAM, Drawer  # noqa: E402: beside this file
 from drawn_steps import Difference, Session  # noqa: E402: beside this file
-from plain_book.book import JOURNALED, Book, path_of  # noqa: E402: beside this file
+from plain_book.book import JOURNALED, Book, path_of, reason  # noqa: E402: beside this file
 from plain_book.following import answered  # noqa: E402: beside this file
 from plain_book.questions import answer, thread_row  # noqa: E402: beside this file
 
@@ -129,7 +129,20 @@ class Followed:
             raise Difference(f"? {question}: the follower answers\n{found}\nand the plain book\n{wanted}")
         if json.dumps(json.loads(found), separators=(",", ":"), ensure_ascii=False, sort_keys=True) != found:
             raise Difference(f"? {question}: another spelling: {found}")
+        self.check_dependents(book, json.loads(found))
         self.compared += 1
+
+    @staticmethod
+    def check_dependents(book, answer):
+        """That a step has dependents just if a later step depends directly on it, pair by pair."""
+        if "dependents" not in answer:
+            return
+        names = [step.name for step in book.steps]
+        at = names.index(answer["step"]["step"])
+        direct = {later.name for later in book.steps[at + 1 :] if reason(later, book.steps[at])}
+        told = {row["step"] for row in answer["dependents"]}
+        if not told <= direct or bool(told) != bool(direct):
+            raise Difference(f"{names[at]}: {sorted(told)} are told to depend on it, and {sorted(direct)} do")
 
     def compare_at_once(self, program, questions):
         """Asks about a journal of the same lines, without following, in JSON and as text."""
@@ -142,6 +155,10 @@ class Followed:
                 words = [self.graph, journal, f"--{head}", *([rest] if rest else [])]
                 found = subprocess.run([*words, "--json"], capture_output=True, text=True, check=False)
                 wanted = self.ask(f"? {question}")
+                if json.loads(wanted) == {"error": "no question", "rollback_graph": 1}:
+                    if (found.stdout, found.returncode) != ("", 2):
+                        raise Difference(f"{question} at once: {found.stdout}, though it is no question")
+                    continue
                 if found.stdout != wanted + "\n" or found.returncode != ("error" in json.loads(wanted) and "entries" not in json.loads(wanted)):
                     raise Difference(f"{question} at once: {found.stdout} {found.stderr}, the follower answers {wanted}")
                 text = json.loads(self.ask(f"? text {question}")).get("text")
@@ -191,7 +208,20 @@ def drawn_questions(chance, book):
     found += ["list", "list failed", "list open", "list done", f"list since {chance.randrange(len(book.entries) + 1)}", "list machine m0"]
     found += ["item", "item most 1", f"log {chance.randrange(len(book.entries) + 2)} {chance.randrange(9)}", "machine m0 definition"]
     found += [f"steps {chance.randrange(len(steps) + 1)} {chance.randrange(5)}", f"find {some(('get', 'E0', 'k1', 'X', 's1 '))}", "nothing"]
+    found += paged_questions(chance, some(steps), some(threads), keys)
     return found + [f"item {key}" for key in keys] + [f"explain {thread}" for thread in threads]
+
+
+def paged_questions(chance, step, thread, keys):
+    """Questions for a page of their answers."""
+    most = chance.randrange(4)
+    found = [f"machines most {most}", f"machines after m0 most {most}", f"list after {thread.split('/')[0]} most {most}"]
+    found += [f"show {thread.split('/')[0]} most {most}", f"show {step.split('#')[0].split('/')[0]} after {step} most {most}"]
+    found += [f"show {thread} after {step} most {most}", f"show {thread} most", f"show {step} most 1", "item after most 1"]
+    if keys:
+        key = chance.choice(keys)
+        found += [f"item most {most} {key}", f"item after {step} most {most} {key}", f"item after {key} most {most}"]
+    return found
 
 
 def check(program, graph, seed, number, count):

@@ -56,6 +56,7 @@ book_tests plans::histories_by_hand
 shared_tests passes::calls_of_two_passes
 shared_tests turns::stale_turns
 shared_tests workers::rounds_want_memory
+shared_tests shares::a_refused_worker_gives_its_claim_back
 session_tests journals::a_refused_growth_hands_the_journal_back
 TESTS
     echo "$good passed, $bad failed"

@@ -18,9 +18,10 @@ of a session is served on a journal's file, which is opened then, and refused me
 started again on the same file, which has to give the rest of the replies. In the end the file has one line for each entry of the row.
 
 Of a session with more than --most requests (1000), or which would take more than --seconds (30), only so many are refused, evenly
-spaced: long tables of definitions ask for memory as short ones do, each time behind all the lines before. Left out are sessions of more
-than --lines lines (200), for the same reason, and those of several runs, which say themselves how each of them ends. --jobs is how many
-processes serve at a time; as many as there are processors where nothing is said.
+spaced: long tables of definitions ask for memory as short ones do, each time behind all the lines before. Of those of worked.txt each
+request is refused, and one that has more than 1,500 fails. In the end it says of which sessions only some requests were refused. Left
+out are sessions of more than --lines lines (200), and those of several runs, which say themselves how each of them ends. --jobs is how many
+processes serve at a time: without it as many as there are processors.
 
 It wants a C compiler (cc, or what CC names), the GNU C library, and a program without a sanitizer's allocator. What fails is told.
 The last line is `N passed, M failed`, of sessions, and the status is 1 where one failed or none was served.
@@ -45,6 +46,8 @@ import rows  # noqa: E402: beside this file
 COUNT = 3
 CHUNK = 50
 SECONDS = 300
+WHOLE = "worked.txt"
+MOST_WHOLE = 1500
 PICTURE = (b"history", b"items", b"held")
 QUESTIONS = (b"show", b"items", b"history", b"plan", b"held")
 ENDS = ((4, b"rollback: memory\n"),)
@@ -227,15 +230,15 @@ def counted():
 # ---- many runs
 
 
-class Work:
-    """What all runs share; where sessions are served on files, `halves` has those of their first halves."""
+class Pictures:
+    """What the book shows before lines of sessions in which nothing is refused, each asked for once."""
 
-    def __init__(self, program, library, sessions, halves):
-        self.program, self.library, self.sessions, self.halves = program, library, sessions, halves
+    def __init__(self, program, library, sessions):
+        self.program, self.library, self.sessions = program, library, sessions
         self.pictures = {}
 
     def picture(self, index, at):
-        """What the book shows before the line at a place of a session, where nothing is refused."""
+        """What the book shows before the line at a place of a session."""
         if (index, at) not in self.pictures:
             served = Served(self.program, [], self.library, 0)
             try:
@@ -245,6 +248,14 @@ class Work:
             finally:
                 served.drop()
         return self.pictures[index, at]
+
+
+class Work(Pictures):
+    """What all runs share; if sessions are served on files, `halves` has those of their first halves."""
+
+    def __init__(self, program, library, sessions, halves):
+        super().__init__(program, library, sessions)
+        self.halves = halves
 
     def refuse(self, index, number):
         commands = self.sessions[index].commands
@@ -316,6 +327,15 @@ def spaced(count, most):
     return [1 + at * count // most for at in range(most)] if count else []
 
 
+def is_whole(session):
+    return os.path.basename(session.file) == WHOLE
+
+
+def numbers_of(session, count, seconds, asked):
+    """The numbers of the requests of a session that are refused."""
+    return spaced(count, count if is_whole(session) else min(asked.most, int(asked.seconds / max(seconds, 0.001))))
+
+
 def compiled(room, source):
     library = os.path.join(room, source.removesuffix(".c") + ".so")
     subprocess.run([os.environ.get("CC", "cc"), "-O2", "-shared", "-fPIC", "-o", library, rows.TOP / "tools" / source], check=True)
@@ -324,12 +344,16 @@ def compiled(room, source):
 
 def serve_all(asked):
     """How many sessions failed, each of which is told."""
-    failed = 0
+    failed, some = 0, []
     with concurrent.futures.ProcessPoolExecutor(asked.jobs, multiprocessing.get_context("fork"), begin) as workers:
         counts = list(workers.map(count_of, range(len(WORK.sessions))))
         jobs = []
-        for index, (count, seconds, _) in enumerate(counts):
-            numbers = spaced(count, min(asked.most, int(asked.seconds / max(seconds, 0.001))))
+        for index, (count, seconds, wrongs) in enumerate(counts):
+            session = WORK.sessions[index]
+            numbers = numbers_of(session, count, seconds, asked)
+            if is_whole(session) and count > MOST_WHOLE:
+                wrongs.append(f"it has {count} requests, and one of {WHOLE} may have {MOST_WHOLE}")
+            some += [session.title] if len(numbers) < count else []
             jobs.append([workers.submit(refused_each, index, numbers[at : at + CHUNK]) for at in range(0, len(numbers), CHUNK)])
         for session, (count, _, wrongs), chunks in zip(WORK.sessions, counts, jobs):
             ways = collections.Counter()
@@ -342,6 +366,7 @@ def serve_all(asked):
                 print(wrong)
             sys.stdout.flush()
             failed += bool(wrongs)
+    print(f"of {len(WORK.sessions) - len(some)} sessions each request was refused, and of {len(some)} only some: {', '.join(some) or 'none'}")
     return failed
 
 

@@ -111,80 +111,120 @@ def joined(data):
     return lines
 
 
-def read_sessions(path, most=None):
-    """The sessions of a file of rows, with at most so many of the lines that are repeated."""
-    file = os.path.relpath(path)
-    sessions, machines, header = [], {}, Session("", file, 0)
-    session, last = header, []
+class Reader:
+    """Reads the lines of a file of rows, one by one. A reply goes to `last`: a run, or commands, one by one for a line that is repeated."""
 
-    def fail(number, why):
-        raise Fault(f"{file}:{number}: {why}")
+    def __init__(self, file, most):
+        self.file, self.most = file, most
+        self.sessions, self.machines = [], {}
+        self.session = self.header = Session("", file, 0)
+        self.last, self.inserts = [], False
 
-    def add(command):
-        parts = session.parts
+    def fail(self, number, why):
+        raise Fault(f"{self.file}:{number}: {why}")
+
+    def add(self, command):
+        """Adds a command to the session, and to its latest run."""
+        parts = self.session.parts
         if parts and isinstance(parts[-1], Run):
             parts[-1].commands.append(command)
-        session.commands.append(command)
+        self.session.commands.append(command)
 
-    for number, line in joined(pathlib.Path(path).read_bytes()):
+    def take(self, number, line):
+        """Takes a line, by its kind. A comment changes nothing."""
         mark, rest = line[:1], line[1:].removeprefix(b" ")
-        if not line or mark == b"#":
-            if not line:
-                last = []
+        if not line:
+            self.last = []
+        elif mark == b"#":
+            pass
         elif mark == b"=":
-            title = rest.decode()
-            session = Session(title, file, number)
-            if title:
-                sessions.append(session)
-                session.commands = [copied(command) for command in header.commands]
-            else:
-                header = session
-            last = []
+            self.begin(number, rest.decode())
         elif mark == b"@":
-            name, space, definition = rest.partition(b" ")
-            if space and definition.startswith(b"{"):
-                machines[name] = definition
-                continue
-            for name in rest.split(b" "):
-                if name not in machines:
-                    fail(number, f"no machine {name.decode()}")
-                command = Command(file, number, b"define " + name + b" " + machines[name])
-                command.wanted = [b"ok"]
-                add(command)
-            last = []
+            self.machine_line(number, rest)
         elif line.startswith(b">*"):
-            count, _, text = rest[1:].lstrip(b" ").partition(b" ")
-            count = int(count) if most is None else min(int(count), most)
-            last = [Command(file, number, inserted(text, n)) for n in range(count)]
-            for command in last:
-                add(command)
-            inserts = True
+            self.repeated(number, rest)
         elif mark == b">":
-            kind = line[1:2]
-            inserts = kind in (b"%", b".")
-            text = line[2:].removeprefix(b" ") if inserts else rest
-            last = [Command(file, number, inserted(text, 0) if inserts else text, kind != b".")]
-            add(last[0])
+            self.command(number, line, rest)
         elif mark == b"$":
-            if not session.parts:
-                session.commands = []
-            last = [Run(file, number, os.fsdecode(inserted(rest, 0)).split())]
-            session.parts.append(last[0])
-            inserts = False
+            self.run(number, rest)
         elif mark == b"!":
-            status, _, errors = rest.partition(b" ")
-            run = session.parts[-1]
-            run.status, run.errors = int(status), errors + b"\n" if errors else b""
+            self.end_of_run(rest)
         elif mark == b"~":
-            session.parts.append(Change(file, number, rest.decode()))
-            last = []
-        elif not last:
-            fail(number, f"a reply to no line: {line[:60].decode(errors='replace')}")
+            self.session.parts.append(Change(self.file, number, rest.decode()))
+            self.last = []
         else:
-            for n, command in enumerate(last):
-                wanted = command.output if isinstance(command, Run) else command.wanted
-                wanted.append(inserted(line, n) if inserts else line)
-    return sessions
+            self.reply(number, line)
+
+    def begin(self, number, title):
+        """Begins a session with the header's commands, or a new header."""
+        self.session = Session(title, self.file, number)
+        if title:
+            self.sessions.append(self.session)
+            self.session.commands = [copied(command) for command in self.header.commands]
+        else:
+            self.header = self.session
+        self.last = []
+
+    def machine_line(self, number, rest):
+        """Keeps a machine's definition, or defines machines that are kept."""
+        name, space, definition = rest.partition(b" ")
+        if space and definition.startswith(b"{"):
+            self.machines[name] = definition
+            return
+        for name in rest.split(b" "):
+            if name not in self.machines:
+                self.fail(number, f"no machine {name.decode()}")
+            command = Command(self.file, number, b"define " + name + b" " + self.machines[name])
+            command.wanted = [b"ok"]
+            self.add(command)
+        self.last = []
+
+    def repeated(self, number, rest):
+        """Adds a command so many times, with its number inserted."""
+        count, _, text = rest[1:].lstrip(b" ").partition(b" ")
+        count = int(count) if self.most is None else min(int(count), self.most)
+        self.last = [Command(self.file, number, inserted(text, n)) for n in range(count)]
+        for command in self.last:
+            self.add(command)
+        self.inserts = True
+
+    def command(self, number, line, rest):
+        """Adds a command: as it is, with insertions, or with these and without an end."""
+        kind = line[1:2]
+        self.inserts = kind in (b"%", b".")
+        text = inserted(line[2:].removeprefix(b" "), 0) if self.inserts else rest
+        self.last = [Command(self.file, number, text, kind != b".")]
+        self.add(self.last[0])
+
+    def run(self, number, rest):
+        """Begins a run. The first one leaves out the commands before it."""
+        if not self.session.parts:
+            self.session.commands = []
+        self.last = [Run(self.file, number, os.fsdecode(inserted(rest, 0)).split())]
+        self.session.parts.append(self.last[0])
+        self.inserts = False
+
+    def end_of_run(self, rest):
+        """Says how the latest run has to end."""
+        status, _, errors = rest.partition(b" ")
+        run = self.session.parts[-1]
+        run.status, run.errors = int(status), errors + b"\n" if errors else b""
+
+    def reply(self, number, line):
+        """Adds a line to what the last commands have to answer, or to what the last run has to write."""
+        if not self.last:
+            self.fail(number, f"a reply to no line: {line[:60].decode(errors='replace')}")
+        for n, command in enumerate(self.last):
+            wanted = command.output if isinstance(command, Run) else command.wanted
+            wanted.append(inserted(line, n) if self.inserts else line)
+
+
+def read_sessions(path, most=None):
+    """The sessions of a file of rows, with at most so many of the lines that are repeated."""
+    reader = Reader(os.path.relpath(path), most)
+    for number, line in joined(pathlib.Path(path).read_bytes()):
+        reader.take(number, line)
+    return reader.sessions
 
 
 def copied(command):

@@ -49,8 +49,12 @@ import tempfile
 sys.dont_write_bytecode = True
 import rows  # noqa: E402: beside this file
 import stopped_streams  # noqa: E402: beside this file
-from refused_sessions import COUNT, Served, Wrong, begin, compiled, ended_at, forget_counts, is_beginning, is_round, shown  # noqa: E402: beside this file
-from stopped_runs import KILLED, STORE, WELL, answered, calls_made, copied, data_of, entries_of, is_drive, left_of, lines_in, point_of, questions, ran, room  # noqa: E402: beside this file
+from refused_sessions import (  # noqa: E402: beside this file
+    COUNT, Pictures, Served, Wrong, begin, compiled, ended_at, forget_counts, is_beginning, is_round, shown,
+)
+from stopped_runs import (  # noqa: E402: beside this file
+    KILLED, STORE, WELL, answered, calls_made, copied, data_of, entries_of, is_drive, left_of, lines_in, point_of, questions, ran, room,
+)
 
 WHOLE = ("each-kind-of-line",)
 CHUNK = 20
@@ -100,26 +104,14 @@ class Begun:
         self.index, self.start, self.replies = index, start, replies
 
 
-class Work:
+class Work(Pictures):
     """What all runs share."""
 
     def __init__(self, program, library, sessions, folder, lie):
-        self.program, self.library, self.sessions, self.folder, self.lie = program, library, sessions, folder, lie
-        self.pictures = {}
+        super().__init__(program, library, sessions)
+        self.folder, self.lie = folder, lie
 
     # ---- before the strikes
-
-    def picture(self, index, at):
-        """What the book shows before the line at a place of a session, in no order."""
-        if (index, at) not in self.pictures:
-            served = Served(self.program, [], self.library, 0)
-            try:
-                for command in self.sessions[index].commands[:at]:
-                    served.ask(command.text, command.ended)
-                self.pictures[index, at] = shown(served)
-            finally:
-                served.drop()
-        return self.pictures[index, at]
 
     def begin(self, index, start):
         """Serves the first half of a session on a file of its own, and ends well, or with the log as it is."""

@@ -52,8 +52,10 @@ if command -v "${CC:-cc}" >"$room/compiler"; then
 else
     echo "== python3 tools/stopped_sessions.py: skipped, for there is no C compiler"
 fi
+part python3 tools/faults.py disks --disks 12
 part python3 tools/earlier_journals.py
 part python3 tools/running_reads.py
+part python3 tools/picture_files.py
 part python3 tools/value_rows.py
 part python3 tools/graph_rows.py
 part python3 tools/drawn.py --sessions 400

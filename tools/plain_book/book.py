@@ -270,7 +270,7 @@ class Book:
 
     def _step(self, name: str) -> List[str]:
         step = self.next_step(name)
-        self._refuse_held(step)
+        self.refuse_held(step)
         self._has_room(2)
         self._add(step)
         return [f"ok {step.name} {step.kind}"]
@@ -517,7 +517,7 @@ class Book:
         """The earliest step left of the hold on which a next step would depend directly."""
         return next((earlier for earlier in self.steps if earlier in self.left and reason(step, earlier)), None)
 
-    def _refuse_held(self, step: Step) -> None:
+    def refuse_held(self, step: Step) -> None:
         holder = self.holder(step) if self.left else None
         if holder is not None:
             raise No(f"13 {holder.name}")

@@ -5,9 +5,9 @@ import re
 from collections import deque
 from typing import Any, Dict, List, Optional, Tuple
 
-from .book import Book, No, Step, reason
+from .book import Book, No, Step, path_of, reason
 from .items import Malformed, normal_item
-from .rows import access_word, causes, frame_object, in_order, key_object, nearest, shown_row, step_row, whole_row
+from .rows import access_word, causes, frame_object, in_order, key_object, nearest, shown_row, step_row, waited, whole_row
 from .turns import Failure
 from .values import BadJson, read
 
@@ -90,21 +90,24 @@ def why_chain(book: Book, first: str, last: str) -> Answer:
 # ---- items
 
 
-def item_of(book: Book, text: str) -> Answer:
-    """Who accessed the item of a key."""
-    key = _key(book, text)
+def item_of(book: Book, text: str, after: Optional[str], most: Optional[int]) -> Answer:
+    """Who accessed the item of a key: at most so many, behind a step."""
+    place = book.steps.index(remaining(book, after)) if after else -1
+    key = key_of_text(book, text)
     accessed = [step for step in book.steps if step.access is not None and step.access.key == key]
     if not accessed and key not in book.items:
         raise NoAnswer(f"{text} is no item")
     rows = [
         {"access": access_word(step), "after": step.access.after, "before": step.access.before, "step": step.name}
         for step in accessed
-        if step.access is not None
+        if step.access is not None and book.steps.index(step) > place
     ]
-    return {"accesses": rows, "key": key_object(key), "more": False, "now": book.items.get(key)}
+    shown = rows if most is None else rows[:most]
+    return {"accesses": shown, "key": key_object(key), "more": len(rows) > len(shown), "now": book.items.get(key)}
 
 
-def _key(book: Book, text: str) -> str:
+def key_of_text(book: Book, text: str) -> str:
+    """The key that a text says, as JSON or, of a key of one text, plain."""
     assert book.schema is not None
     try:
         value = read(text) if text.startswith("{") else None
@@ -172,34 +175,86 @@ def list_head(book: Book) -> Answer:
     return {"counts": counts(book, names), "held": held, "machines": machines}
 
 
-def show_execution(book: Book, name: str) -> Answer:
-    """An execution with the steps of its threads."""
+def show_execution(book: Book, name: str, after: Optional[str], most: Optional[int]) -> Answer:
+    """An execution with the steps of its threads: at most so many, behind a step."""
     frame, status = book.threads[name].frame, status_of(book, name)
     is_failed = status == "failed"
     threads = {thread for thread in book.threads if thread.split("/")[0] == name}
     threads |= {step.thread for step in book.steps if step.thread.split("/")[0] == name}
+    rows, more = threads_in(book, in_order(list(threads)), after, most)
     return {
         "cause": frame.cause if is_failed else None,
         "error": frame.error if is_failed else None,
         "execution": name,
         "input": book.executions[name].input,
         "machine": book.executions[name].machine,
+        "more": more,
         "output": frame.output if status == "done" else None,
         "state": None if status == "done" else frame.state,
         "status": status,
         "step": f"{name}#{frame.moves}" if is_failed else None,
-        "threads": [shown_thread(book, thread) for thread in in_order(list(threads))],
+        "threads": rows,
+        "waits_for": waited_for(book, name),
+        "held": held_back(book, name),
     }
 
 
-def shown_thread(book: Book, name: str) -> Answer:
-    """A thread with its steps."""
+def held_back(book: Book, name: str) -> Optional[str]:
+    """The step that is left of a hold and keeps an execution's next move back."""
+    try:
+        book.refuse_held(book.next_step(name))
+    except No as refusal:
+        return str(refusal)[len("13 ") :] if str(refusal).startswith("13 ") else None
+    return None
+
+
+def waited_for(book: Book, name: str) -> List[str]:
+    """The branches for which an execution's own thread waits."""
+    frame = book.threads[name].frame
+    if frame.phase != "parked" or book.move(name) is not None:
+        return []
+    return [branch for branch in book.branches(name) if book.threads[branch].frame.phase != "done"]
+
+
+def _order(step: str) -> Tuple[Any, int]:
+    thread, number = step.rsplit("#", 1)
+    return path_of(thread), int(number)
+
+
+def steps_in(book: Book, name: str, after: Optional[str], most: Optional[int]) -> Tuple[List[Step], bool]:
+    """A thread's steps behind a step, at most so many, and whether more follow."""
+    steps = [step for step in book.steps if step.thread == name and (after is None or _order(step.name) > _order(after))]
+    shown = steps if most is None else steps[:most]
+    return shown, len(steps) > len(shown)
+
+
+def threads_in(book: Book, names: List[str], after: Optional[str], most: Optional[int]) -> Tuple[List[Answer], bool]:
+    """Threads with their steps behind a step, at most so many steps in all, and whether more steps or threads follow."""
+    rows: List[Answer] = []
+    for name in names:
+        behind = after is None or path_of(name) > _order(after)[0]
+        if not behind and path_of(name) != _order(str(after))[0]:
+            continue
+        if most is not None and most <= 0:
+            return rows, True
+        steps, more = steps_in(book, name, after, most)
+        if not steps and not behind:
+            continue
+        rows.append(shown_thread(book, name, steps))
+        if more:
+            return rows, True
+        most = None if most is None else most - len(steps)
+    return rows, False
+
+
+def shown_thread(book: Book, name: str, steps: List[Step]) -> Answer:
+    """A thread with some of its steps."""
     thread = book.threads.get(name)
     return {
         "closed": thread is None,
         "frame": None if thread is None else frame_object(thread.frame),
         "move": None if thread is None else book.move(name),
-        "steps": [shown_row(book, step) for step in book.steps if step.thread == name],
+        "steps": [shown_row(book, step) for step in steps],
         "thread": name,
     }
 
@@ -207,10 +262,18 @@ def shown_thread(book: Book, name: str) -> Answer:
 def show_step(book: Book, name: str) -> Answer:
     """All about one step."""
     step = remaining(book, name)
-    later = []
-    for other in book.steps[book.steps.index(step) + 1 :]:
-        later += [{"reason": on["reason"], "step": other.name} for on in nearest(book, other) if on["step"] == name]
-    return {"dependents": later, "step": whole_row(book, step)}
+    later = book.steps[book.steps.index(step) + 1 :]
+    behind = first_behind(step, later)
+    found = [other for other in later if other is behind or any(on["step"] == name for on in nearest(book, other))]
+    return {"dependents": [{"reason": reason(other, step), "step": other.name} for other in found], "step": whole_row(book, step)}
+
+
+def first_behind(step: Step, later: List[Step]) -> Optional[Step]:
+    """Of a branch's last step, the first move that waited for it and for the fewest branches."""
+    if any(other.thread == step.thread for other in later):
+        return None
+    behind = [other for other in later if len(other.path) == len(step.path) and reason(other, step) == "bound"]
+    return min(behind, key=lambda other: int((waited(other) or "").rpartition(".")[2]), default=None)
 
 
 # ---- steps and lines

@@ -17,7 +17,6 @@ from . import looking
 from . import rows as rows_of
 from .book import _NAME, _NUMBER, _THREAD, MOST_NUMBER, Book, path_of
 from .looking import NoAnswer
-from .values import written
 
 Answer = Dict[str, Any]
 
@@ -89,27 +88,29 @@ def _definition(book: Book, found: Match[str]) -> Answer:
 # ---- steps, items and executions
 
 
+def _items(book: Book, found: Match[str]) -> Answer:
+    rows = [] if book.schema is None else looking.all_items(book)
+    if found[1] is not None and book.schema is not None:
+        after = book.schema.order(looking.key_object(looking.key_of_text(book, found[1])))
+        rows = [row for row in rows if book.schema.order(row["key"]) > after]
+    most = len(rows) if found[2] is None else int(found[2])
+    return {"items": rows[:most], "more": len(rows) > most}
+
+
 def _item(book: Book, found: Match[str]) -> Answer:
-    if found[0] == "item" or found[2] is not None and found[3] is None:
-        rows = looking.all_items(book)
-        keys = [written(row["key"]) for row in rows]
-        places = {key: place for place, key in enumerate(keys)}
-        after = places[found[1]] if found[1] in places else -1
-        rest = rows[after + 1 :]
-        most = len(rest) if found[2] is None else int(found[2])
-        return {"items": rest[:most], "more": len(rest) > most}
-    return looking.item_of(book, found[3])
+    if book.schema is None:
+        raise NoAnswer("no table yet")
+    return looking.item_of(book, found[3], found[1] or None, int(found[2]) if found[2] else None)
 
 
 def _show(book: Book, found: Match[str]) -> Answer:
-    name = found[1]
-    if "#" in name:
-        return looking.show_step(book, name)
+    name, after, most = found[1], found[2], None if found[3] is None else int(found[3])
     if "/" not in name and name in book.executions:
-        return looking.show_execution(book, name)
+        return looking.show_execution(book, name, after, most)
     if name not in book.threads and not any(step.thread == name for step in book.steps):
         raise NoAnswer(f"{name} is no {'thread' if '/' in name else 'execution'}")
-    return {"threads": [looking.shown_thread(book, name)]}
+    steps, more = looking.steps_in(book, name, after, most)
+    return {"more": more, "threads": [looking.shown_thread(book, name, steps)]}
 
 
 def _list(book: Book, found: Match[str]) -> Answer:
@@ -142,8 +143,8 @@ def _log(book: Book, found: Match[str]) -> Answer:
 
 
 _STEP = rf"{_THREAD}#{_NUMBER}"
-_LISTING = ("threads ready", "threads since", "item most", "item after")
-_NAMING = ("causes", "plan", "why", "show", "explain", "item ", "threads ", "machine ")
+_LISTING = ("threads ready", "threads since")
+_NAMING = ("causes", "plan", "why", "show", "explain", "threads ", "machine ")
 _QUESTIONS: List[Tuple[str, Callable[[Book, Match[str]], Answer]]] = [
     (rf"threads ready{_PAGE}", _threads_ready),
     (rf"threads since ({_NUMBER}){_PAGE}", _threads_since),
@@ -154,10 +155,12 @@ _QUESTIONS: List[Tuple[str, Callable[[Book, Match[str]], Answer]]] = [
     (rf"plan ({_STEP})", lambda book, found: looking.plan_of(book, found[1])),
     (rf"why ({_STEP}) ({_STEP})", lambda book, found: looking.why_chain(book, found[1], found[2])),
     (rf"explain ({_THREAD})", lambda book, found: looking.explained(book, found[1])),
-    (rf"item(?: after (.+?))? most ({_NUMBER})(?: (.+))?", _item),
-    (r"item(?:()() (.+))?", _item),
-    (rf"show ({_STEP}|{_THREAD})(?: most {_NUMBER})?", _show),
-    (rf"list(?: (?:failed|open|done))*?(?: (failed|open|done))?(?: machine ({_NAME}))?(?: since ({_NUMBER}))?{_PAGE}", _list),
+    (rf"item(?:(?: after (.+?))? most ({_NUMBER}))?", _items),
+    (rf"item(?: after ({_STEP}))? most ({_NUMBER}) (.+)", _item),
+    (r"item(?:()())? (.+)", _item),
+    (rf"show ({_STEP})", lambda book, found: looking.show_step(book, found[1])),
+    (rf"show ({_THREAD})(?: after ({_STEP}))?(?: most ({_NUMBER}))?", _show),
+    (rf"list(?: (failed|open|done))?(?: machine ({_NAME}))?(?: since ({_NUMBER}))?{_PAGE}", _list),
     (rf"find (.+?) most ({_NUMBER})", lambda book, found: looking.found_steps(book, found[1], int(found[2]))),
     (r"find (.+)", lambda book, found: looking.found_steps(book, found[1], looking.MOST_FOUND)),
     (rf"steps ({_NUMBER}) ({_NUMBER})", _steps),

@@ -4,8 +4,8 @@ from __future__ import annotations
 import json
 from typing import Any, Dict, List, Optional, Sequence, Tuple
 
-from .book import Book, Step, path_of, reason, waited_for
-from .turns import Frame
+from .book import Book, Step, path_of, reason
+from .turns import Frame, effective_input
 
 Row = Dict[str, Any]
 
@@ -78,16 +78,25 @@ def _of_item(step: Step, earlier: Sequence[Step]) -> List[Step]:
     return [other for other in needed if other.thread != step.thread]
 
 
-def _of_bound(step: Step, earlier: Sequence[Step]) -> List[Step]:
+def waited(step: Step) -> Optional[str]:
+    """The last branch for which a first move waited under its Map's bound."""
     if not step.bound:
+        return None
+    fork, _, number = step.thread.rpartition(".")
+    return f"{fork}.{int(number) - step.bound}" if int(number) >= step.bound else None
+
+
+def _of_bound(step: Step, earlier: Sequence[Step]) -> List[Step]:
+    """The last step of the last branch that remains of those for which a first move waited, if nothing else is why."""
+    if waited(step) is None:
         return []
-    above, _, branch = step.thread.rpartition("/")
-    fork, number = map(int, branch.split("."))
-    found = []
-    for index in range(max(number - 2 * step.bound + 1, 0), number - step.bound + 1):
-        own = [other for other in earlier if other.thread == f"{above}/{fork}.{index}"]
-        found += [other for other in own[-1:] if waited_for(step, other.path)]
-    return found
+    fork, _, number = step.thread.rpartition(".")
+    last = int(number) - step.bound
+    for index in range(last, max(last - step.bound, -1), -1):
+        own = [other for other in earlier if other.thread == f"{fork}.{index}"]
+        if own:
+            return [other for other in own[-1:] if reason(step, other) == "bound"]
+    return []
 
 
 def causes(book: Book, step: Step) -> List[Tuple[Step, Step, str]]:
@@ -109,7 +118,9 @@ def causes(book: Book, step: Step) -> List[Tuple[Step, Step, str]]:
 def step_row(book: Book, step: Step) -> Row:
     """The fields that each row of a step has."""
     state, kind = state_of(book, step)
+    branch = waited(step)
     return {
+        **({} if branch is None else {"waited": branch}),
         "access": access_word(step),
         "key": None if step.access is None else key_object(step.access.key),
         "kind": step.kind,
@@ -123,9 +134,14 @@ def step_row(book: Book, step: Step) -> Row:
 
 def shown_row(book: Book, step: Step) -> Row:
     """A row of `show`, too."""
+    access, before = step.access, step.before
+    is_answered = access is not None and access.error is None
     return {
         **step_row(book, step),
+        "answer": access.answer if access is not None and is_answered else None,
+        "call": None if access is None or before is None else effective_input(book.machines[before.machine].state(before), before.input),
         "entry": step.entry,
+        "error": None if access is None else access.error,
         "input": None if step.before is None else step.before.input,
         "outcome": outcome(book, step),
         "output": step.after.output if step.after.phase == "done" else step.after.input,

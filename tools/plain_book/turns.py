@@ -109,7 +109,7 @@ class Machine:
             raise Failure(state.get("Error", ""), Why("fail"), state.get("Cause", ""))
         if kind == "Map":
             return self._map(frame, state)
-        effective = _effective(state, frame.input)
+        effective = effective_input(state, frame.input)
         if kind == "Task":
             action = state["Resource"].rpartition(":")[2]
             try:
@@ -224,7 +224,8 @@ def _filled(template: Any, place: Place, value: Any, item: Any = NOTHING, index:
         raise Failure(PARAMETERS, Why("path", (*place, *fault.place), fault.path, fault.of)) from None
 
 
-def _effective(state: State, value: Any) -> Any:
+def effective_input(state: State, value: Any) -> Any:
+    """What a state works on, of what its thread had before it."""
     selected = _picked(("InputPath",), state.get("InputPath", "$"), value)
     return _filled(state["Parameters"], ("Parameters",), selected) if "Parameters" in state else selected
 

@@ -18,8 +18,8 @@ from .values import written
 
 SOURCES = pathlib.Path(__file__).resolve().parents[2] / "crates/graph_viewer/src"
 MOST_STEPS = 65536
-_TEXT = re.compile(r'pub const [A-Z_]+: &str = r####"(.*)"####;\n', re.DOTALL)
-_PART = re.compile(r"    (\w+)::[A-Z_]+,\n")
+_TEXT = re.compile(r'const [A-Z_]+: &str = r####"(.*)"####;\n', re.DOTALL)
+_PART = re.compile(r"        (\w+)::text\(\),\n")
 
 
 def _text(path: pathlib.Path) -> str:
