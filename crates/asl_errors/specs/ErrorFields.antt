@@ -32,14 +32,14 @@ in_place ended [] = true
 in_place ended (names ∷ more) =
     if ended then false else (if has_all names then (if length names == 1 then in_place true more else false) else in_place false more)
 
-abbrev pub bounded : Option ℕ → Option ℕ
-bounded None = None
-bounded (Some n) = if nat_le n 4294967295 then Some n else None
+abbrev pub bounded_delay : Option ℕ → Option ℕ
+bounded_delay None = None
+bounded_delay (Some n) = if nat_le n 4294967295 then Some n else None
 
 -- an absent number is 3
 abbrev pub attempts_of : Option Source → Option ℕ
 attempts_of None = Some 3
-attempts_of (Some d) = bounded (option_and_then as_u64 (as_number d))
+attempts_of (Some d) = bounded_delay (option_and_then as_u64 (as_number d))
 
 abbrev pub IsRetrier : Source → Retrier → Type 0
 IsRetrier d r = HasFields at.Retrier d × AreErrorNames d r.errors × (attempts_of (get (codes "MaxAttempts") d) ≡ Some r.max_attempts)

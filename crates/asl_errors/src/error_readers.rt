@@ -4,7 +4,7 @@ ghost use Rattle.serde_json.specs.Find.{get, as_object, as_number, as_u64};
 ghost use Rattle.serde_json.specs.View.{view, items_view, members_view};
 ghost use Rattle.asl_errors.specs.ErrorFaults.{SomeNoText, NamesFieldFault, AttemptsFault, RetrierFault, RetriersFault, RetryFault, CatcherFault, CatchersFault, CatchFault, ErrorHandlingFault};
 ghost use Rattle.asl_errors.specs.ErrorFields.{NamesAre, AreErrorNames, attempts_of, has_all, in_place, IsRetrier, IsCatcher, RetriersAre, CatchersAre, retrier_names, catcher_names, IsRetry, IsCatch, IsErrorHandling};
-ghost use Rattle.asl_fields.specs.Refusal.{Refuses};
+ghost use Rattle.asl_fields.specs.Refusal.{RefusesForFault};
 
 use crate::errors::{Catcher, Catchers, ErrorHandling, ErrorNames, Retrier, Retriers};
 use asl_fields::{MachineFault, Place, check_fields, read_path, required, text_of};
@@ -16,7 +16,7 @@ use std::alloc::Global;
 fn names_of(alloc: Global, items: &Vec<Value>) -> Result<ErrorNames, MachineFault>
     ensures ok { IfOk result (NamesAre (items_view items.now.items) []) }
     ensures fault { IfErr result
-        (λ e. Refuses e ((e ≡ MachineFault.BadField (codes "ErrorEquals")) × SomeNoText (items_view items.now.items))) }
+        (λ e. RefusesForFault e ((e ≡ MachineFault.BadField (codes "ErrorEquals")) × SomeNoText (items_view items.now.items))) }
 {
     let mut inner = Vec::new(alloc);
     for item in items {
@@ -32,7 +32,7 @@ fn names_of(alloc: Global, items: &Vec<Value>) -> Result<ErrorNames, MachineFaul
 fn read_error_names(alloc: Global, object: &Value) -> Result<ErrorNames, MachineFault>
     ensures ok { IfOk result (AreErrorNames (view object.now)) }
     ensures fault { IfErr result
-        (λ e. Refuses e (NamesFieldFault (get (codes "ErrorEquals") (view object.now)) e)) }
+        (λ e. RefusesForFault e (NamesFieldFault (get (codes "ErrorEquals") (view object.now)) e)) }
 {
     let value = required(alloc, object, "ErrorEquals")?;
     let Some(items) = value.as_array() else {
@@ -49,7 +49,7 @@ fn read_error_names(alloc: Global, object: &Value) -> Result<ErrorNames, Machine
 fn read_attempts(alloc: Global, object: &Value) -> Result<u32, MachineFault>
     ensures ok { IfOk result (λ n. attempts_of (get (codes "MaxAttempts") (view object.now)) ≡ Some n) }
     ensures fault { IfErr result
-        (λ e. Refuses e (AttemptsFault (get (codes "MaxAttempts") (view object.now)) e)) }
+        (λ e. RefusesForFault e (AttemptsFault (get (codes "MaxAttempts") (view object.now)) e)) }
 {
     let Some(value) = object.get("MaxAttempts") else {
         return Ok(3);
@@ -62,7 +62,7 @@ fn read_attempts(alloc: Global, object: &Value) -> Result<u32, MachineFault>
 
 fn read_retrier(alloc: Global, value: &Value) -> Result<Retrier, MachineFault>
     ensures ok { IfOk result (IsRetrier (view value.now)) }
-    ensures fault { IfErr result (λ e. Refuses e (RetrierFault (view value.now) e)) }
+    ensures fault { IfErr result (λ e. RefusesForFault e (RetrierFault (view value.now) e)) }
 {
     let Some(fields) = value.as_object() else {
         return Err(MachineFault::BadField(Text::new(alloc, "Retry")?));
@@ -78,7 +78,7 @@ fn read_retrier(alloc: Global, value: &Value) -> Result<Retrier, MachineFault>
 
 fn read_catcher(alloc: Global, value: &Value) -> Result<Catcher, MachineFault>
     ensures ok { IfOk result (IsCatcher (view value.now)) }
-    ensures fault { IfErr result (λ e. Refuses e (CatcherFault (view value.now) e)) }
+    ensures fault { IfErr result (λ e. RefusesForFault e (CatcherFault (view value.now) e)) }
 {
     let Some(fields) = value.as_object() else {
         return Err(MachineFault::BadField(Text::new(alloc, "Catch")?));
@@ -98,7 +98,7 @@ fn read_catcher(alloc: Global, value: &Value) -> Result<Catcher, MachineFault>
 fn read_retriers(alloc: Global, items: &Vec<Value>) -> Result<Retriers, MachineFault>
     ensures ok { IfOk result (RetriersAre (items_view items.now.items) []) }
     ensures fault { IfErr result
-        (λ e. Refuses e (RetriersFault (items_view items.now.items) e)) }
+        (λ e. RefusesForFault e (RetriersFault (items_view items.now.items) e)) }
 {
     let mut inner = Vec::new(alloc);
     for item in items {
@@ -110,7 +110,7 @@ fn read_retriers(alloc: Global, items: &Vec<Value>) -> Result<Retriers, MachineF
 fn read_catchers(alloc: Global, items: &Vec<Value>) -> Result<Catchers, MachineFault>
     ensures ok { IfOk result (CatchersAre (items_view items.now.items) []) }
     ensures fault { IfErr result
-        (λ e. Refuses e (CatchersFault (items_view items.now.items) e)) }
+        (λ e. RefusesForFault e (CatchersFault (items_view items.now.items) e)) }
 {
     let mut inner = Vec::new(alloc);
     for item in items {
@@ -167,7 +167,7 @@ fn catchers_in_place(catchers: &Catchers) -> bool
 fn read_retry(alloc: Global, object: &Value) -> Result<Retriers, MachineFault>
     ensures ok { IfOk result (IsRetry (get (codes "Retry") (view object.now))) }
     ensures fault { IfErr result
-        (λ e. Refuses e (RetryFault (get (codes "Retry") (view object.now)) e)) }
+        (λ e. RefusesForFault e (RetryFault (get (codes "Retry") (view object.now)) e)) }
 {
     let Some(value) = object.get("Retry") else {
         return Ok(Retriers {
@@ -188,7 +188,7 @@ fn read_retry(alloc: Global, object: &Value) -> Result<Retriers, MachineFault>
 fn read_catch(alloc: Global, object: &Value) -> Result<Catchers, MachineFault>
     ensures ok { IfOk result (IsCatch (get (codes "Catch") (view object.now))) }
     ensures fault { IfErr result
-        (λ e. Refuses e (CatchFault (get (codes "Catch") (view object.now)) e)) }
+        (λ e. RefusesForFault e (CatchFault (get (codes "Catch") (view object.now)) e)) }
 {
     let Some(value) = object.get("Catch") else {
         return Ok(Catchers {
@@ -209,7 +209,7 @@ fn read_catch(alloc: Global, object: &Value) -> Result<Catchers, MachineFault>
 /// What a state does with errors.
 pub fn read_error_handling(alloc: Global, object: &Value) -> Result<ErrorHandling, MachineFault>
     ensures ok { IfOk result (IsErrorHandling (view object.now)) }
-    ensures fault { IfErr result (λ e. Refuses e (ErrorHandlingFault (view object.now) e)) }
+    ensures fault { IfErr result (λ e. RefusesForFault e (ErrorHandlingFault (view object.now) e)) }
 {
     let retriers = read_retry(alloc, object)?;
     let catchers = read_catch(alloc, object)?;

@@ -9,7 +9,7 @@ ghost use Rattle.serde_json.specs.Find.{get, as_str, as_bool, as_number, as_i64,
 ghost use Rattle.serde_json.specs.View.{view, members_view};
 ghost use Rattle.asl_fields.specs.FieldFaults.{FieldsFault, NamesFault, PathFieldFault, TemplateFieldFault, TellsTemplate, optional_text_fault, query_language_fault};
 ghost use Rattle.asl_fields.specs.Fields.{all_known, speaks_json_path};
-ghost use Rattle.asl_fields.specs.Refusal.{Refuses};
+ghost use Rattle.asl_fields.specs.Refusal.{RefusesForFault};
 ghost use Rattle.asl_fields.specs.Values.{HasFields, IsPathText, IsPath, IsPathField, IsTemplateField, text_or_empty};
 
 use crate::fault::MachineFault;
@@ -23,7 +23,7 @@ use std::alloc::Global;
 pub fn required<'a>(alloc: Global, object: &'a Value, name: &str) -> Result<&'a Value, MachineFault>
     ensures ok { IfOk result (λ v. get name.now (view object.now) ≡ Some (view v.now)) }
     ensures refused { OnErr result (get name.now (view object.now) ≡ None) }
-    ensures fault { IfErr result (λ e. Refuses e (e ≡ MachineFault.Missing name.now)) }
+    ensures fault { IfErr result (λ e. RefusesForFault e (e ≡ MachineFault.Missing name.now)) }
 {
     match object.get(name) {
         Some(value) => Ok(value),
@@ -34,8 +34,8 @@ pub fn required<'a>(alloc: Global, object: &'a Value, name: &str) -> Result<&'a 
 /// A copy of the text that a field of this name has.
 pub fn text_of(alloc: Global, value: &Value, name: &str) -> Result<Text, MachineFault>
     ensures ok { IfOk result (λ text. as_str (view value.now) ≡ Some text) }
-    ensures refused { IfErr result (λ e. Refuses e (as_str (view value.now) ≡ None)) }
-    ensures fault { IfErr result (λ e. Refuses e (e ≡ MachineFault.BadField name.now)) }
+    ensures refused { IfErr result (λ e. RefusesForFault e (as_str (view value.now) ≡ None)) }
+    ensures fault { IfErr result (λ e. RefusesForFault e (e ≡ MachineFault.BadField name.now)) }
 {
     match value.as_str() {
         Some(text) => Ok(Text::new(alloc, text)?),
@@ -47,7 +47,7 @@ pub fn text_of(alloc: Global, value: &Value, name: &str) -> Result<Text, Machine
 pub fn optional_text(alloc: Global, object: &Value, name: &str) -> Result<Text, MachineFault>
     ensures ok { IfOk result (λ text. text_or_empty (get name.now (view object.now)) ≡ Some text) }
     ensures fault { IfErr result
-        (λ e. Refuses e (optional_text_fault name.now (get name.now (view object.now)) ≡ Some e)) }
+        (λ e. RefusesForFault e (optional_text_fault name.now (get name.now (view object.now)) ≡ Some e)) }
 {
     match object.get(name) {
         Some(value) => text_of(alloc, value, name),
@@ -58,8 +58,8 @@ pub fn optional_text(alloc: Global, object: &Value, name: &str) -> Result<Text, 
 /// The Boolean that a field of this name has.
 pub fn bool_of(alloc: Global, value: &Value, name: &str) -> Result<bool, MachineFault>
     ensures ok { IfOk result (λ b. as_bool (view value.now) ≡ Some b) }
-    ensures refused { IfErr result (λ e. Refuses e (as_bool (view value.now) ≡ None)) }
-    ensures fault { IfErr result (λ e. Refuses e (e ≡ MachineFault.BadField name.now)) }
+    ensures refused { IfErr result (λ e. RefusesForFault e (as_bool (view value.now) ≡ None)) }
+    ensures fault { IfErr result (λ e. RefusesForFault e (e ≡ MachineFault.BadField name.now)) }
 {
     match value.as_bool() {
         Some(truth) => Ok(truth),
@@ -71,8 +71,8 @@ pub fn bool_of(alloc: Global, value: &Value, name: &str) -> Result<bool, Machine
 pub fn integer_of(alloc: Global, value: &Value, name: &str) -> Result<i64, MachineFault>
     ensures ok { IfOk result (λ z. option_and_then as_i64 (as_number (view value.now)) ≡ Some z) }
     ensures refused { IfErr result
-        (λ e. Refuses e (option_and_then as_i64 (as_number (view value.now)) ≡ None)) }
-    ensures fault { IfErr result (λ e. Refuses e (e ≡ MachineFault.BadField name.now)) }
+        (λ e. RefusesForFault e (option_and_then as_i64 (as_number (view value.now)) ≡ None)) }
+    ensures fault { IfErr result (λ e. RefusesForFault e (e ≡ MachineFault.BadField name.now)) }
 {
     match value.as_i64() {
         Some(number) => Ok(number),
@@ -84,9 +84,9 @@ pub fn integer_of(alloc: Global, value: &Value, name: &str) -> Result<i64, Machi
 fn check_names(alloc: Global, place: Place, fields: &Map<String, Value>) -> Result<(), MachineFault>
     ensures ok { OnOk result (all_known place (members_view fields.now.entries) ≡ true) }
     ensures refused { IfErr result
-        (λ e. Refuses e (all_known place (members_view fields.now.entries) ≡ false)) }
+        (λ e. RefusesForFault e (all_known place (members_view fields.now.entries) ≡ false)) }
     ensures fault { IfErr result
-        (λ e. Refuses e (NamesFault place (members_view fields.now.entries) e)) }
+        (λ e. RefusesForFault e (NamesFault place (members_view fields.now.entries) e)) }
 {
     for (name, _value) in fields {
         match field_status_of(place, name.as_str()) {
@@ -107,7 +107,7 @@ fn check_query_language(alloc: Global, object: &Value) -> Result<(), MachineFaul
     ensures ok { OnOk result (speaks_json_path (view object.now) ≡ true) }
     ensures refused { OnErr result (speaks_json_path (view object.now) ≡ false) }
     ensures fault { IfErr result
-        (λ e. Refuses e (query_language_fault (get (codes "QueryLanguage") (view object.now)) ≡ Some e)) }
+        (λ e. RefusesForFault e (query_language_fault (get (codes "QueryLanguage") (view object.now)) ≡ Some e)) }
 {
     let Some(value) = object.get("QueryLanguage") else {
         return Ok(());
@@ -134,7 +134,7 @@ pub fn check_fields(
 ) -> Result<(), MachineFault>
     requires { as_object (view object.now) ≡ Some (members_view fields.now.entries) }
     ensures ok { OnOk result (HasFields place (view object.now)) }
-    ensures fault { IfErr result (λ e. Refuses e (FieldsFault place (view object.now) e)) }
+    ensures fault { IfErr result (λ e. RefusesForFault e (FieldsFault place (view object.now) e)) }
 {
     check_names(alloc, place, fields)?;
     check_query_language(alloc, object)
@@ -144,7 +144,7 @@ pub fn check_fields(
 fn path_of(alloc: Global, text: &str, field: &str) -> Result<Option<RefPath>, MachineFault>
     ensures ok { IfOk result (IsPathText text.now) }
     ensures fault { IfErr result
-        (λ e. Refuses e ((e ≡ MachineFault.BadField field.now) × ((p : Option (List PathStep)) → IsPathText text.now p → ⊥))) }
+        (λ e. RefusesForFault e ((e ≡ MachineFault.BadField field.now) × ((p : Option (List PathStep)) → IsPathText text.now p → ⊥))) }
 {
     match RefPath::read(alloc, text) {
         Ok(path) => Ok(Some(path)),
@@ -156,7 +156,7 @@ fn path_of(alloc: Global, text: &str, field: &str) -> Result<Option<RefPath>, Ma
 /// The path of a field's value, or none where it is `null`.
 fn path_or_null(alloc: Global, value: &Value, field: &str) -> Result<Option<RefPath>, MachineFault>
     ensures ok { IfOk result (IsPath (view value.now)) }
-    ensures fault { IfErr result (λ e. Refuses e (PathFieldFault field.now (Some (view value.now)) e)) }
+    ensures fault { IfErr result (λ e. RefusesForFault e (PathFieldFault field.now (Some (view value.now)) e)) }
 {
     match value {
         Value::Null => Ok(None),
@@ -173,7 +173,7 @@ pub fn read_path(
 ) -> Result<Option<RefPath>, MachineFault>
     ensures ok { IfOk result (IsPathField (get field.now (view object.now))) }
     ensures fault { IfErr result
-        (λ e. Refuses e (PathFieldFault field.now (get field.now (view object.now)) e)) }
+        (λ e. RefusesForFault e (PathFieldFault field.now (get field.now (view object.now)) e)) }
 {
     match object.get(field) {
         Some(value) => path_or_null(alloc, value, field),
@@ -185,7 +185,7 @@ pub fn read_path(
 fn whole_value(alloc: Global, value: &Value, field: &str) -> Result<Json, MachineFault>
     ensures ok { IfOk result (λ j. whole_of (view value.now) ≡ Some (data_of j)) }
     ensures fault { IfErr result
-        (λ e. Refuses e ((e ≡ MachineFault.BadField field.now) × (whole_of (view value.now) ≡ None))) }
+        (λ e. RefusesForFault e ((e ≡ MachineFault.BadField field.now) × (whole_of (view value.now) ≡ None))) }
 {
     match from_value(alloc, value) {
         Ok(json) => Ok(json),
@@ -196,8 +196,8 @@ fn whole_value(alloc: Global, value: &Value, field: &str) -> Result<Json, Machin
 
 fn template_of(alloc: Global, json: &Json, item_paths: bool) -> Result<Template, MachineFault>
     ensures ok { IfOk result (IsTemplate item_paths (data_of json.now)) }
-    ensures fault { IfErr result (λ e. Refuses e (TellsTemplate item_paths (data_of json.now) e)) }
-    ensures no_template { IfErr result (λ e. Refuses e (IsNoTemplate item_paths (data_of json.now))) }
+    ensures fault { IfErr result (λ e. RefusesForFault e (TellsTemplate item_paths (data_of json.now) e)) }
+    ensures no_template { IfErr result (λ e. RefusesForFault e (IsNoTemplate item_paths (data_of json.now))) }
 {
     match Template::read(alloc, json, item_paths) {
         Ok(template) => Ok(template),
@@ -216,7 +216,7 @@ pub fn read_template(
 ) -> Result<Option<Template>, MachineFault>
     ensures ok { IfOk result (IsTemplateField item_paths (get field.now (view object.now))) }
     ensures fault { IfErr result
-        (λ e. Refuses e (TemplateFieldFault item_paths field.now (get field.now (view object.now)) e)) }
+        (λ e. RefusesForFault e (TemplateFieldFault item_paths field.now (get field.now (view object.now)) e)) }
 {
     let Some(value) = object.get(field) else {
         return Ok(None);

@@ -3,8 +3,8 @@ use Rattle.std.proofs.Common.{◌≡◌, ℕ, ◌+◌, ◌≤◌, List, [], ◌�
 use Rattle.std.proofs.lemmas.Bool.{cond-false, lt-leb}
 use Rattle.json_tree.specs.Data.{Data, depth}
 use Rattle.asl_frames.specs.Definition.{Definition}
-use Rattle.asl_forward.specs.Forks.{with_others, begins, frames_from}
-use Rattle.asl_processing.specs.Processing.{held}
+use Rattle.asl_forward.specs.Forks.{with_others, begins_branch, frames_from}
+use Rattle.asl_processing.specs.Processing.{within_levels}
 use Rattle.asl_frames.specs.declared.frame.Frame.{Frame}
 
 -- those frames, and then these
@@ -21,7 +21,7 @@ pub after_none : (others : Result (List Frame) (List ℕ)) → after_those [] ot
 after_none (Ok gs) = refl
 after_none (Err error) = refl
 
-held_not : (d : Data) → 127 < depth d → held d ≡ Err (codes "States.Runtime")
+held_not : (d : Data) → 127 < depth d → within_levels d ≡ Err (codes "States.Runtime")
 held_not d h = cond-false (nat_le (depth d) 127) (Ok d) (Err (codes "States.Runtime")) (lt-leb (depth d) 127 h)
 
 -- where there is a branch, an input that is too deep is none's
@@ -29,4 +29,4 @@ pub too_deep : (f : Frame) (n : ℕ) (ds : List Definition) (input : Data) → 1
 too_deep f n [] input deep some =
     let none : ⊥ = omega (arith, some) in
     absurd none
-too_deep f n (d ∷ ds) input deep some = ap (λ worked. with_others (frames_from f (n + 1) ds input) (begins f d n worked)) (held_not input deep)
+too_deep f n (d ∷ ds) input deep some = ap (λ worked. with_others (frames_from f (n + 1) ds input) (begins_branch f d n worked)) (held_not input deep)

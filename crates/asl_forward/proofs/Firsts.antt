@@ -14,9 +14,9 @@ use Rattle.asl_frames.specs.State.{State}
 use Rattle.asl_frames.specs.State.TheVariants as state
 use Rattle.item_store.specs.Calls.{call_of}
 use Rattle.item_store.specs.declared.call.Call.{Call}
-use Rattle.asl_forward.specs.Forks.{branch_frame, with_others, begins, frames_from, parallel_frames, elements, element_input, element_frames, counted_frames, map_frames}
-use Rattle.asl_forward.specs.Outcomes.{asks, task_turn, forks, fork_of, turn, turn_of, action_of}
-use Rattle.asl_processing.specs.Processing.{held, effective}
+use Rattle.asl_forward.specs.Forks.{branch_frame, with_others, begins_branch, frames_from, parallel_frames, elements, element_input, element_frames, counted_frames, map_frames}
+use Rattle.asl_forward.specs.Outcomes.{outcome_of_call, task_turn, forks, fork_of, turn, turn_of, action_of}
+use Rattle.asl_processing.specs.Processing.{within_levels, effective}
 use Rattle.asl_frames.specs.Turn.{Location, located, counters_of, retriers_of}
 use Rattle.asl_frames.specs.declared.frame.Frame.{Frame}
 use Rattle.asl_frames.specs.declared.frame.Phase.TheVariants.{Ready}
@@ -98,7 +98,7 @@ frames_all P f n [] input fs all h =
     let same : ◌≡◌ {A = List Frame} [] fs = cc h in
     subst (AllByRecursion P) same tt
 frames_all P f n (d ∷ ds) input fs all h =
-    on_input (held input) h (λ gs k. frames_all P f (n + 1) ds input gs (λ place branch e. all (suc place) branch (omega (arith, e))) k)
+    on_input (within_levels input) h (λ gs k. frames_all P f (n + 1) ds input gs (λ place branch e. all (suc place) branch (omega (arith, e))) k)
   where
     on_others : (j : Data) (o : Result (List Frame) (List ℕ)) → frames_from f (n + 1) ds input ≡ o → with_others o (Ok (branch_frame f d n j)) ≡ Ok fs
         → ((gs : List Frame) → frames_from f (n + 1) ds input ≡ Ok gs → AllByRecursion P gs) → AllByRecursion P fs
@@ -107,7 +107,7 @@ frames_all P f n (d ∷ ds) input fs all h =
         let same : ◌≡◌ {A = List Frame} (branch_frame f d n j ∷ gs) fs = cc k in
         subst (AllByRecursion P) same (all 0 n (omega arith) d j refl, rest gs e)
 
-    on_input : (o : Result Data (List ℕ)) → with_others (frames_from f (n + 1) ds input) (begins f d n o) ≡ Ok fs
+    on_input : (o : Result Data (List ℕ)) → with_others (frames_from f (n + 1) ds input) (begins_branch f d n o) ≡ Ok fs
         → ((gs : List Frame) → frames_from f (n + 1) ds input ≡ Ok gs → AllByRecursion P gs) → AllByRecursion P fs
     on_input (Err error) k rest = cc k
     on_input (Ok j) k rest = on_others j (frames_from f (n + 1) ds input) refl k rest
@@ -126,7 +126,7 @@ elements_all P s f input n (x ∷ xs) fs all h = on_input (element_input s.item_
         let same : ◌≡◌ {A = List Frame} (branch_frame f s.processor 0 j ∷ gs) fs = cc k in
         subst (AllByRecursion P) same (all j, rest gs e)
 
-    on_input : (o : Result Data (List ℕ)) → with_others (element_frames s f input (n + 1) xs) (begins f s.processor 0 o) ≡ Ok fs
+    on_input : (o : Result Data (List ℕ)) → with_others (element_frames s f input (n + 1) xs) (begins_branch f s.processor 0 o) ≡ Ok fs
         → ((gs : List Frame) → element_frames s f input (n + 1) xs ≡ Ok gs → AllByRecursion P gs) → AllByRecursion P fs
     on_input (Err error) k rest = cc k
     on_input (Ok j) k rest = on_others j (element_frames s f input (n + 1) xs) refl k rest
@@ -165,7 +165,7 @@ branches_all P level (state.Succeed s) f all = tt
 branches_all P level (state.Fail s) f all = tt
 branches_all P level (state.Task s) f all = on_input (effective s.processing (data_of f.raw))
   where
-    on_call : (o : Option Call) → OnBranches P (asks level s f o)
+    on_call : (o : Option Call) → OnBranches P (outcome_of_call level s f o)
     on_call (Some c) = tt
     on_call None = tt
 

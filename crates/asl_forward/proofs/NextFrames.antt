@@ -10,7 +10,7 @@ use Rattle.asl_frames.specs.Definition.{Definition}
 use Rattle.asl_frames.specs.State.{State}
 use Rattle.asl_frames.specs.State.TheVariants as state
 use Rattle.asl_forward.specs.Forks.{parallel_frames, map_frames}
-use Rattle.asl_forward.specs.Outcomes.{action_of, asks, task_turn, parks, forks, fork_of, turn, turn_of}
+use Rattle.asl_forward.specs.Outcomes.{action_of, outcome_of_call, task_turn, parks, forks, fork_of, turn, turn_of}
 use Rattle.asl_forward.specs.Results.{handled, errors_of, call_fault}
 use Rattle.asl_processing.specs.Processing.{effective}
 use Rattle.asl_frames.specs.Turn.{Location, next_frame, own_fault}
@@ -36,7 +36,7 @@ turn_frame P level (state.Succeed s) f err park next = next
 turn_frame P level (state.Fail s) f err park next = next
 turn_frame P level (state.Task s) f err park next = on_input (effective s.processing (data_of f.raw))
   where
-    on_call : (o : Option Call) → OnFrame P (asks level s f o)
+    on_call : (o : Option Call) → OnFrame P (outcome_of_call level s f o)
     on_call (Some c) = tt
     on_call None = err (call_fault validation)
 

@@ -12,9 +12,9 @@ use Rattle.asl_frames.specs.State.{State}
 use Rattle.asl_frames.specs.State.TheVariants as state
 use Rattle.asl_frames.specs.Transition.TheVariants.{Next}
 use Rattle.asl_forward.specs.Handling.{stand_for, retried, catcher_for, error_object}
-use Rattle.asl_forward.specs.Results.{tries_again, on_catch, on_retry, handled, errors_of, after_error, taken_by, after_branch, call_fault, Work, work_of, comes_to, after_result, after_answer, after_join}
+use Rattle.asl_forward.specs.Results.{tries_again, on_catch, on_retry, handled, errors_of, after_error, taken_by, after_branch, call_fault, Work, state_work, comes_to, after_result, after_answer, after_join}
 use Rattle.asl_frames.specs.Processing.{and_then, held, passed_on, placed_in}
-use Rattle.asl_frames.specs.Turn.{Location, ends, go_on, has_failed, own_fault}
+use Rattle.asl_frames.specs.Turn.{Location, ends, go_on, frame_failed_with, own_fault}
 use Rattle.asl_frames.specs.declared.frame.Fault.{Fault}
 use Rattle.asl_frames.specs.declared.frame.Frame.{Frame}
 use Rattle.asl_frames.proofs.Turns.{on_count, end_count, on_level, end_level, on_state, end_state}
@@ -27,7 +27,7 @@ States = List (List ℕ × StateTree)
 -- P of each frame that an error may give
 handled_of : (P : Frame → Type 0) (level : Definition) (errors : ErrorHandling) (f : Frame) (fault : Fault) → ((counters : List ℕ) → P (tries_again f counters))
     → ((c : Catcher) → catcher_for errors.catchers fault ≡ Some c → (worked : Result Data (List ℕ)) → P (ends level (Next c.next) f worked))
-    → P (has_failed f fault) → P (handled level errors f fault)
+    → P (frame_failed_with f fault) → P (handled level errors f fault)
 handled_of P level errors f fault again caught fails = on_tries (retried errors.retriers f.retries fault)
   where
     on_catcher : (o : Option Catcher) → catcher_for errors.catchers fault ≡ o → P (on_catch level f fault o)
@@ -100,7 +100,7 @@ after_branch-state at f fault stays here = after_error-state at f (taken_by at.1
 abbrev pub WorkStays : List (List ℕ × StateTree) → Work → Type 0
 WorkStays states w = LeadsInto states w.2 × CatchersStay states w.1.catchers
 
-pub work_stays : (states : States) (s : State) (w : Work) → StaysInside states s → work_of s ≡ Some w → WorkStays states w
+pub work_stays : (states : States) (s : State) (w : Work) → StaysInside states s → state_work s ≡ Some w → WorkStays states w
 work_stays states (state.Pass s) w stays is = cc is
 work_stays states (state.Task s) w stays is =
     let same : ◌≡◌ {A = Work} (s.processing, s.errors, s.transition) w = cc is in

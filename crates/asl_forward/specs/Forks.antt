@@ -10,7 +10,7 @@ use Rattle.asl_processing.specs.Filling.{filled}
 use Rattle.asl_processing.specs.Picking.{pick_at}
 use Rattle.asl_processing.specs.Templates.{Payload}
 use Rattle.asl_processing.specs.PathStep.{PathStep}
-use Rattle.asl_processing.specs.Processing.{and_then, held}
+use Rattle.asl_processing.specs.Processing.{and_then, within_levels}
 use Rattle.asl_frames.specs.Turn.{counters_at}
 use Rattle.asl_frames.specs.declared.frame.Frame.{Frame}
 use Rattle.asl_frames.specs.declared.frame.Phase.TheVariants.{Ready}
@@ -30,14 +30,14 @@ with_others others (Err error) = Err error
 with_others (Err error) (Ok f) = Err error
 with_others (Ok fs) (Ok f) = Ok (f ∷ fs)
 
-abbrev pub begins : Frame → Definition → ℕ → Result Data (List ℕ) → Result Frame (List ℕ)
-begins f d branch (Ok input) = Ok (branch_frame f d branch input)
-begins f d branch (Err error) = Err error
+abbrev pub begins_branch : Frame → Definition → ℕ → Result Data (List ℕ) → Result Frame (List ℕ)
+begins_branch f d branch (Ok input) = Ok (branch_frame f d branch input)
+begins_branch f d branch (Err error) = Err error
 
 -- each branch of a Parallel state begins with its effective input
 abbrev pub frames_from : Frame → ℕ → List Definition → Data → Result (List Frame) (List ℕ)
 frames_from f branch [] input = Ok []
-frames_from f branch (d ∷ ds) input = with_others (frames_from f (branch + 1) ds input) (begins f d branch (held input))
+frames_from f branch (d ∷ ds) input = with_others (frames_from f (branch + 1) ds input) (begins_branch f d branch (within_levels input))
 
 abbrev pub parallel_frames : Parallel → Frame → Data → Result (List Frame) (List ℕ)
 parallel_frames s f input = frames_from f 0 s.branches input
@@ -59,13 +59,13 @@ elements path input = elements_in (pick_at path input)
 
 -- what the branch of an element begins with: the element, or what the item selector makes of the effective input and of it
 abbrev pub element_input : Option Payload → Data → ℕ → Data → Result Data (List ℕ)
-element_input None input index element = held element
-element_input (Some selector) input index element = and_then held (ok_or (filled input (Some (index, element)) selector) (codes "States.ParameterPathFailure"))
+element_input None input index element = within_levels element
+element_input (Some selector) input index element = and_then within_levels (ok_or (filled input (Some (index, element)) selector) (codes "States.ParameterPathFailure"))
 
 abbrev pub element_frames : Map → Frame → Data → ℕ → List Data → Result (List Frame) (List ℕ)
 element_frames s f input index [] = Ok []
 element_frames s f input index (x ∷ xs) =
-    with_others (element_frames s f input (index + 1) xs) (begins f s.processor 0 (element_input s.item_selector input index x))
+    with_others (element_frames s f input (index + 1) xs) (begins_branch f s.processor 0 (element_input s.item_selector input index x))
 
 -- a Map has at most 4,096 branches, which are counted before any of them begins
 abbrev pub counted_frames : Map → Frame → Data → Result (List Data) (List ℕ) → Result (List Frame) (List ℕ)

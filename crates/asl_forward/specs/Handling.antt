@@ -16,10 +16,10 @@ is_call Call = true
 is_call Branch = false
 is_call Other = false
 
-abbrev pub is_branch : Origin → Bool
-is_branch Branch = true
-is_branch Call = false
-is_branch Other = false
+abbrev pub is_branch_origin : Origin → Bool
+is_branch_origin Branch = true
+is_branch_origin Call = false
+is_branch_origin Other = false
 
 -- whether a name of `ErrorEquals` means this error, unless that is `States.Runtime`: `States.TaskFailed` means what the state's
 -- own call of the table answers, and `States.BranchFailed` what a Parallel state takes from a branch
@@ -27,7 +27,7 @@ abbrev pub means : Fault → List ℕ → Bool
 means fault name =
     if is_text name (codes "States.ALL") then true else
     if is_text name (codes "States.TaskFailed") then is_call fault.origin else
-    is_text name (codes "States.BranchFailed") && is_branch fault.origin || is_text name fault.error
+    is_text name (codes "States.BranchFailed") && is_branch_origin fault.origin || is_text name fault.error
 
 -- nothing stands for `States.Runtime`
 abbrev pub stand_for : List (List ℕ) → Fault → Bool

@@ -34,12 +34,12 @@ abbrev pub fails : Definition → ErrorHandling → Frame → Fault → Outcome
 fails level errors f fault = outcome.Next (handled level errors f fault)
 
 -- the effective input is the call; a malformed one is refused at once
-abbrev pub asks : Definition → Task → Frame → Option call.Call → Outcome
-asks level s f (Some c) = outcome.Call c
-asks level s f None = fails level s.errors f (call_fault validation)
+abbrev pub outcome_of_call : Definition → Task → Frame → Option call.Call → Outcome
+outcome_of_call level s f (Some c) = outcome.Call c
+outcome_of_call level s f None = fails level s.errors f (call_fault validation)
 
 abbrev pub task_turn : Definition → Task → Frame → Result Data (List ℕ) → Outcome
-task_turn level s f (Ok input) = asks level s f (call_of (action_of s.resource) input)
+task_turn level s f (Ok input) = outcome_of_call level s f (call_of (action_of s.resource) input)
 task_turn level s f (Err error) = fails level s.errors f (own_fault error)
 
 -- the frame over so many branches, of which so many may run at a time; 0 is no bound

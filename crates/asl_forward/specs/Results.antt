@@ -14,7 +14,7 @@ use Rattle.asl_frames.specs.Transition.{Transition}
 use Rattle.asl_frames.specs.Transition.TheVariants.{Next}
 use Rattle.asl_forward.specs.Handling.{retried, catcher_for, error_object}
 use Rattle.asl_frames.specs.Processing.{and_then, held, passed_on, placed_in}
-use Rattle.asl_frames.specs.Turn.{Location, located, ends, go_on, has_failed, own_fault}
+use Rattle.asl_frames.specs.Turn.{Location, located, ends, go_on, frame_failed_with, own_fault}
 use Rattle.asl_frames.specs.declared.frame.Fault.{Fault}
 use Rattle.asl_frames.specs.declared.frame.Frame.{Frame}
 use Rattle.asl_frames.specs.declared.frame.Origin.TheVariants as origin
@@ -27,7 +27,7 @@ abbrev pub tries_again : Frame → List ℕ → Frame
 tries_again f counters = record { level = f.level; state = f.state; raw = f.raw; retries = counters; count = f.count + 1; phase = Ready }
 
 abbrev pub on_catch : Definition → Frame → Fault → Option Catcher → Frame
-on_catch level f fault None = has_failed f fault
+on_catch level f fault None = frame_failed_with f fault
 on_catch level f fault (Some c) = ends level (Next c.next) f (and_then held (placed_in c.result_path (data_of f.raw) (error_object fault)))
 
 abbrev pub on_retry : Definition → ErrorHandling → Frame → Fault → Option (List ℕ) → Frame
@@ -66,15 +66,15 @@ call_fault error = record { error = error; cause = []; origin = origin.Call }
 abbrev pub Work : Type 0
 Work = Processing × ErrorHandling × Transition
 
-abbrev pub work_of : State → Option Work
-work_of (state.Task s) = Some (s.processing, s.errors, s.transition)
-work_of (state.Parallel s) = Some (s.processing, s.errors, s.transition)
-work_of (state.Map s) = Some (s.processing, s.errors, s.transition)
-work_of _ = None
+abbrev pub state_work : State → Option Work
+state_work (state.Task s) = Some (s.processing, s.errors, s.transition)
+state_work (state.Parallel s) = Some (s.processing, s.errors, s.transition)
+state_work (state.Map s) = Some (s.processing, s.errors, s.transition)
+state_work _ = None
 
 -- the work of the state before which a frame stands
 abbrev pub work_at : Definition → Frame → Option Work
-work_at d f = option_and_then (λ at. work_of at.1) (located d f)
+work_at d f = option_and_then (λ at. state_work at.1) (located d f)
 
 abbrev pub comes_to : Definition → Work → Frame → Result Data (List ℕ) → Frame
 comes_to level w f (Ok output) = go_on level w.2 f output

@@ -5,7 +5,7 @@ ghost use Rattle.json_tree.specs.View.{data_of};
 ghost use Rattle.asl_processing.specs.Errors.{NamesError};
 ghost use Rattle.asl_forward.specs.Forks.{inward, branch_frame, frames_from, parallel_frames, elements, element_input, element_frames, map_frames};
 ghost use Rattle.asl_forward.specs.Outcomes.{fork_of};
-ghost use Rattle.asl_processing.specs.Processing.{held, effective};
+ghost use Rattle.asl_processing.specs.Processing.{within_levels, effective};
 ghost use Rattle.asl_frames.specs.Turn.{counters_at};
 
 use crate::frames::Frames;

@@ -3,7 +3,7 @@ ghost use Rattle.std.specs.Prelude.{◌≡◌, ◌+◌, ◌^◌, ◌<◌, nat_lt
 ghost use Rattle.std.specs.List.{list_any, position};
 ghost use Rattle.asl_frames.specs.Retrier.{Retrier};
 ghost use Rattle.json_tree.specs.View.{data_of};
-ghost use Rattle.asl_forward.specs.Handling.{is_call, is_branch, means, stand_for, may_try, retried, catcher_for, error_object};
+ghost use Rattle.asl_forward.specs.Handling.{is_call, is_branch_origin, means, stand_for, may_try, retried, catcher_for, error_object};
 ghost use Rattle.asl_forward.specs.Results.{tries_again, on_catch, handled, after_error, taken_by, after_branch};
 ghost use Rattle.asl_frames.specs.Turn.{Location, located};
 
@@ -23,7 +23,7 @@ fn is_call(origin: Origin) -> bool
 }
 
 fn is_branch(origin: Origin) -> bool
-    ensures { result ≡ is_branch origin }
+    ensures { result ≡ is_branch_origin origin }
 {
     matches!(origin, Origin::Branch)
 }

@@ -4,7 +4,7 @@ ghost use Rattle.json_tree.specs.View.{data_of};
 ghost use Rattle.item_store.specs.Calls.{call_of};
 ghost use Rattle.item_store.specs.Faults.{validation};
 ghost use Rattle.asl_processing.specs.Errors.{NamesError};
-ghost use Rattle.asl_forward.specs.Outcomes.{action_of, asks, fails, forks, parks, task_turn, turn};
+ghost use Rattle.asl_forward.specs.Outcomes.{action_of, outcome_of_call, fails, forks, parks, task_turn, turn};
 ghost use Rattle.asl_processing.specs.Processing.{effective};
 ghost use Rattle.asl_frames.specs.declared.frame.Frame.{Frame};
 
@@ -66,7 +66,7 @@ fn asks(
     input: Json,
 ) -> Result<Outcome, AllocError>
     requires { frame.now.count + 1 < 2 ^ 32 }
-    ensures { IfOk result (λ o. o ≡ asks level.now task.now frame.now (call_of (action_of task.now.resource) (data_of input))) }
+    ensures { IfOk result (λ o. o ≡ outcome_of_call level.now task.now frame.now (call_of (action_of task.now.resource) (data_of input))) }
 {
     let call = Call::read(alloc, action_of(task.resource), &input);
     drop(input);

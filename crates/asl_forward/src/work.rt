@@ -1,7 +1,7 @@
 // What comes of a turn whose call of the table was answered ("Task State").
 ghost use Rattle.std.specs.Prelude.{◌≡◌, ◌+◌, ◌^◌, ◌<◌, Some, IfOk};
 ghost use Rattle.item_store.specs.Deciding.{reply_of};
-ghost use Rattle.asl_forward.specs.Results.{Work, work_of, after_answer};
+ghost use Rattle.asl_forward.specs.Results.{Work, state_work, after_answer};
 ghost use Rattle.asl_forward.specs.Planned.{IsAsking};
 ghost use Rattle.asl_frames.specs.Turn.{Location, located};
 
@@ -22,7 +22,7 @@ pub fn finish(
     requires count { frame.now.count + 1 < 2 ^ 32 }
     requires asks { IsAsking machine.now frame.now }
     ensures { IfOk result (λ g. (at : Location) × (w : Work)
-        × (located machine.now frame.now ≡ Some at) × (work_of at.1 ≡ Some w) × (g ≡ after_answer at.0 w frame.now (reply_of answer))) }
+        × (located machine.now frame.now ≡ Some at) × (state_work at.1 ≡ Some w) × (g ≡ after_answer at.0 w frame.now (reply_of answer))) }
 {
     let Some((level, state)) = located(machine.machine(), frame) else {
         unreachable!()

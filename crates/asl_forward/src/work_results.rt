@@ -2,7 +2,7 @@
 ghost use Rattle.std.specs.Prelude.{◌≡◌, ◌+◌, ◌^◌, ◌<◌, Some, IfOk, IsSome, option_map};
 ghost use Rattle.json_tree.specs.View.{data_of};
 ghost use Rattle.item_store.specs.Deciding.{reply_of};
-ghost use Rattle.asl_forward.specs.Results.{Work, work_of, work_at, handled, call_fault, after_result, after_answer, after_join};
+ghost use Rattle.asl_forward.specs.Results.{Work, state_work, work_at, handled, call_fault, after_result, after_answer, after_join};
 ghost use Rattle.asl_frames.specs.Turn.{Location, located};
 
 use crate::handling::handle;
@@ -17,7 +17,7 @@ use std::alloc::{AllocError, Global};
 /// What a state that does work has for its result: none of a state that does none. So a caller of `joined` can see what
 /// it asks for.
 pub fn work_of(state: &State) -> Option<(&Processing, &ErrorHandling, &Transition)>
-    ensures { option_map (λ p. (p.0.now, p.1.now, p.2.now)) result ≡ work_of state.now }
+    ensures { option_map (λ p. (p.0.now, p.1.now, p.2.now)) result ≡ state_work state.now }
 {
     match state {
         State::Task(s) => Some((&s.processing, &s.errors, &s.transition)),
@@ -50,9 +50,9 @@ fn after_result(
     frame: &Frame,
     made: Json,
 ) -> Result<Frame, AllocError>
-    requires work { IsSome (work_of state.now) }
+    requires work { IsSome (state_work state.now) }
     requires count { frame.now.count + 1 < 2 ^ 32 }
-    ensures { IfOk result (λ g. (w : Work) × (work_of state.now ≡ Some w) × (g ≡ after_result level.now w frame.now (data_of made))) }
+    ensures { IfOk result (λ g. (w : Work) × (state_work state.now ≡ Some w) × (g ≡ after_result level.now w frame.now (data_of made))) }
 {
     let Some((processing, errors, transition)) = work_of(state) else {
         unreachable!()
@@ -74,9 +74,9 @@ fn after_refusal(
     frame: &Frame,
     error: Text,
 ) -> Result<Frame, AllocError>
-    requires work { IsSome (work_of state.now) }
+    requires work { IsSome (state_work state.now) }
     requires count { frame.now.count + 1 < 2 ^ 32 }
-    ensures { IfOk result (λ g. (w : Work) × (work_of state.now ≡ Some w) × (g ≡ handled level.now w.1 frame.now (call_fault error))) }
+    ensures { IfOk result (λ g. (w : Work) × (state_work state.now ≡ Some w) × (g ≡ handled level.now w.1 frame.now (call_fault error))) }
 {
     let Some((_, errors, _)) = work_of(state) else {
         unreachable!()
@@ -93,9 +93,9 @@ pub fn after_answer(
     frame: &Frame,
     answer: Answer,
 ) -> Result<Frame, AllocError>
-    requires work { IsSome (work_of state.now) }
+    requires work { IsSome (state_work state.now) }
     requires count { frame.now.count + 1 < 2 ^ 32 }
-    ensures { IfOk result (λ g. (w : Work) × (work_of state.now ≡ Some w) × (g ≡ after_answer level.now w frame.now (reply_of answer))) }
+    ensures { IfOk result (λ g. (w : Work) × (state_work state.now ≡ Some w) × (g ≡ after_answer level.now w frame.now (reply_of answer))) }
 {
     match answer {
         Answer::Given(made) => after_result(alloc, level, state, frame, made),
@@ -113,7 +113,7 @@ pub fn joined(
 ) -> Result<Frame, AllocError>
     requires works { IsSome (work_at machine.now frame.now) }
     requires count { frame.now.count + 1 < 2 ^ 32 }
-    ensures { IfOk result (λ g. (at : Location) × (w : Work) × (located machine.now frame.now ≡ Some at) × (work_of at.1 ≡ Some w) × (g ≡ after_join at.0 w frame.now outputs)) }
+    ensures { IfOk result (λ g. (at : Location) × (w : Work) × (located machine.now frame.now ≡ Some at) × (state_work at.1 ≡ Some w) × (g ≡ after_join at.0 w frame.now outputs)) }
 {
     let Some((level, state)) = located(machine, frame) else {
         unreachable!()

@@ -3,7 +3,7 @@ use Rattle.std.proofs.Common.{◌≡◌, ℕ, ◌+◌, List, [], ◌∷◌, Bool
 use Rattle.std.specs.Prelude.{IfSome}
 use Rattle.std.specs.List.{AllByRecursion}
 use Rattle.json_tree.specs.Data.{Data}
-use Rattle.asl_tree.specs.Complete.{IsState, LeadsInto, StaysInside}
+use Rattle.asl_tree.specs.Complete.{IsStateName, LeadsInto, StaysInside}
 use Rattle.asl_tree.specs.Definition.{Definition}
 use Rattle.asl_tree.specs.declared.state.State.{State}
 use Rattle.asl_tree.specs.declared.state.State.TheVariants.{Pass, Task, Choice as ChoiceState, Wait, Succeed, Fail, Parallel, Map}
@@ -13,9 +13,9 @@ use Rattle.asl_processing.specs.TestView.{test_of}
 use Rattle.asl_processing.specs.Rule.{Rule}
 use Rattle.asl_processing.specs.Choice.{Choice}
 use Rattle.asl_processing.specs.Holding.{holds, first_rule}
-use Rattle.asl_processing.specs.Choosing.{or_default, goes_to, chosen}
+use Rattle.asl_processing.specs.Choosing.{or_default, chosen_state, chosen}
 use Rattle.asl_processing.specs.Processing.{effective, passed_on}
-use Rattle.asl_frames.specs.Turn.{ends, has_failed, own_fault, goes_where, choice_frame, next_frame, pass_output, idle_output}
+use Rattle.asl_frames.specs.Turn.{ends, frame_failed_with, own_fault, goes_where, choice_frame, next_frame, pass_output, idle_output}
 use Rattle.asl_frames.specs.declared.frame.Frame.{Frame}
 use Rattle.json_tree.specs.View.{data_of}
 
@@ -37,7 +37,7 @@ pub end_count : (level : Definition) (t : Transition) (f : Frame) (worked : Resu
 end_count level t f worked = end_of (λ g. g.count ≡ f.count + 1) level t f worked (on_count level t f) (λ error. refl)
 
 -- P of each frame that a Choice state may give
-choice_of : (P : Frame → Type 0) (level : Definition) (s : Choice) (f : Frame) → ((error : List ℕ) → P (has_failed f (own_fault error)))
+choice_of : (P : Frame → Type 0) (level : Definition) (s : Choice) (f : Frame) → ((error : List ℕ) → P (frame_failed_with f (own_fault error)))
     → ((name : List ℕ) → IsChosen s name → (worked : Result Data (List ℕ)) → P (ends level (Next name) f worked)) → P (choice_frame level s f (effective s.processing (data_of f.raw)))
 choice_of P level s f err ok = on_input (effective s.processing (data_of f.raw))
   where
@@ -76,12 +76,12 @@ next_frame-level level (ChoiceState s) f = choice_of (λ g. g.level ≡ f.level)
 next_frame-level level (Parallel s) f = refl
 next_frame-level level (Map s) f = refl
 
-pub on_state : (level : Definition) (t : Transition) (f : Frame) → LeadsInto level.states t → IsState level.states f.state → (output : Data) → IsState level.states (ends level t f (Ok output)).state
+pub on_state : (level : Definition) (t : Transition) (f : Frame) → LeadsInto level.states t → IsStateName level.states f.state → (output : Data) → IsStateName level.states (ends level t f (Ok output)).state
 on_state level (Next name) f leads here output = leads
 on_state level End f leads here output = here
 
-pub end_state : (level : Definition) (t : Transition) (f : Frame) (worked : Result Data (List ℕ)) → LeadsInto level.states t → IsState level.states f.state → IsState level.states (ends level t f worked).state
-end_state level t f worked leads here = end_of (λ g. IsState level.states g.state) level t f worked (on_state level t f leads here) (λ error. here)
+pub end_state : (level : Definition) (t : Transition) (f : Frame) (worked : Result Data (List ℕ)) → LeadsInto level.states t → IsStateName level.states f.state → IsStateName level.states (ends level t f worked).state
+end_state level t f worked leads here = end_of (λ g. IsStateName level.states g.state) level t f worked (on_state level t f leads here) (λ error. here)
 
 -- a rule goes to a state that is there, and so does the default
 rule_inside : (P : List ℕ → Type 0) (rs : List Rule) (d : Data) (name : List ℕ) → AllByRecursion (λ (r : Rule). P r.next) rs → first_rule rs d ≡ Some (Some name) → P name
@@ -104,21 +104,21 @@ chosen_inside P s name rules default is = on_rule (first_rule s.rules is.0) refl
         let same : other ≡ name = cc k in
         subst P same p
 
-    on_rule : (o : Option (Option (List ℕ))) → first_rule s.rules is.0 ≡ o → goes_to o s.default ≡ Ok name → P name
+    on_rule : (o : Option (Option (List ℕ))) → first_rule s.rules is.0 ≡ o → chosen_state o s.default ≡ Ok name → P name
     on_rule None h k = cc k
     on_rule (Some None) h k = on_default s.default default k
     on_rule (Some (Some other)) h k =
         let same : other ≡ name = cc k in
         subst P same (rule_inside P s.rules is.0 other rules h)
 
-pub next_frame-state : (level : Definition) (s : State) (f : Frame) → StaysInside level.states s → IsState level.states f.state → IsState level.states (next_frame level s f).state
+pub next_frame-state : (level : Definition) (s : State) (f : Frame) → StaysInside level.states s → IsStateName level.states f.state → IsStateName level.states (next_frame level s f).state
 next_frame-state level (Pass s) f stays here = end_state level s.transition f (pass_output s (data_of f.raw)) stays here
 next_frame-state level (Wait s) f stays here = end_state level s.transition f (idle_output s.processing (data_of f.raw)) stays here
 next_frame-state level (Succeed s) f stays here = end_state level End f (idle_output s.processing (data_of f.raw)) tt here
 next_frame-state level (Fail s) f stays here = here
 next_frame-state level (Task s) f stays here = here
 next_frame-state level (ChoiceState s) f stays here =
-    choice_of (λ g. IsState level.states g.state) level s f (λ error. here)
-    (λ name is worked. end_state level (Next name) f worked (chosen_inside (IsState level.states) s name stays.0 stays.1 is) here)
+    choice_of (λ g. IsStateName level.states g.state) level s f (λ error. here)
+    (λ name is worked. end_state level (Next name) f worked (chosen_inside (IsStateName level.states) s name stays.0 stays.1 is) here)
 next_frame-state level (Parallel s) f stays here = here
 next_frame-state level (Map s) f stays here = here

@@ -14,13 +14,13 @@ use Rattle.asl_frames.specs.declared.frame.Origin.TheVariants.{Call, Branch, Oth
 use Rattle.asl_frames.specs.declared.frame.Phase.{Phase}
 use Rattle.asl_frames.specs.declared.frame.Phase.TheVariants.{Ready, Parked, Done, Failed}
 
-abbrev pub number_of : Origin → ℕ
-number_of Call = 0
-number_of Branch = 1
-number_of Other = 2
+abbrev pub origin_number : Origin → ℕ
+origin_number Call = 0
+origin_number Branch = 1
+origin_number Other = 2
 
 abbrev pub same_origin : Origin → Origin → Bool
-same_origin a b = number_of a == number_of b
+same_origin a b = origin_number a == origin_number b
 
 abbrev pub same_fault : Fault → Fault → Bool
 same_fault a b = same_origin a.origin b.origin && (same_text a.error b.error && same_text a.cause b.cause)
@@ -48,7 +48,7 @@ origin_one Other Other h = refl
 origin_one _ _ h = cc
 
 pub origin_exact : IsExact same_origin
-origin_exact = exact same_origin origin_one (λ a. (unsigned_Decides (number_of a) (number_of a)).1 refl)
+origin_exact = exact same_origin origin_one (λ a. (unsigned_Decides (origin_number a) (origin_number a)).1 refl)
 
 fault_one : (a b : Fault) → same_fault a b ≡ true → a ≡ b
 fault_one a b h =

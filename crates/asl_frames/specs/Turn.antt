@@ -46,11 +46,11 @@ enters level name f raw =
     record { level = f.level; state = name; raw = json_of raw; retries = counters_at level name; count = f.count + 1; phase = Ready }
 
 -- the frame at the end of its level
-abbrev pub is_done : Frame → Data → Frame
-is_done f output = record { level = f.level; state = f.state; raw = f.raw; retries = f.retries; count = f.count + 1; phase = Done (json_of output) }
+abbrev pub frame_done_with : Frame → Data → Frame
+frame_done_with f output = record { level = f.level; state = f.state; raw = f.raw; retries = f.retries; count = f.count + 1; phase = Done (json_of output) }
 
-abbrev pub has_failed : Frame → Fault → Frame
-has_failed f fault = record { level = f.level; state = f.state; raw = f.raw; retries = f.retries; count = f.count + 1; phase = Failed fault }
+abbrev pub frame_failed_with : Frame → Fault → Frame
+frame_failed_with f fault = record { level = f.level; state = f.state; raw = f.raw; retries = f.retries; count = f.count + 1; phase = Failed fault }
 
 -- an error of the state itself; it has no cause
 abbrev pub own_fault : List ℕ → Fault
@@ -59,12 +59,12 @@ own_fault error = record { error = error; cause = []; origin = Other }
 -- where a frame goes with its state's output: to the next state, or to the end
 abbrev pub go_on : Definition → Transition → Frame → Data → Frame
 go_on level (Next name) f output = enters level name f output
-go_on level End f output = is_done f output
+go_on level End f output = frame_done_with f output
 
 -- the frame after what its state passes on, or after an error that nothing takes up
 abbrev pub ends : Definition → Transition → Frame → Result Data (List ℕ) → Frame
 ends level transition f (Ok output) = go_on level transition f output
-ends level transition f (Err error) = has_failed f (own_fault error)
+ends level transition f (Err error) = frame_failed_with f (own_fault error)
 
 -- the frame with which an execution of a machine starts
 abbrev pub first_frame : List ℕ → Definition → Json → Frame
@@ -88,11 +88,11 @@ idle_output p raw = and_then (λ input. passed_on p raw input) (effective p raw)
 -- a Choice state goes where it chooses, with its effective input; the choice comes before the output path
 abbrev pub goes_where : Definition → Processing → Frame → Data → Result (List ℕ) (List ℕ) → Frame
 goes_where level p f input (Ok name) = ends level (Next name) f (passed_on p (data_of f.raw) input)
-goes_where level p f input (Err error) = has_failed f (own_fault error)
+goes_where level p f input (Err error) = frame_failed_with f (own_fault error)
 
 abbrev pub choice_frame : Definition → Choice → Frame → Result Data (List ℕ) → Frame
 choice_frame level s f (Ok input) = goes_where level s.processing f input (chosen s.rules s.default input)
-choice_frame level s f (Err error) = has_failed f (own_fault error)
+choice_frame level s f (Err error) = frame_failed_with f (own_fault error)
 
 abbrev pub declared_fault : Fail → Fault
 declared_fault s = record { error = s.error; cause = s.cause; origin = Other }
@@ -104,8 +104,8 @@ next_frame level (state.Pass s) f = ends level s.transition f (pass_output s (da
 next_frame level (state.Choice s) f = choice_frame level s f (effective s.processing (data_of f.raw))
 next_frame level (state.Wait s) f = ends level s.transition f (idle_output s.processing (data_of f.raw))
 next_frame level (state.Succeed s) f = ends level End f (idle_output s.processing (data_of f.raw))
-next_frame level (state.Fail s) f = has_failed f (declared_fault s)
-next_frame level _ f = has_failed f (own_fault (codes "States.Runtime"))
+next_frame level (state.Fail s) f = frame_failed_with f (declared_fault s)
+next_frame level _ f = frame_failed_with f (own_fault (codes "States.Runtime"))
 
 -- where a frame stands: the machine that is its level, and its state there
 abbrev pub Location : Type 0

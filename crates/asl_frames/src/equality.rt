@@ -1,11 +1,11 @@
 // Equality of frames and of their parts: the counts and the places first, since a value may be long and is mostly shared.
 ghost use Rattle.std.specs.Prelude.{◌≡◌};
-ghost use Rattle.asl_frames.specs.Same.{number_of, same_origin};
+ghost use Rattle.asl_frames.specs.Same.{origin_number, same_origin};
 
 use crate::frame::{Fault, Frame, Origin, Phase, Retries};
 
 fn number_of(origin: Origin) -> u8
-    ensures { result ≡ number_of origin }
+    ensures { result ≡ origin_number origin }
 {
     match origin {
         Origin::Call => 0,

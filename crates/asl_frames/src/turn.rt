@@ -4,7 +4,7 @@ ghost use Rattle.json_tree.specs.Data.{Data};
 ghost use Rattle.json_tree.specs.View.{data_of};
 ghost use Rattle.asl_tree.specs.Definition.{Definition};
 ghost use Rattle.asl_processing.specs.Errors.{NamesError, error_name};
-ghost use Rattle.asl_frames.specs.Turn.{retriers_of, counters_at, enters, is_done, has_failed, own_fault, declared_fault, go_on, ends, first_frame, pass_result, pass_output, idle_output, after_state, located, choice_frame, goes_where};
+ghost use Rattle.asl_frames.specs.Turn.{retriers_of, counters_at, enters, frame_done_with, frame_failed_with, own_fault, declared_fault, go_on, ends, first_frame, pass_result, pass_output, idle_output, after_state, located, choice_frame, goes_where};
 ghost use Rattle.asl_processing.specs.Choosing.{chosen};
 ghost use Rattle.asl_processing.specs.Processing.{effective};
 
@@ -271,7 +271,7 @@ pub fn same_place(frame: &Frame) -> Result<(Level, Text, Json), AllocError>
 
 pub fn failed(frame: &Frame, fault: Fault) -> Result<Frame, AllocError>
     requires { frame.now.count + 1 < 2 ^ 32 }
-    ensures { IfOk result (λ g. g ≡ has_failed frame.now fault) }
+    ensures { IfOk result (λ g. g ≡ frame_failed_with frame.now fault) }
 {
     with_phase(frame, Phase::Failed(fault))
 }

@@ -15,7 +15,7 @@ use Rattle.asl_tree.specs.Complete.{state_of, IsWellFormed}
 use Rattle.asl_tree.specs.Definition.{StateTree, Definition}
 use Rattle.asl_tree.specs.Find.{branch_of, machine_at}
 use Rattle.asl_tree.specs.Levels.{IsWellFormedThroughout}
-use Rattle.asl_machine.specs.Profile.{BranchesAre, ListedBranches, IsProcessor, NamedProcessor, IsOfKind, kind_of, IsState, StatesAre, MembersAre, states_in, StatesWithin, IsMachine, Defines}
+use Rattle.asl_machine.specs.Profile.{BranchesAre, ListedBranches, IsProcessor, NamedProcessor, IsOfKind, state_kind_of, IsStateText, StatesAre, MembersAre, states_field, StatesWithin, IsMachine, Defines}
 use Rattle.asl_states.specs.Reading.{name_of_two}
 use Rattle.asl_tree.specs.TreeView.{tree_of, state_in}
 use Rattle.asl_states.specs.declared.kind.StateKind.{StateKind}
@@ -110,7 +110,7 @@ module _ (P : Place → Source → Definition → Type 0) where
 
   -- a state that some object is
   abbrev IsSomeState : State → Type 0
-  IsSomeState s = (d : Source) × IsState P d s
+  IsSomeState s = (d : Source) × IsStateText P d s
 
   states_are : (ms : Members) (before ss : List (List ℕ × StateTree)) → AllAre IsSomeState before → StatesAre P ms before ss → AllAre IsSomeState ss
   states_are no_members before ss h k = subst (AllAre IsSomeState) (sym k) h
@@ -127,13 +127,13 @@ no_levels None ss h = h
 no_levels (Some ms) ss h = h
 
 whole_within : (levels : ℕ) (place : Place) (d : Source) (m : Definition) → IsMachine levels place d m → (path : List LevelStep) → IfSome (machine_at path m) (λ n. IsWellFormed n × (length path + 1 ≤ levels))
-whole_within zero place d m is path = absurd (no_levels (states_in d) m.states is.2)
+whole_within zero place d m is path = absurd (no_levels (states_field d) m.states is.2)
 whole_within (suc levels) place d m is [] = (complete_over (StatesWithin (suc levels)) place d m is, omega arith)
 whole_within (suc levels) place d m is (step ∷ path) =
     and_then_if (λ s. option_and_then (machine_at path) (branch_of step.branch s)) (state_of step.state m.states) (IsSomeState (IsMachine levels)) (λ n. IsWellFormed n × (length (step ∷ path) + 1 ≤ suc levels))
-    (all_found (IsSomeState (IsMachine levels)) m.states step.state (within_are levels (states_in d) m.states is.2))
+    (all_found (IsSomeState (IsMachine levels)) m.states step.state (within_are levels (states_field d) m.states is.2))
     (λ s k.
-    and_then_if (machine_at path) (branch_of step.branch s) (IsOne (IsMachine levels)) (λ n. IsWellFormed n × (length (step ∷ path) + 1 ≤ suc levels)) (branch_is (IsMachine levels) (kind_of k.0) k.0 s step.branch k.1)
+    and_then_if (machine_at path) (branch_of step.branch s) (IsOne (IsMachine levels)) (λ n. IsWellFormed n × (length (step ∷ path) + 1 ≤ suc levels)) (branch_is (IsMachine levels) (state_kind_of k.0) k.0 s step.branch k.1)
     (λ b one. IfSome_then (machine_at path b) (whole_within levels one.0 one.1 b one.2 path) (λ n w. let deep = w.1 in (w.0, omega (arith, deep)))))
 
 pub defined_whole : (source : Source) (d : Definition) → Defines source d → IsWellFormedThroughout d

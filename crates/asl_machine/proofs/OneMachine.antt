@@ -13,7 +13,7 @@ use Rattle.asl_fields.specs.declared.fields.Place.TheVariants as at
 use Rattle.asl_states.specs.ErrorHandling.{ErrorHandling}
 use Rattle.asl_tree.specs.Definition.{StateTree, Definition}
 use Rattle.asl_states.specs.Profile.{IsPass, IsWait, IsSucceed, IsFail, IsTask, IsChoice}
-use Rattle.asl_machine.specs.Profile.{BranchesAre, ListedBranches, IsParallel, IsProcessor, NamedProcessor, IsMap, IsPassState, IsWaitState, IsSucceedState, IsFailState, IsTaskState, IsChoiceState, IsParallelState, IsMapState, IsOfKind, kind_of, IsState, StatesAre, MembersAre, states_in, MachineOver, StatesWithin, Defines}
+use Rattle.asl_machine.specs.Profile.{BranchesAre, ListedBranches, IsParallel, IsProcessor, NamedProcessor, IsMap, IsPassState, IsWaitState, IsSucceedState, IsFailState, IsTaskState, IsChoiceState, IsParallelState, IsMapState, IsOfKind, state_kind_of, IsStateText, StatesAre, MembersAre, states_field, MachineOver, StatesWithin, Defines}
 use Rattle.asl_states.specs.Reading.{name_of_two}
 use Rattle.asl_tree.specs.TreeView.{tree_of}
 use Rattle.asl_states.specs.declared.kind.StateKind.{StateKind}
@@ -151,8 +151,8 @@ one_of_kind P one (Some kind.Map) d s u h k =
     a.1 ∙ ap MapState (one_map P one d a.0 b.0 a.2 b.2) ∙ sym b.1
 one_of_kind P one None d s u h k = absurd h
 
-one_state : (P : Place → Source → Definition → Type 0) → IsOne P → (d : Source) (s u : State) → IsState P d s → IsState P d u → s ≡ u
-one_state P one d s u h k = one_of_kind P one (kind_of d) d s u h k
+one_state : (P : Place → Source → Definition → Type 0) → IsOne P → (d : Source) (s u : State) → IsStateText P d s → IsStateText P d u → s ≡ u
+one_state P one d s u h k = one_of_kind P one (state_kind_of d) d s u h k
 
 one_states : (P : Place → Source → Definition → Type 0) → IsOne P → (ms : Members) (before ss us : List (List ℕ × StateTree)) → StatesAre P ms before ss → StatesAre P ms before us → ss ≡ us
 one_states P one no_members before ss us h k = h ∙ sym k
@@ -173,7 +173,7 @@ one_over : (S : Members → List (List ℕ × StateTree) → Type 0) → AreOne 
 one_over S one place d m n h k =
     let starts : Some m.start ≡ Some n.start = sym h.1 ∙ k.1 in
     let start : m.start ≡ n.start = cc in
-    let states : m.states ≡ n.states = one_members S one (states_in d) m.states n.states h.2 k.2 in
+    let states : m.states ≡ n.states = one_members S one (states_field d) m.states n.states h.2 k.2 in
     let make : List ℕ → List (List ℕ × StateTree) → Definition = λ a b. record { start = a; states = b } in
     ap (λ a. make a m.states) start ∙ ap (λ b. make n.start b) states
 

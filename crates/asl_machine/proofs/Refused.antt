@@ -12,7 +12,7 @@ use Rattle.asl_tree.specs.Definition.{StateTree, Definition}
 use Rattle.asl_states.specs.Faults.{NamedSelectorFault}
 use Rattle.asl_machine.specs.Faults.{BranchFault, BranchesFault, ListedBranchesFault, BranchesFieldFault, ParallelFault, ProcessorObjectFault, ProcessorFault, NamedProcessorFault, MapFault, KindFault, TypeFault, StateFault, StatesFault, StatesFieldFault, RequiredStatesFault, TargetsFault, FaultOver, StatesFaultWithin, DefinitionFault}
 use Rattle.asl_states.specs.Profile.{NamedSelector, kind_named}
-use Rattle.asl_machine.specs.Profile.{BranchesAre, ListedBranches, IsParallel, IsProcessor, NamedProcessor, IsMap, IsOfKind, IsState, StatesAre, MembersAre, states_in, MachineOver, StatesWithin, Defines}
+use Rattle.asl_machine.specs.Profile.{BranchesAre, ListedBranches, IsParallel, IsProcessor, NamedProcessor, IsMap, IsOfKind, IsStateText, StatesAre, MembersAre, states_field, MachineOver, StatesWithin, Defines}
 use Rattle.asl_states.specs.Reading.{name_of_two, bound_fault}
 use Rattle.asl_tree.specs.Targets.{target_fault}
 use Rattle.asl_states.specs.declared.kind.StateKind.{StateKind}
@@ -126,7 +126,7 @@ module _ (F : Place → Source → MachineFault → Type 0) (P : Place → Sourc
   type_refused name d None s e fault is = is
   type_refused name d (Some type) s e fault is = kind_refused name (kind_named type) d s e fault is
 
-  state_refused : (name : List ℕ) (d : Source) (s : State) (e : MachineFault) → StateFault F name d e → IsState P d s → ⊥
+  state_refused : (name : List ℕ) (d : Source) (s : State) (e : MachineFault) → StateFault F name d e → IsStateText P d s → ⊥
   state_refused name null s e fault is = is
   state_refused name (boolean b) s e fault is = is
   state_refused name (number n) s e fault is = is
@@ -158,7 +158,7 @@ module _ (F : Members → MachineFault → Type 0) (S : Members → List (List �
   targets_refused place d m e fault is =
       let starts : Some fault.0 ≡ Some m.start = sym fault.2 ∙ is.1 in
       let start : fault.0 ≡ m.start = cc in
-      let states : fault.1 ≡ m.states = one_members S one (states_in d) fault.1 m.states fault.3 is.2 in
+      let states : fault.1 ≡ m.states = one_members S one (states_field d) fault.1 m.states fault.3 is.2 in
       let none : None ≡ Some e = sym is.3 ∙ ap (λ a. target_fault a m.states) (sym start) ∙ ap (λ b. target_fault fault.0 b) (sym states) ∙ fault.4 in
       cc
 

@@ -4,7 +4,7 @@ use Rattle.serde_json.specs.Data.{Data as Source, Items, Members}
 use Rattle.serde_json.specs.Find.{get, as_array, as_object}
 use Rattle.serde_json.specs.View.{view, items_view}
 use Rattle.serde_json.specs.declared.value.Value.{Value}
-use Rattle.asl_fields.specs.Refusal.{Refuses}
+use Rattle.asl_fields.specs.Refusal.{RefusesForFault}
 use Rattle.asl_fields.specs.declared.fault.MachineFault.{MachineFault}
 use Rattle.asl_fields.specs.declared.fault.MachineFault.TheVariants.{Missing, UnknownField, Unsupported, BadField, NoTarget, NextAndEnd, StatesAllPlace, TooDeep, Memory}
 use Rattle.asl_fields.specs.declared.fields.Place.{Place}
@@ -14,7 +14,7 @@ use Rattle.asl_machine.specs.Faults.{StatesFault, LevelFault, StatesFaultWithin,
 use Rattle.asl_machine.specs.Profile.{StatesAre, IsMachine, StatesWithin, BranchesAre, ListedBranches}
 use Rattle.asl_states.specs.Reading.{count_items}
 
-pub refuses_map : (e : MachineFault) (P Q : Type 0) → (P → Q) → Refuses e P → Refuses e Q
+pub refuses_map : (e : MachineFault) (P Q : Type 0) → (P → Q) → RefusesForFault e P → RefusesForFault e Q
 refuses_map (Missing field) P Q f h = f h
 refuses_map (UnknownField field) P Q f h = f h
 refuses_map (Unsupported field) P Q f h = f h
@@ -25,7 +25,7 @@ refuses_map StatesAllPlace P Q f h = f h
 refuses_map TooDeep P Q f h = f h
 refuses_map Memory P Q f h = h
 
-pub err_map : {A : Type 0} (r : Result A MachineFault) (P Q : MachineFault → Type 0) → ((e : MachineFault) → P e → Q e) → IfErr r (λ e. Refuses e (P e)) → IfErr r (λ e. Refuses e (Q e))
+pub err_map : {A : Type 0} (r : Result A MachineFault) (P Q : MachineFault → Type 0) → ((e : MachineFault) → P e → Q e) → IfErr r (λ e. RefusesForFault e (P e)) → IfErr r (λ e. RefusesForFault e (Q e))
 err_map (Ok x) P Q f h = h
 err_map (Err e) P Q f h = refuses_map e (P e) (Q e) (f e) h
 
@@ -50,13 +50,13 @@ next_value : (from : List Value) (i : ℕ) (x : Value) → x ≡ get_or from i x
 next_value from i x is within = drop-cons from i x within ∙ rw (← is, add-one)
 
 pub branch_refuses : (F : Place → Source → MachineFault → Type 0) (from : List Value) (i : ℕ) (x : Value) (ms : Members) (e : MachineFault) → x ≡ get_or from i x → i < length from
-    → Some ms ≡ as_object (view x) → ((f : MachineFault) → BranchesFault F (items_view (drop i from)) f → BranchesFault F (items_view from) f) → Refuses e (F at.Branch (view x) e) → Refuses e (BranchesFault F (items_view from) e)
+    → Some ms ≡ as_object (view x) → ((f : MachineFault) → BranchesFault F (items_view (drop i from)) f → BranchesFault F (items_view from) f) → RefusesForFault e (F at.Branch (view x) e) → RefusesForFault e (BranchesFault F (items_view from) e)
 branch_refuses F from i x ms e is within object later fault =
     refuses_map e (F at.Branch (view x) e) (BranchesFault F (items_view from) e)
     (λ f. later e (subst (λ (vs : List Value). BranchesFault F (items_view vs) e) (sym (next_value from i x is within)) (inl (subst (λ (o : Option Members). BranchFault F (view x) o e) object f)))) fault
 
 pub processor_refuses : {A : Type 0} (F : Place → Source → MachineFault → Type 0) (d : Source) (chosen : Option (List ℕ)) (name : List ℕ) (p : Source) (ms : Members) (r : Result A MachineFault) → chosen ≡ Some name
-    → get name d ≡ Some p → Some ms ≡ as_object p → IfErr r (λ e. Refuses e (F at.Processor p e)) → IfErr r (λ e. Refuses e (NamedProcessorFault F d chosen e))
+    → get name d ≡ Some p → Some ms ≡ as_object p → IfErr r (λ e. RefusesForFault e (F at.Processor p e)) → IfErr r (λ e. RefusesForFault e (NamedProcessorFault F d chosen e))
 processor_refuses F d chosen name p ms r is found object fault =
     err_map r (F at.Processor p) (NamedProcessorFault F d chosen)
     (λ e f. subst (λ (o : Option (List ℕ)). NamedProcessorFault F d o e) (sym is)
@@ -66,7 +66,7 @@ within_refuses : (levels : ℕ) (ms : Members) (e : MachineFault) → 0 < levels
 within_refuses zero ms e some h = absurd (omega (arith, some))
 within_refuses (suc n) ms e some h = subst (λ (k : ℕ). StatesFault (LevelFault k) ms e) (sub-one (suc n)) h
 
-pub states_refuse : {A : Type 0} (levels : ℕ) (ms : Members) (r : Result A MachineFault) → 0 < levels → IfErr r (λ e. Refuses e (StatesFault (LevelFault (levels - 1)) ms e)) → IfErr r (λ e. Refuses e (StatesFaultWithin levels ms e))
+pub states_refuse : {A : Type 0} (levels : ℕ) (ms : Members) (r : Result A MachineFault) → 0 < levels → IfErr r (λ e. RefusesForFault e (StatesFault (LevelFault (levels - 1)) ms e)) → IfErr r (λ e. RefusesForFault e (StatesFaultWithin levels ms e))
 states_refuse levels ms r some h = err_map r (StatesFault (LevelFault (levels - 1)) ms) (StatesFaultWithin levels ms) (λ e f. within_refuses levels ms e some f) h
 
 within_reads : (levels : ℕ) (ms : Members) (ss : List (List ℕ × StateTree)) → 0 < levels → StatesAre (IsMachine (levels - 1)) ms [] ss → StatesWithin levels ms ss

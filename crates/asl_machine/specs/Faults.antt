@@ -9,7 +9,7 @@ use Rattle.asl_fields.specs.declared.fields.Place.{Place}
 use Rattle.asl_fields.specs.declared.fields.Place.TheVariants as at
 use Rattle.asl_tree.specs.Definition.{StateTree}
 use Rattle.asl_states.specs.Profile.{kind_named}
-use Rattle.asl_machine.specs.Profile.{MembersAre, StatesWithin, start_in, states_in}
+use Rattle.asl_machine.specs.Profile.{MembersAre, StatesWithin, start_field, states_field}
 use Rattle.asl_states.specs.Reading.{config_fault, concurrency_fault, name_of_two, count_items, most_branches}
 use Rattle.asl_tree.specs.Targets.{target_fault}
 use Rattle.asl_states.specs.declared.kind.StateKind.{StateKind}
@@ -101,7 +101,7 @@ RequiredStatesFault S (Some d) e = StatesFieldFault S (as_object d) e
 -- where the machine starts and its states are read, a name that is no state's
 abbrev pub TargetsFault : (Members → List (List ℕ × StateTree) → Type 0) → Source → MachineFault → Type 0
 TargetsFault S d e =
-    (start : List ℕ) × (states : List (List ℕ × StateTree)) × (start_in d ≡ Some start) × MembersAre S (states_in d) states × (target_fault start states ≡ Some e)
+    (start : List ℕ) × (states : List (List ℕ × StateTree)) × (start_field d ≡ Some start) × MembersAre S (states_field d) states × (target_fault start states ≡ Some e)
 
 abbrev pub FaultOver : (Members → MachineFault → Type 0) → (Members → List (List ℕ × StateTree) → Type 0) → Place → Source → MachineFault → Type 0
 FaultOver F S place d e =

@@ -103,18 +103,18 @@ IsOfKind P (Some kind.Parallel) d s = IsParallelState P d s
 IsOfKind P (Some kind.Map) d s = IsMapState P d s
 IsOfKind P None d s = ⊥
 
-abbrev pub kind_of : Source → Option StateKind
-kind_of d = option_and_then kind_named (option_and_then as_str (get (codes "Type") d))
+abbrev pub state_kind_of : Source → Option StateKind
+state_kind_of d = option_and_then kind_named (option_and_then as_str (get (codes "Type") d))
 
-abbrev pub IsState : (Place → Source → Definition → Type 0) → Source → State → Type 0
-IsState P d s = IsOfKind P (kind_of d) d s
+abbrev pub IsStateText : (Place → Source → Definition → Type 0) → Source → State → Type 0
+IsStateText P d s = IsOfKind P (state_kind_of d) d s
 
 -- ---- machines
 
 -- the states of these names beside those before
 abbrev pub StatesAre : (Place → Source → Definition → Type 0) → Members → List (List ℕ × StateTree) → List (List ℕ × StateTree) → Type 0
 StatesAre P no_members before states = states ≡ before
-StatesAre P (member name d ms) before states = (s : State) × IsState P d s × StatesAre P ms (insert_entry (slice_cmp nat_cmp) before name (tree_of s)) states
+StatesAre P (member name d ms) before states = (s : State) × IsStateText P d s × StatesAre P ms (insert_entry (slice_cmp nat_cmp) before name (tree_of s)) states
 
 -- the states of the members of `States`, as `S` says
 abbrev pub MembersAre : (Members → List (List ℕ × StateTree) → Type 0) → Option Members → List (List ℕ × StateTree) → Type 0
@@ -122,15 +122,15 @@ MembersAre S None states = ⊥
 MembersAre S (Some ms) states = S ms states
 
 -- the members of the field `States`
-abbrev pub states_in : Source → Option Members
-states_in d = option_and_then as_object (get (codes "States") d)
+abbrev pub states_field : Source → Option Members
+states_field d = option_and_then as_object (get (codes "States") d)
 
-abbrev pub start_in : Source → Option (List ℕ)
-start_in d = option_and_then as_str (get (codes "StartAt") d)
+abbrev pub start_field : Source → Option (List ℕ)
+start_field d = option_and_then as_str (get (codes "StartAt") d)
 
 -- a machine, or a branch or a processor of one: each name that is to be a state's is the name of one
 abbrev pub MachineOver : (Members → List (List ℕ × StateTree) → Type 0) → Place → Source → Definition → Type 0
-MachineOver S place d m = HasFields place d × (start_in d ≡ Some m.start) × MembersAre S (states_in d) m.states × (target_fault m.start m.states ≡ None)
+MachineOver S place d m = HasFields place d × (start_field d ≡ Some m.start) × MembersAre S (states_field d) m.states × (target_fault m.start m.states ≡ None)
 
 -- the states of a `States` object, where such objects nest at most so many levels deep from this one on
 abbrev pub StatesWithin : ℕ → Members → List (List ℕ × StateTree) → Type 0

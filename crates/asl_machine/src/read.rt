@@ -2,10 +2,10 @@
 ghost use Rattle.std.specs.Prelude.{◌≡◌, IfOk, IfErr, [], Some, None, option_and_then, codes};
 ghost use Rattle.serde_json.specs.Find.{get, as_array, as_object};
 ghost use Rattle.serde_json.specs.View.{view, items_view, members_view};
-ghost use Rattle.asl_fields.specs.Refusal.{Refuses};
+ghost use Rattle.asl_fields.specs.Refusal.{RefusesForFault};
 ghost use Rattle.asl_machine.specs.Faults.{DefinitionFault, LevelFault, StatesFaultWithin, StatesFault, StateFault, KindFault, ParallelFault, BranchesFault, BranchesFieldFault, MapFault, HasProcessorFault};
 ghost use Rattle.asl_states.specs.Profile.{kind_named};
-ghost use Rattle.asl_machine.specs.Profile.{Defines, DefinesNone, IsMachine, StatesWithin, StatesAre, IsState, IsOfKind, IsParallel, BranchesAre, ListedBranches, IsMap, HasProcessor};
+ghost use Rattle.asl_machine.specs.Profile.{Defines, DefinesNone, IsMachine, StatesWithin, StatesAre, IsStateText, IsOfKind, IsParallel, BranchesAre, ListedBranches, IsMap, HasProcessor};
 
 use asl_fields::{MachineFault, Place, check_fields, read_template, required, text_of};
 use asl_states::{
@@ -36,8 +36,8 @@ impl ReadMachine for Machine {
     /// Where a definition has several faults, which of them is answered is left open.
     fn read(alloc: Global, definition: &Value) -> Result<Machine, MachineFault>
         ensures ok { IfOk result (Defines (view definition.now)) }
-        ensures refused { IfErr result (λ e. Refuses e (DefinesNone (view definition.now))) }
-        ensures fault { IfErr result (λ e. Refuses e (DefinitionFault (view definition.now) e)) }
+        ensures refused { IfErr result (λ e. RefusesForFault e (DefinesNone (view definition.now))) }
+        ensures fault { IfErr result (λ e. RefusesForFault e (DefinitionFault (view definition.now) e)) }
     {
         read_definition(alloc, definition)
     }
@@ -45,7 +45,7 @@ impl ReadMachine for Machine {
 
 fn read_definition(alloc: Global, definition: &Value) -> Result<Machine, MachineFault>
     ensures ok { IfOk result (Defines (view definition.now)) }
-    ensures fault { IfErr result (λ e. Refuses e (DefinitionFault (view definition.now) e)) }
+    ensures fault { IfErr result (λ e. RefusesForFault e (DefinitionFault (view definition.now) e)) }
 {
     let Some(fields) = definition.as_object() else {
         return Err(MachineFault::Missing(Text::new(alloc, "StartAt")?));
@@ -65,7 +65,7 @@ fn read_machine(
 ) -> Result<Machine, MachineFault>
     requires { as_object (view object.now) ≡ Some (members_view fields.now.entries) }
     ensures ok { IfOk result (IsMachine levels place (view object.now)) }
-    ensures fault { IfErr result (λ e. Refuses e (LevelFault levels place (view object.now) e)) }
+    ensures fault { IfErr result (λ e. RefusesForFault e (LevelFault levels place (view object.now) e)) }
 {
     check_fields(alloc, place, object, fields)?;
     let start = required(alloc, object, "StartAt")?;
@@ -87,7 +87,7 @@ fn read_states(
 ) -> Result<States, MachineFault>
     ensures ok { IfOk result (StatesWithin levels (members_view states.now.entries)) }
     ensures fault { IfErr result
-        (λ e. Refuses e (StatesFaultWithin levels (members_view states.now.entries) e)) }
+        (λ e. RefusesForFault e (StatesFaultWithin levels (members_view states.now.entries) e)) }
 {
     if levels > 0 {
         read_each_state(alloc, levels - 1, states)
@@ -104,7 +104,7 @@ fn read_each_state(
 ) -> Result<States, MachineFault>
     ensures ok { IfOk result (StatesAre (IsMachine levels) (members_view states.now.entries) []) }
     ensures fault { IfErr result
-        (λ e. Refuses e (StatesFault (LevelFault levels) (members_view states.now.entries) e)) }
+        (λ e. RefusesForFault e (StatesFault (LevelFault levels) (members_view states.now.entries) e)) }
 {
     let mut read = States::new(alloc);
     for (name, value) in states {
@@ -122,9 +122,9 @@ fn read_each_state(
 
 #[cycle(read)]
 fn read_state(alloc: Global, levels: u32, name: &str, value: &Value) -> Result<State, MachineFault>
-    ensures ok { IfOk result (IsState (IsMachine levels) (view value.now)) }
+    ensures ok { IfOk result (IsStateText (IsMachine levels) (view value.now)) }
     ensures fault { IfErr result
-        (λ e. Refuses e (StateFault (LevelFault levels) name.now (view value.now) e)) }
+        (λ e. RefusesForFault e (StateFault (LevelFault levels) name.now (view value.now) e)) }
 {
     let Some(fields) = value.as_object() else {
         return Err(MachineFault::BadField(Text::new(alloc, "States")?));
@@ -149,7 +149,7 @@ fn read_kind(
     requires { as_object (view object.now) ≡ Some (members_view fields.now.entries) }
     ensures ok { IfOk result (IsOfKind (IsMachine levels) (kind_named kind.now) (view object.now)) }
     ensures fault { IfErr result
-        (λ e. Refuses e (KindFault (LevelFault levels) name.now (kind_named kind.now) (view object.now) e)) }
+        (λ e. RefusesForFault e (KindFault (LevelFault levels) name.now (kind_named kind.now) (view object.now) e)) }
 {
     match kind_named(kind) {
         Some(StateKind::Pass) => Ok(State::Pass(read_pass(alloc, name, object, fields)?)),
@@ -177,7 +177,7 @@ fn read_parallel(
     requires { as_object (view object.now) ≡ Some (members_view fields.now.entries) }
     ensures ok { IfOk result (IsParallel (IsMachine levels) (view object.now)) }
     ensures fault { IfErr result
-        (λ e. Refuses e (ParallelFault (LevelFault levels) name.now (view object.now) e)) }
+        (λ e. RefusesForFault e (ParallelFault (LevelFault levels) name.now (view object.now) e)) }
 {
     check_fields(alloc, Place::Parallel, object, fields)?;
     let parameters = read_template(alloc, object, "Parameters", false)?;
@@ -200,7 +200,7 @@ fn read_parallel(
 fn read_branches(alloc: Global, levels: u32, object: &Value) -> Result<Branches, MachineFault>
     ensures ok { IfOk result (ListedBranches (IsMachine levels) (option_and_then as_array (get (codes "Branches") (view object.now)))) }
     ensures fault { IfErr result
-        (λ e. Refuses e (BranchesFieldFault (LevelFault levels) (get (codes "Branches") (view object.now)) e)) }
+        (λ e. RefusesForFault e (BranchesFieldFault (LevelFault levels) (get (codes "Branches") (view object.now)) e)) }
 {
     let value = required(alloc, object, "Branches")?;
     let Some(items) = value.as_array() else {
@@ -220,7 +220,7 @@ fn read_each_branch(
 ) -> Result<Branches, MachineFault>
     ensures ok { IfOk result (BranchesAre (IsMachine levels) (items_view items.now.items) []) }
     ensures fault { IfErr result
-        (λ e. Refuses e (BranchesFault (LevelFault levels) (items_view items.now.items) e)) }
+        (λ e. RefusesForFault e (BranchesFault (LevelFault levels) (items_view items.now.items) e)) }
 {
     let mut inner = Vec::new(alloc);
     for item in items {
@@ -249,7 +249,7 @@ fn read_map(
     requires { as_object (view object.now) ≡ Some (members_view fields.now.entries) }
     ensures ok { IfOk result (IsMap (IsMachine levels) (view object.now)) }
     ensures fault { IfErr result
-        (λ e. Refuses e (MapFault (LevelFault levels) name.now (view object.now) e)) }
+        (λ e. RefusesForFault e (MapFault (LevelFault levels) name.now (view object.now) e)) }
 {
     check_fields(alloc, Place::Map, object, fields)?;
     let max_concurrency = read_concurrency(alloc, object)?;
@@ -284,7 +284,7 @@ fn read_map(
 fn read_processor(alloc: Global, levels: u32, object: &Value) -> Result<Machine, MachineFault>
     ensures ok { IfOk result (HasProcessor (IsMachine levels) (view object.now)) }
     ensures fault { IfErr result
-        (λ e. Refuses e (HasProcessorFault (LevelFault levels) (view object.now) e)) }
+        (λ e. RefusesForFault e (HasProcessorFault (LevelFault levels) (view object.now) e)) }
 {
     let name = name_of_two(alloc, object, "ItemProcessor", "Iterator")?;
     let processor = required(alloc, object, name)?;

@@ -9,10 +9,10 @@ or_default (Some name) default = Ok name
 or_default None (Some name) = Ok name
 or_default None None = Err (codes "States.NoChoiceMatched")
 
-abbrev pub goes_to : Option (Option (List ℕ)) → Option (List ℕ) → Result (List ℕ) (List ℕ)
-goes_to None default = Err (codes "States.Runtime")
-goes_to (Some rule) default = or_default rule default
+abbrev pub chosen_state : Option (Option (List ℕ)) → Option (List ℕ) → Result (List ℕ) (List ℕ)
+chosen_state None default = Err (codes "States.Runtime")
+chosen_state (Some rule) default = or_default rule default
 
 -- where a Choice state with these rules and this default goes
 abbrev pub chosen : List Rule → Option (List ℕ) → Data → Result (List ℕ) (List ℕ)
-chosen rules default d = goes_to (first_rule rules d) default
+chosen rules default d = chosen_state (first_rule rules d) default

@@ -16,9 +16,9 @@ and_then next (Ok d) = next d
 and_then next (Err error) = Err error
 
 -- what a path picks; where `null` stands for it, an empty object
-abbrev pub picked : Option (List PathStep) → Data → Result Data (List ℕ)
-picked None d = Ok (fields no_members)
-picked (Some path) d = ok_or (pick_at path d) (codes "States.Runtime")
+abbrev pub picked_by_path : Option (List PathStep) → Data → Result Data (List ℕ)
+picked_by_path None d = Ok (fields no_members)
+picked_by_path (Some path) d = ok_or (pick_at path d) (codes "States.Runtime")
 
 -- what a template is filled to; where there is none, the value itself
 abbrev pub filled_from : Option Payload → Data → Result Data (List ℕ)
@@ -31,13 +31,13 @@ placed_in None raw result = Ok raw
 placed_in (Some path) raw result = ok_or (place_at path result raw) (codes "States.ResultPathMatchFailure")
 
 -- a frame holds values of at most 127 levels
-abbrev pub held : Data → Result Data (List ℕ)
-held d = if nat_le (depth d) most_levels then Ok d else Err (codes "States.Runtime")
+abbrev pub within_levels : Data → Result Data (List ℕ)
+within_levels d = if nat_le (depth d) most_levels then Ok d else Err (codes "States.Runtime")
 
 -- what a state works on
 abbrev pub effective : Processing → Data → Result Data (List ℕ)
-effective p raw = and_then (filled_from p.parameters) (picked p.input_path raw)
+effective p raw = and_then (filled_from p.parameters) (picked_by_path p.input_path raw)
 
 -- what it passes on of its result
 abbrev pub passed_on : Processing → Data → Data → Result Data (List ℕ)
-passed_on p raw result = and_then held (and_then (picked p.output_path) (and_then (placed_in p.result_path raw) (filled_from p.result_selector result)))
+passed_on p raw result = and_then within_levels (and_then (picked_by_path p.output_path) (and_then (placed_in p.result_path raw) (filled_from p.result_selector result)))

@@ -3,7 +3,7 @@ ghost use Rattle.std.specs.Prelude.{◌≡◌, Some, Ok, Err, IfOk, IfErr};
 ghost use Rattle.json_tree.specs.Data.{Data};
 ghost use Rattle.json_tree.specs.View.{data_of};
 ghost use Rattle.asl_processing.specs.Errors.{NamesError};
-ghost use Rattle.asl_processing.specs.Processing.{and_then, picked, filled_from, placed_in, held, effective, passed_on};
+ghost use Rattle.asl_processing.specs.Processing.{and_then, picked_by_path, filled_from, placed_in, within_levels, effective, passed_on};
 
 use crate::error::{StateError, TurnFault};
 use asl_states::Processing;
@@ -48,8 +48,8 @@ fn pick_output(
     raw: &Json,
     selected: &Json,
 ) -> Result<Json, TurnFault>
-    ensures ok { IfOk result (λ j. and_then held (and_then (picked processing.now.output_path) (placed_in processing.now.result_path (data_of raw.now) (data_of selected.now))) ≡ Ok (data_of j)) }
-    ensures fault { IfErr result (λ e. NamesError e (and_then held (and_then (picked processing.now.output_path) (placed_in processing.now.result_path (data_of raw.now) (data_of selected.now))))) }
+    ensures ok { IfOk result (λ j. and_then within_levels (and_then (picked_by_path processing.now.output_path) (placed_in processing.now.result_path (data_of raw.now) (data_of selected.now))) ≡ Ok (data_of j)) }
+    ensures fault { IfErr result (λ e. NamesError e (and_then within_levels (and_then (picked_by_path processing.now.output_path) (placed_in processing.now.result_path (data_of raw.now) (data_of selected.now))))) }
 {
     let Some(placing) = &processing.result_path else {
         return pick_held(alloc, &processing.output_path, raw);
@@ -68,8 +68,8 @@ fn pick_of_placed(
     selected: &Json,
     picking: &RefPath,
 ) -> Result<Json, TurnFault>
-    ensures ok { IfOk result (λ j. and_then held (and_then (picked (Some picking.now)) (placed_in (Some placing.now) (data_of raw.now) (data_of selected.now))) ≡ Ok (data_of j)) }
-    ensures fault { IfErr result (λ e. NamesError e (and_then held (and_then (picked (Some picking.now)) (placed_in (Some placing.now) (data_of raw.now) (data_of selected.now))))) }
+    ensures ok { IfOk result (λ j. and_then within_levels (and_then (picked_by_path (Some picking.now)) (placed_in (Some placing.now) (data_of raw.now) (data_of selected.now))) ≡ Ok (data_of j)) }
+    ensures fault { IfErr result (λ e. NamesError e (and_then within_levels (and_then (picked_by_path (Some picking.now)) (placed_in (Some placing.now) (data_of raw.now) (data_of selected.now))))) }
 {
     match pick_placed(alloc, raw, placing, selected, picking, MOST_LEVELS) {
         Ok(Some(json)) => Ok(json),
@@ -84,8 +84,8 @@ fn pick_of_placed(
 
 /// An empty object, where a value can be placed.
 fn nothing_of(alloc: Global, placing: &RefPath, raw: &Json) -> Result<Json, TurnFault>
-    ensures ok { IfOk result (λ j. (value : Data) → and_then held (and_then (picked None) (placed_in (Some placing.now) (data_of raw.now) value)) ≡ Ok (data_of j)) }
-    ensures fault { IfErr result (λ e. (value : Data) → NamesError e (and_then held (and_then (picked None) (placed_in (Some placing.now) (data_of raw.now) value)))) }
+    ensures ok { IfOk result (λ j. (value : Data) → and_then within_levels (and_then (picked_by_path None) (placed_in (Some placing.now) (data_of raw.now) value)) ≡ Ok (data_of j)) }
+    ensures fault { IfErr result (λ e. (value : Data) → NamesError e (and_then within_levels (and_then (picked_by_path None) (placed_in (Some placing.now) (data_of raw.now) value)))) }
 {
     if placing.can_place(raw) {
         Ok(Json::Fields(JsonFields::new(alloc)))
@@ -96,8 +96,8 @@ fn nothing_of(alloc: Global, placing: &RefPath, raw: &Json) -> Result<Json, Turn
 
 /// What a path picks, if a frame may hold it.
 fn pick_held(alloc: Global, path: &Option<RefPath>, json: &Json) -> Result<Json, TurnFault>
-    ensures ok { IfOk result (λ j. and_then held (picked path.now (data_of json.now)) ≡ Ok (data_of j)) }
-    ensures fault { IfErr result (λ e. NamesError e (and_then held (picked path.now (data_of json.now)))) }
+    ensures ok { IfOk result (λ j. and_then within_levels (picked_by_path path.now (data_of json.now)) ≡ Ok (data_of j)) }
+    ensures fault { IfErr result (λ e. NamesError e (and_then within_levels (picked_by_path path.now (data_of json.now)))) }
 {
     let picked = pick(alloc, path, json)?;
     held(picked)
@@ -105,8 +105,8 @@ fn pick_held(alloc: Global, path: &Option<RefPath>, json: &Json) -> Result<Json,
 
 /// The value, if a frame may hold it. Takes the time of `json_tree::depth`.
 pub fn held(json: Json) -> Result<Json, TurnFault>
-    ensures ok { IfOk result (λ j. held (data_of json) ≡ Ok (data_of j)) }
-    ensures fault { IfErr result (λ e. NamesError e (held (data_of json))) }
+    ensures ok { IfOk result (λ j. within_levels (data_of json) ≡ Ok (data_of j)) }
+    ensures fault { IfErr result (λ e. NamesError e (within_levels (data_of json))) }
     ensures memory { ¬ (result ≡ Err TurnFault.Memory) }
 {
     if depth(&json) > MOST_LEVELS {
@@ -125,8 +125,8 @@ pub fn place_held(
     raw: &Json,
     value: Json,
 ) -> Result<Json, TurnFault>
-    ensures ok { IfOk result (λ j. and_then held (placed_in path.now (data_of raw.now) (data_of value)) ≡ Ok (data_of j)) }
-    ensures fault { IfErr result (λ e. NamesError e (and_then held (placed_in path.now (data_of raw.now) (data_of value)))) }
+    ensures ok { IfOk result (λ j. and_then within_levels (placed_in path.now (data_of raw.now) (data_of value)) ≡ Ok (data_of j)) }
+    ensures fault { IfErr result (λ e. NamesError e (and_then within_levels (placed_in path.now (data_of raw.now) (data_of value)))) }
 {
     let Some(placing) = path else {
         drop(value);
@@ -141,8 +141,8 @@ pub fn place_held(
 
 /// What a path picks, shared; an empty object, where `null` stands for it.
 fn pick(alloc: Global, path: &Option<RefPath>, json: &Json) -> Result<Json, TurnFault>
-    ensures ok { IfOk result (λ j. picked path.now (data_of json.now) ≡ Ok (data_of j)) }
-    ensures fault { IfErr result (λ e. NamesError e (picked path.now (data_of json.now))) }
+    ensures ok { IfOk result (λ j. picked_by_path path.now (data_of json.now) ≡ Ok (data_of j)) }
+    ensures fault { IfErr result (λ e. NamesError e (picked_by_path path.now (data_of json.now))) }
 {
     let Some(path) = path else {
         return Ok(Json::Fields(JsonFields::new(alloc)));

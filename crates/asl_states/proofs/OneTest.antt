@@ -7,7 +7,7 @@ use Rattle.asl_fields.proofs.OneField.{one_path}
 use Rattle.asl_fields.specs.declared.fields.Place.{Place}
 use Rattle.asl_fields.specs.declared.fields.Place.TheVariants as at
 use Rattle.asl_states.proofs.Shapes.{test_of-inj}
-use Rattle.asl_states.specs.TestFields.{first_asked, asked_by, comparison_asked, form_of, IsTest, IsOfForm, OnItems, OnField, TestsAre, IsRule, RulesAre, AreRules}
+use Rattle.asl_states.specs.TestFields.{first_asked, asked_by, comparison_asked, test_form_of, IsTest, IsOfForm, OnItems, OnField, TestsAre, IsRule, RulesAre, AreRules}
 use Rattle.asl_states.specs.TestTree.{TestTree, all_of, any_of, negation, compare, TestTrees, no_tests, test}
 use Rattle.asl_states.specs.TestView.{test_of}
 use Rattle.asl_states.specs.declared.choice.Comparison.{Comparison}
@@ -32,7 +32,7 @@ mutual
   one_of_form (any_of ts) (Some Or) d (any_of us) h k =
       ap any_of (both_items (λ ds. TestsAre ds ts) (λ ds. TestsAre ds us) (ts ≡ us) (λ ds a b. one_items ts ds us a b) (option_and_then as_array (get (codes "Or") d)) h k)
   one_of_form (negation t) (Some Not) d (negation u) h k =
-      ap negation (both_field (λ e. IsTest at.Test e t) (λ e. IsTest at.Test e u) (t ≡ u) (λ e a b. one_of_form t (form_of e) e u a.1 b.1) (get (codes "Not") d) h k)
+      ap negation (both_field (λ e. IsTest at.Test e t) (λ e. IsTest at.Test e u) (t ≡ u) (λ e a b. one_of_form t (test_form_of e) e u a.1 b.1) (get (codes "Not") d) h k)
   one_of_form (compare p c) (Some Compare) d (compare q b) h k =
       let paths : Some p ≡ Some q = one_path (get (codes "Variable") d) (Some p) (Some q) h.0 k.0 in
       let path : p ≡ q = cc in
@@ -67,14 +67,14 @@ mutual
 
   one_items : (ts : TestTrees) (ds : Items) (us : TestTrees) → TestsAre ds ts → TestsAre ds us → ts ≡ us
   one_items no_tests no_items no_tests h k = refl
-  one_items (test t ts) (item d ds) (test u us) h k = ap₂ test (one_of_form t (form_of d) d u h.0.1 k.0.1) (one_items ts ds us h.1 k.1)
+  one_items (test t ts) (item d ds) (test u us) h k = ap₂ test (one_of_form t (test_form_of d) d u h.0.1 k.0.1) (one_items ts ds us h.1 k.1)
   one_items no_tests no_items (test u us) h k = absurd k
   one_items (test t ts) (item d ds) no_tests h k = absurd k
   one_items no_tests (item d ds) us h k = absurd h
   one_items (test t ts) no_items us h k = absurd h
 
 one_test : (place : Place) (d : Source) (t u : TestTree) → IsTest place d t → IsTest place d u → t ≡ u
-one_test place d t u h k = one_of_form t (form_of d) d u h.1 k.1
+one_test place d t u h k = one_of_form t (test_form_of d) d u h.1 k.1
 
 -- ---- rules
 

@@ -8,7 +8,7 @@ use Rattle.asl_fields.specs.declared.fault.MachineFault.{MachineFault}
 use Rattle.asl_fields.specs.declared.fields.Place.{Place}
 use Rattle.asl_fields.specs.declared.fields.Place.TheVariants as at
 use Rattle.asl_states.specs.TestFaults.{SomeTestFault, ListedTestsFault, TestsFieldFault, NotFault, ComparisonFault, FormFault, ObjectTestFault, no_fault, TestFaultWithin, TestFault, RuleFault, SomeRuleFault, ListedRulesFault, ChoicesFault}
-use Rattle.asl_states.specs.TestFields.{Asked, first_asked, asked_by, comparison_asked, form_of, IsTest, IsOfForm, IsInnerTest, ListedTests, TestsAre, IsRule, RulesAre, ListedRules, AreRules}
+use Rattle.asl_states.specs.TestFields.{Asked, first_asked, asked_by, comparison_asked, test_form_of, IsTest, IsOfForm, IsInnerTest, ListedTests, TestsAre, IsRule, RulesAre, ListedRules, AreRules}
 use Rattle.asl_states.specs.TestTree.{TestTree, all_of, any_of, negation, compare, TestTrees, no_tests, test}
 use Rattle.asl_states.specs.TestView.{test_of}
 use Rattle.asl_states.specs.declared.choice.Comparison.{Comparison}
@@ -65,7 +65,7 @@ module _ (F : Place → List ℕ → Source → MachineFault → Type 0) (refuse
   object_refused : (place : Place) (field : List ℕ) (d : Source) (ms : Option Members) (t : TestTree) (e : MachineFault) → as_object d ≡ ms → ObjectTestFault F place field d ms e → IsTest place d t → ⊥
   object_refused place field d None t e found fault is = let no : false ≡ true = ap (known_in place) (sym found) ∙ is.0.0 in cc
   object_refused place field d (Some ms) t e found fault is =
-      elim fault [ inl h ↦ fields_refused place d e h is.0 | inr h ↦ form_refused (form_of d) d t e h is.1 ]
+      elim fault [ inl h ↦ fields_refused place d e h is.0 | inr h ↦ form_refused (test_form_of d) d t e h is.1 ]
 
 nothing_refused : IsTestRefused no_fault
 nothing_refused place field d t e fault is = fault

@@ -12,7 +12,7 @@ use Rattle.asl_errors.proofs.ErrorsRefused.{error_handling_refused}
 use Rattle.asl_errors.specs.declared.errors.ErrorHandling.{ErrorHandling}
 use Rattle.asl_states.specs.Faults.{whole_fault, result_fault, transition_fault, ProcessingFault, PassFault, WaitFault, SucceedFault, FailFault, WorkFault, ResourceTextFault, ResourceFault, TaskFault, ChoiceFault}
 use Rattle.asl_states.specs.Profile.{IsProcessing, HasWork, IsPass, IsWait, IsSucceed, IsFail, IsTask, IsChoice}
-use Rattle.asl_states.specs.Reading.{is_end, goes_to, whole_json, result_of, default_of, resource_named}
+use Rattle.asl_states.specs.Reading.{end_of_state, goes_to, whole_json, result_of, default_of, resource_named}
 use Rattle.asl_states.specs.declared.state.Choice.{Choice}
 use Rattle.asl_states.specs.declared.state.Fail.{Fail}
 use Rattle.asl_states.specs.declared.state.Pass.{Pass}
@@ -70,7 +70,7 @@ pass_refused name d s e fault is =
                   | inr f ↦
                       elim f [
                         | inl h ↦ result_refused (get (codes "Result") d) s.result e h is.3
-                        | inr h ↦ transition_refused name (is_end (get (codes "End") d)) (get (codes "Next") d) s.transition e h is.4
+                        | inr h ↦ transition_refused name (end_of_state (get (codes "End") d)) (get (codes "Next") d) s.transition e h is.4
                       ]
                 ]
           ]
@@ -83,7 +83,7 @@ pub wait_refused : (name : List ℕ) (d : Source) (s : Wait) (e : MachineFault) 
 wait_refused name d s e fault is =
     elim fault [
       | inl h ↦ fields_refused at.Wait d e h is.0
-      | inr a ↦ elim a [ inl h ↦ processing_refused d s.processing e h is.2 | inr h ↦ transition_refused name (is_end (get (codes "End") d)) (get (codes "Next") d) s.transition e h is.3 ]
+      | inr a ↦ elim a [ inl h ↦ processing_refused d s.processing e h is.2 | inr h ↦ transition_refused name (end_of_state (get (codes "End") d)) (get (codes "Next") d) s.transition e h is.3 ]
     ]
 
 pub fail_refused : (d : Source) (s : Fail) (e : MachineFault) → FailFault d e → IsFail d s → ⊥
@@ -99,7 +99,7 @@ work_refused name d p h t e fault is =
     elim fault [
       | inl f ↦ processing_refused d p e f is.0
       | inr a ↦
-          elim a [ inl f ↦ error_handling_refused d h e f is.1 | inr f ↦ transition_refused name (is_end (get (codes "End") d)) (get (codes "Next") d) t e f is.2 ]
+          elim a [ inl f ↦ error_handling_refused d h e f is.1 | inr f ↦ transition_refused name (end_of_state (get (codes "End") d)) (get (codes "Next") d) t e f is.2 ]
     ]
 
 pub resource_text_refused : (name : Option (List ℕ)) (r : Resource) (e : MachineFault) → ResourceTextFault name e → option_and_then resource_named name ≡ Some r → ⊥

@@ -11,14 +11,14 @@ use Rattle.serde_json.specs.declared.value.Value.{Value}
 use Rattle.asl_fields.specs.PathStep.{PathStep}
 use Rattle.asl_fields.proofs.OneField.{one_path}
 use Rattle.asl_fields.specs.FieldFaults.{FieldsFault}
-use Rattle.asl_fields.specs.Refusal.{Refuses}
+use Rattle.asl_fields.specs.Refusal.{RefusesForFault}
 use Rattle.asl_fields.specs.Values.{IsPathField}
 use Rattle.asl_fields.specs.declared.fault.MachineFault.{MachineFault}
 use Rattle.asl_fields.specs.declared.fault.MachineFault.TheVariants.{Missing, UnknownField, Unsupported, BadField, NoTarget, NextAndEnd, StatesAllPlace, TooDeep, Memory}
 use Rattle.asl_fields.specs.declared.fields.Place.{Place}
 use Rattle.asl_fields.specs.declared.fields.Place.TheVariants as at
 use Rattle.asl_states.specs.TestFaults.{SomeTestFault, ListedTestsFault, TestsFieldFault, NotFault, CompareFault, FormFault, ObjectTestFault, TestFaultWithin, TestFault, RuleFault, SomeRuleFault, ListedRulesFault, ChoicesFault}
-use Rattle.asl_states.specs.TestFields.{Asked, is_often, form_of, OnItems, IsTest, TestsAre}
+use Rattle.asl_states.specs.TestFields.{Asked, is_often, test_form_of, OnItems, IsTest, TestsAre}
 use Rattle.asl_states.specs.TestTree.{TestTree, test_trees}
 use Rattle.asl_states.specs.TestView.{test_of, tests_of}
 use Rattle.asl_states.specs.declared.choice.Test.{Test}
@@ -28,7 +28,7 @@ use Rattle.asl_states.specs.declared.test_readers.TestForm.TheVariants.{And, Or,
 pub null_is_no_path : (d : Option Source) (p : List PathStep) → IsPathField d None → IsPathField d (Some p) → ⊥
 null_is_no_path d p h k = let no : None ≡ Some p = one_path d None (Some p) h k in cc
 
-pub refuses_map : (e : MachineFault) (P Q : Type 0) → (P → Q) → Refuses e P → Refuses e Q
+pub refuses_map : (e : MachineFault) (P Q : Type 0) → (P → Q) → RefusesForFault e P → RefusesForFault e Q
 refuses_map (Missing field) P Q f h = f h
 refuses_map (UnknownField field) P Q f h = f h
 refuses_map (Unsupported field) P Q f h = f h
@@ -39,7 +39,7 @@ refuses_map StatesAllPlace P Q f h = f h
 refuses_map TooDeep P Q f h = f h
 refuses_map Memory P Q f h = h
 
-pub err_map : {A : Type 0} (r : Result A MachineFault) (P Q : MachineFault → Type 0) → ((e : MachineFault) → P e → Q e) → IfErr r (λ e. Refuses e (P e)) → IfErr r (λ e. Refuses e (Q e))
+pub err_map : {A : Type 0} (r : Result A MachineFault) (P Q : MachineFault → Type 0) → ((e : MachineFault) → P e → Q e) → IfErr r (λ e. RefusesForFault e (P e)) → IfErr r (λ e. RefusesForFault e (Q e))
 err_map (Ok x) P Q f h = h
 err_map (Err e) P Q f h = refuses_map e (P e) (Q e) (f e) h
 
@@ -103,7 +103,7 @@ tests_end all from i done past before =
 
 pub test_refuses : (field : List ℕ) (from : List Value) (i : ℕ) (v : Value) (e : MachineFault) → v ≡ get_or from i v → i < length from
     → ((n : ℕ) (f : MachineFault) → SomeTestFault (TestFaultWithin n) field (items_view (drop i from)) f → SomeTestFault (TestFaultWithin n) field (items_view from) f)
-    → Refuses e (TestFault at.Test field (view v) e) → Refuses e ((n : ℕ) × SomeTestFault (TestFaultWithin n) field (items_view from) e)
+    → RefusesForFault e (TestFault at.Test field (view v) e) → RefusesForFault e ((n : ℕ) × SomeTestFault (TestFaultWithin n) field (items_view from) e)
 test_refuses field from i v e is within later fault =
     refuses_map e (TestFault at.Test field (view v) e) ((n : ℕ) × SomeTestFault (TestFaultWithin n) field (items_view from) e)
     (λ f. (f.0, later f.0 e (subst (λ (vs : List Value). SomeTestFault (TestFaultWithin f.0) field (items_view vs) e) (sym (next_value from i v is within)) (inl f.1)))) fault
@@ -115,7 +115,7 @@ listed_refuse F field [] e h = absurd h
 listed_refuse F field (v ∷ vs) e h = h
 
 pub tests_refuse : {A : Type 0} (field : List ℕ) (found : Option Source) (d : Source) (vs : List Value) (r : Result A MachineFault) → Some d ≡ found → Some (items_view vs) ≡ as_array d
-    → IfErr r (λ e. Refuses e ((n : ℕ) × SomeTestFault (TestFaultWithin n) field (items_view vs) e)) → IfErr r (λ e. Refuses e ((n : ℕ) × TestsFieldFault (TestFaultWithin n) field found e))
+    → IfErr r (λ e. RefusesForFault e ((n : ℕ) × SomeTestFault (TestFaultWithin n) field (items_view vs) e)) → IfErr r (λ e. RefusesForFault e ((n : ℕ) × TestsFieldFault (TestFaultWithin n) field found e))
 tests_refuse field found d vs r is listed h =
     err_map r (λ e. (n : ℕ) × SomeTestFault (TestFaultWithin n) field (items_view vs) e) (λ e. (n : ℕ) × TestsFieldFault (TestFaultWithin n) field found e)
     (λ e f. (f.0, subst (λ (o : Option Source). TestsFieldFault (TestFaultWithin f.0) field o e) is (subst (λ (o : Option Items). ListedTestsFault (TestFaultWithin f.0) field o e) listed (listed_refuse (TestFaultWithin f.0) field vs e f.1)))) h
@@ -135,7 +135,7 @@ rules_listed [] e h = absurd h
 rules_listed (v ∷ vs) e h = h
 
 pub rules_refuse : {A : Type 0} (found : Option Source) (d : Source) (vs : List Value) (r : Result A MachineFault) → Some d ≡ found → Some (items_view vs) ≡ as_array d
-    → IfErr r (λ e. Refuses e (SomeRuleFault (items_view vs) e)) → IfErr r (λ e. Refuses e (ChoicesFault found e))
+    → IfErr r (λ e. RefusesForFault e (SomeRuleFault (items_view vs) e)) → IfErr r (λ e. RefusesForFault e (ChoicesFault found e))
 rules_refuse found d vs r is listed h =
     err_map r (SomeRuleFault (items_view vs)) (ChoicesFault found)
     (λ e f. subst (λ (o : Option Source). ChoicesFault o e) is (subst (λ (o : Option Items). ListedRulesFault o e) listed (rules_listed vs e f))) h
@@ -145,7 +145,7 @@ rules_refuse found d vs r is listed h =
 pub own_fault : (place : Place) (field : List ℕ) (d : Source) (ms : Members) (e : MachineFault) → Some ms ≡ as_object d → FieldsFault place d e → TestFault place field d e
 own_fault place field d ms e is fault = (zero, subst (λ (o : Option Members). ObjectTestFault (λ _ _ _ _. ⊥) place field d o e) is (inl fault))
 
-pub inner_fault : (n : ℕ) (place : Place) (field : List ℕ) (d : Source) (ms : Members) (form : Option TestForm) (e : MachineFault) → Some ms ≡ as_object d → form ≡ form_of d → FormFault (TestFaultWithin n) form d e
+pub inner_fault : (n : ℕ) (place : Place) (field : List ℕ) (d : Source) (ms : Members) (form : Option TestForm) (e : MachineFault) → Some ms ≡ as_object d → form ≡ test_form_of d → FormFault (TestFaultWithin n) form d e
     → TestFault place field d e
 inner_fault n place field d ms form e is formed fault =
     (suc n, subst (λ (o : Option Members). ObjectTestFault (TestFaultWithin n) place field d o e) is (inr (subst (λ (o : Option TestForm). FormFault (TestFaultWithin n) o d e) formed fault)))
@@ -164,13 +164,13 @@ passed_on (Ok x) e P is h = tt
 passed_on (Err x) e P is h = subst P (sym is) h
 
 pub rule_refuses : (from : List Value) (i : ℕ) (v : Value) (e : MachineFault) → v ≡ get_or from i v → i < length from → ((f : MachineFault) → SomeRuleFault (items_view (drop i from)) f → SomeRuleFault (items_view from) f)
-    → Refuses e (RuleFault (view v) e) → Refuses e (SomeRuleFault (items_view from) e)
+    → RefusesForFault e (RuleFault (view v) e) → RefusesForFault e (SomeRuleFault (items_view from) e)
 rule_refuses from i v e is within later fault =
     refuses_map e (RuleFault (view v) e) (SomeRuleFault (items_view from) e)
     (λ f. later e (subst (λ (vs : List Value). SomeRuleFault (items_view vs) e) (sym (next_value from i v is within)) (inl f))) fault
 
-pub form_refuses : (G : ℕ → MachineFault → Type 0) (place : Place) (field : List ℕ) (d : Source) (ms : Members) (form : TestForm) (e : MachineFault) → Some ms ≡ as_object d → Some form ≡ form_of d
-    → ((n : ℕ) → G n e → FormFault (TestFaultWithin n) (Some form) d e) → Refuses e ((n : ℕ) × G n e) → Refuses e (TestFault place field d e)
+pub form_refuses : (G : ℕ → MachineFault → Type 0) (place : Place) (field : List ℕ) (d : Source) (ms : Members) (form : TestForm) (e : MachineFault) → Some ms ≡ as_object d → Some form ≡ test_form_of d
+    → ((n : ℕ) → G n e → FormFault (TestFaultWithin n) (Some form) d e) → RefusesForFault e ((n : ℕ) × G n e) → RefusesForFault e (TestFault place field d e)
 form_refuses G place field d ms form e is formed told fault =
     refuses_map e ((n : ℕ) × G n e) (TestFault place field d e) (λ f. inner_fault f.0 place field d ms (Some form) e is formed (told f.0 f.1)) fault
 

@@ -6,9 +6,9 @@ use Rattle.json_tree.specs.Reading.{whole_of}
 use Rattle.json_tree.specs.View.{data_of}
 use Rattle.json_tree.specs.declared.tree.Json.{Json}
 use Rattle.json_tree.specs.declared.tree.Json.TheVariants.{Null, Bool, Whole, Text, List as ListOf, Fields}
-use Rattle.asl_states.specs.Reading.{items_in, members_in, json_of, whole_json}
+use Rattle.asl_states.specs.Reading.{item_list, members_in, json_of, whole_json}
 
-items_in-items_of : (ds : List Data) → items_in (items_of ds) ≡ ds
+items_in-items_of : (ds : List Data) → item_list (items_of ds) ≡ ds
 items_in-items_of [] = refl
 items_in-items_of (d ∷ ds) = ap (λ es. d ∷ es) (items_in-items_of ds)
 

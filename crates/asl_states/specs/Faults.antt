@@ -11,7 +11,7 @@ use Rattle.asl_fields.specs.declared.fault.MachineFault.TheVariants.{Missing, Un
 use Rattle.asl_fields.specs.declared.fields.Place.TheVariants as at
 use Rattle.asl_states.specs.TestFaults.{ChoicesFault}
 use Rattle.asl_errors.specs.ErrorFaults.{ErrorHandlingFault}
-use Rattle.asl_states.specs.Reading.{is_end, whole_json, resource_named, name_of_two}
+use Rattle.asl_states.specs.Reading.{end_of_state, whole_json, resource_named, name_of_two}
 
 -- ---- a field
 
@@ -43,20 +43,20 @@ ProcessingFault d e =
 abbrev pub PassFault : List ℕ → Source → MachineFault → Type 0
 PassFault name d e =
     FieldsFault at.Pass d e ⊎ ParametersFault d e ⊎ ProcessingFault d e ⊎ (result_fault (get (codes "Result") d) ≡ Some e)
-    ⊎ (transition_fault name (is_end (get (codes "End") d)) (get (codes "Next") d) ≡ Some e)
+    ⊎ (transition_fault name (end_of_state (get (codes "End") d)) (get (codes "Next") d) ≡ Some e)
 
 abbrev pub SucceedFault : Source → MachineFault → Type 0
 SucceedFault d e = FieldsFault at.Succeed d e ⊎ ProcessingFault d e
 
 abbrev pub WaitFault : List ℕ → Source → MachineFault → Type 0
-WaitFault name d e = FieldsFault at.Wait d e ⊎ ProcessingFault d e ⊎ (transition_fault name (is_end (get (codes "End") d)) (get (codes "Next") d) ≡ Some e)
+WaitFault name d e = FieldsFault at.Wait d e ⊎ ProcessingFault d e ⊎ (transition_fault name (end_of_state (get (codes "End") d)) (get (codes "Next") d) ≡ Some e)
 
 abbrev pub FailFault : Source → MachineFault → Type 0
 FailFault d e =
     FieldsFault at.Fail d e ⊎ (optional_text_fault (codes "Error") (get (codes "Error") d) ≡ Some e) ⊎ (optional_text_fault (codes "Cause") (get (codes "Cause") d) ≡ Some e)
 
 abbrev pub WorkFault : List ℕ → Source → MachineFault → Type 0
-WorkFault name d e = ProcessingFault d e ⊎ ErrorHandlingFault d e ⊎ (transition_fault name (is_end (get (codes "End") d)) (get (codes "Next") d) ≡ Some e)
+WorkFault name d e = ProcessingFault d e ⊎ ErrorHandlingFault d e ⊎ (transition_fault name (end_of_state (get (codes "End") d)) (get (codes "Next") d) ≡ Some e)
 
 abbrev pub ResourceTextFault : Option (List ℕ) → MachineFault → Type 0
 ResourceTextFault None e = e ≡ BadField (codes "Resource")

@@ -15,22 +15,22 @@ use Rattle.asl_states.specs.declared.choice.Relation.TheVariants.{Equals, Less a
 use Rattle.asl_states.specs.declared.choice.Rule.{Rule}
 
 -- two values in this order stand so to each other
-abbrev pub stands : Relation → Ordering → Bool
-stands Equals Less = false
-stands Equals Equal = true
-stands Equals Greater = false
-stands IsLess Less = true
-stands IsLess Equal = false
-stands IsLess Greater = false
-stands IsGreater Less = false
-stands IsGreater Equal = false
-stands IsGreater Greater = true
-stands LessOrEqual Less = true
-stands LessOrEqual Equal = true
-stands LessOrEqual Greater = false
-stands GreaterOrEqual Less = false
-stands GreaterOrEqual Equal = true
-stands GreaterOrEqual Greater = true
+abbrev pub relation_holds : Relation → Ordering → Bool
+relation_holds Equals Less = false
+relation_holds Equals Equal = true
+relation_holds Equals Greater = false
+relation_holds IsLess Less = true
+relation_holds IsLess Equal = false
+relation_holds IsLess Greater = false
+relation_holds IsGreater Less = false
+relation_holds IsGreater Equal = false
+relation_holds IsGreater Greater = true
+relation_holds LessOrEqual Less = true
+relation_holds LessOrEqual Equal = true
+relation_holds LessOrEqual Greater = false
+relation_holds GreaterOrEqual Less = false
+relation_holds GreaterOrEqual Equal = true
+relation_holds GreaterOrEqual Greater = true
 
 -- the order of two numbers
 abbrev pub number_order : ℤ → ℤ → Ordering
@@ -41,11 +41,11 @@ same true b = b
 same false b = not b
 
 abbrev pub text_stands : Relation → List ℕ → Data → Bool
-text_stands r s (text t) = stands r (slice_cmp nat_cmp t s)
+text_stands r s (text t) = relation_holds r (slice_cmp nat_cmp t s)
 text_stands r s _ = false
 
 abbrev pub number_stands : Relation → ℤ → Data → Bool
-number_stands r z (whole y) = stands r (number_order y z)
+number_stands r z (whole y) = relation_holds r (number_order y z)
 number_stands r z _ = false
 
 abbrev pub is_this_boolean : Bool → Data → Bool
@@ -60,9 +60,9 @@ abbrev pub is_number : Data → Bool
 is_number (whole z) = true
 is_number _ = false
 
-abbrev pub is_text : Data → Bool
-is_text (text s) = true
-is_text _ = false
+abbrev pub is_text_data : Data → Bool
+is_text_data (text s) = true
+is_text_data _ = false
 
 abbrev pub is_boolean : Data → Bool
 is_boolean (boolean b) = true
@@ -76,7 +76,7 @@ says (comparison.Boolean b) d = is_this_boolean b d
 says (comparison.IsNull b) d = same b (is_null d)
 says (comparison.IsPresent b) d = b
 says (comparison.IsNumeric b) d = same b (is_number d)
-says (comparison.IsString b) d = same b (is_text d)
+says (comparison.IsString b) d = same b (is_text_data d)
 says (comparison.IsBoolean b) d = same b (is_boolean d)
 
 -- what it says of a variable: nothing, where it is absent and the question isn't whether it is there

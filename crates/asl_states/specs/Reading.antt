@@ -20,9 +20,9 @@ most_branches = 4096
 
 -- ---- a value whose numbers are whole
 
-abbrev pub items_in : Items → List Data
-items_in no_items = []
-items_in (item d ds) = d ∷ items_in ds
+abbrev pub item_list : Items → List Data
+item_list no_items = []
+item_list (item d ds) = d ∷ item_list ds
 
 abbrev pub members_in : Members → List (List ℕ × Data)
 members_in no_members = []
@@ -33,7 +33,7 @@ json_of null = Null
 json_of (boolean b) = Boolean b
 json_of (whole z) = Whole z
 json_of (text s) = Text s
-json_of (list ds) = ListOf (items_in ds)
+json_of (list ds) = ListOf (item_list ds)
 json_of (fields ms) = Fields (members_in ms)
 
 -- the value of the same shape, if each of its numbers is whole
@@ -43,9 +43,9 @@ whole_json d = option_map json_of (whole_of d)
 -- ---- a state
 
 -- whether `End: true` stands; an `End` that is absent is `End: false`, and one that is no Boolean has no meaning
-abbrev pub is_end : Option source.Data → Option Bool
-is_end None = Some false
-is_end (Some d) = as_bool d
+abbrev pub end_of_state : Option source.Data → Option Bool
+end_of_state None = Some false
+end_of_state (Some d) = as_bool d
 
 -- exactly one of `End: true` and `Next` stands, and `Next` is a text ("Transitions")
 abbrev pub goes_to : Option Bool → Option source.Data → Option Transition
@@ -56,7 +56,7 @@ goes_to (Some false) None = None
 goes_to (Some false) (Some next) = option_map Next (as_str next)
 
 abbrev pub transition_of : source.Data → Option Transition
-transition_of d = goes_to (is_end (get (codes "End") d)) (get (codes "Next") d)
+transition_of d = goes_to (end_of_state (get (codes "End") d)) (get (codes "Next") d)
 
 -- a `Result` that is absent is none, and one that stands has whole numbers ("Pass State")
 abbrev pub result_of : Option source.Data → Option (Option Json)

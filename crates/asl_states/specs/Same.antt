@@ -28,13 +28,13 @@ use Rattle.asl_states.specs.declared.state.Transition.TheVariants.{Next, End}
 abbrev pub same_json : Json → Json → Bool
 same_json = eq_by_cmp (on data_of data_cmp)
 
-abbrev pub number_of : Resource → ℕ
-number_of GetItem = 0
-number_of PutItem = 1
-number_of DeleteItem = 2
+abbrev pub resource_number : Resource → ℕ
+resource_number GetItem = 0
+resource_number PutItem = 1
+resource_number DeleteItem = 2
 
 abbrev pub same_resource : Resource → Resource → Bool
-same_resource r s = number_of r == number_of s
+same_resource r s = resource_number r == resource_number s
 
 abbrev pub same_transition : Transition → Transition → Bool
 same_transition (Next s) (Next t) = same_text s t
@@ -75,7 +75,7 @@ resource_one DeleteItem DeleteItem h = refl
 resource_one _ _ h = cc
 
 pub resource_exact : IsExact same_resource
-resource_exact = exact same_resource resource_one (λ r. (unsigned_Decides (number_of r) (number_of r)).1 refl)
+resource_exact = exact same_resource resource_one (λ r. (unsigned_Decides (resource_number r) (resource_number r)).1 refl)
 
 transition_one : (t u : Transition) → same_transition t u ≡ true → t ≡ u
 transition_one (Next s) (Next t) h = ap Next ((text_exact s t).0 h)

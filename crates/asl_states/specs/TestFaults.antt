@@ -9,7 +9,7 @@ use Rattle.asl_fields.specs.declared.fault.MachineFault.{MachineFault}
 use Rattle.asl_fields.specs.declared.fault.MachineFault.TheVariants.{Missing, BadField}
 use Rattle.asl_fields.specs.declared.fields.Place.{Place}
 use Rattle.asl_fields.specs.declared.fields.Place.TheVariants as at
-use Rattle.asl_states.specs.TestFields.{Asked, comparison_said, first_asked, asked_by, form_of}
+use Rattle.asl_states.specs.TestFields.{Asked, comparison_said, first_asked, asked_by, test_form_of}
 use Rattle.asl_states.specs.declared.test_readers.TestForm.{TestForm}
 use Rattle.asl_states.specs.declared.test_readers.TestForm.TheVariants.{And, Or, Not, Compare}
 
@@ -53,7 +53,7 @@ FormFault F (Some Compare) d e = CompareFault d e
 
 abbrev pub ObjectTestFault : (Place → List ℕ → Source → MachineFault → Type 0) → Place → List ℕ → Source → Option Members → MachineFault → Type 0
 ObjectTestFault F place field d None e = e ≡ BadField field
-ObjectTestFault F place field d (Some ms) e = FieldsFault place d e ⊎ FormFault F (form_of d) d e
+ObjectTestFault F place field d (Some ms) e = FieldsFault place d e ⊎ FormFault F (test_form_of d) d e
 
 abbrev pub no_fault : Place → List ℕ → Source → MachineFault → Type 0
 no_fault place field d e = ⊥

@@ -88,17 +88,17 @@ comparison_asked (Some a) = comparison_said a.0 a.2
 -- ---- tests
 
 -- exactly one of the four stands, and a comparison just beside `Variable`
-abbrev pub form_in : Bool → Bool → Bool → Bool → Bool → Option TestForm
-form_in true false false false false = Some And
-form_in false true false false false = Some Or
-form_in false false true false false = Some Not
-form_in false false false true true = Some Compare
-form_in _ _ _ _ _ = None
+abbrev pub test_form_in : Bool → Bool → Bool → Bool → Bool → Option TestForm
+test_form_in true false false false false = Some And
+test_form_in false true false false false = Some Or
+test_form_in false false true false false = Some Not
+test_form_in false false false true true = Some Compare
+test_form_in _ _ _ _ _ = None
 
-abbrev pub form_of : Source → Option TestForm
-form_of d =
+abbrev pub test_form_of : Source → Option TestForm
+test_form_of d =
     if is_often (asked_by d) then None
-    else form_in (is_some (get (codes "And") d)) (is_some (get (codes "Or") d)) (is_some (get (codes "Not") d)) (is_some (get (codes "Variable") d)) (is_some (first_asked (asked_by d)))
+    else test_form_in (is_some (get (codes "And") d)) (is_some (get (codes "Or") d)) (is_some (get (codes "Not") d)) (is_some (get (codes "Variable") d)) (is_some (first_asked (asked_by d)))
 
 -- a field that stands
 abbrev pub OnField : (Source → Type 0) → Option Source → Type 0
@@ -116,18 +116,18 @@ abbrev mutual
   pub IsOfForm : Option TestForm → Source → TestTree → Type 0
   IsOfForm (Some And) d (all_of ts) = OnItems (λ ds. TestsAre ds ts) (option_and_then as_array (get (codes "And") d))
   IsOfForm (Some Or) d (any_of ts) = OnItems (λ ds. TestsAre ds ts) (option_and_then as_array (get (codes "Or") d))
-  IsOfForm (Some Not) d (negation t) = OnField (λ e. HasFields at.Test e × IsOfForm (form_of e) e t) (get (codes "Not") d)
+  IsOfForm (Some Not) d (negation t) = OnField (λ e. HasFields at.Test e × IsOfForm (test_form_of e) e t) (get (codes "Not") d)
   IsOfForm (Some Compare) d (compare path c) = IsPathField (get (codes "Variable") d) (Some path) × (comparison_asked (first_asked (asked_by d)) ≡ Some c)
   IsOfForm _ d t = ⊥
 
   pub TestsAre : Items → TestTrees → Type 0
   TestsAre no_items no_tests = ⊤
-  TestsAre (item d ds) (test t ts) = (HasFields at.Test d × IsOfForm (form_of d) d t) × TestsAre ds ts
+  TestsAre (item d ds) (test t ts) = (HasFields at.Test d × IsOfForm (test_form_of d) d t) × TestsAre ds ts
   TestsAre _ _ = ⊥
 
 -- the test of an object at a place
 abbrev pub IsTest : Place → Source → TestTree → Type 0
-IsTest place d t = HasFields place d × IsOfForm (form_of d) d t
+IsTest place d t = HasFields place d × IsOfForm (test_form_of d) d t
 
 abbrev pub IsInnerTest : Option Source → TestTree → Type 0
 IsInnerTest d t = OnField (λ e. IsTest at.Test e t) d

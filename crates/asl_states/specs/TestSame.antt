@@ -17,15 +17,15 @@ use Rattle.asl_states.specs.declared.choice.Rule.{Rule}
 use Rattle.asl_states.specs.declared.choice.Test.{Test}
 use Rattle.asl_states.specs.declared.choice.Test.TheVariants.{And, Or, Not, Compare}
 
-abbrev pub number_of : Relation → ℕ
-number_of Equals = 0
-number_of Less = 1
-number_of Greater = 2
-number_of LessOrEqual = 3
-number_of GreaterOrEqual = 4
+abbrev pub relation_number : Relation → ℕ
+relation_number Equals = 0
+relation_number Less = 1
+relation_number Greater = 2
+relation_number LessOrEqual = 3
+relation_number GreaterOrEqual = 4
 
 abbrev pub same_relation : Relation → Relation → Bool
-same_relation r s = number_of r == number_of s
+same_relation r s = relation_number r == relation_number s
 
 abbrev pub same_comparison : Comparison → Comparison → Bool
 same_comparison (comparison.Text r s) (comparison.Text q t) = same_relation r q && same_text s t
@@ -66,7 +66,7 @@ relation_one GreaterOrEqual GreaterOrEqual h = refl
 relation_one _ _ h = cc
 
 pub relation_exact : IsExact same_relation
-relation_exact = exact same_relation relation_one (λ r. (unsigned_Decides (number_of r) (number_of r)).1 refl)
+relation_exact = exact same_relation relation_one (λ r. (unsigned_Decides (relation_number r) (relation_number r)).1 refl)
 
 comparison_one : (c d : Comparison) → same_comparison c d ≡ true → c ≡ d
 comparison_one (comparison.Text r s) (comparison.Text q t) h =

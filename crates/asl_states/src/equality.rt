@@ -1,6 +1,6 @@
 // Equality of states that hold no machines, and of what all states are made of.
 ghost use Rattle.std.specs.Prelude.{◌≡◌};
-ghost use Rattle.asl_states.specs.Same.{number_of, same_resource};
+ghost use Rattle.asl_states.specs.Same.{resource_number, same_resource};
 
 use crate::state::{Choice, Fail, Pass, Processing, Resource, Succeed, Task, Transition, Wait};
 
@@ -188,7 +188,7 @@ impl Eq for Fail {
 }
 
 fn number_of(resource: Resource) -> u8
-    ensures { result ≡ number_of resource }
+    ensures { result ≡ resource_number resource }
 {
     match resource {
         Resource::GetItem => 0,

@@ -1,7 +1,7 @@
 // Which rule of a Choice state holds ("Choice State").
 ghost use Rattle.std.specs.Prelude.{◌≡◌, option_map, option_copied};
 ghost use Rattle.json_tree.specs.View.{data_of};
-ghost use Rattle.asl_states.specs.Holding.{stands, says, asks, holds, all_hold, any_holds, first_rule};
+ghost use Rattle.asl_states.specs.Holding.{relation_holds, says, asks, holds, all_hold, any_holds, first_rule};
 ghost use Rattle.asl_states.specs.TestTree.{test_trees};
 ghost use Rattle.asl_states.specs.TestView.{test_of};
 
@@ -104,7 +104,7 @@ fn says(comparison: &Comparison, value: &Json) -> bool
 
 /// Whether two values that are ordered so stand so to each other.
 fn stands(relation: Relation, order: Ordering) -> bool
-    ensures { result ≡ stands relation order }
+    ensures { result ≡ relation_holds relation order }
 {
     match relation {
         Relation::Equals => order.is_eq(),

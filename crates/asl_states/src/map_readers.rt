@@ -2,7 +2,7 @@
 ghost use Rattle.std.specs.Prelude.{◌≡◌, ◌⊎◌, IfOk, IfErr, OnOk, Some, None, codes};
 ghost use Rattle.serde_json.specs.Find.{get};
 ghost use Rattle.serde_json.specs.View.{view};
-ghost use Rattle.asl_fields.specs.Refusal.{Refuses};
+ghost use Rattle.asl_fields.specs.Refusal.{RefusesForFault};
 ghost use Rattle.asl_fields.specs.Values.{IsPathField};
 ghost use Rattle.asl_states.specs.Faults.{ItemsPathFault, HasSelectorFault};
 ghost use Rattle.asl_states.specs.Profile.{HasSelector};
@@ -23,8 +23,8 @@ pub fn name_of_two<'a>(
 ) -> Result<&'a str, MachineFault>
     ensures ok { IfOk result (λ name. name_of_two newer.now older.now (view object.now) ≡ Some name.now) }
     ensures refused { IfErr result
-        (λ e. Refuses e (name_of_two newer.now older.now (view object.now) ≡ None)) }
-    ensures fault { IfErr result (λ e. Refuses e (e ≡ MachineFault.BadField older.now)) }
+        (λ e. RefusesForFault e (name_of_two newer.now older.now (view object.now) ≡ None)) }
+    ensures fault { IfErr result (λ e. RefusesForFault e (e ≡ MachineFault.BadField older.now)) }
 {
     match (object.get(older), object.get(newer)) {
         (None, _) => Ok(newer),
@@ -45,7 +45,7 @@ pub fn read_elements(alloc: Global, object: &Value) -> Result<Elements, MachineF
         (λ m. IsPathField (get (codes "ItemsPath") (view object.now)) (Some m.items_path)) }
     ensures selector { IfOk result (λ m. HasSelector (view object.now) m.item_selector) }
     ensures fault { IfErr result
-        (λ e. Refuses e (ItemsPathFault (get (codes "ItemsPath") (view object.now)) e ⊎ HasSelectorFault (view object.now) e)) }
+        (λ e. RefusesForFault e (ItemsPathFault (get (codes "ItemsPath") (view object.now)) e ⊎ HasSelectorFault (view object.now) e)) }
 {
     let items_path = read_items_path(alloc, object)?;
     match read_selector(alloc, object) {
@@ -65,7 +65,7 @@ fn read_items_path(alloc: Global, object: &Value) -> Result<RefPath, MachineFaul
     ensures ok { IfOk result
         (λ p. IsPathField (get (codes "ItemsPath") (view object.now)) (Some p)) }
     ensures fault { IfErr result
-        (λ e. Refuses e (ItemsPathFault (get (codes "ItemsPath") (view object.now)) e)) }
+        (λ e. RefusesForFault e (ItemsPathFault (get (codes "ItemsPath") (view object.now)) e)) }
 {
     match read_path(alloc, object, "ItemsPath")? {
         Some(path) => Ok(path),
@@ -76,7 +76,7 @@ fn read_items_path(alloc: Global, object: &Value) -> Result<RefPath, MachineFaul
 /// The template that an element's input is made of, if the Map has one.
 fn read_selector(alloc: Global, object: &Value) -> Result<Option<Template>, MachineFault>
     ensures ok { IfOk result (HasSelector (view object.now)) }
-    ensures fault { IfErr result (λ e. Refuses e (HasSelectorFault (view object.now) e)) }
+    ensures fault { IfErr result (λ e. RefusesForFault e (HasSelectorFault (view object.now) e)) }
 {
     let name = name_of_two(alloc, object, "ItemSelector", "Parameters")?;
     read_template(alloc, object, name, true)
@@ -88,7 +88,7 @@ pub fn read_concurrency(alloc: Global, object: &Value) -> Result<u32, MachineFau
     ensures ok { IfOk result
         (λ bound. concurrency_of (get (codes "MaxConcurrency") (view object.now)) ≡ Some bound) }
     ensures fault { IfErr result
-        (λ e. Refuses e (concurrency_fault (get (codes "MaxConcurrency") (view object.now)) ≡ Some e)) }
+        (λ e. RefusesForFault e (concurrency_fault (get (codes "MaxConcurrency") (view object.now)) ≡ Some e)) }
 {
     let Some(value) = object.get("MaxConcurrency") else {
         return Ok(0);
@@ -103,7 +103,7 @@ pub fn read_concurrency(alloc: Global, object: &Value) -> Result<u32, MachineFau
 pub fn check_config(alloc: Global, processor: &Value) -> Result<(), MachineFault>
     ensures ok { OnOk result (config_fault (get (codes "ProcessorConfig") (view processor.now)) ≡ None) }
     ensures fault { IfErr result
-        (λ e. Refuses e (config_fault (get (codes "ProcessorConfig") (view processor.now)) ≡ Some e)) }
+        (λ e. RefusesForFault e (config_fault (get (codes "ProcessorConfig") (view processor.now)) ≡ Some e)) }
 {
     let Some(config) = processor.get("ProcessorConfig") else {
         return Ok(());

@@ -3,7 +3,7 @@ ghost use Rattle.std.specs.Prelude.{◌≡◌, IfOk, IfErr, [], Some, codes, opt
 ghost use Rattle.serde_json.specs.Find.{get, as_str};
 ghost use Rattle.serde_json.specs.View.{view, items_view};
 ghost use Rattle.asl_fields.specs.FieldFaults.{required_text_fault};
-ghost use Rattle.asl_fields.specs.Refusal.{Refuses};
+ghost use Rattle.asl_fields.specs.Refusal.{RefusesForFault};
 ghost use Rattle.asl_states.specs.TestFaults.{RuleFault, SomeRuleFault, ChoicesFault};
 ghost use Rattle.asl_states.specs.TestFields.{IsRule, RulesAre, AreRules};
 
@@ -17,7 +17,7 @@ use std::alloc::Global;
 /// A rule, which is a test with a `Next`.
 fn read_rule(alloc: Global, value: &Value) -> Result<Rule, MachineFault>
     ensures ok { IfOk result (IsRule (view value.now)) }
-    ensures fault { IfErr result (λ e. Refuses e (RuleFault (view value.now) e)) }
+    ensures fault { IfErr result (λ e. RefusesForFault e (RuleFault (view value.now) e)) }
 {
     let test = read_test(alloc, Place::Rule, "Choices", value)?;
     match read_next(alloc, value) {
@@ -33,7 +33,7 @@ fn read_rule(alloc: Global, value: &Value) -> Result<Rule, MachineFault>
 fn read_next(alloc: Global, value: &Value) -> Result<Text, MachineFault>
     ensures ok { IfOk result (λ next. option_and_then as_str (get (codes "Next") (view value.now)) ≡ Some next) }
     ensures fault { IfErr result
-        (λ e. Refuses e (required_text_fault (codes "Next") (get (codes "Next") (view value.now)) ≡ Some e)) }
+        (λ e. RefusesForFault e (required_text_fault (codes "Next") (get (codes "Next") (view value.now)) ≡ Some e)) }
 {
     let next = required(alloc, value, "Next")?;
     text_of(alloc, next, "Next")
@@ -41,7 +41,7 @@ fn read_next(alloc: Global, value: &Value) -> Result<Text, MachineFault>
 
 fn read_each_rule(alloc: Global, items: &Vec<Value>) -> Result<Rules, MachineFault>
     ensures ok { IfOk result (RulesAre (items_view items.now.items) []) }
-    ensures fault { IfErr result (λ e. Refuses e (SomeRuleFault (items_view items.now.items) e)) }
+    ensures fault { IfErr result (λ e. RefusesForFault e (SomeRuleFault (items_view items.now.items) e)) }
 {
     let mut inner = Vec::new(alloc);
     for item in items {
@@ -61,7 +61,7 @@ fn read_each_rule(alloc: Global, items: &Vec<Value>) -> Result<Rules, MachineFau
 pub fn read_rules(alloc: Global, object: &Value) -> Result<Rules, MachineFault>
     ensures ok { IfOk result (AreRules (view object.now)) }
     ensures fault { IfErr result
-        (λ e. Refuses e (ChoicesFault (get (codes "Choices") (view object.now)) e)) }
+        (λ e. RefusesForFault e (ChoicesFault (get (codes "Choices") (view object.now)) e)) }
 {
     let value = required(alloc, object, "Choices")?;
     let Some(items) = value.as_array() else {

@@ -3,10 +3,10 @@ ghost use Rattle.std.specs.Prelude.{◌≡◌, IfOk, IfErr, OnErr, Some, None, t
 ghost use Rattle.serde_json.specs.Find.{get, as_object};
 ghost use Rattle.serde_json.specs.View.{view, members_view};
 ghost use Rattle.asl_fields.specs.FieldFaults.{optional_text_fault};
-ghost use Rattle.asl_fields.specs.Refusal.{Refuses};
+ghost use Rattle.asl_fields.specs.Refusal.{RefusesForFault};
 ghost use Rattle.asl_states.specs.Faults.{PassFault, WaitFault, SucceedFault, FailFault, TaskFault, ChoiceFault, WorkFault, ResourceFault, ProcessingFault, result_fault, transition_fault};
 ghost use Rattle.asl_states.specs.Profile.{IsPass, IsWait, IsSucceed, IsFail, IsTask, IsChoice, HasWork, IsProcessing};
-ghost use Rattle.asl_states.specs.Reading.{result_of, transition_of, is_end, default_of, resource_of, resource_named};
+ghost use Rattle.asl_states.specs.Reading.{result_of, transition_of, end_of_state, default_of, resource_of, resource_named};
 
 use crate::rule_readers::read_rules;
 use crate::state::{Choice, Fail, Pass, Processing, Resource, Succeed, Task, Transition, Wait};
@@ -36,7 +36,7 @@ pub fn read_work(
 ) -> Result<Work, MachineFault>
     ensures parameters { IfOk result (λ w. w.processing.parameters ≡ parameters) }
     ensures ok { IfOk result (λ w. HasWork (view object.now) w.processing w.errors w.transition) }
-    ensures fault { IfErr result (λ e. Refuses e (WorkFault name.now (view object.now) e)) }
+    ensures fault { IfErr result (λ e. RefusesForFault e (WorkFault name.now (view object.now) e)) }
 {
     let transition = match read_transition(alloc, name, object) {
         Ok(transition) => transition,
@@ -82,7 +82,7 @@ fn resource_named(name: &str) -> Option<Resource>
 fn read_resource(alloc: Global, object: &Value) -> Result<Resource, MachineFault>
     ensures ok { IfOk result (λ r. resource_of (get (codes "Resource") (view object.now)) ≡ Some r) }
     ensures fault { IfErr result
-        (λ e. Refuses e (ResourceFault (get (codes "Resource") (view object.now)) e)) }
+        (λ e. RefusesForFault e (ResourceFault (get (codes "Resource") (view object.now)) e)) }
 {
     let value = required(alloc, object, "Resource")?;
     let Some(name) = value.as_str() else {
@@ -102,7 +102,7 @@ pub fn read_task(
 ) -> Result<Task, MachineFault>
     requires { as_object (view object.now) ≡ Some (members_view fields.now.entries) }
     ensures ok { IfOk result (IsTask (view object.now)) }
-    ensures fault { IfErr result (λ e. Refuses e (TaskFault name.now (view object.now) e)) }
+    ensures fault { IfErr result (λ e. RefusesForFault e (TaskFault name.now (view object.now) e)) }
 {
     check_fields(alloc, Place::Task, object, fields)?;
     let resource = read_resource(alloc, object)?;
@@ -120,7 +120,7 @@ pub fn read_task(
 fn read_default(alloc: Global, object: &Value) -> Result<Option<Text>, MachineFault>
     ensures ok { IfOk result (λ o. default_of (get (codes "Default") (view object.now)) ≡ Some o) }
     ensures fault { IfErr result
-        (λ e. Refuses e (optional_text_fault (codes "Default") (get (codes "Default") (view object.now)) ≡ Some e)) }
+        (λ e. RefusesForFault e (optional_text_fault (codes "Default") (get (codes "Default") (view object.now)) ≡ Some e)) }
 {
     match object.get("Default") {
         Some(value) => Ok(Some(text_of(alloc, value, "Default")?)),
@@ -135,7 +135,7 @@ pub fn read_choice(
 ) -> Result<Choice, MachineFault>
     requires { as_object (view object.now) ≡ Some (members_view fields.now.entries) }
     ensures ok { IfOk result (IsChoice (view object.now)) }
-    ensures fault { IfErr result (λ e. Refuses e (ChoiceFault (view object.now) e)) }
+    ensures fault { IfErr result (λ e. RefusesForFault e (ChoiceFault (view object.now) e)) }
 {
     check_fields(alloc, Place::Choice, object, fields)?;
     let default = read_default(alloc, object)?;
@@ -168,7 +168,7 @@ pub fn read_pass(
 ) -> Result<Pass, MachineFault>
     requires { as_object (view object.now) ≡ Some (members_view fields.now.entries) }
     ensures ok { IfOk result (IsPass (view object.now)) }
-    ensures fault { IfErr result (λ e. Refuses e (PassFault name.now (view object.now) e)) }
+    ensures fault { IfErr result (λ e. RefusesForFault e (PassFault name.now (view object.now) e)) }
 {
     check_fields(alloc, Place::Pass, object, fields)?;
     let transition = read_transition(alloc, name, object)?;
@@ -189,7 +189,7 @@ pub fn read_succeed(
 ) -> Result<Succeed, MachineFault>
     requires { as_object (view object.now) ≡ Some (members_view fields.now.entries) }
     ensures ok { IfOk result (IsSucceed (view object.now)) }
-    ensures fault { IfErr result (λ e. Refuses e (SucceedFault (view object.now) e)) }
+    ensures fault { IfErr result (λ e. RefusesForFault e (SucceedFault (view object.now) e)) }
 {
     check_fields(alloc, Place::Succeed, object, fields)?;
     let processing = read_processing(alloc, object, None)?;
@@ -204,7 +204,7 @@ pub fn read_wait(
 ) -> Result<Wait, MachineFault>
     requires { as_object (view object.now) ≡ Some (members_view fields.now.entries) }
     ensures ok { IfOk result (IsWait (view object.now)) }
-    ensures fault { IfErr result (λ e. Refuses e (WaitFault name.now (view object.now) e)) }
+    ensures fault { IfErr result (λ e. RefusesForFault e (WaitFault name.now (view object.now) e)) }
 {
     check_fields(alloc, Place::Wait, object, fields)?;
     let transition = read_transition(alloc, name, object)?;
@@ -222,7 +222,7 @@ pub fn read_fail(
 ) -> Result<Fail, MachineFault>
     requires { as_object (view object.now) ≡ Some (members_view fields.now.entries) }
     ensures ok { IfOk result (IsFail (view object.now)) }
-    ensures fault { IfErr result (λ e. Refuses e (FailFault (view object.now) e)) }
+    ensures fault { IfErr result (λ e. RefusesForFault e (FailFault (view object.now) e)) }
 {
     check_fields(alloc, Place::Fail, object, fields)?;
     let error = optional_text(alloc, object, "Error")?;
@@ -234,9 +234,9 @@ pub fn read_fail(
 fn read_result(alloc: Global, object: &Value) -> Result<Option<Json>, MachineFault>
     ensures ok { IfOk result (λ r. result_of (get (codes "Result") (view object.now)) ≡ Some r) }
     ensures refused { IfErr result
-        (λ e. Refuses e (result_of (get (codes "Result") (view object.now)) ≡ None)) }
+        (λ e. RefusesForFault e (result_of (get (codes "Result") (view object.now)) ≡ None)) }
     ensures fault { IfErr result
-        (λ e. Refuses e (result_fault (get (codes "Result") (view object.now)) ≡ Some e)) }
+        (λ e. RefusesForFault e (result_fault (get (codes "Result") (view object.now)) ≡ Some e)) }
 {
     let Some(value) = object.get("Result") else {
         return Ok(None);
@@ -251,10 +251,10 @@ fn read_result(alloc: Global, object: &Value) -> Result<Option<Json>, MachineFau
 /// Where the state of this name goes: it has exactly one of `Next` and `End: true`, `End: false` being none.
 fn read_transition(alloc: Global, name: &str, object: &Value) -> Result<Transition, MachineFault>
     ensures ok { IfOk result (λ transition. transition_of (view object.now) ≡ Some transition) }
-    ensures refused { IfErr result (λ e. Refuses e (transition_of (view object.now) ≡ None)) }
+    ensures refused { IfErr result (λ e. RefusesForFault e (transition_of (view object.now) ≡ None)) }
     ensures fault { IfErr result
-        (λ e. Refuses e
-        (transition_fault name.now (is_end (get (codes "End") (view object.now)))
+        (λ e. RefusesForFault e
+        (transition_fault name.now (end_of_state (get (codes "End") (view object.now)))
         (get (codes "Next") (view object.now)) ≡ Some e)) }
 {
     let ends = read_end(alloc, object)?;
@@ -268,10 +268,10 @@ fn read_transition(alloc: Global, name: &str, object: &Value) -> Result<Transiti
 
 /// Whether `End: true` stands.
 fn read_end(alloc: Global, object: &Value) -> Result<bool, MachineFault>
-    ensures ok { IfOk result (λ ends. is_end (get (codes "End") (view object.now)) ≡ Some ends) }
+    ensures ok { IfOk result (λ ends. end_of_state (get (codes "End") (view object.now)) ≡ Some ends) }
     ensures refused { IfErr result
-        (λ e. Refuses e (is_end (get (codes "End") (view object.now)) ≡ None)) }
-    ensures fault { IfErr result (λ e. Refuses e (e ≡ MachineFault.BadField (codes "End"))) }
+        (λ e. RefusesForFault e (end_of_state (get (codes "End") (view object.now)) ≡ None)) }
+    ensures fault { IfErr result (λ e. RefusesForFault e (e ≡ MachineFault.BadField (codes "End"))) }
 {
     let Some(end) = object.get("End") else {
         return Ok(false);
@@ -291,7 +291,7 @@ fn read_processing(
 ) -> Result<Processing, MachineFault>
     ensures parameters { IfOk result (λ p. p.parameters ≡ parameters) }
     ensures ok { IfOk result (IsProcessing (view object.now)) }
-    ensures fault { IfErr result (λ e. Refuses e (ProcessingFault (view object.now) e)) }
+    ensures fault { IfErr result (λ e. RefusesForFault e (ProcessingFault (view object.now) e)) }
 {
     let input_path = read_path(alloc, object, "InputPath")?;
     let result_selector = read_template(alloc, object, "ResultSelector", false)?;

@@ -1,6 +1,6 @@
 // Equality of rules and their tests.
 ghost use Rattle.std.specs.Prelude.{◌≡◌};
-ghost use Rattle.asl_states.specs.TestSame.{number_of, same_comparison, same_relation, same_test, same_tests};
+ghost use Rattle.asl_states.specs.TestSame.{relation_number, same_comparison, same_relation, same_test, same_tests};
 ghost use Rattle.asl_states.specs.TestTree.{test_trees};
 ghost use Rattle.asl_states.specs.TestView.{test_of};
 
@@ -72,7 +72,7 @@ impl Eq for Rules {
 }
 
 fn number_of(relation: Relation) -> u8
-    ensures { result ≡ number_of relation }
+    ensures { result ≡ relation_number relation }
 {
     match relation {
         Relation::Equals => 0,

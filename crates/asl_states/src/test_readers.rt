@@ -2,10 +2,10 @@
 ghost use Rattle.std.specs.Prelude.{◌≡◌, ℕ, IfOk, IfErr, Some, None, codes, is_some, option_map, option_and_then};
 ghost use Rattle.serde_json.specs.Find.{get, as_array, as_object};
 ghost use Rattle.serde_json.specs.View.{view, items_view, members_view};
-ghost use Rattle.asl_fields.specs.Refusal.{Refuses};
+ghost use Rattle.asl_fields.specs.Refusal.{RefusesForFault};
 ghost use Rattle.asl_fields.specs.Values.{IsPathField};
 ghost use Rattle.asl_states.specs.TestFaults.{TestFault, TestFaultWithin, TestsFieldFault, SomeTestFault, NotFault, VariableFault, CompareFault};
-ghost use Rattle.asl_states.specs.TestFields.{asked_in, asked_by, first_asked, is_often, comparison_said, form_of, IsTest, IsOfForm, IsInnerTest, ListedTests, TestsAre};
+ghost use Rattle.asl_states.specs.TestFields.{asked_in, asked_by, first_asked, is_often, comparison_said, test_form_of, IsTest, IsOfForm, IsInnerTest, ListedTests, TestsAre};
 ghost use Rattle.asl_states.specs.TestTree.{test_trees};
 ghost use Rattle.asl_states.specs.TestView.{test_of};
 
@@ -67,7 +67,7 @@ fn stands(object: &Value, name: &str) -> bool
 /// The form of a test, which has exactly one of the four fields, and a comparison just beside `Variable`.
 fn form_of(object: &Value, fields: &Map<String, Value>) -> Option<TestForm>
     requires { as_object (view object.now) ≡ Some (members_view fields.now.entries) }
-    ensures { result ≡ form_of (view object.now) }
+    ensures { result ≡ test_form_of (view object.now) }
 {
     if asks_often(fields) {
         return None;
@@ -94,8 +94,8 @@ fn read_comparison(
     value: &Value,
 ) -> Result<Comparison, MachineFault>
     ensures ok { IfOk result (λ c. comparison_said kind (view value.now) ≡ Some c) }
-    ensures refused { IfErr result (λ e. Refuses e (comparison_said kind (view value.now) ≡ None)) }
-    ensures fault { IfErr result (λ e. Refuses e (e ≡ MachineFault.BadField name.now)) }
+    ensures refused { IfErr result (λ e. RefusesForFault e (comparison_said kind (view value.now) ≡ None)) }
+    ensures fault { IfErr result (λ e. RefusesForFault e (e ≡ MachineFault.BadField name.now)) }
 {
     match kind {
         ComparisonKind::Text(relation) => {
@@ -118,7 +118,7 @@ fn read_variable(alloc: Global, object: &Value) -> Result<RefPath, MachineFault>
     ensures ok { IfOk result
         (λ p. IsPathField (get (codes "Variable") (view object.now)) (Some p)) }
     ensures fault { IfErr result
-        (λ e. Refuses e (VariableFault (get (codes "Variable") (view object.now)) e)) }
+        (λ e. RefusesForFault e (VariableFault (get (codes "Variable") (view object.now)) e)) }
 {
     match read_path(alloc, object, "Variable")? {
         Some(path) => Ok(path),
@@ -134,7 +134,7 @@ fn read_compare(
 ) -> Result<Test, MachineFault>
     requires { as_object (view object.now) ≡ Some (members_view fields.now.entries) }
     ensures ok { IfOk result (λ t. IsOfForm (Some TestForm.Compare) (view object.now) (test_of t)) }
-    ensures fault { IfErr result (λ e. Refuses e (CompareFault (view object.now) e)) }
+    ensures fault { IfErr result (λ e. RefusesForFault e (CompareFault (view object.now) e)) }
 {
     let Some((kind, name, value)) = find_asked(fields) else {
         return Err(MachineFault::BadField(Text::new(alloc, "Choices")?));
@@ -158,7 +158,7 @@ pub fn read_test(
     value: &Value,
 ) -> Result<Test, MachineFault>
     ensures ok { IfOk result (λ t. IsTest place (view value.now) (test_of t)) }
-    ensures fault { IfErr result (λ e. Refuses e (TestFault place field.now (view value.now) e)) }
+    ensures fault { IfErr result (λ e. RefusesForFault e (TestFault place field.now (view value.now) e)) }
 {
     let Some(fields) = value.as_object() else {
         return Err(MachineFault::BadField(Text::new(alloc, field)?));
@@ -179,7 +179,7 @@ fn read_tests(alloc: Global, field: &str, object: &Value) -> Result<Tests, Machi
     ensures ok { IfOk result
         (λ ts. ListedTests (option_and_then as_array (get field.now (view object.now))) (test_trees ts)) }
     ensures fault { IfErr result
-        (λ e. Refuses e ((n : ℕ) × TestsFieldFault (TestFaultWithin n) field.now (get field.now (view object.now)) e)) }
+        (λ e. RefusesForFault e ((n : ℕ) × TestsFieldFault (TestFaultWithin n) field.now (get field.now (view object.now)) e)) }
 {
     let Some(value) = object.get(field) else {
         return Err(MachineFault::BadField(Text::new(alloc, "Choices")?));
@@ -197,7 +197,7 @@ fn read_tests(alloc: Global, field: &str, object: &Value) -> Result<Tests, Machi
 fn read_each_test(alloc: Global, field: &str, items: &Vec<Value>) -> Result<Tests, MachineFault>
     ensures ok { IfOk result (λ ts. TestsAre (items_view items.now.items) (test_trees ts)) }
     ensures fault { IfErr result
-        (λ e. Refuses e ((n : ℕ) × SomeTestFault (TestFaultWithin n) field.now (items_view items.now.items) e)) }
+        (λ e. RefusesForFault e ((n : ℕ) × SomeTestFault (TestFaultWithin n) field.now (items_view items.now.items) e)) }
 {
     let mut inner = Vec::new(alloc);
     for item in items {
@@ -217,7 +217,7 @@ fn read_each_test(alloc: Global, field: &str, items: &Vec<Value>) -> Result<Test
 fn read_inner(alloc: Global, object: &Value) -> Result<InnerTest, MachineFault>
     ensures ok { IfOk result (IsInnerTest (get (codes "Not") (view object.now))) }
     ensures fault { IfErr result
-        (λ e. Refuses e ((n : ℕ) × NotFault (TestFaultWithin n) (get (codes "Not") (view object.now)) e)) }
+        (λ e. RefusesForFault e ((n : ℕ) × NotFault (TestFaultWithin n) (get (codes "Not") (view object.now)) e)) }
 {
     let Some(value) = object.get("Not") else {
         return Err(MachineFault::BadField(Text::new(alloc, "Choices")?));

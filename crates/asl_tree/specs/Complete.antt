@@ -19,26 +19,26 @@ abbrev pub state_of : List ℕ → List (List ℕ × StateTree) → Option State
 state_of name states = option_map state_in (lookup (is_at (slice_cmp nat_cmp name)) states)
 
 -- a name is one of the states'
-abbrev pub IsState : List (List ℕ × StateTree) → List ℕ → Type 0
-IsState states name = IsSome (state_of name states)
+abbrev pub IsStateName : List (List ℕ × StateTree) → List ℕ → Type 0
+IsStateName states name = IsSome (state_of name states)
 
 -- a transition leads to one of the states
 abbrev pub LeadsInto : List (List ℕ × StateTree) → Transition → Type 0
-LeadsInto states (Next name) = IsState states name
+LeadsInto states (Next name) = IsStateName states name
 LeadsInto states End = Unit {0}
 
 -- a state's transition, or each place that it may go to, leads to one of the states
 abbrev pub StaysInside : List (List ℕ × StateTree) → State → Type 0
 StaysInside states (Pass s) = LeadsInto states s.transition
-StaysInside states (Task s) = LeadsInto states s.transition × AllByRecursion (λ (c : Catcher). IsState states c.next) s.errors.catchers
-StaysInside states (Choice s) = AllByRecursion (λ (r : Rule). IsState states r.next) s.rules × IfSome s.default (IsState states)
+StaysInside states (Task s) = LeadsInto states s.transition × AllByRecursion (λ (c : Catcher). IsStateName states c.next) s.errors.catchers
+StaysInside states (Choice s) = AllByRecursion (λ (r : Rule). IsStateName states r.next) s.rules × IfSome s.default (IsStateName states)
 StaysInside states (Wait s) = LeadsInto states s.transition
 StaysInside states (Succeed s) = Unit {0}
 StaysInside states (Fail s) = Unit {0}
-StaysInside states (Parallel s) = LeadsInto states s.transition × AllByRecursion (λ (c : Catcher). IsState states c.next) s.errors.catchers
-StaysInside states (Map s) = LeadsInto states s.transition × AllByRecursion (λ (c : Catcher). IsState states c.next) s.errors.catchers
+StaysInside states (Parallel s) = LeadsInto states s.transition × AllByRecursion (λ (c : Catcher). IsStateName states c.next) s.errors.catchers
+StaysInside states (Map s) = LeadsInto states s.transition × AllByRecursion (λ (c : Catcher). IsStateName states c.next) s.errors.catchers
 
 -- a machine starts at a state that it has, and stays inside
 pub record IsWellFormed (d : Definition) : Type 0 where
-  pub starts : IsState d.states d.start
+  pub starts : IsStateName d.states d.start
   pub stays : (name : List ℕ) → IfSome (state_of name d.states) (StaysInside d.states)

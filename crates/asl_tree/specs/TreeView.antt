@@ -35,8 +35,8 @@ state_in (map_over processor items_path item_selector max_concurrency processing
       transition = transition;
     })
 
-abbrev pub named_of : List ℕ × State → List ℕ × StateTree
-named_of s = (s.0, tree_of s.1)
+abbrev pub named_tree_of : List ℕ × State → List ℕ × StateTree
+named_tree_of s = (s.0, tree_of s.1)
 
 abbrev pub states_of : List (List ℕ × State) → List (List ℕ × StateTree)
-states_of = map named_of
+states_of = map named_tree_of

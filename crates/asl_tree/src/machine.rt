@@ -6,7 +6,7 @@ ghost use Rattle.std.specs.Ordering.{nat_cmp};
 ghost use Rattle.asl_tree.specs.Complete.{state_of, IsWellFormed};
 ghost use Rattle.asl_tree.specs.Find.{branch_of, machine_at, state_at};
 ghost use Rattle.asl_states.specs.Refusal.{Refuses};
-ghost use Rattle.asl_tree.specs.Targets.{if_missing, missing_next, missing_catcher, missing_rule, missing_default, missing_target, first_missing, or_else, target_fault};
+ghost use Rattle.asl_tree.specs.Targets.{if_missing, missing_next, missing_catcher, missing_rule, missing_default, missing_target, first_missing, name_or_else, target_fault};
 ghost use Rattle.asl_tree.specs.TreeView.{tree_of};
 
 use crate::level::LevelPath;
@@ -45,7 +45,7 @@ impl States {
 
     /// The first name that is to be a state's, where the machine starts or where a state may go, and that is none's.
     fn missing<'a>(&'a self, start: &'a Text) -> Option<&'a Text>
-        ensures { option_copied result ≡ or_else (if_missing self.now start.now) (first_missing self.now self.now) }
+        ensures { option_copied result ≡ name_or_else (if_missing self.now start.now) (first_missing self.now self.now) }
     {
         match if_missing(self, start) {
             Some(missing) => Some(missing),
@@ -183,7 +183,7 @@ fn missing_on_error<'a>(
     transition: &'a Transition,
     catchers: &'a Catchers,
 ) -> Option<&'a Text>
-    ensures { option_copied result ≡ or_else (missing_next states.now transition.now) (missing_catcher states.now catchers.now) }
+    ensures { option_copied result ≡ name_or_else (missing_next states.now transition.now) (missing_catcher states.now catchers.now) }
 {
     match missing_next(states, transition) {
         Some(missing) => Some(missing),

@@ -9,7 +9,7 @@ use Rattle.std.specs.Map.{keys_of}
 use Rattle.std.specs.Ordering.{ordering_reverse}
 use Rattle.json_tree.proofs.Same.{text_same}
 use Rattle.json_tree.specs.Fields.{text_cmp}
-use Rattle.attr_values.specs.Item.{get_attribute, IsInNameOrder}
+use Rattle.attr_values.specs.Item.{get_attribute, IsItemInNameOrder}
 use Rattle.attr_values.specs.View.{datum_of, entries_of}
 use Rattle.attr_values.specs.declared.value.Attribute.{Attribute}
 
@@ -21,11 +21,11 @@ keys_of-append (n ∷ ms) m = ap (λ ks. n.0 ∷ ks) (keys_of-append ms m)
 flip : (k l : List ℕ) (o : Ordering) → text_cmp k l ≡ o → text_cmp l k ≡ ordering_reverse o
 flip k l o is = nat_list_cmp_total.antisymm l k ∙ ap ordering_reverse is
 
-sorted_tail : (a : Attribute) (xs : List Attribute) → IsInNameOrder (entries_of (a ∷ xs)) → IsInNameOrder (entries_of xs)
+sorted_tail : (a : Attribute) (xs : List Attribute) → IsItemInNameOrder (entries_of (a ∷ xs)) → IsItemInNameOrder (entries_of xs)
 unfolding IsStrictlySortedBy
 sorted_tail a xs h = h.1
 
-sorted_head : (a : Attribute) (xs : List Attribute) → IsInNameOrder (entries_of (a ∷ xs)) → AllByRecursion (λ y. text_cmp a.name y ≡ Less) (keys_of (entries_of xs))
+sorted_head : (a : Attribute) (xs : List Attribute) → IsItemInNameOrder (entries_of (a ∷ xs)) → AllByRecursion (λ y. text_cmp a.name y ≡ Less) (keys_of (entries_of xs))
 unfolding IsStrictlySortedBy
 sorted_head a xs h = h.0
 
@@ -35,7 +35,7 @@ below_at k (a ∷ xs) zero d h within = h.0
 below_at k (a ∷ xs) (suc i) d h within = below_at k xs i d h.1 (omega arith)
 
 -- what stands at the name's place is the name's value
-pub value_at : (name : List ℕ) (xs : List Attribute) (i : ℕ) (d : Attribute) → IsInNameOrder (entries_of xs) → i < length xs → (get_or xs i d).name ≡ name
+pub value_at : (name : List ℕ) (xs : List Attribute) (i : ℕ) (d : Attribute) → IsItemInNameOrder (entries_of xs) → i < length xs → (get_or xs i d).name ≡ name
     → get_attribute name (entries_of xs) ≡ Some (datum_of (get_or xs i d).value)
 value_at name [] i d sorted within is = absurd (omega arith)
 value_at name (a ∷ xs) zero d sorted within is =
@@ -57,16 +57,16 @@ no_value name (a ∷ xs) (suc i) le below above =
     let greater : text_cmp name a.name ≡ Greater = flip a.name name Less (below 0 a (omega arith)) in
     rw greater (no_value name xs i (omega arith) (λ j d lt. below (suc j) d (omega (arith, lt))) (λ j d low lt. above (suc j) d (omega (arith, low)) (omega (arith, lt))))
 
-rises : (xs : List Attribute) (k : ℕ) (d : Attribute) → IsInNameOrder (entries_of xs) → suc k < length xs → is_lt (text_cmp (get_or xs (suc k) d).name (get_or xs k d).name) ≡ false
+rises : (xs : List Attribute) (k : ℕ) (d : Attribute) → IsItemInNameOrder (entries_of xs) → suc k < length xs → is_lt (text_cmp (get_or xs (suc k) d).name (get_or xs k d).name) ≡ false
 rises [] k d sorted within = absurd (omega arith)
 rises (a ∷ xs) zero d sorted within = ap is_lt (flip a.name (get_or xs 0 d).name Less (below_at a.name xs 0 d (sorted_head a xs sorted) (omega arith)))
 rises (a ∷ xs) (suc k) d sorted within = rises xs k d (sorted_tail a xs sorted) (omega arith)
 
-is_sorted : (xs : List Attribute) → IsInNameOrder (entries_of xs) → IsSortedBy (λ a b. is_lt (text_cmp a.name b.name)) xs
+is_sorted : (xs : List Attribute) → IsItemInNameOrder (entries_of xs) → IsSortedBy (λ a b. is_lt (text_cmp a.name b.name)) xs
 is_sorted xs sorted k d low high = subst (λ j. is_lt (text_cmp (get_or xs j d).name (get_or xs k d).name) ≡ false) (sym (add-one k)) (rises xs k d sorted (omega (arith, high)))
 
 -- a binary search by name ends at the name's value, or where there is none
-pub searched : (name : List ℕ) (xs : List Attribute) (r : Result ℕ ℕ) → IsInNameOrder (entries_of xs) → IsSearchInRange r (length xs) → IsBinarySearchResult (λ a. text_cmp a.name name) xs r
+pub searched : (name : List ℕ) (xs : List Attribute) (r : Result ℕ ℕ) → IsItemInNameOrder (entries_of xs) → IsSearchInRange r (length xs) → IsBinarySearchResult (λ a. text_cmp a.name name) xs r
     → IfOk r (λ i. (d : Attribute) → get_attribute name (entries_of xs) ≡ Some (datum_of (get_or xs i d).value)) × OnErr r (get_attribute name (entries_of xs) ≡ None)
 searched name xs (Ok i) sorted range found = ((λ d. value_at name xs i d sorted range (text_same _ _ (found d))), tt)
 searched name xs (Err i) sorted range parted =

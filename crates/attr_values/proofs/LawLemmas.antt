@@ -15,8 +15,8 @@ use Rattle.attr_values.specs.DecimalOrder.{decimal_cmp_equal}
 use Rattle.attr_values.specs.Faults.{result_map}
 use Rattle.attr_values.specs.Item.{get_attribute}
 use Rattle.attr_values.specs.Key.{part_of, part_from, sort_of}
-use Rattle.attr_values.specs.Laws.{ReadsTheNumber, OneFormANumber, OneNumberASpelling, ItemReadsBack, EqualityIsOfValues, OneKeyAValue, SameByValue, BothSame, AgreeAt, AgreeAtSort, written_digits, written_places}
-use Rattle.attr_values.specs.Numeral.{is_point, is_unsigned, in_bounds, shortened, magnitude, bounded, decimal_of, read_unsigned, read_number}
+use Rattle.attr_values.specs.Laws.{ReadsTheNumber, OneFormANumber, OneNumberASpelling, ItemReadsBack, EqualityIsOfItemValues, OneKeyAValue, SameByValue, BothSame, AgreeAtAttribute, AgreeAtSort, written_digits, written_places}
+use Rattle.attr_values.specs.Numeral.{is_point, is_unsigned, in_bounds, shortened, magnitude, decimal_in_bounds, decimal_of, read_unsigned, read_number}
 use Rattle.attr_values.specs.Proper.{IsProper, AreProperAttributes, IsItem}
 use Rattle.attr_values.specs.declared.key.KeyAttribute.{KeyAttribute}
 use Rattle.attr_values.proofs.NumberLemmas.{value_cmp_equal, decimal_cmp-value_cmp}
@@ -40,14 +40,14 @@ shortened_same : (n p : ℕ) → (shortened n p).0 * 10 ^ p ≡ n * 10 ^ (shorte
 shortened_same n zero = refl
 shortened_same n (suc p) = shortened_same_at n p (n % 10 == 0) refl (shortened_same (n / 10) p)
 
-bounded_is : (negative : Bool) (m : ℕ × ℕ) (n : Decimal) → bounded negative m ≡ Some n → decimal_of negative m ≡ n
+bounded_is : (negative : Bool) (m : ℕ × ℕ) (n : Decimal) → decimal_in_bounds negative m ≡ Some n → decimal_of negative m ≡ n
 bounded_is negative m n is = by_bool (in_bounds m)
     (λ yes. let e : Some (decimal_of negative m) ≡ Some n = rw yes at is in cc e)
     (λ no. let e : None ≡ Some n = rw no at is in cc e)
 
 unsigned_is : (negative : Bool) (s : List ℕ) (n : Decimal) → read_unsigned negative s ≡ Some n → decimal_of negative (magnitude s) ≡ n
 unsigned_is negative s n is = by_bool (is_unsigned s)
-    (λ yes. let e : bounded negative (magnitude s) ≡ Some n = rw yes at is in bounded_is negative (magnitude s) n e)
+    (λ yes. let e : decimal_in_bounds negative (magnitude s) ≡ Some n = rw yes at is in bounded_is negative (magnitude s) n e)
     (λ no. let e : None ≡ Some n = rw no at is in cc e)
 
 unsigned_reads : (negative : Bool) (s : List ℕ) (n : Decimal) → read_unsigned negative s ≡ Some n
@@ -83,7 +83,7 @@ one_number_a_spelling s t m n is js h = one_form m n (read_normal s m is) (read_
 pub item_reads_back : ItemReadsBack
 item_reads_back item h = attributes_read_back 32 (attributes_of item) h.proper
 
-pub equality_of_values : EqualityIsOfValues
+pub equality_of_values : EqualityIsOfItemValues
 equality_of_values = (value_eq_both, item_eq_both, key_eq_both)
 
 -- ---- one key
@@ -106,7 +106,7 @@ both_agree (Some d) (Some e) p q h = ap Some (data_agree 32 d e (p d refl) (q e 
 both_agree None r p q h = absurd h
 both_agree (Some d) None p q h = absurd h
 
-parts_agree : (a : KeyAttribute) (x y : List (List ℕ × Datum)) → IsItem x → IsItem y → AgreeAt a x y → part_of a x ≡ part_of a y
+parts_agree : (a : KeyAttribute) (x y : List (List ℕ × Datum)) → IsItem x → IsItem y → AgreeAtAttribute a x y → part_of a x ≡ part_of a y
 parts_agree a x y p q h =
     ap (part_from a.kind) (both_agree (get_attribute a.name x) (get_attribute a.name y) (λ d. found_is_proper 32 a.name x d p.proper) (λ d. found_is_proper 32 a.name y d q.proper) h)
 

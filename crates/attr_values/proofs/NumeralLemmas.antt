@@ -16,7 +16,7 @@ use Rattle.std.specs.Fmt.{decimal}
 use Rattle.std.proofs.Math.Nat.{mul-mod_left, mod-lt, div-one, div-div-eq-div-mul, pow-succ', div-le_self}
 use Rattle.std.proofs.lemmas.Nat.{div-add-mod', mod-mul-add}
 use Rattle.attr_values.specs.Decimal.{Decimal, IsNormal}
-use Rattle.attr_values.specs.Numeral.{is_point, is_unsigned, shortened, magnitude, in_bounds, bounded, with_sign, decimal_of, read_unsigned, read_number, last_digits, fraction_text, number_text, IsShort, SplitsAtPoint}
+use Rattle.attr_values.specs.Numeral.{is_point, is_unsigned, shortened, magnitude, in_bounds, decimal_in_bounds, with_sign, decimal_of, read_unsigned, read_number, last_digits, fraction_text, number_text, IsShort, SplitsAtPoint}
 
 digits_value_grows : (n : ℕ) (ds : List ℕ) → n ≤ digits_value_after 10 n ds
 digits_value_grows n [] = omega arith
@@ -91,20 +91,20 @@ prefix_digits f zeros h = (and_parts (list_all is_ascii_digit f) (list_all is_as
 
 -- what is read, by the digits before the point and those after it without the last zeros
 pub read_is : (negative : Bool) (text w g f : List ℕ) (k : ℕ) → SplitsAtPoint text w g → g ≡ f ++ replicate k 48 → IsShort f
-    → (list_all is_ascii_digit f ≡ true) × (0 < length f → 0 < digits_value 10 (w ++ f) % 10) × (read_unsigned negative text ≡ bounded negative (digits_value 10 (w ++ f), length f))
+    → (list_all is_ascii_digit f ≡ true) × (0 < length f → 0 < digits_value 10 (w ++ f) % 10) × (read_unsigned negative text ≡ decimal_in_bounds negative (digits_value 10 (w ++ f), length f))
 read_is negative text w g f k s e short =
     let digits : list_all is_ascii_digit f ≡ true = prefix_digits f (replicate k 48) (ap (list_all is_ascii_digit) (sym e) ∙ s.fraction_digits) in
     let ends : 0 < length f → 0 < digits_value 10 (w ++ f) % 10 = short_digit w f short digits in
     let is : magnitude text ≡ (digits_value 10 (w ++ f), length f) =
     ap₂ (λ (v g : List ℕ). shortened (digits_value 10 (v ++ g)) (length g)) (sym s.before) (sym s.after ∙ e)
     ∙ shortened_zeros w f k ∙ shortened_short (digits_value 10 (w ++ f)) f ends in
-    (digits, ends, rw s.numeral (ap (bounded negative) is))
+    (digits, ends, rw s.numeral (ap (decimal_in_bounds negative) is))
 
-pub bounded_none : (negative : Bool) (n p : ℕ) → (10 ^ 38 ≤ n) ⊎ (100 < p) → bounded negative (n, p) ≡ None
+pub bounded_none : (negative : Bool) (n p : ℕ) → (10 ^ 38 ≤ n) ⊎ (100 < p) → decimal_in_bounds negative (n, p) ≡ None
 bounded_none negative n p (inl h) = grind (arith, nat_tests)
 bounded_none negative n p (inr h) = grind (arith, nat_tests)
 
-pub bounded_some : (negative : Bool) (n p : ℕ) → n < 10 ^ 38 → p ≤ 100 → bounded negative (n, p) ≡ Some (decimal_of negative (n, p))
+pub bounded_some : (negative : Bool) (n p : ℕ) → n < 10 ^ 38 → p ≤ 100 → decimal_in_bounds negative (n, p) ≡ Some (decimal_of negative (n, p))
 bounded_some negative n p h l = grind (arith, nat_tests)
 
 pub both_large : (w f : List ℕ) → (digits_value_after 10 0 w < 10 ^ 38 → ⊥) → digits_value_after 10 0 (w ++ f) < 10 ^ 38 → ⊥
@@ -197,7 +197,7 @@ unsigned_reads negative m zero h l e =
     let value : magnitude (decimal (m / 10 ^ 0)) ≡ (m, 0) =
     ap₂ (λ (w f : List ℕ). shortened (digits_value 10 (w ++ f)) (length f)) parts.1 parts.2
     ∙ ap (λ n. let k : ℕ × ℕ = (n, 0) in k) (ap (digits_value 10) (append-nil (decimal (m / 10 ^ 0))) ∙ whole.2 ∙ div-one m) in
-    rw append-nil (rw parts.0 (ap (bounded negative) value ∙ bounded_some negative m 0 h l))
+    rw append-nil (rw parts.0 (ap (decimal_in_bounds negative) value ∙ bounded_some negative m 0 h l))
 unsigned_reads negative m (suc p) h l e =
     let whole = whole_number_digits (m / 10 ^ suc p) (quotient_small m (suc p) h) in
     let digits = last_digits (suc p) m in
@@ -208,7 +208,7 @@ unsigned_reads negative m (suc p) h l e =
     let some : 0 < m % 10 = let f = e (omega arith) in omega arith in
     let is : magnitude (decimal (m / 10 ^ suc p) ++ 46 ∷ digits) ≡ (m, suc p) =
     ap₂ (λ (w f : List ℕ). shortened (digits_value 10 (w ++ f)) (length f)) parts.1 parts.2 ∙ ap₂ shortened value count ∙ shortened_digit m p some in
-    rw parts.0 (ap (bounded negative) is ∙ bounded_some negative m (suc p) h l)
+    rw parts.0 (ap (decimal_in_bounds negative) is ∙ bounded_some negative m (suc p) h l)
 
 first_is_digit : (ds rest : List ℕ) → list_all is_ascii_digit ds ≡ true → 0 < length ds → read_number (ds ++ rest) ≡ read_unsigned false (ds ++ rest)
 first_is_digit [] rest h some = absurd (omega arith)
@@ -241,7 +241,7 @@ shortened_end : (n p : ℕ) → 0 < (shortened n p).1 → (shortened n p).0 % 10
 shortened_end n zero = λ above. absurd (omega arith)
 shortened_end n (suc p) = shortened_end_at n p (shortened (n / 10) p) (n % 10 == 0) refl (shortened_end (n / 10) p)
 
-bounded_normal : (negative : Bool) (m : ℕ × ℕ) (d : Decimal) → (0 < m.1 → m.0 % 10 ≢ 0) → bounded negative m ≡ Some d → IsNormal d
+bounded_normal : (negative : Bool) (m : ℕ × ℕ) (d : Decimal) → (0 < m.1 → m.0 % 10 ≢ 0) → decimal_in_bounds negative m ≡ Some d → IsNormal d
 bounded_normal negative m d h is = by_bool (in_bounds m)
     (λ yes.
     let e : Some (decimal_of negative m) ≡ Some d = rw yes at is in
@@ -252,7 +252,7 @@ bounded_normal negative m d h is = by_bool (in_bounds m)
 
 unsigned_normal : (negative : Bool) (text : List ℕ) (d : Decimal) → read_unsigned negative text ≡ Some d → IsNormal d
 unsigned_normal negative text d is = by_bool (is_unsigned text)
-    (λ yes. let e : bounded negative (magnitude text) ≡ Some d = rw yes at is in bounded_normal negative (magnitude text) d (shortened_end (digits_value 10 (before_first is_point text ++ after_first is_point text)) (length (after_first is_point text))) e)
+    (λ yes. let e : decimal_in_bounds negative (magnitude text) ≡ Some d = rw yes at is in bounded_normal negative (magnitude text) d (shortened_end (digits_value 10 (before_first is_point text ++ after_first is_point text)) (length (after_first is_point text))) e)
     (λ no. let e : None ≡ Some d = rw no at is in cc e)
 
 pub read_normal : (text : List ℕ) (d : Decimal) → read_number text ≡ Some d → IsNormal d

@@ -16,7 +16,7 @@ use Rattle.json_tree.specs.Fields.{text_cmp}
 use Rattle.attr_values.specs.Datum.{Datum, text, number, boolean, null, list, document, texts, numbers, Elements, no_elements, element, Attributes, no_attributes, attribute}
 use Rattle.attr_values.specs.Decimal.{Decimal, IsNormal, decimal_cmp}
 use Rattle.attr_values.specs.DecimalOrder.{decimal_cmp_total}
-use Rattle.attr_values.specs.Faults.{result_map, result_and_then, Answers}
+use Rattle.attr_values.specs.Faults.{result_map, result_and_then, AnswersAs}
 use Rattle.attr_values.specs.View.{datum_of}
 use Rattle.attr_values.specs.declared.value.Value.{Value}
 use Rattle.attr_values.specs.Numeral.{read_number}
@@ -93,7 +93,7 @@ number_set _ ds ns is = cc is
 
 mutual
   pub datum_is_proper : (levels : ℕ) (j : json.Data) (d : Datum) → spec.read_datum levels j ≡ Ok d → IsProper levels d
-  datum_is_proper levels (json.fields (json.member name j json.no_members)) d is = kind_is_proper (spec.kind_of name) levels j d is
+  datum_is_proper levels (json.fields (json.member name j json.no_members)) d is = kind_is_proper (spec.type_kind_of name) levels j d is
   datum_is_proper levels _ d is = cc is
 
   kind_is_proper : (k : Option Kind) (levels : ℕ) (j : json.Data) (d : Datum) → spec.read_kind k levels j ≡ Ok d → IsProper levels d
@@ -126,7 +126,7 @@ mutual
       let rest = ok_map (attribute k first.0) (spec.read_attributes levels js) ms first.2 in
       subst (AreProperAttributes levels) rest.2 (datum_is_proper levels j first.0 first.1, attributes_are_proper levels js rest.0 rest.1)
 
-pub kept_from_answers : (j : json.Data) (r : Result Value ItemFault) → Answers datum_of (spec.read_datum 32 j) r → IfOk r (λ v. IsProper 32 (datum_of v))
+pub kept_from_answers : (j : json.Data) (r : Result Value ItemFault) → AnswersAs datum_of (spec.read_datum 32 j) r → IfOk r (λ v. IsProper 32 (datum_of v))
 kept_from_answers j (Ok v) h = datum_is_proper 32 j (datum_of v) h
 kept_from_answers j (Err e) h = tt
 

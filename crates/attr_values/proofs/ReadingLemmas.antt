@@ -12,7 +12,7 @@ use Rattle.json_tree.specs.declared.tree.Json.{Json}
 use Rattle.attr_values.specs.Datum.{Datum, list, document, texts, numbers, Elements, no_elements, element, Attributes, no_attributes, attribute, elements_of, attributes_of}
 use Rattle.attr_values.specs.Faults.{result_map}
 use Rattle.attr_values.specs.Reading as spec
-use Rattle.attr_values.specs.View.{datum_of, list_of, entry_of, entries_of}
+use Rattle.attr_values.specs.View.{datum_of, datum_list_of, attribute_pair, entries_of}
 use Rattle.attr_values.specs.declared.fault.ItemFault.{ItemFault}
 use Rattle.attr_values.specs.declared.fault.ItemFault.TheVariants.{Memory, BadValue}
 use Rattle.attr_values.specs.declared.reading.Kind.TheVariants.{L, M, Ss, Ns}
@@ -57,22 +57,22 @@ attributes_push ms k d (Err e) = refl
 -- one more element is read
 pub element_step : (levels : ℕ) (from : List Json) (i : ℕ) (x : Json) (done done' : List Value) (v : Value) (all : Result Elements ItemFault) → x ≡ get_or from i x → i < length from
     → spec.read_datum levels (data_of x) ≡ Ok (datum_of v) → done' ≡ done ++ v ∷ []
-    → all ≡ result_map (elements_before (list_of done)) (spec.read_elements levels (items_of (json_list_of (drop i from))))
-    → all ≡ result_map (elements_before (list_of done')) (spec.read_elements levels (items_of (json_list_of (drop (i + 1) from))))
+    → all ≡ result_map (elements_before (datum_list_of done)) (spec.read_elements levels (items_of (json_list_of (drop i from))))
+    → all ≡ result_map (elements_before (datum_list_of done')) (spec.read_elements levels (items_of (json_list_of (drop (i + 1) from))))
 element_step levels from i x done done' v all is within reads grown before =
     let rest = drop (i + 1) from in
     let left : drop i from ≡ x ∷ rest = drop-cons from i x within ∙ rw (← is, add-one) in
     let read : spec.read_elements levels (items_of (json_list_of (x ∷ rest))) ≡ result_map (element (datum_of v)) (spec.read_elements levels (items_of (json_list_of rest))) = rw reads in
-    let made : list_of done ++ datum_of v ∷ [] ≡ list_of done' = sym (ap list_of grown ∙ map-append datum_of done (v ∷ [])) in
-    before ∙ ap (λ js. result_map (elements_before (list_of done)) (spec.read_elements levels (items_of (json_list_of js)))) left ∙ ap (result_map (elements_before (list_of done))) read
-    ∙ elements_push (list_of done) (datum_of v) (spec.read_elements levels (items_of (json_list_of rest)))
+    let made : datum_list_of done ++ datum_of v ∷ [] ≡ datum_list_of done' = sym (ap datum_list_of grown ∙ map-append datum_of done (v ∷ [])) in
+    before ∙ ap (λ js. result_map (elements_before (datum_list_of done)) (spec.read_elements levels (items_of (json_list_of js)))) left ∙ ap (result_map (elements_before (datum_list_of done))) read
+    ∙ elements_push (datum_list_of done) (datum_of v) (spec.read_elements levels (items_of (json_list_of rest)))
     ∙ ap (λ ds. result_map (elements_before ds) (spec.read_elements levels (items_of (json_list_of rest)))) made
 
 pub elements_end : (levels : ℕ) (from : List Json) (i : ℕ) (done : List Value) (all : Result Elements ItemFault) → length from ≤ i
-    → all ≡ result_map (elements_before (list_of done)) (spec.read_elements levels (items_of (json_list_of (drop i from)))) → all ≡ Ok (elements_of (list_of done))
+    → all ≡ result_map (elements_before (datum_list_of done)) (spec.read_elements levels (items_of (json_list_of (drop i from)))) → all ≡ Ok (elements_of (datum_list_of done))
 elements_end levels from i done all past before =
     let left : drop i from ≡ [] = drop_all i from past in
-    before ∙ ap (λ js. result_map (elements_before (list_of done)) (spec.read_elements levels (items_of (json_list_of js)))) left ∙ ap Ok (elements_before-none (list_of done))
+    before ∙ ap (λ js. result_map (elements_before (datum_list_of done)) (spec.read_elements levels (items_of (json_list_of js)))) left ∙ ap Ok (elements_before-none (datum_list_of done))
 
 pub next_field : (from : List Field) (i : ℕ) (f : Field) → f ≡ get_or from i f → i < length from → drop i from ≡ f ∷ drop (i + 1) from
 next_field from i f is within = drop-cons from i f within ∙ rw (← is, add-one)
@@ -94,7 +94,7 @@ pub attribute_step : (levels : ℕ) (from rest : List Field) (f : Field) (es ns 
     → IsReadSoFar levels es from all → IsReadSoFar levels ns rest all
 attribute_step levels from rest f es ns k v all is named reads made before =
     let sorted : IsStrictlySortedBy text_cmp (keys_of (entries_of es) ++ k ∷ keys_of (fields_of rest)) = rw named (rw is at before.0) in
-    let entries : entries_of ns ≡ entries_of es ++ (k, datum_of v) ∷ [] = ap entries_of made ∙ map-append entry_of es (record { name = k; value = v } ∷ []) in
+    let entries : entries_of ns ≡ entries_of es ++ (k, datum_of v) ∷ [] = ap entries_of made ∙ map-append attribute_pair es (record { name = k; value = v } ∷ []) in
     let read : spec.read_attributes levels (members_of (fields_of (f ∷ rest))) ≡ result_map (attribute k (datum_of v)) (spec.read_attributes levels (members_of (fields_of rest))) = rw (reads, named) in
     let names : keys_of (entries_of ns) ≡ keys_of (entries_of es) ++ k ∷ [] = ap keys_of entries ∙ keys_of-append (entries_of es) _ in (
       subst (IsStrictlySortedBy text_cmp) (sym (ap (λ ks. ks ++ keys_of (fields_of rest)) names ∙ append_assoc (keys_of (entries_of es)) (k ∷ []) (keys_of (fields_of rest)))) sorted,
@@ -130,7 +130,7 @@ read_kind-none levels d = refl
 
 -- an object with one field, and any other
 pub read_datum-field : (levels : ℕ) (name : List ℕ) (d : json.Data) (ms : List (List ℕ × json.Data)) → ms ≡ (name, d) ∷ []
-    → spec.read_datum levels (json.fields (members_of ms)) ≡ spec.read_kind (spec.kind_of name) levels d
+    → spec.read_datum levels (json.fields (members_of ms)) ≡ spec.read_kind (spec.type_kind_of name) levels d
 read_datum-field levels name d ms e = rw e refl
 
 pub read_datum-other : (levels : ℕ) (ms : List (List ℕ × json.Data)) → length ms ≢ 1 → spec.read_datum levels (json.fields (members_of ms)) ≡ Err BadValue

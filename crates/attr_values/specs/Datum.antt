@@ -51,8 +51,8 @@ abbrev mutual
   attributes_depth no_attributes = 0
   attributes_depth (attribute k d ms) = max (depth d) (attributes_depth ms)
 
-abbrev pub list_depth : List Datum → ℕ
-list_depth ds = elements_depth (elements_of ds)
+abbrev pub datum_list_depth : List Datum → ℕ
+datum_list_depth ds = elements_depth (elements_of ds)
 
 abbrev pub entries_depth : List (List ℕ × Datum) → ℕ
 entries_depth ms = attributes_depth (attributes_of ms)

@@ -67,8 +67,8 @@ mutual
 abbrev pub datum_code : Coded Datum
 datum_code = record { code = datum_gv; inj = datum_inj }
 
-abbrev pub list_code : Coded (List Datum)
-list_code = coded_list datum_code
+abbrev pub datum_list_code : Coded (List Datum)
+datum_list_code = coded_list datum_code
 
 abbrev pub entries_code : Coded (List (List ℕ × Datum))
 entries_code = coded_list (coded× (coded_list coded_ℕ) datum_code)

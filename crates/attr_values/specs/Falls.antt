@@ -6,8 +6,8 @@ use Rattle.std.specs.declared.alloc.Global.{Global}
 use Rattle.std.specs.declared.sync.Arc.{Arc}
 use Rattle.std.specs.declared.vec.Vec.{Vec}
 use Rattle.std.proofs.Common.{arith}
-use Rattle.attr_values.specs.Datum.{depth, list_depth, entries_depth}
-use Rattle.attr_values.specs.View.{datum_of, list_of, entries_of}
+use Rattle.attr_values.specs.Datum.{depth, datum_list_depth, entries_depth}
+use Rattle.attr_values.specs.View.{datum_of, datum_list_of, entries_of}
 use Rattle.attr_values.specs.declared.value.Attribute.{Attribute}
 use Rattle.attr_values.specs.declared.value.Value.{Value}
 use Rattle.attr_values.specs.declared.value.Value.TheVariants.{S, N, Bool, Null, L, M, Ss, Ns}
@@ -25,7 +25,7 @@ deep_le (M ms) = omega arith
 deep_le (Ss ss) = omega arith
 deep_le (Ns ns) = omega arith
 
-values_fall : (vs : List Value) → most (λ v. deep-Value v) vs ≤ list_depth (list_of vs)
+values_fall : (vs : List Value) → most (λ v. deep-Value v) vs ≤ datum_list_depth (datum_list_of vs)
 values_fall [] = omega arith
 values_fall (v ∷ vs) = omega (arith, deep_le v, values_fall vs)
 
@@ -33,11 +33,11 @@ attributes_fall : (xs : List Attribute) → most (λ a. deep-Attribute a) xs ≤
 attributes_fall [] = omega arith
 attributes_fall (a ∷ xs) = omega (arith, deep_le a.value, attributes_fall xs)
 
-list_falls_at : (inner : Arc (Vec Value Global) Global) → deep-ValueList (record { inner = inner }) ≤ list_depth (list_of (arc_value inner).items)
+list_falls_at : (inner : Arc (Vec Value Global) Global) → deep-ValueList (record { inner = inner }) ≤ datum_list_depth (datum_list_of (arc_value inner).items)
 list_falls_at inner = omega (arith, values_fall (arc_value inner).items)
 
-pub list_falls : (a : list_inside.Inside) → deep-ValueList a ≤ list_depth (list_of (arc_value a.inner).items)
-list_falls a = list_falls_at a.inner
+pub datum_list_falls : (a : list_inside.Inside) → deep-ValueList a ≤ datum_list_depth (datum_list_of (arc_value a.inner).items)
+datum_list_falls a = list_falls_at a.inner
 
 entries_fall_at : (inner : Arc (Vec Attribute Global) Global) → deep-ValueMap (record { inner = inner }) ≤ entries_depth (entries_of (arc_value inner).items)
 entries_fall_at inner = omega (arith, attributes_fall (arc_value inner).items)

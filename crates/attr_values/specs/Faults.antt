@@ -12,5 +12,5 @@ result_and_then f (Ok x) = f x
 result_and_then f (Err e) = Err e
 
 -- the call's answer is the wanted one, as `view` sees it, or want of memory
-abbrev pub Answers : {A B : Type 0} → (A → B) → Result B ItemFault → Result A ItemFault → Type 0
-Answers view want r = MatchResult r (λ x. want ≡ Ok (view x)) (λ e. (e ≡ Memory) ⊎ (want ≡ Err e))
+abbrev pub AnswersAs : {A B : Type 0} → (A → B) → Result B ItemFault → Result A ItemFault → Type 0
+AnswersAs view want r = MatchResult r (λ x. want ≡ Ok (view x)) (λ e. (e ≡ Memory) ⊎ (want ≡ Err e))

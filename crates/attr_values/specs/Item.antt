@@ -11,5 +11,5 @@ abbrev pub get_attribute : List ℕ → List (List ℕ × Datum) → Option Datu
 get_attribute name ms = lookup (is_at (text_cmp name)) ms
 
 -- each name stands once, and the names rise
-abbrev pub IsInNameOrder : List (List ℕ × Datum) → Type 0
-IsInNameOrder ms = IsStrictlySortedBy text_cmp (keys_of ms)
+abbrev pub IsItemInNameOrder : List (List ℕ × Datum) → Type 0
+IsItemInNameOrder ms = IsStrictlySortedBy text_cmp (keys_of ms)

@@ -59,13 +59,13 @@ abbrev pub key_of : KeySchema → List (List ℕ × Datum) → Result Key ItemFa
 key_of schema item = result_and_then (λ p. result_map (λ s. record { partition = p; sort = s }) (sort_of schema.sort item)) (part_of schema.partition item)
 
 -- whether a key has a text: only then is memory taken to make it
-abbrev pub is_text : KeyType → Bool
-is_text TextType = true
-is_text NumberType = false
+abbrev pub is_text_type : KeyType → Bool
+is_text_type TextType = true
+is_text_type NumberType = false
 
 abbrev pub sort_is_text : Option KeyAttribute → Bool
 sort_is_text None = false
-sort_is_text (Some a) = is_text a.kind
+sort_is_text (Some a) = is_text_type a.kind
 
 abbrev pub has_text : KeySchema → Bool
-has_text schema = is_text schema.partition.kind || sort_is_text schema.sort
+has_text schema = is_text_type schema.partition.kind || sort_is_text schema.sort

@@ -55,8 +55,8 @@ abbrev pub ItemReadsBack : Type 0
 ItemReadsBack = (item : List (List ℕ × Datum)) → IsItem item → read_item (item_json item) ≡ Ok (attributes_of item)
 
 -- `==` answers true of one value, and of no two
-abbrev pub EqualityIsOfValues : Type 0
-EqualityIsOfValues =
+abbrev pub EqualityIsOfItemValues : Type 0
+EqualityIsOfItemValues =
     ((a b : Value) → (eq_by_cmp (on datum_of datum_cmp) a b ≡ true) ↔ (a ≡ b))
     × ((a b : List (List ℕ × Datum)) → (eq_by_cmp (on attributes_of attributes_cmp) a b ≡ true) ↔ (a ≡ b))
     × ((a b : Key) → (eq_by_cmp key_cmp a b ≡ true) ↔ (a ≡ b))
@@ -72,13 +72,13 @@ BothSame (Some d) (Some e) = SameByValue d e
 BothSame _ _ = ⊥
 
 -- two items agree at an attribute of their key
-abbrev pub AgreeAt : KeyAttribute → List (List ℕ × Datum) → List (List ℕ × Datum) → Type 0
-AgreeAt a x y = BothSame (get_attribute a.name x) (get_attribute a.name y)
+abbrev pub AgreeAtAttribute : KeyAttribute → List (List ℕ × Datum) → List (List ℕ × Datum) → Type 0
+AgreeAtAttribute a x y = BothSame (get_attribute a.name x) (get_attribute a.name y)
 
 abbrev pub AgreeAtSort : Option KeyAttribute → List (List ℕ × Datum) → List (List ℕ × Datum) → Type 0
 AgreeAtSort None x y = Unit {0}
-AgreeAtSort (Some a) x y = AgreeAt a x y
+AgreeAtSort (Some a) x y = AgreeAtAttribute a x y
 
 -- two items whose keys are equal by value have one key
 abbrev pub OneKeyAValue : Type 0
-OneKeyAValue = (schema : KeySchema) (x y : List (List ℕ × Datum)) → IsItem x → IsItem y → AgreeAt schema.partition x y → AgreeAtSort schema.sort x y → key_of schema x ≡ key_of schema y
+OneKeyAValue = (schema : KeySchema) (x y : List (List ℕ × Datum)) → IsItem x → IsItem y → AgreeAtAttribute schema.partition x y → AgreeAtSort schema.sort x y → key_of schema x ≡ key_of schema y

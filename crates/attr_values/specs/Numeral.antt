@@ -36,15 +36,15 @@ in_bounds m = nat_lt m.0 (10 ^ 38) && nat_le m.1 100
 abbrev pub decimal_of : Bool → ℕ × ℕ → Decimal
 decimal_of negative m = record { coefficient = with_sign negative m.0; places = m.1 }
 
-abbrev pub bounded : Bool → ℕ × ℕ → Option Decimal
-bounded negative m = if in_bounds m then Some (decimal_of negative m) else None
+abbrev pub decimal_in_bounds : Bool → ℕ × ℕ → Option Decimal
+decimal_in_bounds negative m = if in_bounds m then Some (decimal_of negative m) else None
 
 -- the number over ten to its places that the digits write
 abbrev pub magnitude : List ℕ → ℕ × ℕ
 magnitude text = shortened (digits_value 10 (before_first is_point text ++ after_first is_point text)) (length (after_first is_point text))
 
 abbrev pub read_unsigned : Bool → List ℕ → Option Decimal
-read_unsigned negative text = if is_unsigned text then bounded negative (magnitude text) else None
+read_unsigned negative text = if is_unsigned text then decimal_in_bounds negative (magnitude text) else None
 
 -- the number that a text writes, and none where it writes none or one past the bounds
 abbrev pub read_number : List ℕ → Option Decimal

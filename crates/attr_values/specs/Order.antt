@@ -13,15 +13,15 @@ use Rattle.attr_values.specs.Datum.{Datum, text, number, boolean, null, list, do
 use Rattle.attr_values.specs.Decimal.{Decimal, decimal_cmp}
 use Rattle.attr_values.specs.DecimalOrder.{decimal_cmp_total}
 
-abbrev pub rank : Datum → ℕ
-rank (text s) = 0
-rank (number m) = 1
-rank (boolean a) = 2
-rank null = 3
-rank (list ds) = 4
-rank (document ms) = 5
-rank (texts ss) = 6
-rank (numbers ks) = 7
+abbrev pub datum_rank : Datum → ℕ
+datum_rank (text s) = 0
+datum_rank (number m) = 1
+datum_rank (boolean a) = 2
+datum_rank null = 3
+datum_rank (list ds) = 4
+datum_rank (document ms) = 5
+datum_rank (texts ss) = 6
+datum_rank (numbers ks) = 7
 
 abbrev pub text_lists_cmp : List (List ℕ) → List (List ℕ) → Ordering
 text_lists_cmp = slice_cmp text_cmp
@@ -39,7 +39,7 @@ abbrev mutual
   datum_cmp (document ms) (document ns) = attributes_cmp ms ns
   datum_cmp (texts ss) (texts ts) = text_lists_cmp ss ts
   datum_cmp (numbers ks) (numbers ls) = number_lists_cmp ks ls
-  datum_cmp d e = nat_cmp (rank d) (rank e)
+  datum_cmp d e = nat_cmp (datum_rank d) (datum_rank e)
 
   pub elements_cmp : Elements → Elements → Ordering
   elements_cmp no_elements no_elements = Equal

@@ -17,8 +17,8 @@ use Rattle.attr_values.specs.declared.reading.Kind.TheVariants.{S, N, Bool as Bo
 use lib.Pointwise.{pointwise}
 
 -- the type that a name stands for
-abbrev pub kind_of : List ℕ → Option Kind
-kind_of name =
+abbrev pub type_kind_of : List ℕ → Option Kind
+type_kind_of name =
     if pointwise ◌==◌ name (codes "S") then Some S else
     if pointwise ◌==◌ name (codes "N") then Some N else
     if pointwise ◌==◌ name (codes "BOOL") then Some BoolKind else
@@ -47,7 +47,7 @@ read_numbers set _ = Err BadValue
 abbrev mutual
   -- a value that nests lists and maps at most `levels` deep
   pub read_datum : ℕ → json.Data → Result Datum ItemFault
-  read_datum levels (json.fields (json.member name d json.no_members)) = read_kind (kind_of name) levels d
+  read_datum levels (json.fields (json.member name d json.no_members)) = read_kind (type_kind_of name) levels d
   read_datum levels _ = Err BadValue
 
   pub read_kind : Option Kind → ℕ → json.Data → Result Datum ItemFault
@@ -84,7 +84,7 @@ kind_takes_memory (Some Ns) (json.list ds) = true
 kind_takes_memory _ _ = false
 
 abbrev pub takes_memory : json.Data → Bool
-takes_memory (json.fields (json.member name d json.no_members)) = kind_takes_memory (kind_of name) d
+takes_memory (json.fields (json.member name d json.no_members)) = kind_takes_memory (type_kind_of name) d
 takes_memory _ = false
 
 abbrev pub is_object : json.Data → Bool

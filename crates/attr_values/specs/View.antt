@@ -15,11 +15,11 @@ datum_of (M ms) = document (attributes_of ms)
 datum_of (Ss ss) = texts ss
 datum_of (Ns ns) = numbers ns
 
-abbrev pub list_of : List Value → List Datum
-list_of = map datum_of
+abbrev pub datum_list_of : List Value → List Datum
+datum_list_of = map datum_of
 
-abbrev pub entry_of : Attribute → List ℕ × Datum
-entry_of a = (a.name, datum_of a.value)
+abbrev pub attribute_pair : Attribute → List ℕ × Datum
+attribute_pair a = (a.name, datum_of a.value)
 
 abbrev pub entries_of : List Attribute → List (List ℕ × Datum)
-entries_of = map entry_of
+entries_of = map attribute_pair

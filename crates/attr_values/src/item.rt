@@ -3,7 +3,7 @@
 ghost use Rattle.std.specs.Prelude.{◌≡◌, ◌↔◌, [], Ok, Err, length, option_map, IsTrue, IfOk, is_some};
 ghost use Rattle.json_tree.specs.View.{data_of};
 ghost use Rattle.attr_values.specs.Datum.{attributes_of};
-ghost use Rattle.attr_values.specs.Faults.{Answers};
+ghost use Rattle.attr_values.specs.Faults.{AnswersAs};
 ghost use Rattle.attr_values.specs.Item.{get_attribute};
 ghost use Rattle.attr_values.specs.Proper.{IsItem};
 ghost use Rattle.attr_values.specs.Reading as spec;
@@ -141,7 +141,7 @@ impl Ord for Item {
 /// Reads an item: an object whose fields are attributes. Takes memory for the attributes, and for each list, map and set
 /// among them; names and texts are shared.
 pub fn read_item(alloc: Global, json: &Json) -> Result<Item, ItemFault>
-    ensures read { Answers attributes_of (spec.read_item (data_of json.now)) result }
+    ensures read { AnswersAs attributes_of (spec.read_item (data_of json.now)) result }
     ensures kept { IfOk result IsItem }
     ensures memory { result ≡ Err ItemFault.Memory → IsTrue (spec.is_object (data_of json.now)) }
 {

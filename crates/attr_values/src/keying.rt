@@ -1,7 +1,7 @@
 //! From an item to its key.
 
 ghost use Rattle.std.specs.Prelude.{◌≡◌, ◌≢◌, Some, Err, IsTrue, IsOk, IfErr, OnOk};
-ghost use Rattle.attr_values.specs.Faults.{Answers};
+ghost use Rattle.attr_values.specs.Faults.{AnswersAs};
 ghost use Rattle.attr_values.specs.Key as spec;
 ghost use Rattle.attr_values.specs.View.{datum_of};
 
@@ -14,7 +14,7 @@ use crate::value::Value;
 /// The key of an item: its partition is looked at first, and then its sort attribute. `NoKey` where the item lacks one of
 /// them, `KeyType` where one is of another type, `EmptyKey` where a text is empty. Only then are texts copied.
 pub fn key_of(schema: &KeySchema, item: &Item) -> Result<Key, ItemFault>
-    ensures key { Answers (λ k. k) (spec.key_of schema.now item.now) result }
+    ensures key { AnswersAs (λ k. k) (spec.key_of schema.now item.now) result }
     ensures memory { result ≡ Err ItemFault.Memory → IsTrue (spec.has_text schema.now) × IsOk (spec.key_of schema.now item.now) }
 {
     has_part(&schema.partition, item)?;
@@ -48,8 +48,8 @@ fn has_part(attribute: &KeyAttribute, item: &Item) -> Result<(), ItemFault>
 }
 
 fn part_of(attribute: &KeyAttribute, item: &Item) -> Result<KeyPart, ItemFault>
-    ensures part { Answers (λ p. p) (spec.part_of attribute.now item.now) result }
-    ensures memory { result ≡ Err ItemFault.Memory → IsTrue (spec.is_text attribute.now.kind) }
+    ensures part { AnswersAs (λ p. p) (spec.part_of attribute.now item.now) result }
+    ensures memory { result ≡ Err ItemFault.Memory → IsTrue (spec.is_text_type attribute.now.kind) }
 {
     let Some(value) = item.get(attribute.name.as_str()) else {
         return Err(ItemFault::NoKey);
@@ -61,7 +61,7 @@ fn part_of(attribute: &KeyAttribute, item: &Item) -> Result<KeyPart, ItemFault>
 }
 
 fn text_part(value: &Value) -> Result<KeyPart, ItemFault>
-    ensures { Answers (λ p. p) (spec.part_from KeyType.S (Some (datum_of value.now))) result }
+    ensures { AnswersAs (λ p. p) (spec.part_from KeyType.S (Some (datum_of value.now))) result }
 {
     let Value::S(text) = value else {
         return Err(ItemFault::KeyType);
@@ -73,7 +73,7 @@ fn text_part(value: &Value) -> Result<KeyPart, ItemFault>
 }
 
 fn number_part(value: &Value) -> Result<KeyPart, ItemFault>
-    ensures part { Answers (λ p. p) (spec.part_from KeyType.N (Some (datum_of value.now))) result }
+    ensures part { AnswersAs (λ p. p) (spec.part_from KeyType.N (Some (datum_of value.now))) result }
     ensures memory { result ≢ Err ItemFault.Memory }
 {
     let Value::N(number) = value else {

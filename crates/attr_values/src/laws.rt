@@ -1,6 +1,6 @@
 //! Laws over several calls. Each is the contract of a call that does nothing.
 
-ghost use Rattle.attr_values.specs.Laws.{ReadsTheNumber, NumberReadsBack, OneFormANumber, OneNumberASpelling, ValueReadsBack, ItemReadsBack, EqualityIsOfValues, OneKeyAValue};
+ghost use Rattle.attr_values.specs.Laws.{ReadsTheNumber, NumberReadsBack, OneFormANumber, OneNumberASpelling, ValueReadsBack, ItemReadsBack, EqualityIsOfItemValues, OneKeyAValue};
 
 /// The number that is read is the one that the text writes, in its shortest form.
 pub fn numbers_are_read()
@@ -26,7 +26,7 @@ pub fn written_is_read_back()
 
 /// `==` says whether two values, items or keys are one: what they have room for is no part of it.
 pub fn equality_is_of_values()
-    ensures { EqualityIsOfValues }
+    ensures { EqualityIsOfItemValues }
 {}
 
 /// Items whose keys are equal by value, as `1` and `1.0` are, have one key.

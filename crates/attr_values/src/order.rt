@@ -2,7 +2,7 @@
 
 ghost use Rattle.std.specs.Prelude.{◌≡◌};
 ghost use Rattle.attr_values.specs.Datum.{elements_of, attributes_of};
-ghost use Rattle.attr_values.specs.Order.{datum_cmp, elements_cmp, attributes_cmp, rank};
+ghost use Rattle.attr_values.specs.Order.{datum_cmp, elements_cmp, attributes_cmp, datum_rank};
 ghost use Rattle.attr_values.specs.View.{datum_of};
 
 use crate::value::{Attribute, Value, ValueList, ValueMap};
@@ -68,7 +68,7 @@ impl Ord for Value {
 }
 
 fn rank_of(value: &Value) -> u8
-    ensures { result ≡ rank (datum_of value.now) }
+    ensures { result ≡ datum_rank (datum_of value.now) }
 {
     match value {
         Value::S(_) => 0,

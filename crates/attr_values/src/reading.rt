@@ -7,7 +7,7 @@ ghost use Rattle.json_tree.specs.Data.{items_of, members_of};
 ghost use Rattle.json_tree.specs.Fields.{text_cmp};
 ghost use Rattle.json_tree.specs.View.{data_of};
 ghost use Rattle.attr_values.specs.Datum.{elements_of, attributes_of};
-ghost use Rattle.attr_values.specs.Faults.{Answers};
+ghost use Rattle.attr_values.specs.Faults.{AnswersAs};
 ghost use Rattle.attr_values.specs.Proper.{IsProper};
 ghost use Rattle.attr_values.specs.Reading as spec;
 ghost use Rattle.attr_values.specs.View.{datum_of};
@@ -39,7 +39,7 @@ enum Kind {
 /// Reads a value: an object with one field, named for its type. Takes memory for each list, map and set, and shares
 /// the texts.
 pub fn read_value(alloc: Global, json: &Json) -> Result<Value, ItemFault>
-    ensures read { Answers datum_of (spec.read_datum 32 (data_of json.now)) result }
+    ensures read { AnswersAs datum_of (spec.read_datum 32 (data_of json.now)) result }
     ensures kept { IfOk result (λ v. IsProper 32 (datum_of v)) }
     ensures memory { result ≡ Err ItemFault.Memory → IsTrue (spec.takes_memory (data_of json.now)) }
 {
@@ -47,7 +47,7 @@ pub fn read_value(alloc: Global, json: &Json) -> Result<Value, ItemFault>
 }
 
 fn kind_of(name: &str) -> Option<Kind>
-    ensures { result ≡ spec.kind_of name.now }
+    ensures { result ≡ spec.type_kind_of name.now }
 {
     match name {
         "S" => Some(Kind::S),
@@ -74,7 +74,7 @@ fn only_field(fields: &JsonFields) -> Option<(&str, &Json)>
 
 #[cycle(read)]
 fn read_within(alloc: Global, json: &Json, levels: u8) -> Result<Value, ItemFault>
-    ensures read { Answers datum_of (spec.read_datum levels (data_of json.now)) result }
+    ensures read { AnswersAs datum_of (spec.read_datum levels (data_of json.now)) result }
     ensures memory { result ≡ Err ItemFault.Memory → IsTrue (spec.takes_memory (data_of json.now)) }
 {
     let Json::Fields(fields) = json else {
@@ -91,7 +91,7 @@ fn read_within(alloc: Global, json: &Json, levels: u8) -> Result<Value, ItemFaul
 
 #[cycle(read)]
 fn read_kind(alloc: Global, kind: Kind, json: &Json, levels: u8) -> Result<Value, ItemFault>
-    ensures read { Answers datum_of (spec.read_kind (Some kind) levels (data_of json.now)) result }
+    ensures read { AnswersAs datum_of (spec.read_kind (Some kind) levels (data_of json.now)) result }
     ensures memory { result ≡ Err ItemFault.Memory → IsTrue (spec.kind_takes_memory (Some kind) (data_of json.now)) }
 {
     match kind {
@@ -107,7 +107,7 @@ fn read_kind(alloc: Global, kind: Kind, json: &Json, levels: u8) -> Result<Value
 }
 
 fn read_text(json: &Json) -> Result<Value, ItemFault>
-    ensures read { Answers datum_of (spec.read_kind (Some Kind.S) 0 (data_of json.now)) result }
+    ensures read { AnswersAs datum_of (spec.read_kind (Some Kind.S) 0 (data_of json.now)) result }
     ensures memory { result ≡ Err ItemFault.Memory → IsTrue (spec.kind_takes_memory (Some Kind.S) (data_of json.now)) }
 {
     match json {
@@ -117,7 +117,7 @@ fn read_text(json: &Json) -> Result<Value, ItemFault>
 }
 
 fn read_number(json: &Json) -> Result<Value, ItemFault>
-    ensures read { Answers datum_of (spec.read_kind (Some Kind.N) 0 (data_of json.now)) result }
+    ensures read { AnswersAs datum_of (spec.read_kind (Some Kind.N) 0 (data_of json.now)) result }
     ensures memory { result ≡ Err ItemFault.Memory → IsTrue (spec.kind_takes_memory (Some Kind.N) (data_of json.now)) }
 {
     match json {
@@ -127,7 +127,7 @@ fn read_number(json: &Json) -> Result<Value, ItemFault>
 }
 
 fn read_bool(json: &Json) -> Result<Value, ItemFault>
-    ensures read { Answers datum_of (spec.read_kind (Some Kind.Bool) 0 (data_of json.now)) result }
+    ensures read { AnswersAs datum_of (spec.read_kind (Some Kind.Bool) 0 (data_of json.now)) result }
     ensures memory { result ≡ Err ItemFault.Memory → IsTrue (spec.kind_takes_memory (Some Kind.Bool) (data_of json.now)) }
 {
     match json {
@@ -137,7 +137,7 @@ fn read_bool(json: &Json) -> Result<Value, ItemFault>
 }
 
 fn read_null(json: &Json) -> Result<Value, ItemFault>
-    ensures read { Answers datum_of (spec.read_kind (Some Kind.Null) 0 (data_of json.now)) result }
+    ensures read { AnswersAs datum_of (spec.read_kind (Some Kind.Null) 0 (data_of json.now)) result }
     ensures memory { result ≡ Err ItemFault.Memory → IsTrue (spec.kind_takes_memory (Some Kind.Null) (data_of json.now)) }
 {
     match json {
@@ -148,7 +148,7 @@ fn read_null(json: &Json) -> Result<Value, ItemFault>
 
 #[cycle(read)]
 fn read_list(alloc: Global, json: &Json, levels: u8) -> Result<Value, ItemFault>
-    ensures read { Answers datum_of (spec.read_kind (Some Kind.L) levels (data_of json.now)) result }
+    ensures read { AnswersAs datum_of (spec.read_kind (Some Kind.L) levels (data_of json.now)) result }
     ensures memory { result ≡ Err ItemFault.Memory → IsTrue (spec.kind_takes_memory (Some Kind.L) (data_of json.now)) }
 {
     match json {
@@ -162,7 +162,7 @@ fn read_list(alloc: Global, json: &Json, levels: u8) -> Result<Value, ItemFault>
 
 #[cycle(read)]
 fn read_map(alloc: Global, json: &Json, levels: u8) -> Result<Value, ItemFault>
-    ensures read { Answers datum_of (spec.read_kind (Some Kind.M) levels (data_of json.now)) result }
+    ensures read { AnswersAs datum_of (spec.read_kind (Some Kind.M) levels (data_of json.now)) result }
     ensures memory { result ≡ Err ItemFault.Memory → IsTrue (spec.kind_takes_memory (Some Kind.M) (data_of json.now)) }
 {
     match json {
@@ -175,7 +175,7 @@ fn read_map(alloc: Global, json: &Json, levels: u8) -> Result<Value, ItemFault>
 }
 
 fn read_text_set(alloc: Global, json: &Json) -> Result<Value, ItemFault>
-    ensures read { Answers datum_of (spec.read_kind (Some Kind.Ss) 0 (data_of json.now)) result }
+    ensures read { AnswersAs datum_of (spec.read_kind (Some Kind.Ss) 0 (data_of json.now)) result }
     ensures memory { result ≡ Err ItemFault.Memory → IsTrue (spec.kind_takes_memory (Some Kind.Ss) (data_of json.now)) }
 {
     match json {
@@ -185,7 +185,7 @@ fn read_text_set(alloc: Global, json: &Json) -> Result<Value, ItemFault>
 }
 
 fn read_number_set(alloc: Global, json: &Json) -> Result<Value, ItemFault>
-    ensures read { Answers datum_of (spec.read_kind (Some Kind.Ns) 0 (data_of json.now)) result }
+    ensures read { AnswersAs datum_of (spec.read_kind (Some Kind.Ns) 0 (data_of json.now)) result }
     ensures memory { result ≡ Err ItemFault.Memory → IsTrue (spec.kind_takes_memory (Some Kind.Ns) (data_of json.now)) }
 {
     match json {
@@ -196,7 +196,7 @@ fn read_number_set(alloc: Global, json: &Json) -> Result<Value, ItemFault>
 
 #[cycle(read)]
 fn read_elements(alloc: Global, list: &JsonList, levels: u8) -> Result<ValueList, ItemFault>
-    ensures { Answers elements_of (spec.read_elements levels (items_of list.now)) result }
+    ensures { AnswersAs elements_of (spec.read_elements levels (items_of list.now)) result }
 {
     let mut inner = Vec::with_capacity(alloc, list.len())?;
     for json in list.as_slice() {
@@ -213,7 +213,7 @@ pub(crate) fn read_attributes(
     fields: &JsonFields,
     levels: u8,
 ) -> Result<ValueMap, ItemFault>
-    ensures read { Answers attributes_of (spec.read_attributes levels (members_of fields.now)) result }
+    ensures read { AnswersAs attributes_of (spec.read_attributes levels (members_of fields.now)) result }
     ensures ordered { IfOk result (λ m. IsStrictlySortedBy text_cmp (keys_of m)) }
 {
     let mut inner = Vec::with_capacity(alloc, fields.len())?;
@@ -228,7 +228,7 @@ pub(crate) fn read_attributes(
 }
 
 fn read_texts(alloc: Global, list: &JsonList) -> Result<TextSet, ItemFault>
-    ensures { Answers (λ s. s) (spec.read_texts [] (items_of list.now)) result }
+    ensures { AnswersAs (λ s. s) (spec.read_texts [] (items_of list.now)) result }
 {
     let mut inner = BTreeSet::new(alloc);
     for json in list.as_slice() {
@@ -245,7 +245,7 @@ fn read_texts(alloc: Global, list: &JsonList) -> Result<TextSet, ItemFault>
 }
 
 fn read_numbers(alloc: Global, list: &JsonList) -> Result<NumberSet, ItemFault>
-    ensures { Answers (λ s. s) (spec.read_numbers [] (items_of list.now)) result }
+    ensures { AnswersAs (λ s. s) (spec.read_numbers [] (items_of list.now)) result }
 {
     let mut inner = BTreeSet::new(alloc);
     for json in list.as_slice() {

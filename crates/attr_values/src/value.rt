@@ -2,7 +2,7 @@
 
 ghost use Rattle.std.specs.Prelude.{◌≡◌, ◌↔◌, [], length, option_map, IsTrue, IfOk};
 ghost use Rattle.attr_values.specs.Item.{get_attribute};
-ghost use Rattle.attr_values.specs.View.{datum_of, list_of};
+ghost use Rattle.attr_values.specs.View.{datum_of, datum_list_of};
 ghost use Rattle.json_tree.specs.Fields.{text_cmp};
 
 use crate::number::Number;
@@ -37,23 +37,23 @@ pub struct ValueList {
 
 impl Model for ValueList {
     ghost use Rattle.std.specs.Prelude.{List};
-    ghost use Rattle.attr_values.specs.Datum.{Datum, list_depth};
-    ghost use Rattle.attr_values.specs.DatumCode.{list_code};
+    ghost use Rattle.attr_values.specs.Datum.{Datum, datum_list_depth};
+    ghost use Rattle.attr_values.specs.DatumCode.{datum_list_code};
 
     ghost Value = { List Datum };
 
-    ghost coded = { list_code };
+    ghost coded = { datum_list_code };
 
     ghost use Rattle.std.specs.Arc.{arc_value};
-    ghost use Rattle.attr_values.specs.View.{list_of};
+    ghost use Rattle.attr_values.specs.View.{datum_list_of};
 
-    ghost view = { λ a. list_of (arc_value a.inner).items };
+    ghost view = { λ a. datum_list_of (arc_value a.inner).items };
 
-    ghost size = { list_depth };
+    ghost size = { datum_list_depth };
 
-    ghost use Rattle.attr_values.specs.Falls.{list_falls};
+    ghost use Rattle.attr_values.specs.Falls.{datum_list_falls};
 
-    ghost size_decreases = { λ a h. list_falls a };
+    ghost size_decreases = { λ a h. datum_list_falls a };
 }
 
 /// An attribute: its name and its value.
@@ -81,12 +81,12 @@ impl Model for ValueMap {
     ghost coded = { entries_code };
 
     ghost use Rattle.std.specs.Arc.{arc_value};
-    ghost use Rattle.attr_values.specs.Item.{IsInNameOrder};
+    ghost use Rattle.attr_values.specs.Item.{IsItemInNameOrder};
     ghost use Rattle.attr_values.specs.View.{entries_of};
 
     ghost view = { λ a. entries_of (arc_value a.inner).items };
 
-    ghost invariant = { λ a. IsInNameOrder (entries_of (arc_value a.inner).items) };
+    ghost invariant = { λ a. IsItemInNameOrder (entries_of (arc_value a.inner).items) };
 
     ghost size = { entries_depth };
 
@@ -116,7 +116,7 @@ impl Value {
 
 impl ValueList {
     pub fn as_slice(&self) -> &[Value]
-        ensures { list_of result.now ≡ self.now }
+        ensures { datum_list_of result.now ≡ self.now }
     {
         self.inner.as_slice()
     }

@@ -13,15 +13,15 @@ use Rattle.book_log.specs.declared.moved.Moved.{Moved}
 use Rattle.book_log.specs.declared.refusal.Refusal.{Refusal}
 use Rattle.book_log.specs.declared.refusal.Refusal.TheVariants as refusal
 use Rattle.book_events.specs.Planned.{IsMoveRefusal}
-use Rattle.book_events.specs.Tickets.{readiness_in}
+use Rattle.book_events.specs.Tickets.{log_readiness}
 use Rattle.book_events.specs.declared.commits.CommitRefusal.{CommitRefusal}
 use Rattle.book_events.specs.declared.commits.CommitRefusal.TheVariants.{Stale, Held, Refused}
 use Rattle.book_events.specs.declared.commits.Staleness.{Staleness}
 use Rattle.book_events.specs.declared.commits.Staleness.TheVariants as stale
 
-abbrev pub is_ready : Phase → Bool
-is_ready Ready = true
-is_ready _ = false
+abbrev pub is_phase_ready : Phase → Bool
+is_phase_ready Ready = true
+is_phase_ready _ = false
 
 -- the book's machine of this frame's level is the one of which the turn was prepared, and so is the frame
 abbrev pub IsSource : Log → Prepared → Frame → Type 0
@@ -29,7 +29,7 @@ IsSource log p f = (f ≡ p.frame) × (machine_of log f.level.machine ≡ Some p
 
 -- the thread has the frame, and the book the machine, of which the turn was prepared, and the thread may begin
 pub record IsFresh (log : Log) (t : Thread) (p : Prepared) : Type 0 where
-  pub begins : first.is_enabled (readiness_in log t) ≡ true
+  pub begins : first.is_free_to_move (log_readiness log t) ≡ true
   pub frame : (world_of log).frames t ≡ Some p.frame
   pub machine : machine_of log p.frame.level.machine ≡ Some p.machine
 
@@ -38,9 +38,9 @@ pub record IsFresh (log : Log) (t : Thread) (p : Prepared) : Type 0 where
 abbrev pub IsStale : Log → Thread → Prepared → Staleness → Type 0
 IsStale log t p stale.Gone = (world_of log).frames t ≡ None
 IsStale log t p (stale.NotReady readiness) =
-    (f : Frame) × ((world_of log).frames t ≡ Some f) × ((is_ready f.phase ≡ false) ⊎ (IsSource log p f × (first.is_enabled (readiness_in log t) ≡ false))) × (readiness ≡ readiness_in log t)
-IsStale log t p (stale.Moved count) = (f : Frame) × ((world_of log).frames t ≡ Some f) × (is_ready f.phase ≡ true) × (count ≡ f.count) × (f.count ≡ p.frame.count → ⊥)
-IsStale log t p stale.Other = (f : Frame) × ((world_of log).frames t ≡ Some f) × (is_ready f.phase ≡ true) × (f.count ≡ p.frame.count) × (IsSource log p f → ⊥)
+    (f : Frame) × ((world_of log).frames t ≡ Some f) × ((is_phase_ready f.phase ≡ false) ⊎ (IsSource log p f × (first.is_free_to_move (log_readiness log t) ≡ false))) × (readiness ≡ log_readiness log t)
+IsStale log t p (stale.Moved count) = (f : Frame) × ((world_of log).frames t ≡ Some f) × (is_phase_ready f.phase ≡ true) × (count ≡ f.count) × (f.count ≡ p.frame.count → ⊥)
+IsStale log t p stale.Other = (f : Frame) × ((world_of log).frames t ≡ Some f) × (is_phase_ready f.phase ≡ true) × (f.count ≡ p.frame.count) × (IsSource log p f → ⊥)
 
 abbrev pub IsStaleness : Log → Thread → Prepared → Option Staleness → Type 0
 IsStaleness log t p None = IsFresh log t p

@@ -10,8 +10,8 @@ use Rattle.book_log.specs.Log.{Log, world_of}
 use Rattle.book_events.specs.declared.cursor.Cursor.{Cursor}
 
 -- the name that would be there
-abbrev pub place_of : Cursor → Thread
-place_of c = record { exec = string_bytes c.exec; path = c.path.items }
+abbrev pub cursor_place : Cursor → Thread
+cursor_place c = record { exec = string_bytes c.exec; path = c.path.items }
 
 -- before all threads
 abbrev pub first_of_all : Thread

@@ -5,7 +5,7 @@ use Rattle.step_history.specs.History.{TakenStep}
 use Rattle.step_history.specs.Near.{near_behind}
 use Rattle.step_names.specs.Thread.{Thread}
 use Rattle.book_log.specs.Answers.{StepLacks, step_answer, plan_answer}
-use Rattle.book_log.specs.Log.{Log, facts_of}
+use Rattle.book_log.specs.Log.{Log, log_facts}
 use Rattle.book_log.specs.declared.entry.Entry.{Entry}
 use Rattle.book_log.specs.declared.refusal.Refusal.{Refusal}
 use Rattle.book_log.specs.declared.refusal.Refusal.TheVariants.{Memory}
@@ -30,13 +30,13 @@ pub record IsPlanned (log : Log) (r : PlanRoom) : Type 0 where
   pub entries : length log.entries ≡ r.entries
   -- the step stands at this place
   pub at : ℕ
-  pub there : option_map (λ f. f.name) (slice_get (facts_of log) at) ≡ Some r.step
-  pub places : r.places ≡ plan (facts_of log) at
+  pub there : option_map (λ f. f.name) (slice_get (log_facts log) at) ≡ Some r.step
+  pub places : r.places ≡ plan (log_facts log) at
   -- each of its steps was looked at, at most all remaining steps from the first one on, and besides that one only later steps that are in a
   -- class of a step of the plan
   pub members : length r.places ≤ r.looks
-  pub from : r.looks ≤ length (facts_of log) - at
-  pub near : r.looks ≤ 1 + near_behind (facts_of log) r.places at
+  pub from : r.looks ≤ length (log_facts log) - at
+  pub near : r.looks ≤ 1 + near_behind (log_facts log) r.places at
   -- the steps of these names may be undone one by one in this order
   pub order : (xs : List TakenStep) × IsBackwardOrderOf log r.names xs
 

@@ -14,8 +14,8 @@ use Rattle.book_log.specs.declared.refusal.Refusal.TheVariants.{NoThread, NotRea
 use Rattle.book_events.specs.declared.ticket.Ticket.{Ticket}
 
 -- what a thread can do next
-abbrev pub readiness_in : Log → Thread → Readiness
-readiness_in log t = readiness_at (paths_of (world_of log).frames t.exec) t.path
+abbrev pub log_readiness : Log → Thread → Readiness
+log_readiness log t = readiness_at (paths_of (world_of log).frames t.exec) t.path
 
 -- the thread has this frame, of this machine, and a move
 pub record IsMoving (log : Log) (t : Thread) (machine : Definition) (f : Frame) : Type 0 where
@@ -26,7 +26,7 @@ pub record IsMoving (log : Log) (t : Thread) (machine : Definition) (f : Frame) 
 -- a ticket is refused where there is no such thread, or it has no move; else memory alone may be wanting
 abbrev pub IsTicketRefusal : Log → Thread → Refusal → Type 0
 IsTicketRefusal log t NoThread = (world_of log).frames t ≡ None
-IsTicketRefusal log t (NotReady readiness) = IsSome ((world_of log).frames t) × (is_enabled log t ≡ false) × (readiness ≡ readiness_in log t)
+IsTicketRefusal log t (NotReady readiness) = IsSome ((world_of log).frames t) × (is_enabled log t ≡ false) × (readiness ≡ log_readiness log t)
 IsTicketRefusal log t Memory = is_enabled log t ≡ true
 IsTicketRefusal log t _ = ⊥
 

@@ -1,7 +1,7 @@
 // From where on a thread is looked for that is free.
 ghost use Rattle.std.specs.Prelude.{◌≡◌, ◌⊎◌, []};
 ghost use Rattle.std.specs.String.{string_bytes};
-ghost use Rattle.book_events.specs.Cursors.{GoesBack, IsUpTo, first_of_all, place_of};
+ghost use Rattle.book_events.specs.Cursors.{GoesBack, IsUpTo, first_of_all, cursor_place};
 
 use std::alloc::Global;
 use std::cmp::Ordering;
@@ -18,7 +18,7 @@ pub struct Cursor {
 impl Cursor {
     /// Before all threads. Takes no memory.
     pub fn new(alloc: Global) -> Cursor
-        ensures { place_of result ≡ first_of_all }
+        ensures { cursor_place result ≡ first_of_all }
     {
         Cursor {
             exec: String::new(alloc),
@@ -28,7 +28,7 @@ impl Cursor {
 
     /// Goes back before all threads. Takes no memory.
     pub fn reset(&mut self)
-        ensures { place_of self.new ≡ first_of_all }
+        ensures { cursor_place self.new ≡ first_of_all }
     {
         self.exec.clear();
         self.path.clear();
@@ -36,7 +36,7 @@ impl Cursor {
 
     /// Goes back before an execution that changed, if it has come so far. If the memory of its name is refused, before all threads.
     pub fn go_back(&mut self, exec: &str)
-        ensures { GoesBack exec.now (place_of self.old) (place_of self.new) }
+        ensures { GoesBack exec.now (cursor_place self.old) (cursor_place self.new) }
     {
         match exec.cmp(self.exec.as_str()) {
             Ordering::Less => {
@@ -50,7 +50,7 @@ impl Cursor {
 
     /// Goes on to a thread. Takes the memory of its names as they get longer; if it is refused, the cursor goes less far.
     pub fn go_on(&mut self, thread: &ThreadName)
-        ensures { IsUpTo thread.now (place_of self.new) }
+        ensures { IsUpTo thread.now (cursor_place self.new) }
     {
         self.path.clear();
         if self.exec.as_str() != thread.exec() {

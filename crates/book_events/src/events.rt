@@ -6,7 +6,7 @@ ghost use Rattle.json_tree.specs.Data.{depth, most_levels};
 ghost use Rattle.json_tree.specs.View.{data_of};
 ghost use Rattle.step_names.specs.Order.{thread_cmp};
 ghost use Rattle.saved_steps.specs.First.{NoneBeforeThread};
-ghost use Rattle.book_log.specs.Log.{Log, held, left_of, world_of};
+ghost use Rattle.book_log.specs.Log.{Log, step_on_hold, left_of, world_of};
 ghost use Rattle.book_events.specs.Calls.{FindsFirst, Holds, IsLatestLeft, IsLogOf, MakesRoom, PlansRollback, RollsBack, Shows, Starts, Steps, Undoes};
 ghost use Rattle.book_events.specs.Commits.{AnswersCommit, Commits};
 ghost use Rattle.book_events.specs.Planned.{WasPlanned};
@@ -61,7 +61,7 @@ pub trait Events {
 
     /// As `Book::held`.
     fn held(&self) -> Option<&StepName>
-        ensures { option_copied result ≡ held (log self.now) };
+        ensures { option_copied result ≡ step_on_hold (log self.now) };
 
     /// As `Book::held_left`.
     fn held_left(&self) -> usize

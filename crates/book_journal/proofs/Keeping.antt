@@ -20,7 +20,7 @@ use Rattle.sqlite.specs.Held.{Held, state}
 use Rattle.sqlite.specs.State.{State, HasCleanDisk, Survives}
 use Rattle.sqlite.proofs.StateLemmas.{survives_weaker}
 use Rattle.book_journal.specs.Change.{IsBack, IsAppended, HasAppended}
-use Rattle.book_journal.specs.Entries.{entries, entry, numbered, numbers, number_of, number_after, last_after, pair, shown, IsLast, IsGreatest, AddLines, AreInOrder, HoldLines, HaveGap, HaveGapAt}
+use Rattle.book_journal.specs.Entries.{entries, entry, numbered, row_numbers, row_number, number_after, last_after, pair, shown, IsLastNumber, IsGreatest, AddLines, AreInOrder, HoldLines, HaveGap, HaveGapAt}
 use Rattle.book_journal.specs.Kept.{lines_in, IsKept, IsAtRest, IsSame, LeavesAllOrNone, MayAdd}
 
 pub at_rest : {S : Type 0} (g : Ghosts S) → ((s : S) (db : Trees) → IsTrue (g.view s).is_open → g.recovers s db → db ≡ (g.view s).committed) → (h : Held S) (last : Option ℤ) → IsKept (state g h) last
@@ -29,12 +29,12 @@ at_rest g settled h last kept clean up trees may = settled h.store trees up may 
 
 -- ---- the last number
 
-same_rows : (rows new : List Row) (last : Option ℤ) → IsPermutation rows new → IsLast rows last → IsLast new last
+same_rows : (rows new : List Row) (last : Option ℤ) → IsPermutation rows new → IsLastNumber rows last → IsLastNumber new last
 same_rows rows [] None same h = refl
 same_rows rows (r ∷ new) None same h = absurd (omega (arith, length_permutation _ _ same, ap length h))
 same_rows rows new (Some number) same h = record {
-  held = Contains-permutation _ _ (Int number) (IsPermutation-map number_of _ _ same) h.held;
-  top = All-permutation (λ v. is_lt (value_cmp (Int number) v) ≡ false) _ _ (IsPermutation-map number_of _ _ same) h.top;
+  held = Contains-permutation _ _ (Int number) (IsPermutation-map row_number _ _ same) h.held;
+  top = All-permutation (λ v. is_lt (value_cmp (Int number) v) ≡ false) _ _ (IsPermutation-map row_number _ _ same) h.top;
 }
 
 lower_is : (n : ℤ) → value_cmp (Int n) (Int (n +ℤ pos 1)) ≡ Less
@@ -54,19 +54,19 @@ above n v h = not_below (value_cmp (Int n) v) (value_cmp (Int (n +ℤ pos 1)) v)
 alone : (n : ℤ) → All (λ v. is_lt (value_cmp (Int n) v) ≡ false) (Int n ∷ [])
 alone n = All-cons (λ v. is_lt (value_cmp (Int n) v) ≡ false) (Int n) [] (own_not_below n) (λ k d low. absurd (omega (arith, low)))
 
-one_greatest : (rows : List Row) (last : Option ℤ) (line : List ℕ) → IsLast rows last → IsGreatest (rows ++ entry (number_after last) line ∷ []) (number_after last)
+one_greatest : (rows : List Row) (last : Option ℤ) (line : List ℕ) → IsLastNumber rows last → IsGreatest (rows ++ entry (number_after last) line ∷ []) (number_after last)
 one_greatest rows None line h = subst (λ (rs : List Row). IsGreatest (rs ++ entry (pos 0) line ∷ []) (pos 0)) (sym h) (record { held = (0, omega arith, refl); top = alone (pos 0) })
 one_greatest rows (Some number) line h =
     let next = number +ℤ pos 1 in record {
-      held = rw (map-append number_of rows (entry next line ∷ [])) (Contains-append_right (numbers rows) (Int next ∷ []) (Int next) (0, omega arith, refl));
-      top = rw (map-append number_of rows (entry next line ∷ [])) (All-append (λ v. is_lt (value_cmp (Int next) v) ≡ false) (numbers rows) (Int next ∷ []) (λ k d low. above number _ (h.top k d low)) (alone next));
+      held = rw (map-append row_number rows (entry next line ∷ [])) (Contains-append_right (row_numbers rows) (Int next ∷ []) (Int next) (0, omega arith, refl));
+      top = rw (map-append row_number rows (entry next line ∷ [])) (All-append (λ v. is_lt (value_cmp (Int next) v) ≡ false) (row_numbers rows) (Int next ∷ []) (λ k d low. above number _ (h.top k d low)) (alone next));
     }
 
-grown : (rows : List Row) (last : Option ℤ) (lines : List (List ℕ)) → IsLast rows last → IsLast (rows ++ numbered (number_after last) lines) (last_after last lines)
-grown rows last [] h = subst (λ (rs : List Row). IsLast rs last) (sym (append-nil rows)) h
+grown : (rows : List Row) (last : Option ℤ) (lines : List (List ℕ)) → IsLastNumber rows last → IsLastNumber (rows ++ numbered (number_after last) lines) (last_after last lines)
+grown rows last [] h = subst (λ (rs : List Row). IsLastNumber rs last) (sym (append-nil rows)) h
 grown rows last (line ∷ lines) h =
     let one = entry (number_after last) line in
-    subst (λ (rs : List Row). IsLast rs (last_after (Some (number_after last)) lines)) (append_assoc rows (one ∷ []) (numbered (number_after last +ℤ pos 1) lines))
+    subst (λ (rs : List Row). IsLastNumber rs (last_after (Some (number_after last)) lines)) (append_assoc rows (one ∷ []) (numbered (number_after last +ℤ pos 1) lines))
     (grown (rows ++ one ∷ []) (Some (number_after last)) lines (one_greatest rows last line h))
 
 -- ---- the calls
@@ -78,7 +78,7 @@ back_kept old new last kept clean mode back = record {
       let b = back now up in
       let k = kept.kept (clean now) b.0 in
       let same : new.now ≡ old.now = b.1 ∙ k.1 in
-      (ap (λ (d : Database). d.schema) same ∙ k.0, b.2 ∙ sym b.1, subst (λ (d : Database). IsLast (entries d.trees) last) (sym same) k.2);
+      (ap (λ (d : Database). d.schema) same ∙ k.0, b.2 ∙ sym b.1, subst (λ (d : Database). IsLastNumber (entries d.trees) last) (sym same) k.2);
 }
 
 pub back_same : (old new : State) (last : Option ℤ) → IsKept old last → (HasCleanDisk new → HasCleanDisk old) → HasCleanDisk new → IsBack old new → IsSame old new
@@ -124,10 +124,10 @@ least_two a b p q =
     let q' : is_lt (int_cmp b a) ≡ false = ap is_lt (sym (value_cmp-Int b a)) ∙ q in
     grind (arith, ints, nat_tests)
 
-one_last : (rows : List Row) (a b : Option ℤ) → IsLast rows a → IsLast rows b → a ≡ b
+one_last : (rows : List Row) (a b : Option ℤ) → IsLastNumber rows a → IsLastNumber rows b → a ≡ b
 one_last rows None None p q = refl
-one_last rows None (Some n) p q = absurd (omega (arith, ap (λ (rs : List Row). length (numbers rs)) p, q.held.1))
-one_last rows (Some n) None p q = absurd (omega (arith, ap (λ (rs : List Row). length (numbers rs)) q, p.held.1))
+one_last rows None (Some n) p q = absurd (omega (arith, ap (λ (rs : List Row). length (row_numbers rs)) p, q.held.1))
+one_last rows (Some n) None p q = absurd (omega (arith, ap (λ (rs : List Row). length (row_numbers rs)) q, p.held.1))
 one_last rows (Some a) (Some b) p q =
     ap (λ (n : ℤ). Some n) (least_two a b
     (subst (λ (v : Value). is_lt (value_cmp (Int a) v) ≡ false) q.held.2 (p.top q.held.0 (Int b) q.held.1))
@@ -135,7 +135,7 @@ one_last rows (Some a) (Some b) p q =
 
 pub lines_added : (old new : List Row) (before lines : List (List ℕ)) → HoldLines old before → AddLines old lines new → HoldLines new (before ++ lines)
 lines_added old new before lines held added =
-    let last : IsLast old (last_after None before) = same_rows _ old (last_after None before) held (grown [] None before refl) in
+    let last : IsLastNumber old (last_after None before) = same_rows _ old (last_after None before) held (grown [] None before refl) in
     let same : added.last ≡ last_after None before = one_last old added.last (last_after None before) added.is_last last in
     rw (split None before lines) (IsPermutation-trans _ _ _ (IsPermutation-append_left (numbered (number_after (last_after None before)) lines) (numbered (pos 0) before) old held)
     (subst (λ (l : Option ℤ). IsPermutation (old ++ numbered (number_after l) lines) new) same added.added))

@@ -3,7 +3,7 @@ use Rattle.std.proofs.Common.{◌≡◌, ◌≢◌, ◌<◌, ◌+◌, ℕ, ℤ, 
 use Rattle.std.proofs.lemmas.List.{take_more, drop_more, map-append, take-append-drop}
 use Rattle.sqlite.specs.declared.types.Value.TheVariants.{Int}
 use Rattle.sqlite.specs.Order.{Row}
-use Rattle.book_journal.specs.Entries.{entry, numbered, number_of, number_after, last_after, pair, HaveGapAt}
+use Rattle.book_journal.specs.Entries.{entry, numbered, row_number, number_after, last_after, pair, HaveGapAt}
 
 -- one line more
 pub numbered_more : (last : Option ℤ) (lines : List (List ℕ)) (line : List ℕ)
@@ -28,7 +28,7 @@ one_more at rows lines d row line low count before item is =
     ∙ rw (before, item, is, numbered_from 0 lines line) (ap (λ (m : ℕ). numbered (pos 0) lines ++ entry (pos m) line ∷ []) (omega (arith, count)))
 
 pub gap_at : (at : ℕ) (rows : List Row) (lines : List (List ℕ)) (d row : Row) → at < length rows → length lines ≡ at → map pair (take at rows) ≡ numbered (pos 0) lines
-    → get_or rows at d ≡ row → number_of row ≢ Int (pos at) → HaveGapAt at (map pair rows)
+    → get_or rows at d ≡ row → row_number row ≢ Int (pos at) → HaveGapAt at (map pair rows)
 gap_at at rows lines d row low count before item differs = record {
   before = lines;
   first = pair row;

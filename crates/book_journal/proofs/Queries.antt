@@ -25,7 +25,7 @@ use Rattle.sqlite.specs.Listing.{understood, reads_listing}
 use Rattle.sqlite.specs.State.{State, Shown}
 use Rattle.sqlite.proofs.Callers.{IsPlain, command_of, reads_as}
 use Rattle.book_journal.specs.Table.{journal_schema}
-use Rattle.book_journal.specs.Entries.{entries, shown, number_of, numbers, AreInOrder, IsGreatest, ShowLast}
+use Rattle.book_journal.specs.Entries.{entries, shown, row_number, row_numbers, AreInOrder, IsGreatest, ShowLast}
 
 abbrev pub last_text : List ℕ
 last_text = codes "SELECT no FROM entry ORDER BY no DESC LIMIT 1"
@@ -80,11 +80,11 @@ one_key Less h = h
 one_key Equal h = refl
 one_key Greater h = refl
 
-map_tied : (xs : List Output) → AllByRecursion (λ o. sorted_by o ≡ number_of o.1) xs → map sorted_by xs ≡ numbers (map (λ (o : Output). o.1) xs)
+map_tied : (xs : List Output) → AllByRecursion (λ o. sorted_by o ≡ row_number o.1) xs → map sorted_by xs ≡ row_numbers (map (λ (o : Output). o.1) xs)
 map_tied [] h = refl
-map_tied (x ∷ xs) h = ap (λ v. v ∷ map sorted_by xs) h.0 ∙ ap (λ vs. number_of x.1 ∷ vs) (map_tied xs h.1)
+map_tied (x ∷ xs) h = ap (λ v. v ∷ map sorted_by xs) h.0 ∙ ap (λ vs. row_number x.1 ∷ vs) (map_tied xs h.1)
 
-module _ (shows : List Term) (down : Bool) (limit : ℤ) (first : (r : Row) → number_of (eval_all shows ([] ∷ r ∷ [])) ≡ column r 0) (db : Trees) (rows : List Row)
+module _ (shows : List Term) (down : Bool) (limit : ℤ) (first : (r : Row) → row_number (eval_all shows ([] ∷ r ∷ [])) ≡ column r 0) (db : Trees) (rows : List Row)
     (a : IsAnswer (query shows down limit) (overlay db []) [] rows) where
   abbrev out : Row → Output
   out r = (column r 0 ∷ [], eval_all shows ([] ∷ r ∷ []))
@@ -95,10 +95,10 @@ module _ (shows : List Term) (down : Bool) (limit : ℤ) (first : (r : Row) → 
   same : IsPermutation (map out (db 0)) a.ordered
   same = subst (λ k. IsPermutation k a.ordered) kept_is a.same
 
-  tied : All (λ o. sorted_by o ≡ number_of o.1) a.ordered
-  tied = All-permutation (λ (o : Output). sorted_by o ≡ number_of o.1) _ _ same (All-map (λ o. sorted_by o ≡ number_of o.1) out (db 0) (λ i d low. sym (first _)))
+  tied : All (λ o. sorted_by o ≡ row_number o.1) a.ordered
+  tied = All-permutation (λ (o : Output). sorted_by o ≡ row_number o.1) _ _ same (All-map (λ o. sorted_by o ≡ row_number o.1) out (db 0) (λ i d low. sym (first _)))
 
-  numbers_are : map sorted_by a.ordered ≡ numbers (map (λ (o : Output). o.1) a.ordered)
+  numbers_are : map sorted_by a.ordered ≡ row_numbers (map (λ (o : Output). o.1) a.ordered)
   numbers_are = map_tied a.ordered (recursion_from_All _ a.ordered tied)
 
   rising : IsSorted (by_key (key down)) (map sorted_by a.ordered)
@@ -111,29 +111,29 @@ module _ (shows : List Term) (down : Bool) (limit : ℤ) (first : (r : Row) → 
   shown_same : IsPermutation (map (λ r. eval_all shows ([] ∷ r ∷ [])) (db 0)) (map (λ (o : Output). o.1) a.ordered)
   shown_same = subst (λ k. IsPermutation k (map (λ (o : Output). o.1) a.ordered)) (map-map _ _ (db 0)) (IsPermutation-map (λ (o : Output). o.1) _ _ same)
 
-  numbers_same : IsPermutation (numbers (entries db)) (map sorted_by a.ordered)
+  numbers_same : IsPermutation (row_numbers (entries db)) (map sorted_by a.ordered)
   numbers_same = subst (λ k. IsPermutation k (map sorted_by a.ordered)) (map-map _ _ (db 0) ∙ sym (map-map _ _ (db 0))) (IsPermutation-map sorted_by _ _ same)
 
-no_numbers : (rows : List Row) → length (numbers rows) ≡ 0 → rows ≡ []
+no_numbers : (rows : List Row) → length (row_numbers rows) ≡ 0 → rows ≡ []
 no_numbers [] h = refl
 no_numbers (r ∷ rows) h = absurd (omega (arith, h))
 
 -- the first of the entries that fall
-greatest : (rows falling : List Row) (top : Row) (number : ℤ) → IsPermutation (numbers rows) (numbers (top ∷ falling)) → IsSorted (by_key (key true)) (numbers (top ∷ falling)) → number_of top ≡ Int number
+greatest : (rows falling : List Row) (top : Row) (number : ℤ) → IsPermutation (row_numbers rows) (row_numbers (top ∷ falling)) → IsSorted (by_key (key true)) (row_numbers (top ∷ falling)) → row_number top ≡ Int number
     → IsGreatest rows number
 greatest rows falling top number alike up is = record {
   held = Contains-permutation _ _ (Int number) (IsPermutation-sym _ _ alike) (0, omega arith, is);
   top = All-permutation (λ v. is_lt (value_cmp (Int number) v) ≡ false) _ _ (IsPermutation-sym _ _ alike)
-      (λ i d low. subst (λ (w : Value). is_lt (value_cmp w (get_or (numbers (top ∷ falling)) i d)) ≡ false) is (sorted_far (λ x y. is_lt (by_key (key true) x y)) (ranks_by (by_key_total (key true)) (λ v. v)) (numbers (top ∷ falling)) up 0 i d (omega arith) low));
+      (λ i d low. subst (λ (w : Value). is_lt (value_cmp w (get_or (row_numbers (top ∷ falling)) i d)) ≡ false) is (sorted_far (λ x y. is_lt (by_key (key true) x y)) (ranks_by (by_key_total (key true)) (λ v. v)) (row_numbers (top ∷ falling)) up 0 i d (omega arith) low));
 }
 
-shows_top : (rows falling shown : List Row) → shown ≡ take 1 falling → IsPermutation (numbers rows) (numbers falling) → IsSorted (by_key (key true)) (numbers falling) → ShowLast rows shown
+shows_top : (rows falling shown : List Row) → shown ≡ take 1 falling → IsPermutation (row_numbers rows) (row_numbers falling) → IsSorted (by_key (key true)) (row_numbers falling) → ShowLast rows shown
 shows_top rows [] shown is same up = record { none = λ _. no_numbers rows (omega (arith, length_permutation _ _ same)); some = λ row number some. absurd (let e = rw is at some in cc); held = λ row some. absurd (let e = rw is at some in cc) }
 shows_top rows (top ∷ falling) shown is same up = record {
   none = λ none. absurd (let e = rw is at none in cc);
-  some = λ row number some row_is. let e : top ≡ row = (let f = rw is at some in cc) in greatest rows falling top number same up (ap number_of e ∙ row_is);
+  some = λ row number some row_is. let e : top ≡ row = (let f = rw is at some in cc) in greatest rows falling top number same up (ap row_number e ∙ row_is);
   held = λ row some. let e : top ≡ row = (let f = rw is at some in cc) in
-      subst (λ (r : Row). Contains (numbers rows) (number_of r)) e (Contains-permutation _ _ (number_of top) (IsPermutation-sym _ _ same) (0, omega arith, refl));
+      subst (λ (r : Row). Contains (row_numbers rows) (row_number r)) e (Contains-permutation _ _ (row_number top) (IsPermutation-sym _ _ same) (0, omega arith, refl));
 }
 
 pub shows_all : (old new : State) (rows : List Row) → old.now.schema ≡ journal_schema → Shown all_text [] old new rows → AreInOrder (entries old.now.trees) rows

@@ -7,7 +7,7 @@ use Rattle.sqlite.specs.declared.types.Value.{Value}
 use Rattle.sqlite.specs.declared.types.Value.TheVariants.{Null}
 use Rattle.sqlite.specs.Reading.{IsReadError}
 use Rattle.sqlite.specs.Values.{IsInt}
-use Rattle.book_journal.specs.Entries.{entries, number_of, numbers, pair, AreInOrder}
+use Rattle.book_journal.specs.Entries.{entries, row_number, row_numbers, pair, AreInOrder}
 use Rattle.sqlite_trees.specs.declared.error.StoreError.TheVariants.{OutOfMemory, Io, Corrupt, Full, Broken, Unstorable}
 use Rattle.sqlite_resolve.specs.declared.compiled.Compiled.{Compiled}
 use Rattle.sqlite_resolve.specs.declared.error.CompileError.{CompileError}
@@ -25,7 +25,7 @@ use Rattle.sqlite.specs.State.{State, IsNoStatement, IsNotRun, Fails, FailsToSho
 use Rattle.sqlite_tied.specs.Compute.{everything}
 use Rattle.book_journal.specs.declared.fault.JournalFault.TheVariants.{Store}
 use Rattle.book_journal.specs.Table.{journal_schema}
-use Rattle.book_journal.specs.Faults.{fault_of, HasReadCause, HaveUnreadable, IsUnreadable, RefusesRows}
+use Rattle.book_journal.specs.Faults.{journal_fault_of, HasReadCause, HaveUnreadable, IsUnreadable, RefusesRows}
 use Rattle.std.proofs.lemmas.List.{get_or-map, length-map}
 use Rattle.std.proofs.lemmas.List.Sorted.{IsPermutation-sym, Contains-permutation}
 use Rattle.book_journal.proofs.Keeping.{read_pairs}
@@ -124,7 +124,7 @@ pub all_cause : (old new : State) (e : Error) → old.now.schema ≡ journal_sch
 all_cause old new e has = read_cause all_text all_query (codes "no" ∷ codes "line" ∷ []) all_asks all_unlisted all_typed all_calm old new has e
 
 -- a number that was read of an entry
-pub numbered_entry : (rows : List Row) (v : Value) → Contains (numbers rows) v → (row : Row) × Contains rows row × (number_of row ≡ v)
+pub numbered_entry : (rows : List Row) (v : Value) → Contains (row_numbers rows) v → (row : Row) × Contains rows row × (row_number row ≡ v)
 numbered_entry [] v (k, low, is) = absurd (omega (arith, low))
 numbered_entry (r ∷ rows) v (zero, low, is) = (r, (0, omega arith, refl), is)
 numbered_entry (r ∷ rows) v (suc k, low, is) =
@@ -145,10 +145,10 @@ no_integer (v ∷ row) e index kind (inr (inr (inl h))) = inr (kind (λ f. let s
 no_integer (v ∷ row) e index kind (inr (inr (inr (inl h)))) = inr (kind (λ f. let same = sym h ∙ f in cc) (omega arith))
 no_integer (v ∷ row) e index kind (inr (inr (inr (inr h)))) = inl h
 
-pub no_last : (old new : State) (rows : List Row) (row : Row) (e : Error) → Contains (numbers rows) (number_of row) → (e ≡ SqliteFailure NoRoom) ⊎ (¬ IsInt (column row 0)) → RefusesRows old new rows e
+pub no_last : (old new : State) (rows : List Row) (row : Row) (e : Error) → Contains (row_numbers rows) (row_number row) → (e ≡ SqliteFailure NoRoom) ⊎ (¬ IsInt (column row 0)) → RefusesRows old new rows e
 no_last old new rows row e held (inl h) = inl (inl h)
 no_last old new rows row e held (inr h) =
-    let it = numbered_entry rows (number_of row) held in inr (it.0, it.1, inl (subst (λ (v : Value). ¬ IsInt v) (sym it.2) h))
+    let it = numbered_entry rows (row_number row) held in inr (it.0, it.1, inl (subst (λ (v : Value). ¬ IsInt v) (sym it.2) h))
 
 pub unreadable_at : (at : ℕ) (rows : List Row) (row : Row) → at < length rows → get_or rows at row ≡ row → IsUnreadable (pair row) → HaveUnreadable (map pair rows)
 unreadable_at at rows row low item h =
@@ -159,6 +159,6 @@ unreadable_entries trees rows order h =
     let among : Contains rows h.0 = subst (λ (rs : List Row). Contains rs h.0) (read_pairs trees rows order) h.1 in
     (h.0, Contains-permutation _ _ h.0 (IsPermutation-sym _ _ order.same) among, h.2)
 
-pub told_as_cause : (e cause : Error) → fault_of e ≡ Store cause → e ≡ cause
+pub told_as_cause : (e cause : Error) → journal_fault_of e ≡ Store cause → e ≡ cause
 told_as_cause (SqliteFailure NoRoom) cause h = absurd cc
 told_as_cause e cause h = cc

@@ -7,13 +7,13 @@ use Rattle.book_journal.specs.Table.{journal_schema, no_schema}
 use Rattle.book_journal.specs.Entries.{entries}
 
 -- a transaction is open over the journal's table
-pub record IsReady (s : State) : Type 0 where
+pub record IsJournalReady (s : State) : Type 0 where
   pub mode : IsTrue s.in_transaction
   pub schema : s.now.schema ≡ journal_schema
 
 -- the transaction has these entries too, and the last commit stands
 pub record Inserts (old new : State) (added : List Row) : Type 0 where
-  pub ready : IsReady new
+  pub ready : IsJournalReady new
   pub committed : new.committed ≡ old.committed
   pub rows : IsPermutation (entries old.now.trees ++ added) (entries new.now.trees)
 
@@ -24,7 +24,7 @@ pub record IsBlank (s : State) : Type 0 where
 
 -- the transaction has the journal's table, with no entry, and the last commit stands
 pub record Creates (old new : State) : Type 0 where
-  pub ready : IsReady new
+  pub ready : IsJournalReady new
   pub committed : new.committed ≡ old.committed
   pub none : entries new.now.trees ≡ []
 

@@ -29,21 +29,21 @@ numbered from (line ∷ lines) = entry from line ∷ numbered (from +ℤ pos 1) 
 abbrev pub HoldLines : List Row → List (List ℕ) → Type 0
 HoldLines rows lines = IsPermutation (numbered (pos 0) lines) rows
 
-abbrev pub number_of : Row → Value
-number_of row = column row 0
+abbrev pub row_number : Row → Value
+row_number row = column row 0
 
-abbrev pub numbers : List Row → List Value
-numbers rows = map number_of rows
+abbrev pub row_numbers : List Row → List Value
+row_numbers rows = map row_number rows
 
 -- this is the number of an entry, and none is greater
 pub record IsGreatest (rows : List Row) (number : ℤ) : Type 0 where
-  pub held : Contains (numbers rows) (Int number)
-  pub top : All (λ v. is_lt (value_cmp (Int number) v) ≡ false) (numbers rows)
+  pub held : Contains (row_numbers rows) (Int number)
+  pub top : All (λ v. is_lt (value_cmp (Int number) v) ≡ false) (row_numbers rows)
 
 -- the greatest number, none where there is no entry
-abbrev pub IsLast : List Row → Option ℤ → Type 0
-IsLast rows None = rows ≡ []
-IsLast rows (Some number) = IsGreatest rows number
+abbrev pub IsLastNumber : List Row → Option ℤ → Type 0
+IsLastNumber rows None = rows ≡ []
+IsLastNumber rows (Some number) = IsGreatest rows number
 
 abbrev pub number_after : Option ℤ → ℤ
 number_after None = pos 0
@@ -57,13 +57,13 @@ last_after last (line ∷ lines) = last_after (Some (number_after last)) lines
 -- the lines are added to the entries, with the numbers that go on from the last
 pub record AddLines (old : List Row) (lines : List (List ℕ)) (new : List Row) : Type 0 where
   pub last : Option ℤ
-  pub is_last : IsLast old last
+  pub is_last : IsLastNumber old last
   pub added : IsPermutation (old ++ numbered (number_after last) lines) new
 
 -- the same entries, in the order of their numbers
 pub record AreInOrder (rows ordered : List Row) : Type 0 where
   pub same : IsPermutation rows ordered
-  pub rising : IsSorted value_cmp (numbers ordered)
+  pub rising : IsSorted value_cmp (row_numbers ordered)
 
 -- of rows, the first whose number isn't its position
 pub record HaveGapAt (position : ℕ) (rows : List Row) : Type 0 where
@@ -72,7 +72,7 @@ pub record HaveGapAt (position : ℕ) (rows : List Row) : Type 0 where
   pub after : List Row
   pub parts : rows ≡ numbered (pos 0) before ++ first ∷ after
   pub position_is : position ≡ length before
-  pub differs : number_of first ≢ Int (pos position)
+  pub differs : row_number first ≢ Int (pos position)
 
 -- of entries, in the order of their numbers
 abbrev pub HaveGap : List Row → ℕ → Type 0
@@ -81,8 +81,8 @@ HaveGap rows position = (ordered : List Row) × AreInOrder rows ordered × HaveG
 -- the number that a query showed of the last of the entries, in a row of its own, or no row where there is no entry
 pub record ShowLast (rows shown : List Row) : Type 0 where
   pub none : slice_get shown 0 ≡ None → rows ≡ []
-  pub some : (row : Row) (number : ℤ) → slice_get shown 0 ≡ Some row → number_of row ≡ Int number → IsGreatest rows number
-  pub held : (row : Row) → slice_get shown 0 ≡ Some row → Contains (numbers rows) (number_of row)
+  pub some : (row : Row) (number : ℤ) → slice_get shown 0 ≡ Some row → row_number row ≡ Int number → IsGreatest rows number
+  pub held : (row : Row) → slice_get shown 0 ≡ Some row → Contains (row_numbers rows) (row_number row)
 
 -- the first two values of a row that a query showed
 abbrev pub pair : Row → Row

@@ -13,13 +13,13 @@ use Rattle.book_journal.specs.declared.fault.JournalFault.{JournalFault}
 use Rattle.book_journal.specs.declared.fault.JournalFault.TheVariants.{Store, Gap, Memory}
 
 -- want of memory by its own name, and every other error as the cause
-abbrev pub fault_of : Error → JournalFault
-fault_of (SqliteFailure OutOfMemory) = Memory
-fault_of cause = Store cause
+abbrev pub journal_fault_of : Error → JournalFault
+journal_fault_of (SqliteFailure OutOfMemory) = Memory
+journal_fault_of cause = Store cause
 
 -- a gap, or an error of the database as it is told
 abbrev pub IsNamed : JournalFault → Type 0
-IsNamed fault = ((position : ℕ) × (fault ≡ Gap position)) ⊎ ((cause : Error) × (fault ≡ fault_of cause))
+IsNamed fault = ((position : ℕ) × (fault ≡ Gap position)) ⊎ ((cause : Error) × (fault ≡ journal_fault_of cause))
 
 -- why the rows of a table can't be had: want of memory, a fault of the disk, a connection that is shut, or its own limit on steps
 abbrev pub HasReadCause : State → State → Error → Type 0
@@ -45,4 +45,4 @@ RefusesRows old new rows cause = HasReadCause old new cause ⊎ HaveUnreadable r
 
 -- the fault tells why a journal with these entries wasn't opened
 abbrev pub TellsRefusal : State → State → List Row → JournalFault → Type 0
-TellsRefusal old new rows fault = (cause : Error) × (fault ≡ fault_of cause) × RefusesRows old new rows cause
+TellsRefusal old new rows fault = (cause : Error) × (fault ≡ journal_fault_of cause) × RefusesRows old new rows cause

@@ -4,7 +4,7 @@ use Rattle.sqlite.specs.Order.{Row}
 use Rattle.sqlite.specs.Tree.{Trees}
 use Rattle.sqlite.specs.State.{State, HasCleanDisk}
 use Rattle.book_journal.specs.Table.{journal_schema, no_schema}
-use Rattle.book_journal.specs.Entries.{entries, IsLast, AddLines}
+use Rattle.book_journal.specs.Entries.{entries, IsLastNumber, AddLines}
 
 abbrev pub lines_in : State → List Row
 lines_in s = entries s.now.trees
@@ -12,7 +12,7 @@ lines_in s = entries s.now.trees
 -- no transaction is open, and while the store is, it has the journal's table, and the number is its last
 pub record IsKept (s : State) (last : Option ℤ) : Type 0 where
   pub mode : s.in_transaction ≡ false
-  pub kept : HasCleanDisk s → IsTrue s.is_open → (s.now.schema ≡ journal_schema) × (s.committed ≡ s.now) × IsLast (lines_in s) last
+  pub kept : HasCleanDisk s → IsTrue s.is_open → (s.now.schema ≡ journal_schema) × (s.committed ≡ s.now) × IsLastNumber (lines_in s) last
 
 -- while the store is open, a crash leaves what it has and nothing else
 abbrev pub IsAtRest : State → Type 0

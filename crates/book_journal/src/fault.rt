@@ -27,9 +27,9 @@ impl std::error::Error for JournalFault {}
 
 impl From<Error> for JournalFault {
     ghost use Rattle.std.specs.Prelude.{◌≡◌};
-    ghost use Rattle.book_journal.specs.Faults.{fault_of};
+    ghost use Rattle.book_journal.specs.Faults.{journal_fault_of};
 
-    ghost from_gives = { λ e fault. fault ≡ fault_of e };
+    ghost from_gives = { λ e fault. fault ≡ journal_fault_of e };
 
     fn from(error: Error) -> JournalFault {
         match error {

@@ -3,7 +3,7 @@
 ghost use Rattle.std.specs.Prelude.{◌≡◌, ◌++◌, [], ◌∷◌, false, pos, Some, OnOk, OnErr, IfOk, IfErr, IsTrue, IsPermutation};
 ghost use Rattle.sqlite.specs.Held.{state};
 ghost use Rattle.sqlite.specs.State.{HasCleanDisk, KeepsCommit, Survives};
-ghost use Rattle.book_journal.specs.Change.{IsBlank, Creates, IsReady, Inserts, IsAppended, IsBack, HasAppended, IsMade, HasTable};
+ghost use Rattle.book_journal.specs.Change.{IsBlank, Creates, IsJournalReady, Inserts, IsAppended, IsBack, HasAppended, IsMade, HasTable};
 ghost use Rattle.book_journal.specs.Table.{journal_schema, no_schema};
 ghost use Rattle.book_journal.specs.Entries.{entry, texts, numbered, number_after, last_after};
 
@@ -55,9 +55,9 @@ fn next_number(last: Option<i64>) -> Result<i64, Error>
 
 fn insert<S: Alter>(tx: &mut Transaction<'_, S>, no: i64, line: &str) -> Result<(), Error>
     ensures same_reference { tx.new.conn.ghost_name ≡ tx.old.conn.ghost_name }
-    ensures ok { HasCleanDisk (state S.Store tx.new.conn.now) → IsReady (state S.Store tx.old.conn.now)
+    ensures ok { HasCleanDisk (state S.Store tx.new.conn.now) → IsJournalReady (state S.Store tx.old.conn.now)
         → OnOk result (Inserts (state S.Store tx.old.conn.now) (state S.Store tx.new.conn.now) (entry no line.now ∷ [])) }
-    ensures kept { HasCleanDisk (state S.Store tx.new.conn.now) → IsReady (state S.Store tx.old.conn.now)
+    ensures kept { HasCleanDisk (state S.Store tx.new.conn.now) → IsJournalReady (state S.Store tx.old.conn.now)
         → KeepsCommit (state S.Store tx.old.conn.now) (state S.Store tx.new.conn.now) }
     ensures survives { Survives (state S.Store tx.old.conn.now) (state S.Store tx.new.conn.now) (λ _. ⊥) }
 {
@@ -72,10 +72,10 @@ fn insert_all<S: Alter>(
     lines: &[&str],
 ) -> Result<Option<i64>, Error>
     ensures same_reference { tx.new.conn.ghost_name ≡ tx.old.conn.ghost_name }
-    ensures ok { HasCleanDisk (state S.Store tx.new.conn.now) → IsReady (state S.Store tx.old.conn.now)
+    ensures ok { HasCleanDisk (state S.Store tx.new.conn.now) → IsJournalReady (state S.Store tx.old.conn.now)
         → OnOk result (Inserts (state S.Store tx.old.conn.now) (state S.Store tx.new.conn.now) (numbered (number_after last) (texts lines.now))) }
     ensures last { IfOk result (λ after. after ≡ last_after last (texts lines.now)) }
-    ensures kept { HasCleanDisk (state S.Store tx.new.conn.now) → IsReady (state S.Store tx.old.conn.now)
+    ensures kept { HasCleanDisk (state S.Store tx.new.conn.now) → IsJournalReady (state S.Store tx.old.conn.now)
         → KeepsCommit (state S.Store tx.old.conn.now) (state S.Store tx.new.conn.now) }
     ensures survives { Survives (state S.Store tx.old.conn.now) (state S.Store tx.new.conn.now) (λ _. ⊥) }
 {

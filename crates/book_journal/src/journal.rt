@@ -3,7 +3,7 @@ ghost use Rattle.sqlite.specs.Held.{state};
 ghost use Rattle.sqlite.specs.State.{HasCleanDisk, Survives};
 ghost use Rattle.book_journal.specs.Change.{HasTable};
 ghost use Rattle.book_journal.specs.Entries.{texts, AddLines, HaveGap, HoldLines};
-ghost use Rattle.book_journal.specs.Faults.{fault_of, IsNamed, RefusesRows, TellsRefusal};
+ghost use Rattle.book_journal.specs.Faults.{journal_fault_of, IsNamed, RefusesRows, TellsRefusal};
 ghost use Rattle.book_journal.specs.Table.{journal_schema};
 ghost use Rattle.book_journal.specs.Kept.{lines_in, IsKept, IsAtRest, IsOpened, IsSame, LeavesAllOrNone, MayAdd};
 
@@ -65,7 +65,7 @@ impl<S: Alter> Journal<S> {
     pub fn open(conn: Connection<S>) -> Result<Journal<S>, (JournalFault, Connection<S>)>
         ensures ok { IfOk result (λ j. HasCleanDisk (state S.Store j) → IsOpened (state S.Store conn) (state S.Store j)) }
         ensures err { IfErr result (λ e. HasCleanDisk (state S.Store e.1) → IsSame (state S.Store conn) (state S.Store e.1)) }
-        ensures named { IfErr result (λ e. (cause : Error) × (e.0 ≡ fault_of cause)) }
+        ensures named { IfErr result (λ e. (cause : Error) × (e.0 ≡ journal_fault_of cause)) }
         ensures cause { IfErr result (λ e. HasCleanDisk (state S.Store e.1) → conn.in_transaction ≡ false → (state S.Store conn).now.schema ≡ journal_schema
             → TellsRefusal (state S.Store conn) (state S.Store e.1) (lines_in (state S.Store conn)) e.0) }
         ensures survives { IfOk result (λ j. Survives (state S.Store conn) (state S.Store j) (HasTable (state S.Store conn))) }
@@ -95,7 +95,7 @@ impl<S: Alter> Journal<S> {
         ensures lines { HasCleanDisk (state S.Store self.new) → (before : _) → HoldLines (lines_in (state S.Store self.old)) before
             → OnOk result (HoldLines (lines_in (state S.Store self.new)) (before ++ texts lines.now)) }
         ensures err { HasCleanDisk (state S.Store self.new) → OnErr result (IsSame (state S.Store self.old) (state S.Store self.new)) }
-        ensures named { IfErr result (λ e. (cause : Error) × (e ≡ fault_of cause)) }
+        ensures named { IfErr result (λ e. (cause : Error) × (e ≡ journal_fault_of cause)) }
         ensures crash { LeavesAllOrNone (state S.Store self.old) (texts lines.now) (state S.Store self.new) }
         ensures survives { Survives (state S.Store self.old) (state S.Store self.new) (MayAdd (state S.Store self.old) (texts lines.now)) }
         ensures at_rest { IsAtRest (state S.Store self.new) }

@@ -7,7 +7,7 @@ ghost use Rattle.sqlite.specs.State.{HasCleanDisk, IsUnchanged, FailsToQuery, Su
 ghost use Rattle.sqlite.specs.Given.{IsPlain};
 ghost use Rattle.sqlite.specs.Listing.{understood};
 ghost use Rattle.book_journal.specs.Change.{IsBack};
-ghost use Rattle.book_journal.specs.Entries.{entries, entry, numbered, number_of, pair, IsLast, AreInOrder, HaveGapAt};
+ghost use Rattle.book_journal.specs.Entries.{entries, entry, numbered, row_number, pair, IsLastNumber, AreInOrder, HaveGapAt};
 ghost use Rattle.book_journal.specs.Faults.{HasReadCause, HaveUnreadable, IsNamed, IsUnreadable, RefusesRows};
 ghost use Rattle.book_journal.specs.Table.{journal_schema};
 
@@ -37,7 +37,7 @@ fn select<S: Alter>(conn: &mut Connection<S>, sql: &str) -> Result<Vec<Row>, Err
 pub(crate) fn last_number<S: Alter>(conn: &mut Connection<S>) -> Result<Option<i64>, Error>
     requires { (state S.Store conn.old).now.schema ≡ journal_schema }
     ensures mode { conn.old.in_transaction ≡ false → conn.new.in_transaction ≡ false }
-    ensures last { HasCleanDisk (state S.Store conn.new) → IfOk result (IsLast (entries (state S.Store conn.old).now.trees)) }
+    ensures last { HasCleanDisk (state S.Store conn.new) → IfOk result (IsLastNumber (entries (state S.Store conn.old).now.trees)) }
     ensures same { HasCleanDisk (state S.Store conn.new) → OnOk result (IsUnchanged (state S.Store conn.old) (state S.Store conn.new)) }
     ensures err { HasCleanDisk (state S.Store conn.new)
         → OnErr result (IsUnchanged (state S.Store conn.old) (state S.Store conn.new) ⊎ IsBack (state S.Store conn.old) (state S.Store conn.new)) }
@@ -69,7 +69,7 @@ pub(crate) fn all_rows<S: Alter>(conn: &mut Connection<S>) -> Result<Vec<Row>, E
 /// The line of a row that has this number.
 fn line_at(row: &Row, position: usize) -> Result<String, JournalFault>
     ensures ok { IfOk result (λ line. pair row.now ≡ entry (pos position) (string_bytes line)) }
-    ensures gap { (n : ℕ) → result ≡ Err (JournalFault.Gap n) → (n ≡ position) × (number_of row.now ≢ Int (pos position)) }
+    ensures gap { (n : ℕ) → result ≡ Err (JournalFault.Gap n) → (n ≡ position) × (row_number row.now ≢ Int (pos position)) }
     ensures unreadable { (cause : Error) → result ≡ Err (JournalFault.Store cause) → IsUnreadable (pair row.now) }
     ensures named { IfErr result IsNamed }
 {

@@ -18,9 +18,9 @@ use Rattle.depends.specs.Instance.{TakenStep, steps, taken_in}
 use Rattle.depends.specs.Laws.{facts_of}
 use Rattle.depends.proofs.Named.{steps_have_names}
 use Rattle.book_log.specs.Answers.{from_step, remains, needed_left}
-use Rattle.book_log.specs.Laws.{LeftIsAfter, HoldsStand, lowered_by, lowered, IsHeldThroughout, HoldsAreShared}
+use Rattle.book_log.specs.Laws.{LeftIsAfter, HoldsStand, lowered_by, entries_lowered, IsHeldThroughout, HoldsAreShared}
 use Rattle.book_log.specs.Legal.{IsAccepted, GoesOnLegally, IsLegal}
-use Rattle.book_log.specs.Log.{Log, appended, base_of, remaining, held, held_after, while_in, left_by, left_in, left_of, steps_but, rolled_back, consequences_of, remainder, setting_of, world_of, past_of}
+use Rattle.book_log.specs.Log.{Log, appended, base_of, remaining, step_on_hold, held_after, while_in, left_by, left_in, left_of, steps_but, rolled_back, consequences_of, remainder, setting_of, world_of, past_of}
 use Rattle.book_log.specs.declared.begin.Begin.{Begin}
 use Rattle.book_log.specs.declared.entry.Entry.{Entry}
 use Rattle.book_log.specs.declared.entry.Entry.TheVariants.{Define, Start, Step as Stepped, Undo, Rollback, Settle, Hold}
@@ -55,9 +55,9 @@ while_said ss (Some n) name h =
     (ap Some k.1, subst (λ (x : StepName). HasName x ss) k.1 (has_name n ss k.0))
 
 abbrev pub HoldRemains : Log → Type 0
-HoldRemains log = (name : StepName) → held log ≡ Some name → HasName name (remaining log)
+HoldRemains log = (name : StepName) → step_on_hold log ≡ Some name → HasName name (remaining log)
 
-still : (log : Log) (e : Entry) → held_after log.begin (remainder log) e ≡ held log → ((x : Step) → In x (remaining log) → In x (remaining (appended log e))) → HoldRemains log → HoldRemains (appended log e)
+still : (log : Log) (e : Entry) → held_after log.begin (remainder log) e ≡ step_on_hold log → ((x : Step) → In x (remaining log) → In x (remaining (appended log e))) → HoldRemains log → HoldRemains (appended log e)
 still log e same kept p name h = let r = p name (sym same ∙ sym (held_next log e) ∙ h) in (r.0, kept r.0 r.1, r.2)
 
 same_steps : (log : Log) (e : Entry) → remaining (appended log e) ≡ remaining log → (x : Step) → In x (remaining log) → In x (remaining (appended log e))
@@ -66,8 +66,8 @@ same_steps log e same x i = subst (In x) (sym same) i
 one_step_more : (log : Log) (e : Entry) (step : Step) → remaining (appended log e) ≡ remaining log ++ step ∷ [] → (x : Step) → In x (remaining log) → In x (remaining (appended log e))
 one_step_more log e step same x i = subst (In x) (sym same) (In-front x (remaining log) (step ∷ []) i)
 
-fewer : (log : Log) (e : Entry) (ss : List Step) → held_after log.begin (remainder log) e ≡ while_in ss (held log) → remaining (appended log e) ≡ ss → HoldRemains (appended log e)
-fewer log e ss while same name h = subst (HasName name) (sym same) (while_said ss (held log) name (sym while ∙ sym (held_next log e) ∙ h)).1
+fewer : (log : Log) (e : Entry) (ss : List Step) → held_after log.begin (remainder log) e ≡ while_in ss (step_on_hold log) → remaining (appended log e) ≡ ss → HoldRemains (appended log e)
+fewer log e ss while same name h = subst (HasName name) (sym same) (while_said ss (step_on_hold log) name (sym while ∙ sym (held_next log e) ∙ h)).1
 
 -- ---- a step that remains
 
@@ -106,9 +106,9 @@ hold_remains log legal = of_legal HoldRemains (λ begin fine. none_held begin) h
 
 -- ---- what is left, where a log stands
 
-pub left_there : (log : Log) (s : Setting) (w : World) (ts : List TakenStep) → StandsAt log s w ts → left_of log ≡ left_by s ts (held log)
+pub left_there : (log : Log) (s : Setting) (w : World) (ts : List TakenStep) → StandsAt log s w ts → left_of log ≡ left_by s ts (step_on_hold log)
 unfolding left_in
-left_there log s w ts h = ap₂ (λ (x : Setting) (l : List TakenStep). left_by x l (held log)) h.setting (past_there log s w ts h)
+left_there log s w ts h = ap₂ (λ (x : Setting) (l : List TakenStep). left_by x l (step_on_hold log)) h.setting (past_there log s w ts h)
 
 -- consequences don't hang on the machines
 following_set : (s u : Setting) (marked ts : List TakenStep) → consequences_from (steps s) marked ts ≡ consequences_from (steps u) marked ts
@@ -135,7 +135,7 @@ IsIn ts o = (name : StepName) → o ≡ Some name → (t : TakenStep) × In t ts
 
 module _ (log : Log) (s : Setting) (w : World) (ts : List TakenStep) (h : StandsAt log s w ts) where
   -- the held step stands in the past
-  pub held_in : HoldRemains log → IsIn ts (held log)
+  pub held_in : HoldRemains log → IsIn ts (step_on_hold log)
   held_in p name e =
       let r = p name e in
       let have = steps_have_names s (base_of log) (from_start log s w ts h) in
@@ -269,7 +269,7 @@ module _ (log : Log) (s : Setting) (w : World) (ts : List TakenStep) (h : Stands
   left_inside (Some name) x i = consequences-in (steps s) (base_of log) (steps_have_names s (base_of log) (from_start log s w ts h)) ts (moved name) x i
 
   -- a step that needs nothing that is left
-  unneeded : (f : Fact) → needed_left log f ≡ None → (x : TakenStep) → In x (left_by s ts (held log)) → depends_directly x.fact f ≡ false
+  unneeded : (f : Fact) → needed_left log f ≡ None → (x : TakenStep) → In x (left_by s ts (step_on_hold log)) → depends_directly x.fact f ≡ false
   unneeded f none x i =
       let own = left_there log s w ts h in
       any_none (λ (y : TakenStep). depends_directly y.fact f) (left_of log) (none_found (λ (y : Fact). depends_directly y f) (left_of log) none) x (subst (In x) (sym own) i)
@@ -294,7 +294,7 @@ left_is_after log (Define name machine) legal a =
     let h = legal_stands log legal in
     let u = knowing s name machine in
     left_there (appended log (Define name machine)) u w ts (stands_defined log s w ts name machine h a.0)
-    ∙ ap (left_by u ts) (held_next log (Define name machine)) ∙ left_set u s ts (held log) ∙ sym (left_there log s w ts h)
+    ∙ ap (left_by u ts) (held_next log (Define name machine)) ∙ left_set u s ts (step_on_hold log) ∙ sym (left_there log s w ts h)
 left_is_after log (Start exec machine input) legal a =
     let s = setting_of log in
     let w = world_of log in
@@ -304,7 +304,7 @@ left_is_after log (Start exec machine input) legal a =
     let t = taken_in w (started exec.exec machine input) can.fact in
     left_there (appended log (Start exec machine input)) s can.after (ts ++ t ∷ []) (stands_started log s w can.after ts exec machine input can.fact h can.takes)
     ∙ ap (left_by s (ts ++ t ∷ [])) (held_next log (Start exec machine input))
-    ∙ one_more_left log s w ts h t (held log) (held_in log s w ts h (hold_remains log legal)) (λ x i. start_needs log s w can.after ts h exec.exec machine input can.fact can.takes x (left_inside log s w ts h (held log) x i))
+    ∙ one_more_left log s w ts h t (step_on_hold log) (held_in log s w ts h (hold_remains log legal)) (λ x i. start_needs log s w can.after ts h exec.exec machine input can.fact can.takes x (left_inside log s w ts h (step_on_hold log) x i))
     ∙ sym (left_there log s w ts h)
 left_is_after log (Stepped name kind) legal a =
     let s = setting_of log in
@@ -316,7 +316,7 @@ left_is_after log (Stepped name kind) legal a =
     let t = taken_in w (moved name) can.fact in
     left_there (appended log (Stepped name kind)) s can.after (ts ++ t ∷ []) (stands_moved log s w can.after ts name kind can.fact h can.takes)
     ∙ ap (left_by s (ts ++ t ∷ [])) (held_next log (Stepped name kind))
-    ∙ one_more_left log s w ts h t (held log) (held_in log s w ts h (hold_remains log legal)) (unneeded log s w ts h can.fact said.2)
+    ∙ one_more_left log s w ts h t (step_on_hold log) (held_in log s w ts h (hold_remains log legal)) (unneeded log s w ts h can.fact said.2)
     ∙ sym (left_there log s w ts h)
 left_is_after log (Undo name) legal a =
     let s = setting_of log in
@@ -326,8 +326,8 @@ left_is_after log (Undo name) legal a =
     let k = (undo_said log s w ts h name name a).0 in
     left_there (appended log (Undo name)) s _ (without (steps s) (k.step ∷ []) ts) (stands_undone log s w ts name k.step h k.free k.named)
     ∙ ap (left_by s (without (steps s) (k.step ∷ []) ts)) (held_next log (Undo name))
-    ∙ undone_left log s w ts h k.step name (held log) k.free k.named (held_in log s w ts h (hold_remains log legal)) (hold_remains log legal)
-    ∙ without_named log s w ts h k.step name (left_by s ts (held log)) k.named
+    ∙ undone_left log s w ts h k.step name (step_on_hold log) k.free k.named (held_in log s w ts h (hold_remains log legal)) (hold_remains log legal)
+    ∙ without_named log s w ts h k.step name (left_by s ts (step_on_hold log)) k.named
     ∙ ap (filter (λ (x : TakenStep). not (is_same_step name (name_of x.step)))) (sym (left_there log s w ts h))
 left_is_after log (Rollback name undone) legal a =
     let s = setting_of log in
@@ -340,8 +340,8 @@ left_is_after log (Rollback name undone) legal a =
     let gone : rolled_back log.begin (remainder log) name ≡ names_of (steps s) (without (steps s) all ts) =
     rolled_there log s w ts name h ∙ ap (λ (l : List TakenStep). names_of (steps s) (without (steps s) l ts)) own in
     left_there (appended log (Rollback name undone)) s _ (without (steps s) all ts) (stands_rolled log s w ts name undone k.step h k.stood k.named)
-    ∙ ap (left_by s (without (steps s) all ts)) (held_next log (Rollback name undone) ∙ ap (λ (l : List Step). while_in l (held log)) gone)
-    ∙ rolled_left log s w ts h k.step (held log) k.stood (held_in log s w ts h (hold_remains log legal))
+    ∙ ap (left_by s (without (steps s) all ts)) (held_next log (Rollback name undone) ∙ ap (λ (l : List Step). while_in l (step_on_hold log)) gone)
+    ∙ rolled_left log s w ts h k.step (step_on_hold log) k.stood (held_in log s w ts h (hold_remains log legal))
     ∙ ap₂ (λ (x y : List TakenStep). without (steps s) x y) (sym (consequences_there log s w ts h name ∙ own)) (sym (left_there log s w ts h))
 left_is_after log Settle legal a = nothing_left (appended log Settle) (held_next log Settle)
 left_is_after log (Hold name count) legal a =
@@ -403,21 +403,21 @@ never : (o : Option StepName) → o ≡ None → IsSome o → ⊥
 never None e h = cc
 never (Some name) e h = cc
 
-shrinks : (log : Log) (e : Entry) → IsLegal log → IsAccepted log e → IsSome (held log) → Shrinks log e
+shrinks : (log : Log) (e : Entry) → IsLegal log → IsAccepted log e → IsSome (step_on_hold log) → Shrinks log e
 shrinks log (Define name machine) legal a h = as_it_was log (Define name machine) (left_is_after log (Define name machine) legal a) refl
 shrinks log (Start exec machine input) legal a h = as_it_was log (Start exec machine input) (left_is_after log (Start exec machine input) legal a) refl
 shrinks log (Stepped name kind) legal a h = as_it_was log (Stepped name kind) (left_is_after log (Stepped name kind) legal a) refl
 shrinks log (Undo name) legal a h = but_these log (Undo name) (λ x. is_same_step name (name_of x.step)) (left_is_after log (Undo name) legal a) refl
 shrinks log (Rollback name undone) legal a h =
     but_these log (Rollback name undone) (is_among (steps (setting_of log)) (consequences_of log name)) (left_is_after log (Rollback name undone) legal a) refl
-shrinks log Settle legal a h = absurd (never (held log) (settle_free log a) h)
-shrinks log (Hold name count) legal a h = absurd (never (held log) (hold_said log name count a).1 h)
+shrinks log Settle legal a h = absurd (never (step_on_hold log) (settle_free log a) h)
+shrinks log (Hold name count) legal a h = absurd (never (step_on_hold log) (hold_said log name count a).1 h)
 
 abbrev more : Log → List Entry → Log
 more log entries = record { begin = log.begin; entries = log.entries ++ entries }
 
 shared_along : (entries : List Entry) (log : Log) → IsLegal log → GoesOnLegally log entries → IsHeldThroughout log entries
-    → (length (left_of (more log entries)) + lowered log entries ≡ length (left_of log)) × ((x : TakenStep) → In x (left_of (more log entries)) → In x (left_of log))
+    → (length (left_of (more log entries)) + entries_lowered log entries ≡ length (left_of log)) × ((x : TakenStep) → In x (left_of (more log entries)) → In x (left_of log))
 shared_along [] log legal goes holds =
     let same = ap (λ (l : List Entry). left_of (record { begin = log.begin; entries = l })) (append-nil log.entries) in
     let l = ap length same in

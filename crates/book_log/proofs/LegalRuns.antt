@@ -12,7 +12,7 @@ use Rattle.depends.specs.Fact.{Fact}
 use Rattle.depends.specs.Instance.{TakenStep, steps}
 use Rattle.depends.specs.Laws.{facts_of}
 use Rattle.book_log.specs.Answers.{from_step, absent, names_of_facts, remains, plan_answer}
-use Rattle.book_log.specs.Beginning.{table_of}
+use Rattle.book_log.specs.Beginning.{begun_table}
 use Rattle.book_log.specs.Laws.{LegalLogsRun, AcceptedIsLegal}
 use Rattle.book_log.specs.Legal.{IsAccepted, GoesOnLegally, IsLegal}
 use Rattle.book_log.specs.Log.{Log, appended, first_world, world_after, base_in, run_in, remainder, setting_of, world_of, past_of, consequences_of}
@@ -105,7 +105,7 @@ pub accepted_is_legal : AcceptedIsLegal
 unfolding IsLegal
 accepted_is_legal log e h a = (h.0, more_legal log.entries (of_log log.begin []) e h.1 a)
 
-empty_legal : (begin : Begin) (items : Table) → table_of begin ≡ Ok items → IsLegal (of_log begin [])
+empty_legal : (begin : Begin) (items : Table) → begun_table begin ≡ Ok items → IsLegal (of_log begin [])
 unfolding IsLegal
 empty_legal begin items h = ((items, h), tt)
 

@@ -19,7 +19,7 @@ use Rattle.depends.proofs.Named.{steps_have_names}
 use Rattle.book_log.specs.Answers.{step_named, steps_named, defines, is_settlement, outline, entry_for, entry_of, replayed, or_no_step, rerun_answer}
 use Rattle.book_log.specs.Laws as laws
 use Rattle.book_log.specs.Legal.{IsAccepted, IsLegal}
-use Rattle.book_log.specs.Log.{Log, appended, after_entry, base_in, base_of, settled, held, world_after, remaining, machine_of, setting_of, setting_in, remainder, world_of, past_of}
+use Rattle.book_log.specs.Log.{Log, appended, after_entry, base_in, base_of, settled, step_on_hold, world_after, remaining, machine_of, setting_of, setting_in, remainder, world_of, past_of}
 use Rattle.book_log.specs.declared.begin.Begin.{Begin}
 use Rattle.book_log.specs.declared.entry.Entry.{Entry}
 use Rattle.book_log.specs.declared.entry.Entry.TheVariants.{Define, Start, Step as Stepped, Undo, Rollback, Settle, Hold}
@@ -40,15 +40,15 @@ pub record IsDefined (log : Log) : Type 0 where
   pub legal : IsLegal (of_log log.begin (outline log.entries))
   pub there : StandsAt (of_log log.begin (outline log.entries)) (setting_of log) (base_of log) []
   pub settles : settled (of_log log.begin (outline log.entries)) ≡ settled log
-  pub free : held (of_log log.begin (outline log.entries)) ≡ None
+  pub free : step_on_hold (of_log log.begin (outline log.entries)) ≡ None
 
 -- a log of the same beginning whose log is the outline of another's
-outlined : (log : Log) (entries : List Entry) → outline log.entries ≡ entries → IsLegal (of_log log.begin entries) → StandsAt (of_log log.begin entries) (setting_of log) (base_of log) [] → settled (of_log log.begin entries) ≡ settled log → held (of_log log.begin entries) ≡ None → IsDefined log
+outlined : (log : Log) (entries : List Entry) → outline log.entries ≡ entries → IsLegal (of_log log.begin entries) → StandsAt (of_log log.begin entries) (setting_of log) (base_of log) [] → settled (of_log log.begin entries) ≡ settled log → step_on_hold (of_log log.begin entries) ≡ None → IsDefined log
 outlined log entries is legal there settles free = record {
   legal = subst (λ l. IsLegal (of_log log.begin l)) (sym is) legal;
   there = subst (λ l. StandsAt (of_log log.begin l) (setting_of log) (base_of log) []) (sym is) there;
   settles = subst (λ l. settled (of_log log.begin l) ≡ settled log) (sym is) settles;
-  free = subst (λ l. held (of_log log.begin l) ≡ None) (sym is) free;
+  free = subst (λ l. step_on_hold (of_log log.begin l) ≡ None) (sym is) free;
 }
 
 -- an entry that is no definition and settles nothing
@@ -112,11 +112,11 @@ settled_again : (log : Log) (t : TakenStep) (step : Step) → settled (appended 
 settled_again log t (started exec machine input) = settled_next log (entry_for t (started exec machine input))
 settled_again log t (moved name) = settled_next log (entry_for t (moved name))
 
-held_again : (log : Log) (t : TakenStep) (step : Step) → held (appended log (entry_for t step)) ≡ held log
+held_again : (log : Log) (t : TakenStep) (step : Step) → step_on_hold (appended log (entry_for t step)) ≡ step_on_hold log
 held_again log t (started exec machine input) = held_next log (entry_for t (started exec machine input))
 held_again log t (moved name) = held_next log (entry_for t (moved name))
 
-pub retell : (ts : List TakenStep) (log : Log) (s : Setting) (w v : World) (us : List TakenStep) → IsLegal log → held log ≡ None → StandsAt log s w us → Runs (steps s) w ts v → ((t : TakenStep) → In t ts → IsShallow t.step)
+pub retell : (ts : List TakenStep) (log : Log) (s : Setting) (w v : World) (us : List TakenStep) → IsLegal log → step_on_hold log ≡ None → StandsAt log s w us → Runs (steps s) w ts v → ((t : TakenStep) → In t ts → IsShallow t.step)
     → length us + length ts ≤ 65536 → length log.entries + length us + (length ts + length ts) ≤ 1000000 → IsReplayed log.begin (log.entries ++ map entry_of ts) s (settled log) v (us ++ ts)
 retell [] log s w v us legal free h runs low few many = record {
   legal = subst (λ l. IsLegal (of_log log.begin l)) (sym (append-nil log.entries)) legal;
@@ -277,7 +277,7 @@ reruns_are_exact log names legal =
       refused = λ e a. rerun_refused _ e a;
     }
 
-pub linearizations_agree_all : laws.LinearizationsAgree
+pub linearizations_agree_all : laws.StepOrdersAgree
 unfolding rerun_answer
 linearizations_agree_all log arranged legal a =
     let s = setting_of log in

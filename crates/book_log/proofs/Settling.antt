@@ -13,7 +13,7 @@ use Rattle.depends.specs.Laws.{IsFrom}
 use Rattle.depends.proofs.Named.{steps_have_names}
 use Rattle.book_log.specs.Answers.{is_full_for_define, is_settled, absent, unless_held, settle_answer}
 use Rattle.book_log.specs.Laws.{SettlingKeepsTheWorld, SettledStaysSettled}
-use Rattle.book_log.specs.Log.{Log, appended, first_world, settled, remaining, held, setting_of, world_of, past_of}
+use Rattle.book_log.specs.Log.{Log, appended, first_world, settled, remaining, step_on_hold, setting_of, world_of, past_of}
 use Rattle.book_log.specs.declared.entry.Entry.{Entry}
 use Rattle.book_log.specs.declared.entry.Entry.TheVariants.{Define, Start, Step as Stepped, Undo, Rollback, Settle, Hold}
 use Rattle.book_log.specs.declared.refusal.Refusal.{Refusal}
@@ -84,14 +84,14 @@ settle_split b (Some name) h = cc
 
 pub settle_room : (log : Log) → settle_answer log ≡ Ok tt → is_full_for_define log ≡ false
 unfolding settle_answer
-settle_room log h = (settle_split (is_full_for_define log) (held log) h).0
+settle_room log h = (settle_split (is_full_for_define log) (step_on_hold log) h).0
 
 -- nothing is held where what remains is settled
-pub settle_free : (log : Log) → settle_answer log ≡ Ok tt → held log ≡ None
+pub settle_free : (log : Log) → settle_answer log ≡ Ok tt → step_on_hold log ≡ None
 unfolding settle_answer
-settle_free log h = (settle_split (is_full_for_define log) (held log) h).1
+settle_free log h = (settle_split (is_full_for_define log) (step_on_hold log) h).1
 
-pub room_settles : (log : Log) → held log ≡ None → is_full_for_define log ≡ false → settle_answer log ≡ Ok tt
+pub room_settles : (log : Log) → step_on_hold log ≡ None → is_full_for_define log ≡ false → settle_answer log ≡ Ok tt
 unfolding settle_answer
 room_settles log free h = rw (free, h) refl
 

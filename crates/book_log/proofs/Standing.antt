@@ -22,7 +22,7 @@ use Rattle.depends.specs.World.{Setting, World, is_same_thread, is_same_step}
 use Rattle.depends.specs.Fact.{Fact}
 use Rattle.depends.specs.Kind.{Kind}
 use Rattle.depends.specs.Instance.{TakenStep, steps, taken_in}
-use Rattle.depends.specs.Laws.{Extends, HasNoFrames, IsFrom}
+use Rattle.depends.specs.Laws.{ExtendsSetting, HasNoFrames, IsFrom}
 use Rattle.depends.proofs.Reversible.{steps_are_reversible}
 use Rattle.depends.proofs.Named.{steps_have_names}
 use Rattle.depends.proofs.Planned.{planned}
@@ -194,7 +194,7 @@ stands_next log e s base w before ts setting leads runs =
 abbrev pub knowing : Setting → List ℕ → Definition → Setting
 knowing s name machine = record { machines = with_machine s.machines name machine; table = s.table; schema = s.schema }
 
-pub extended : (s : Setting) (name : List ℕ) (machine : Definition) → s.machines name ≡ None → Extends s (knowing s name machine)
+pub extended : (s : Setting) (name : List ℕ) (machine : Definition) → s.machines name ≡ None → ExtendsSetting s (knowing s name machine)
 extended s name machine none = record { table = refl; schema = refl; machines = known }
   where
     known : (n : List ℕ) (d : Definition) → s.machines n ≡ Some d → with_machine s.machines name machine n ≡ Some d

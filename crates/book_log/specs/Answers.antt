@@ -19,7 +19,7 @@ use Rattle.depends.specs.World.{is_same_step}
 use Rattle.depends.specs.Fact.{Fact}
 use Rattle.depends.specs.Dependence.{depends_directly}
 use Rattle.depends.specs.Instance.{TakenStep, steps}
-use Rattle.book_log.specs.Log.{Log, appended, base_of, settled, remaining, held, left_of, machine_of, setting_of, world_of, facts_of, consequences_of}
+use Rattle.book_log.specs.Log.{Log, appended, base_of, settled, remaining, step_on_hold, left_of, machine_of, setting_of, world_of, log_facts, consequences_of}
 use Rattle.book_log.specs.declared.entry.Entry.{Entry}
 use Rattle.book_log.specs.declared.entry.Entry.TheVariants.{Define, Start, Step as Stepped, Undo, Rollback, Settle, Hold}
 use Rattle.book_log.specs.declared.moved.Moved.{Moved}
@@ -138,7 +138,7 @@ found_answer gone name None = Err gone
 found_answer gone name (Some p) = free_answer name (find (depends_directly p.0) p.1)
 
 unfoldable pub undo_answer : Log → StepName → Result StepName Refusal
-undo_answer log name = found_answer (absent log name) name (from_step name (facts_of log))
+undo_answer log name = found_answer (absent log name) name (from_step name (log_facts log))
 
 -- where a step is undone, what comes after that
 abbrev pub once_undone : Result StepName Refusal → Result Log Refusal → Result Log Refusal
@@ -157,7 +157,7 @@ names_of_facts ts = map (λ t. t.fact.name) ts
 
 -- whether some step has this name
 abbrev pub remains : Log → StepName → Bool
-remains log name = is_some (from_step name (facts_of log))
+remains log name = is_some (from_step name (log_facts log))
 
 -- a remaining step and its consequences, the latest first
 unfoldable pub plan_answer : Log → StepName → Result (List StepName) Refusal
@@ -167,13 +167,13 @@ plan_answer log name = if remains log name then Ok (names_of_facts (reverse (con
 
 -- what remains is settled where nothing is held and there is room for the entry
 unfoldable pub settle_answer : Log → Result (Unit {0}) Refusal
-settle_answer log = unless_held (held log) (if is_full_for_define log then Err Full else Ok tt)
+settle_answer log = unless_held (step_on_hold log) (if is_full_for_define log then Err Full else Ok tt)
 
 -- a remaining step and its consequences are held where no others are and there is room for the entry: so many steps
 unfoldable pub hold_answer : Log → StepName → Result ℕ Refusal
 hold_answer log name =
     if remains log name
-    then unless_held (held log) (if is_full_for_define log then Err Full else Ok (length (consequences_of log name)))
+    then unless_held (step_on_hold log) (if is_full_for_define log then Err Full else Ok (length (consequences_of log name)))
     else Err (absent log name)
 
 -- ---- rerun
@@ -237,10 +237,10 @@ is_enabled log t = is_some (move_effect (setting_of log) (world_of log) t)
 
 -- Only what a move would do tells whether it depends on what is left: this, and the name that a refusal tells, take memory.
 abbrev pub StepLacks : Log → Thread → Type 0
-StepLacks log t = IsSome (held log) × (is_enabled log t ≡ true)
+StepLacks log t = IsSome (step_on_hold log) × (is_enabled log t ≡ true)
 
 abbrev pub SettleLacks : Log → Type 0
-SettleLacks log = IsSome (held log)
+SettleLacks log = IsSome (step_on_hold log)
 
 abbrev pub HoldLacks : Log → StepName → Type 0
-HoldLacks log name = IsSome (held log) × (remains log name ≡ true)
+HoldLacks log name = IsSome (step_on_hold log) × (remains log name ≡ true)

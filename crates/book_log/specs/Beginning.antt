@@ -29,8 +29,8 @@ abbrev pub no_items : Table
 no_items key = None
 
 -- the table of a beginning, or why it is refused
-abbrev pub table_of : Begin → Result Table ItemFault
-table_of begin = filled begin.schema no_items begin.items
+abbrev pub begun_table : Begin → Result Table ItemFault
+begun_table begin = filled begin.schema no_items begin.items
 
 abbrev pub or_empty : Result Table ItemFault → Table
 or_empty (Ok items) = items
@@ -38,4 +38,4 @@ or_empty (Err fault) = no_items
 
 -- the items that stand at the beginning
 abbrev pub first_items : Begin → Table
-first_items begin = or_empty (table_of begin)
+first_items begin = or_empty (begun_table begin)

@@ -26,16 +26,16 @@ same_step = eq_by_cmp step_cmp
 abbrev pub same_steps : List StepName → List StepName → Bool
 same_steps = pointwise same_step
 
-abbrev pub number_of : Kind → ℕ
-number_of StartKind = 0
-number_of Plain = 1
-number_of Call = 2
-number_of Fork = 3
-number_of Join = 4
-number_of Terminate = 5
+abbrev pub kind_number : Kind → ℕ
+kind_number StartKind = 0
+kind_number Plain = 1
+kind_number Call = 2
+kind_number Fork = 3
+kind_number Join = 4
+kind_number Terminate = 5
 
 abbrev pub same_kind : Kind → Kind → Bool
-same_kind a b = number_of a == number_of b
+same_kind a b = kind_number a == kind_number b
 
 abbrev pub same_entry : Entry → Entry → Bool
 same_entry (Define name machine) (Define other to) = same_text name other && same_definition machine to
@@ -65,7 +65,7 @@ kind_one Terminate Terminate h = refl
 kind_one _ _ h = cc
 
 pub kind_exact : IsExact same_kind
-kind_exact = exact same_kind kind_one (λ a. (unsigned_Decides (number_of a) (number_of a)).1 refl)
+kind_exact = exact same_kind kind_one (λ a. (unsigned_Decides (kind_number a) (kind_number a)).1 refl)
 
 entry_one : (a b : Entry) → same_entry a b ≡ true → a ≡ b
 entry_one (Define name machine) (Define other to) h =

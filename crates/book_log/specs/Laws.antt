@@ -11,7 +11,7 @@ use Rattle.depends.specs.Kind.{Kind}
 use Rattle.depends.specs.Instance.{TakenStep, steps}
 use Rattle.book_log.specs.Answers.{undo_answer, order_answer, plan_answer, rerun_answer, is_full_for_step, needed_left, names_of_facts, entry_of, most_steps, most_places}
 use Rattle.book_log.specs.Legal.{IsAccepted, GoesOnLegally, IsLegal}
-use Rattle.book_log.specs.Log.{Log, appended, base_of, settled, remaining, held, left_of, machine_of, setting_of, run_of, world_of, past_of, consequences_of}
+use Rattle.book_log.specs.Log.{Log, appended, base_of, settled, remaining, step_on_hold, left_of, machine_of, setting_of, run_of, world_of, past_of, consequences_of}
 use Rattle.book_log.specs.declared.entry.Entry.{Entry}
 use Rattle.book_log.specs.declared.entry.Entry.TheVariants.{Define, Start, Step as Stepped, Undo, Rollback, Settle, Hold}
 use Rattle.book_log.specs.declared.refusal.Refusal.{Refusal}
@@ -138,10 +138,10 @@ pub record IsHeld (log : Log) (name : StepName) : Type 0 where
   pub latest : (front : List TakenStep) (x : TakenStep) → left_of log ≡ front ++ x ∷ [] → undo_answer log x.fact.name ≡ Ok x.fact.name
 
 abbrev pub HoldsStand : Type 0
-HoldsStand = (log : Log) (name : StepName) → IsLegal log → held log ≡ Some name → IsHeld log name
+HoldsStand = (log : Log) (name : StepName) → IsLegal log → step_on_hold log ≡ Some name → IsHeld log name
 
 abbrev pub NothingIsLeft : Type 0
-NothingIsLeft = (log : Log) → held log ≡ None → left_of log ≡ []
+NothingIsLeft = (log : Log) → step_on_hold log ≡ None → left_of log ≡ []
 
 -- how many of the steps that are left an entry takes back
 abbrev pub lowered_by : Log → Entry → ℕ
@@ -154,19 +154,19 @@ lowered_by log Settle = 0
 lowered_by log (Hold name count) = 0
 
 -- the same of entries one after another
-abbrev pub lowered : Log → List Entry → ℕ
-lowered log [] = 0
-lowered log (e ∷ entries) = lowered_by log e + lowered (appended log e) entries
+abbrev pub entries_lowered : Log → List Entry → ℕ
+entries_lowered log [] = 0
+entries_lowered log (e ∷ entries) = lowered_by log e + entries_lowered (appended log e) entries
 
 -- a hold stands before each of these entries
 abbrev pub IsHeldThroughout : Log → List Entry → Type 0
 IsHeldThroughout log [] = Unit {0}
-IsHeldThroughout log (e ∷ entries) = IsSome (held log) × IsHeldThroughout (appended log e) entries
+IsHeldThroughout log (e ∷ entries) = IsSome (step_on_hold log) × IsHeldThroughout (appended log e) entries
 
 -- A hold is over after exactly as many undoings of steps that are left as it began with: whatever other commands come, what is left
 -- shrinks by these alone, and stays among what was held.
 pub record IsShared (start : Log) (entries : List Entry) (count : ℕ) : Type 0 where
-  pub counted : length (left_of (record { begin = start.begin; entries = start.entries ++ entries })) + lowered start entries ≡ count
+  pub counted : length (left_of (record { begin = start.begin; entries = start.entries ++ entries })) + entries_lowered start entries ≡ count
   pub inside : (x : TakenStep) → In x (left_of (record { begin = start.begin; entries = start.entries ++ entries })) → In x (left_of start)
 
 abbrev pub HoldsAreShared : Type 0
@@ -227,8 +227,8 @@ RerunsAreExact = (log : Log) (names : List StepName) → IsLegal log → IsRerun
 
 -- Every linearization of the remaining steps that keeps directly dependent ones in their order can be rerun: the same world, and step by
 -- step the same facts and what was kept.
-abbrev pub LinearizationsAgree : Type 0
-LinearizationsAgree = (log : Log) (arranged : List Step) → IsLegal log → IsLinearization (steps (setting_of log)) (past_of log) arranged
+abbrev pub StepOrdersAgree : Type 0
+StepOrdersAgree = (log : Log) (arranged : List Step) → IsLegal log → IsLinearization (steps (setting_of log)) (past_of log) arranged
     → (again : Log) × (rerun_answer log (map name_of arranged) ≡ Ok again) × (world_of again ≡ world_of log) × ((t : TakenStep) → In t (past_of again) ↔ In t (past_of log))
 
 -- ---- entries

@@ -6,7 +6,7 @@ use Rattle.item_store.specs.Table.{Table}
 use Rattle.asl_machine.specs.TreeLevels.{IsWellFormedThroughout}
 use Rattle.depends.specs.Steps.{start_name}
 use Rattle.book_log.specs.Answers.{start_answer, step_answer, undo_answer, plan_answer, settle_answer, hold_answer, is_full_for_define}
-use Rattle.book_log.specs.Beginning.{table_of}
+use Rattle.book_log.specs.Beginning.{begun_table}
 use Rattle.book_log.specs.Log.{Log, appended, machine_of}
 use Rattle.book_log.specs.declared.entry.Entry.{Entry}
 use Rattle.book_log.specs.declared.entry.Entry.TheVariants.{Define, Start, Step as Stepped, Undo, Rollback, Settle, Hold}
@@ -29,4 +29,4 @@ GoesOnLegally before (e ∷ entries) = IsAccepted before e × GoesOnLegally (app
 
 -- the beginning is a table's, and each entry is accepted at its place
 unfoldable pub IsLegal : Log → Type 0
-IsLegal log = ((items : Table) × (table_of log.begin ≡ Ok items)) × GoesOnLegally (record { begin = log.begin; entries = [] }) log.entries
+IsLegal log = ((items : Table) × (begun_table log.begin ≡ Ok items)) × GoesOnLegally (record { begin = log.begin; entries = [] }) log.entries

@@ -146,8 +146,8 @@ abbrev pub settled : Log → List Step
 settled log = (remainder log).settled
 
 -- the step of the hold that stands, if one does
-abbrev pub held : Log → Option StepName
-held log = (remainder log).held
+abbrev pub step_on_hold : Log → Option StepName
+step_on_hold log = (remainder log).held
 
 -- what is left of it
 abbrev pub left_of : Log → List TakenStep
@@ -175,8 +175,8 @@ world_of log = world_in log.begin (remainder log)
 abbrev pub past_of : Log → List TakenStep
 past_of log = past_in log.begin (remainder log)
 
-abbrev pub facts_of : Log → List Fact
-facts_of log = map (λ t. t.fact) (past_of log)
+abbrev pub log_facts : Log → List Fact
+log_facts log = map (λ t. t.fact) (past_of log)
 
 abbrev pub consequences_of : Log → StepName → List TakenStep
 consequences_of log = consequences_in log.begin (remainder log)

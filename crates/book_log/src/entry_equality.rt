@@ -1,13 +1,13 @@
 // Equality of entries: the names first, since a machine and an input may be large.
 ghost use Rattle.std.specs.Prelude.{◌≡◌};
-ghost use Rattle.book_log.specs.EntrySame.{number_of, same_kind};
+ghost use Rattle.book_log.specs.EntrySame.{kind_number, same_kind};
 
 use crate::entry::Entry;
 use crate::step_names_list::StepNames;
 use depends::steps::Kind;
 
 fn number_of(kind: Kind) -> u8
-    ensures { result ≡ number_of kind }
+    ensures { result ≡ kind_number kind }
 {
     match kind {
         Kind::Start => 0,

@@ -1,6 +1,6 @@
 //! Laws of logs: each function's contract is the law, and it does nothing.
 
-ghost use Rattle.book_log.specs.Laws.{EqualityIsOfEntries, LegalLogsRun, AcceptedIsLegal, LegalLogsHaveRoom, StartsLeaveOthers, StepsLeaveOthers, UndoTakesBack, UndoTakesBackStart, AgainGivesBack, UndoAnswersAreExact, BackwardOrdersAreAccepted, AcceptedOrdersAreClosed, OrdersAgree, SettlingKeepsTheWorld, SettledStaysSettled, LeftIsAfter, HoldsStand, NothingIsLeft, HoldsAreShared, RollbackIsExact, RerunsAreLegal, RerunsAreExact, LinearizationsAgree};
+ghost use Rattle.book_log.specs.Laws.{EqualityIsOfEntries, LegalLogsRun, AcceptedIsLegal, LegalLogsHaveRoom, StartsLeaveOthers, StepsLeaveOthers, UndoTakesBack, UndoTakesBackStart, AgainGivesBack, UndoAnswersAreExact, BackwardOrdersAreAccepted, AcceptedOrdersAreClosed, OrdersAgree, SettlingKeepsTheWorld, SettledStaysSettled, LeftIsAfter, HoldsStand, NothingIsLeft, HoldsAreShared, RollbackIsExact, RerunsAreLegal, RerunsAreExact, StepOrdersAgree};
 
 /// What remains of a legal log can be run from the start, a legal log with an entry that is accepted is one, and its limits leave
 /// room to undo each remaining step.
@@ -63,7 +63,7 @@ pub fn rollback_is_exact()
 pub fn reruns_agree()
     ensures legal { RerunsAreLegal }
     ensures exact { RerunsAreExact }
-    ensures arranged { LinearizationsAgree }
+    ensures arranged { StepOrdersAgree }
 {}
 
 /// `==` says whether two entries are one: what they have room for is no part of it.

@@ -3,9 +3,9 @@ ghost use Rattle.std.specs.Prelude.{◌≡◌, ◌⊎◌, Some, Ok, Err, IfOk, M
 ghost use Rattle.json_tree.specs.View.{data_of};
 ghost use Rattle.attr_values.specs.declared.key.Key.{Key};
 ghost use Rattle.item_store.specs.Deciding.{Attributes};
-ghost use Rattle.item_store.specs.Store.{items_of};
+ghost use Rattle.item_store.specs.Store.{stored_items};
 ghost use Rattle.item_store.specs.Table.{with_item};
-ghost use Rattle.book_log.specs.Beginning.{keyed_item, table_of};
+ghost use Rattle.book_log.specs.Beginning.{keyed_item, begun_table};
 
 use crate::begin::Begin;
 use attr_values::{Item, ItemFault, Key, KeySchema, key_of, read_item};
@@ -15,8 +15,8 @@ use std::alloc::{AllocError, Global};
 
 /// The items of a beginning, in a store of its table. Takes memory for each item and its key.
 pub fn first_store(alloc: Global, begin: &Begin) -> Result<ItemStore, ItemFault>
-    ensures items { MatchResult result (λ s. table_of begin.now ≡ Ok (items_of s))
-        (λ e. (e ≡ ItemFault.Memory) ⊎ (table_of begin.now ≡ Err e)) }
+    ensures items { MatchResult result (λ s. begun_table begin.now ≡ Ok (stored_items s))
+        (λ e. (e ≡ ItemFault.Memory) ⊎ (begun_table begin.now ≡ Err e)) }
     ensures table { IfOk result (λ s. s.table ≡ begin.now.table) }
     ensures schema { IfOk result (λ s. s.schema ≡ begin.now.schema) }
 {
@@ -31,7 +31,7 @@ pub fn first_store(alloc: Global, begin: &Begin) -> Result<ItemStore, ItemFault>
 /// Puts the item of an object at its key.
 fn put(alloc: Global, store: &mut ItemStore, object: &Json) -> Result<(), ItemFault>
     ensures item { MatchResult result
-        (λ _. (e : Key × Attributes) × (keyed_item store.old.schema (data_of object.now) ≡ Ok e) × (items_of store.new ≡ with_item (items_of store.old) e.0 (Some e.1)))
+        (λ _. (e : Key × Attributes) × (keyed_item store.old.schema (data_of object.now) ≡ Ok e) × (stored_items store.new ≡ with_item (stored_items store.old) e.0 (Some e.1)))
         (λ f. (f ≡ ItemFault.Memory) ⊎ (keyed_item store.old.schema (data_of object.now) ≡ Err f)) }
     ensures table { store.new.table ≡ store.old.table }
     ensures schema { store.new.schema ≡ store.old.schema }

@@ -4,7 +4,7 @@ use Rattle.std.specs.Prelude.{slice_get}
 use Rattle.book_log.specs.Legal.{GoesOnLegally, IsLegal}
 use Rattle.book_log.specs.Log.{Log, appended}
 use Rattle.book_log.specs.declared.entry.Entry.{Entry}
-use Rattle.step_workers.specs.Work.{IsStep}
+use Rattle.step_workers.specs.Work.{IsStepEntry}
 use Rattle.book_rounds.specs.Rounds.{AreSteps, with_entries}
 
 pub with_none : (log : Log) → with_entries log [] ≡ log
@@ -35,11 +35,11 @@ same_some : (a b : Entry) → Some a ≡ Some b → a ≡ b
 same_some a b h = cc
 
 -- where a step stands at each place, all are steps
-steps_by : (more : List Entry) → ((i : ℕ) → i < length more → (e : Entry) × (slice_get more i ≡ Some e) × IsStep e) → AreSteps more
+steps_by : (more : List Entry) → ((i : ℕ) → i < length more → (e : Entry) × (slice_get more i ≡ Some e) × IsStepEntry e) → AreSteps more
 steps_by [] h = tt
 steps_by (x ∷ more) h =
     let first = h 0 (omega arith) in
-    (subst IsStep (same_some first.0 x (sym first.1)) first.2, steps_by more (λ i low. h (suc i) (omega (arith, low))))
+    (subst IsStepEntry (same_some first.0 x (sym first.1)) first.2, steps_by more (λ i low. h (suc i) (omega (arith, low))))
 
-pub steps_behind : (front more : List Entry) → ((i : ℕ) → i < length more → (e : Entry) × (slice_get (front ++ more) (length front + i) ≡ Some e) × IsStep e) → AreSteps more
+pub steps_behind : (front more : List Entry) → ((i : ℕ) → i < length more → (e : Entry) × (slice_get (front ++ more) (length front + i) ≡ Some e) × IsStepEntry e) → AreSteps more
 steps_behind front more h = steps_by more (λ i low. let one = h i low in (one.0, sym (behind front more i) ∙ one.1, one.2))

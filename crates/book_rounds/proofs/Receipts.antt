@@ -5,12 +5,12 @@ use Rattle.std.proofs.lemmas.Bool.Decides.{nat_tests}
 use Rattle.book_log.specs.Legal.{IsLegal}
 use Rattle.book_log.specs.Log.{Log}
 use Rattle.book_log.specs.declared.entry.Entry.{Entry}
-use Rattle.shared_book.specs.Closed.{all_receipts, times, once_within, AllAreLogged, IsClosed}
+use Rattle.shared_book.specs.Closed.{all_receipts, receipt_times, once_within, AllAreLogged, IsClosed}
 use Rattle.shared_book.specs.Numbers.{entry_at}
 use Rattle.shared_book.specs.Views.{PassView, second_half}
 use Rattle.shared_book.specs.declared.receipt.Receipt.{Receipt}
 use Rattle.step_workers.specs.Shares.{shares_of}
-use Rattle.step_workers.specs.Work.{AllGoOn, AllSteps, EachGoesOn, IsStep, with_giver}
+use Rattle.step_workers.specs.Work.{AllGoOn, AllSteps, EachGoesOn, IsStepEntry, with_giver}
 use Rattle.step_workers.proofs.Sums.{sum_more, sum_of, sum_shares}
 use Rattle.book_rounds.specs.Rounds.{AreFresh, IsRound, with_entries}
 use Rattle.book_rounds.proofs.Logs.{goes_from, steps_behind, with_none}
@@ -60,14 +60,14 @@ none_fresh (p ∷ ps) fresh = ap (λ (rs : List Receipt). rs ++ all_receipts ps)
 
 -- ---- a receipt of a number
 
-by_number : (entries : List Entry) (k : ℕ) (r : Receipt) (rs : List Receipt) (b : Bool) → (r.number == k) ≡ b → 0 < times k (r ∷ rs) → AllAreLogged entries (r ∷ rs) → AllSteps (r ∷ rs)
-    → (0 < times k rs → (e : Entry) × (entry_at entries k ≡ Some e) × IsStep e) → (e : Entry) × (entry_at entries k ≡ Some e) × IsStep e
+by_number : (entries : List Entry) (k : ℕ) (r : Receipt) (rs : List Receipt) (b : Bool) → (r.number == k) ≡ b → 0 < receipt_times k (r ∷ rs) → AllAreLogged entries (r ∷ rs) → AllSteps (r ∷ rs)
+    → (0 < receipt_times k rs → (e : Entry) × (entry_at entries k ≡ Some e) × IsStepEntry e) → (e : Entry) × (entry_at entries k ≡ Some e) × IsStepEntry e
 by_number entries k r rs true is some stand steps rest = (r.entry, subst (λ (n : ℕ). entry_at entries n ≡ Some r.entry) (eqb-true r.number k is) stand.0, steps.0)
 by_number entries k r rs false is some stand steps rest =
-    let less : times k (r ∷ rs) ≡ 0 + times k rs = rw is refl in
+    let less : receipt_times k (r ∷ rs) ≡ 0 + receipt_times k rs = rw is refl in
     rest (omega (arith, less, some))
 
-found : (entries : List Entry) (k : ℕ) (rs : List Receipt) → 0 < times k rs → AllAreLogged entries rs → AllSteps rs → (e : Entry) × (entry_at entries k ≡ Some e) × IsStep e
+found : (entries : List Entry) (k : ℕ) (rs : List Receipt) → 0 < receipt_times k rs → AllAreLogged entries rs → AllSteps rs → (e : Entry) × (entry_at entries k ≡ Some e) × IsStepEntry e
 found entries k [] some stand steps = absurd (omega (arith, some))
 found entries k (r ∷ rs) some stand steps = by_number entries k r rs (r.number == k) refl some stand steps (λ more. found entries k rs more stand.1 steps.1)
 
@@ -87,13 +87,13 @@ module _ (begun now : Log) (rs : List Receipt) (closed : IsClosed begun now rs) 
   as_many : length closed.goes.more ≡ length rs
   as_many = omega (arith, length-append begun.entries closed.goes.more, ap (λ (entries : List Entry). length entries) closed.goes.entries, closed.as_many)
 
-  one_there : (i : ℕ) → i < length closed.goes.more → AllSteps rs → (e : Entry) × (slice_get (begun.entries ++ closed.goes.more) (length begun.entries + i) ≡ Some e) × IsStep e
+  one_there : (i : ℕ) → i < length closed.goes.more → AllSteps rs → (e : Entry) × (slice_get (begun.entries ++ closed.goes.more) (length begun.entries + i) ≡ Some e) × IsStepEntry e
   one_there i low steps =
       let k = length begun.entries + i in
       let long = as_many in
       let is : once_within (length begun.entries + 1) (length now.entries + 1) (k + 1) ≡ 1 =
       let many = closed.as_many in grind (arith, nat_tests, many, long, low) in
-      let some : 0 < times (k + 1) rs = omega (arith, closed.once (k + 1), is) in
+      let some : 0 < receipt_times (k + 1) rs = omega (arith, closed.once (k + 1), is) in
       let one = found now.entries (k + 1) rs some closed.stand steps in
       (one.0, subst (λ (entries : List Entry). slice_get entries k ≡ Some one.0) closed.goes.entries (sym (placed now.entries k) ∙ one.1), one.2)
 

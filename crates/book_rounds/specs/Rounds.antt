@@ -7,7 +7,7 @@ use Rattle.book_log.specs.Log.{Log}
 use Rattle.book_log.specs.declared.entry.Entry.{Entry}
 use Rattle.shared_book.specs.Views.{PassView}
 use Rattle.shared_book.specs.declared.refusal.SharedRefusal.{SharedRefusal}
-use Rattle.step_workers.specs.Work.{IsStep}
+use Rattle.step_workers.specs.Work.{IsStepEntry}
 use Rattle.step_workers.specs.declared.outcome.Stopped.{Stopped}
 use Rattle.step_workers.specs.declared.outcome.Stopped.TheVariants.{Refused}
 use Rattle.book_rounds.specs.declared.rounds.RoundFault.{RoundFault}
@@ -16,7 +16,7 @@ use Rattle.book_rounds.specs.declared.rounds.RoundFault.TheVariants.{NotBegun, L
 -- each entry is that of a step
 abbrev pub AreSteps : List Entry → Type 0
 AreSteps [] = Unit {0}
-AreSteps (e ∷ es) = IsStep e × AreSteps es
+AreSteps (e ∷ es) = IsStepEntry e × AreSteps es
 
 -- the log with these entries more
 abbrev pub with_entries : Log → List Entry → Log
@@ -31,9 +31,9 @@ pub record IsRound (moves : ℕ) (before after : Log) : Type 0 where
   pub legal : GoesOnLegally before more
 
 -- a book that comes back has the log from before
-abbrev pub IsLeft : Log → RoundFault → Type 0
-IsLeft log (NotBegun book) = book.log ≡ log
-IsLeft log Lost = Unit {0}
+abbrev pub IsLeftBook : Log → RoundFault → Type 0
+IsLeftBook log (NotBegun book) = book.log ≡ log
+IsLeftBook log Lost = Unit {0}
 
 -- none of the passes has a receipt
 abbrev pub AreFresh : List PassView → Type 0
@@ -41,10 +41,10 @@ AreFresh [] = Unit {0}
 AreFresh (p ∷ ps) = (p.receipts ≡ []) × AreFresh ps
 
 -- a worker was refused a call, or couldn't be started
-abbrev pub is_refusal : Stopped → Bool
-is_refusal (Refused e) = true
-is_refusal _ = false
+abbrev pub is_refused_stop : Stopped → Bool
+is_refused_stop (Refused e) = true
+is_refused_stop _ = false
 
 -- so it is with one of the workers, or something was refused to the one who handed out tickets
 abbrev pub is_refused : Option SharedRefusal → List Stopped → Bool
-is_refused refused stopped = is_some refused || list_any is_refusal stopped
+is_refused refused stopped = is_some refused || list_any is_refused_stop stopped

@@ -5,7 +5,7 @@ ghost use Rattle.shared_book.specs.Closed.{all_receipts};
 ghost use Rattle.shared_book.specs.Views.{PassView};
 ghost use Rattle.step_workers.specs.Work.{AllGoOn};
 ghost use Rattle.book_log.specs.Log.{Log};
-ghost use Rattle.book_rounds.specs.Rounds.{AreFresh, IsLeft, IsRound, is_refusal, is_refused};
+ghost use Rattle.book_rounds.specs.Rounds.{AreFresh, IsLeftBook, IsRound, is_refused_stop, is_refused};
 
 use crate::seats::seats_of;
 use rollback_book::Book;
@@ -51,7 +51,7 @@ pub fn run_round<R: Threads + Wait + Sync>(
 ) -> Result<Round, RoundFault>
     requires { (1 ≤ workers) × (workers ≤ 8) }
     ensures ok { IfOk result (λ r. IsRound moves book.log r.book.log) }
-    ensures err { IfErr result (IsLeft book.log) }
+    ensures err { IfErr result (IsLeftBook book.log) }
 {
     share_and_work::<Brand, R>(rt, alloc, Blank::new(PARTS), book, workers as usize, moves)
 }
@@ -69,7 +69,7 @@ fn share_and_work<L: Sharing + Send + Sync, R: Threads + Wait + Sync>(
     requires shared { (blank.name ≡ L.name) × (blank.parts ≡ L.parts) × (L.parts ≡ PARTS) × (book.log ≡ L.begun) }
     requires few { (1 ≤ workers) × (workers ≤ 8) }
     ensures ok { IfOk result (λ r. IsRound moves L.begun r.book.log) }
-    ensures err { IfErr result (IsLeft L.begun) }
+    ensures err { IfErr result (IsLeftBook L.begun) }
 {
     let Ok(passes) = Vec::with_capacity(alloc, workers) else {
         return Err(RoundFault::NotBegun(book));
@@ -91,7 +91,7 @@ fn finish<L: Sharing>(
 ) -> Result<Round, RoundFault>
     ensures ok { IfOk result (λ r. (moves : ℕ) → (passes : List PassView) → AreFresh passes → AllGoOn moves passes outcome.passes.items → IsRound moves L.begun r.book.log) }
     ensures refused { IfOk result (λ r. r.is_refused ≡ is_refused outcome.refused outcome.stopped.items) }
-    ensures err { IfErr result (IsLeft L.begun) }
+    ensures err { IfErr result (IsLeftBook L.begun) }
 {
     let Outcome {
         passes,
@@ -113,7 +113,7 @@ fn finish<L: Sharing>(
 #[tactic(auto, using(crate::proofs::Receipts::same_closed))]
 fn give_back<L: Sharing>(alloc: Global, shared: Shared<Book, L>, passes: Vec<Pass<L>>) -> RoundFault
     requires { AreFresh passes.items }
-    ensures { IsLeft L.begun result }
+    ensures { IsLeftBook L.begun result }
 {
     match close(alloc, shared, passes) {
         Ok(book) => RoundFault::NotBegun(book),
@@ -136,7 +136,7 @@ fn is_any_refused(refused: &Option<SharedRefusal>, stopped: &[Stopped]) -> bool
 
 /// Whether a worker made no more moves since something was refused to it.
 fn is_any_halted(stopped: &[Stopped]) -> bool
-    ensures { result ≡ list_any is_refusal stopped.now }
+    ensures { result ≡ list_any is_refused_stop stopped.now }
 {
     for why in stopped {
         if matches!(why, Stopped::Refused(_)) {

@@ -19,7 +19,7 @@ use Rattle.branch_tree.specs.FlatMap.{FrameMap, IsTree, branch_count}
 use Rattle.branch_tree.specs.Bounds.{place_of, bound_of}
 use Rattle.branch_tree.specs.Leading.{leading_done, is_in_turn, done_at, failures}
 use Rattle.branch_tree.specs.Ready.{root_readiness, readiness_of, readiness_under, readiness_in, begins_under, may_begin, progress, frame_is, is_done}
-use Rattle.branch_tree.specs.First.{is_enabled, thread_under, path_cmp, is_free, IsFirst, NoneBeforePath, branch_from}
+use Rattle.branch_tree.specs.First.{is_free_to_move, thread_under, path_cmp, is_free, IsFirstFree, NoneBeforePath, branch_from}
 use Rattle.branch_tree.specs.Tree.{Rows, under, rows_from, flat, frame_at, branch_at, IsNode}
 use Rattle.branch_tree.specs.Falls.{under_len}
 use Rattle.branch_tree.proofs.Below.{nothing_under}
@@ -69,11 +69,11 @@ begins_below root frames b (c ∷ q) = refl
 
 -- ---- a thread that is done has nothing under it, and none that moves
 
-done_readiness : (begins : Bool) (frames : FrameMap) (o : Option Frame) → frame_is is_done o ≡ true → is_enabled (readiness_of begins frames o) ≡ false
+done_readiness : (begins : Bool) (frames : FrameMap) (o : Option Frame) → frame_is is_done o ≡ true → is_free_to_move (readiness_of begins frames o) ≡ false
 done_readiness begins frames None d = cc
 done_readiness begins frames (Some f) d = by f.phase d
   where
-    by : (p : Phase) → is_done p ≡ true → is_enabled (readiness_in begins frames f.count p) ≡ false
+    by : (p : Phase) → is_done p ≡ true → is_free_to_move (readiness_in begins frames f.count p) ≡ false
     by Ready d = cc
     by (Parked n bound) d = cc
     by (Done output) d = refl
@@ -120,8 +120,8 @@ module _ (root : Bool) (frame : Frame) (kids : List Rows) (base : Thread) (passe
       fun_ext (λ r. at_node frame kids ((frame.count, i) ∷ r) ∙ own_map frame.count kids i kid h r) in
       let b : begins_under root (frame_at (flat frame kids)) (place_of ((frame.count, i) ∷ q)) ≡ begins_under (begins i) (frame_at kid) (place_of q) =
       begins_below root (frame_at (flat frame kids)) (frame.count, i) q ∙ ap (λ (n : FrameMap). begins_under (begins i) n (place_of q)) k in
-      ap₂ (λ (c : Bool) (n : FrameMap). is_enabled (root_readiness c n) && not (passed (thread_under base ((frame.count, i) ∷ q)))) b m
-      ∙ ap (λ (t : Thread). is_enabled (readiness_under (begins i) (frame_at kid) q) && not (passed t)) (below_base base frame.count i q)
+      ap₂ (λ (c : Bool) (n : FrameMap). is_free_to_move (root_readiness c n) && not (passed (thread_under base ((frame.count, i) ∷ q)))) b m
+      ∙ ap (λ (t : Thread). is_free_to_move (readiness_under (begins i) (frame_at kid) q) && not (passed t)) (below_base base frame.count i q)
 
   nowhere : (p : Path) → ((r : Path) → frame_at (flat frame kids) (p ++ r) ≡ None) → free p ≡ false
   nowhere p h =
@@ -141,7 +141,7 @@ module _ (root : Bool) (frame : Frame) (kids : List Rows) (base : Thread) (passe
   first_of_none i q h t = absurd (omega arith)
 
   pub first_of_next : (n : ℕ) (kid : Rows) (found : Option Thread) → slice_get kids n ≡ Some kid → IsFirstOf n None
-      → IsFirst (begins n) (frame_at kid) (child_of base frame.count n) passed found → IsFirstOf (n + 1) found
+      → IsFirstFree (begins n) (frame_at kid) (child_of base frame.count n) passed found → IsFirstOf (n + 1) found
   first_of_next n kid None h before here = λ i q l t. elim (cases_eq i n) [
     | inl e ↦ last i q e t
     | inr ne ↦ before i q (omega arith) t
@@ -170,9 +170,9 @@ module _ (root : Bool) (frame : Frame) (kids : List Rows) (base : Thread) (passe
           (same_index frame.count n q here.0 (subst (λ (k : ℕ). path_cmp ((frame.count, k) ∷ q) ((frame.count, n) ∷ here.0) ≡ Less) e less)))
 
   pub first_of_step : (n : ℕ) (kid : Rows) (in_turn : Bool) (found : Option Thread) → n < length kids → kid ≡ get_or kids n kid → in_turn ≡ begins n → IsFirstOf n None
-      → IsFirst in_turn (frame_at kid) (child_of base frame.count n) passed found → IsFirstOf (n + 1) found
+      → IsFirstFree in_turn (frame_at kid) (child_of base frame.count n) passed found → IsFirstOf (n + 1) found
   first_of_step n kid in_turn found l k b h m =
-      first_of_next n kid found (slice_get-get_or kids n kid l ∙ ap Some (sym k)) h (subst (λ (c : Bool). IsFirst c (frame_at kid) (child_of base frame.count n) passed found) b m)
+      first_of_next n kid found (slice_get-get_or kids n kid l ∙ ap Some (sym k)) h (subst (λ (c : Bool). IsFirstFree c (frame_at kid) (child_of base frame.count n) passed found) b m)
 
   -- of the branches that are done none has a thread that moves
   pub first_of_leading : IsNode frame kids → IsFirstOf (leading_done kids) None
@@ -271,17 +271,17 @@ module _ (root : Bool) (frame : Frame) (kids : List Rows) (base : Thread) (passe
       by_fork (λ b. IsThread (thread_under base (b ∷ q)) → path_cmp (b ∷ q) ((frame.count, below.0) ∷ below.1) ≡ Less → free (b ∷ q) ≡ false) b
       (λ i v l. below.4 i q v l) (λ ne v l. branch_elsewhere b q ne) u less
 
-  first_of_flat : (found : Option Thread) → free [] ≡ false → IsFirstOf (length kids) found → IsFirst root (frame_at (flat frame kids)) base passed found
+  first_of_flat : (found : Option Thread) → free [] ≡ false → IsFirstOf (length kids) found → IsFirstFree root (frame_at (flat frame kids)) base passed found
   first_of_flat None here below = none_at_all here below
   first_of_flat (Some t) here below = ((frame.count, below.0) ∷ below.1, below.2, below.3, none_earlier (length kids) t here below)
 
   -- at a node seen as v
-  pub first_of_all : (v : Rows) → flat frame kids ≡ v → (found : Option Thread) → is_free root (frame_at v) base passed [] ≡ false → IsFirstOf (length kids) found → IsFirst root (frame_at v) base passed found
+  pub first_of_all : (v : Rows) → flat frame kids ≡ v → (found : Option Thread) → is_free root (frame_at v) base passed [] ≡ false → IsFirstOf (length kids) found → IsFirstFree root (frame_at v) base passed found
   first_of_all v is found =
-      subst (λ (w : Rows). is_free root (frame_at w) base passed [] ≡ false → IsFirstOf (length kids) found → IsFirst root (frame_at w) base passed found) is (first_of_flat found)
+      subst (λ (w : Rows). is_free root (frame_at w) base passed [] ≡ false → IsFirstOf (length kids) found → IsFirstFree root (frame_at w) base passed found) is (first_of_flat found)
 
 -- the thread itself comes before all under it
-pub first_here : (root : Bool) (frames : FrameMap) (base : Thread) (passed : Thread → Bool) → is_free root frames base passed [] ≡ true → IsFirst root frames base passed (Some base)
+pub first_here : (root : Bool) (frames : FrameMap) (base : Thread) (passed : Thread → Bool) → is_free root frames base passed [] ≡ true → IsFirstFree root frames base passed (Some base)
 first_here root frames base passed h =
     ([], ap (λ (p : Path). record { exec = base.exec; path = p }) (sym (append-nil base.path)), h, λ q t less. absurd (none_before q less))
 
@@ -290,7 +290,7 @@ first_here root frames base passed h =
 base_itself : (base : Thread) → thread_under base [] ≡ base
 base_itself base = ap (λ (p : Path). record { exec = base.exec; path = p }) (append-nil base.path)
 
-pub root_free : (root : Bool) (frames : FrameMap) (base : Thread) (passed : Thread → Bool) (r : Readiness) → root_readiness root frames ≡ r → is_free root frames base passed [] ≡ (is_enabled r && not (passed base))
+pub root_free : (root : Bool) (frames : FrameMap) (base : Thread) (passed : Thread → Bool) (r : Readiness) → root_readiness root frames ≡ r → is_free root frames base passed [] ≡ (is_free_to_move r && not (passed base))
 root_free root frames base passed r h = rw (base_itself base, h) refl
 
 module _ (root : Bool) (frame : Frame) (kids : List Rows) (v : Rows) (is : flat frame kids ≡ v) (node : IsNode frame kids) (base : Thread) (passed : Thread → Bool) where
@@ -298,30 +298,30 @@ module _ (root : Bool) (frame : Frame) (kids : List Rows) (v : Rows) (is : flat 
   no_kids h = λ i q l t. absurd (omega (arith, node.counted))
 
   -- a thread that ended
-  pub first_of_ended : (p : Phase) → frame.phase ≡ p → branch_count p ≡ 0 → is_enabled (readiness_in root (frame_at v) frame.count p) ≡ false → IsFirst root (frame_at v) base passed None
+  pub first_of_ended : (p : Phase) → frame.phase ≡ p → branch_count p ≡ 0 → is_free_to_move (readiness_in root (frame_at v) frame.count p) ≡ false → IsFirstFree root (frame_at v) base passed None
   first_of_ended p e none still =
       first_of_all root frame kids base passed v is None
       (root_free root (frame_at v) base passed _ (sym (not_parked root frame kids v p is e)) ∙ rw still refl)
       (no_kids (ap branch_count e ∙ none))
 
   -- a thread that is ready, and passed by or not
-  pub first_of_passed : frame.phase ≡ Ready → ((frame.count == 0 && not root) || passed base) ≡ true → IsFirst root (frame_at v) base passed None
+  pub first_of_passed : frame.phase ≡ Ready → ((frame.count == 0 && not root) || passed base) ≡ true → IsFirstFree root (frame_at v) base passed None
   first_of_passed e h =
       first_of_all root frame kids base passed v is None
       (root_free root (frame_at v) base passed _ (sym (not_parked root frame kids v Ready is e)) ∙ still (frame.count == 0 && not root) (passed base) h)
       (no_kids (ap branch_count e))
     where
-      still : (waits out : Bool) → (waits || out) ≡ true → (is_enabled (cond waits readiness.Waiting readiness.Ready) && not out) ≡ false
+      still : (waits out : Bool) → (waits || out) ≡ true → (is_free_to_move (cond waits readiness.Waiting readiness.Ready) && not out) ≡ false
       still true true h = refl
       still true false h = refl
       still false true h = refl
       still false false h = cc
 
-  pub first_of_ready : frame.phase ≡ Ready → ((frame.count == 0 && not root) || passed base) ≡ false → IsFirst root (frame_at v) base passed (Some base)
+  pub first_of_ready : frame.phase ≡ Ready → ((frame.count == 0 && not root) || passed base) ≡ false → IsFirstFree root (frame_at v) base passed (Some base)
   first_of_ready e h =
       first_here root (frame_at v) base passed (root_free root (frame_at v) base passed _ (sym (not_parked root frame kids v Ready is e)) ∙ goes (frame.count == 0 && not root) (passed base) h)
     where
-      goes : (waits out : Bool) → (waits || out) ≡ false → (is_enabled (cond waits readiness.Waiting readiness.Ready) && not out) ≡ true
+      goes : (waits out : Bool) → (waits || out) ≡ false → (is_free_to_move (cond waits readiness.Waiting readiness.Ready) && not out) ≡ true
       goes true out h = cc
       goes false true h = cc
       goes false false h = refl
@@ -331,16 +331,16 @@ module _ (root : Bool) (frame : Frame) (kids : List Rows) (v : Rows) (is : flat 
   parked_free n bound e =
       root_free root (frame_at v) base passed _ (sym (parked root frame kids v n bound is node e)) ∙ ap (λ (b : Bool). b && not (passed base)) (moves (failed_one kids) (all_done kids))
     where
-      moves : (failed done : Bool) → is_enabled (progress failed done) ≡ (failed || done)
+      moves : (failed done : Bool) → is_free_to_move (progress failed done) ≡ (failed || done)
       moves true done = refl
       moves false true = refl
       moves false false = refl
 
-  pub first_of_parked : (n bound : ℕ) → frame.phase ≡ Parked n bound → ((failed_one kids || all_done kids) && not (passed base)) ≡ true → IsFirst root (frame_at v) base passed (Some base)
+  pub first_of_parked : (n bound : ℕ) → frame.phase ≡ Parked n bound → ((failed_one kids || all_done kids) && not (passed base)) ≡ true → IsFirstFree root (frame_at v) base passed (Some base)
   first_of_parked n bound e h = first_here root (frame_at v) base passed (parked_free n bound e ∙ h)
 
   pub first_under_parked : (n bound : ℕ) (found : Option Thread) → frame.phase ≡ Parked n bound → ((failed_one kids || all_done kids) && not (passed base)) ≡ false
-      → IsFirstOf root frame kids base passed (length kids) found → IsFirst root (frame_at v) base passed found
+      → IsFirstOf root frame kids base passed (length kids) found → IsFirstFree root (frame_at v) base passed found
   first_under_parked n bound found e h below = first_of_all root frame kids base passed v is found (parked_free n bound e ∙ h) below
 
 -- ---- a branch has fewer rows than the node above it
@@ -384,20 +384,20 @@ module _ (root : Bool) (frame : Frame) (kids : List Rows) (v : Rows) (is : flat 
       let d : (leading == many) ≡ all_done kids = ap₂ (λ k l. k == l) leads counted ∙ lead_all kids in
       ap₂ (λ a b. a || b) f d
 
-  pub fork_itself : (first : Thread) → ((not (failed == 0) || (leading == many)) && not (passed base)) ≡ true → first ≡ base → IsFirst root (frame_at v) base passed (Some first)
+  pub fork_itself : (first : Thread) → ((not (failed == 0) || (leading == many)) && not (passed base)) ≡ true → first ≡ base → IsFirstFree root (frame_at v) base passed (Some first)
   fork_itself first h e =
-      subst (λ (t : Thread). IsFirst root (frame_at v) base passed (Some t)) (sym e) (first_of_parked root frame kids v is node base passed n bound parked (ap (λ c. c && not (passed base)) (sym moves_is) ∙ h))
+      subst (λ (t : Thread). IsFirstFree root (frame_at v) base passed (Some t)) (sym e) (first_of_parked root frame kids v is node base passed n bound parked (ap (λ c. c && not (passed base)) (sym moves_is) ∙ h))
 
   still : ((not (failed == 0) || (leading == many)) && not (passed base)) ≡ false → ((failed_one kids || all_done kids) && not (passed base)) ≡ false
   still h = ap (λ c. c && not (passed base)) (sym moves_is) ∙ h
 
   -- the first of a branch, where none before it has one
   pub fork_found : (i : ℕ) (found : Option Thread) → ((not (failed == 0) || (leading == many)) && not (passed base)) ≡ false → is_some found ≡ true
-      → IsFirstOf root frame kids base passed i found → IsFirst root (frame_at v) base passed found
+      → IsFirstOf root frame kids base passed i found → IsFirstFree root (frame_at v) base passed found
   fork_found i None h s below = cc
   fork_found i (Some t) h s below = first_under_parked root frame kids v is node base passed n bound (Some t) parked (still h) below
 
-  pub fork_none : (i : ℕ) → ((not (failed == 0) || (leading == many)) && not (passed base)) ≡ false → length kids ≤ i → IsFirstOf root frame kids base passed i None → IsFirst root (frame_at v) base passed None
+  pub fork_none : (i : ℕ) → ((not (failed == 0) || (leading == many)) && not (passed base)) ≡ false → length kids ≤ i → IsFirstOf root frame kids base passed i None → IsFirstFree root (frame_at v) base passed None
   fork_none i h past below =
       first_under_parked root frame kids v is node base passed n bound None parked (still h) (λ j q l t. below j q (omega (arith, l, past)) t)
 

@@ -19,20 +19,20 @@ bound_in (Some f) = bound_of f.phase
 
 -- ---- a branch's place: the path of the thread that forked it, and which branch of which of that thread's steps it is
 
-abbrev pub Place : Type 0
-Place = Path × (ℕ × ℕ)
+abbrev pub BranchPlace : Type 0
+BranchPlace = Path × (ℕ × ℕ)
 
-abbrev pub place_by : ℕ × ℕ → Path → Place
+abbrev pub place_by : ℕ × ℕ → Path → BranchPlace
 place_by b [] = ([], b)
 place_by b (c ∷ p) = let q = place_by c p in (b ∷ q.0, q.1)
 
 -- none for an execution's own thread
-abbrev pub place_of : Path → Option Place
+abbrev pub place_of : Path → Option BranchPlace
 place_of [] = None
 place_of (b ∷ p) = Some (place_by b p)
 
 -- the branch of this index of the same fork
-abbrev pub sibling : Place → ℕ → Path
+abbrev pub sibling : BranchPlace → ℕ → Path
 sibling b j = b.0 ++ (b.1.0, j) ∷ []
 
 -- ---- the branches for which a branch waits

@@ -11,14 +11,14 @@ use Rattle.branch_tree.specs.Paths.{Path}
 use Rattle.branch_tree.specs.FlatMap.{FrameMap}
 use Rattle.branch_tree.specs.Ready.{readiness_under}
 
-abbrev pub is_enabled : Readiness → Bool
-is_enabled Ready = true
-is_enabled Join = true
-is_enabled Terminate = true
-is_enabled Waiting = false
-is_enabled Done = false
-is_enabled Failed = false
-is_enabled NoThread = false
+abbrev pub is_free_to_move : Readiness → Bool
+is_free_to_move Ready = true
+is_free_to_move Join = true
+is_free_to_move Terminate = true
+is_free_to_move Waiting = false
+is_free_to_move Done = false
+is_free_to_move Failed = false
+is_free_to_move NoThread = false
 
 -- the thread that a path leads to from another
 abbrev pub thread_under : Thread → Path → Thread
@@ -30,12 +30,12 @@ path_cmp = slice_cmp branch_cmp
 
 -- of the threads at and under a base, which may begin or not
 abbrev pub is_free : Bool → FrameMap → Thread → (Thread → Bool) → Path → Bool
-is_free begins frames base passed p = is_enabled (readiness_under begins frames p) && not (passed (thread_under base p))
+is_free begins frames base passed p = is_free_to_move (readiness_under begins frames p) && not (passed (thread_under base p))
 
 -- Nothing, where no name of a thread at or under the base is free; or the name of one that is, with none before it.
-abbrev pub IsFirst : Bool → FrameMap → Thread → (Thread → Bool) → Option Thread → Type 0
-IsFirst begins frames base passed None = (p : Path) → IsThread (thread_under base p) → is_free begins frames base passed p ≡ false
-IsFirst begins frames base passed (Some t) =
+abbrev pub IsFirstFree : Bool → FrameMap → Thread → (Thread → Bool) → Option Thread → Type 0
+IsFirstFree begins frames base passed None = (p : Path) → IsThread (thread_under base p) → is_free begins frames base passed p ≡ false
+IsFirstFree begins frames base passed (Some t) =
     (p : Path) × (t ≡ thread_under base p) × (is_free begins frames base passed p ≡ true)
     × ((q : Path) → IsThread (thread_under base q) → path_cmp q p ≡ Less → is_free begins frames base passed q ≡ false)
 

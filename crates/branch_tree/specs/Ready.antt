@@ -7,7 +7,7 @@ use Rattle.asl_frames.specs.declared.frame.Phase.TheVariants.{Ready, Parked, Don
 use Rattle.branch_tree.specs.declared.readiness.Readiness.{Readiness}
 use Rattle.branch_tree.specs.declared.readiness.Readiness.TheVariants as readiness
 use Rattle.branch_tree.specs.Paths.{Path}
-use Rattle.branch_tree.specs.Bounds.{Place, place_of, sibling, bound_in, in_window}
+use Rattle.branch_tree.specs.Bounds.{BranchPlace, place_of, sibling, bound_in, in_window}
 use Rattle.branch_tree.specs.FlatMap.{FrameMap}
 
 abbrev pub is_done : Phase → Bool
@@ -43,16 +43,16 @@ abbrev pub progress : Bool → Bool → Readiness
 progress failed done = if failed then readiness.Terminate else (if done then readiness.Join else readiness.Waiting)
 
 -- the bound of the fork that a thread is a branch of
-abbrev pub bound_over : FrameMap → Option Place → ℕ
+abbrev pub bound_over : FrameMap → Option BranchPlace → ℕ
 bound_over frames None = 0
 bound_over frames (Some b) = bound_in (frames b.0)
 
 -- a branch may begin once all branches for which it waits are done
-abbrev pub may_begin : FrameMap → Place → Bool
+abbrev pub may_begin : FrameMap → BranchPlace → Bool
 may_begin frames b = not (in_window (bound_in (frames b.0)) b.1.1 (λ j. not (frame_is is_done (frames (sibling b j)))))
 
 -- whether a thread may begin; of one that is no branch here, `root` says it
-abbrev pub begins_under : Bool → FrameMap → Option Place → Bool
+abbrev pub begins_under : Bool → FrameMap → Option BranchPlace → Bool
 begins_under root frames None = root
 begins_under root frames (Some b) = may_begin frames b
 

@@ -4,7 +4,7 @@ ghost use Rattle.std.specs.Bool.{OnTrue};
 ghost use Rattle.std.specs.BTreeSet.{contains};
 ghost use Rattle.step_names.specs.Order.{thread_cmp};
 ghost use Rattle.step_names.specs.Thread.{Thread, IsThread, child_of};
-ghost use Rattle.branch_tree.specs.First.{IsFirst, NoneBeforePath, branch_from, thread_under};
+ghost use Rattle.branch_tree.specs.First.{IsFirstFree, NoneBeforePath, branch_from, thread_under};
 ghost use Rattle.branch_tree.specs.Paths.{Path};
 ghost use Rattle.branch_tree.specs.Tree.{frame_at};
 
@@ -60,7 +60,7 @@ fn greater(one: usize, other: usize) -> usize
 impl Branch {
     /// Whether the thread ended, so that it has no move and nothing is under it.
     fn has_ended(&self) -> bool
-        ensures { OnTrue result ((begins : Bool) (base : Thread) (passed : Thread → Bool) → IsFirst begins (frame_at self.now) base passed None) }
+        ensures { OnTrue result ((begins : Bool) (base : Thread) (passed : Thread → Bool) → IsFirstFree begins (frame_at self.now) base passed None) }
     {
         matches!(&self.frame.phase, Phase::Done(_) | Phase::Failed(_))
     }
@@ -77,7 +77,7 @@ impl Branch {
         passed: &BTreeSet<ThreadName>,
     ) -> Result<Option<ThreadName>, AllocError>
         ensures { NoneBeforePath begins (frame_at self.now) name.now (contains thread_cmp passed.now) from.now
-            → IfOk result (λ found. IsFirst begins (frame_at self.now) name.now (contains thread_cmp passed.now) found) }
+            → IfOk result (λ found. IsFirstFree begins (frame_at self.now) name.now (contains thread_cmp passed.now) found) }
     {
         match &self.frame.phase {
             Phase::Ready => {
@@ -109,7 +109,7 @@ impl Branch {
     ) -> Result<Option<ThreadName>, AllocError>
         requires { IsSomeAnd (frame_at self.now []) (λ f. f.phase ≡ Phase.Parked branches bound) }
         ensures { (begins : Bool) → NoneBeforePath begins (frame_at self.now) name.now (contains thread_cmp passed.now) from.now
-            → IfOk result (λ found. IsFirst begins (frame_at self.now) name.now (contains thread_cmp passed.now) found) }
+            → IfOk result (λ found. IsFirstFree begins (frame_at self.now) name.now (contains thread_cmp passed.now) found) }
     {
         let leading = self.counts.leading;
         let moves = (self.counts.failed != 0) | (leading == self.kids.len());
@@ -144,7 +144,7 @@ impl Branch {
     ) -> Result<Option<ThreadName>, AllocError>
         requires { index < 2 ^ 32 }
         ensures { NoneBeforePath begins (frame_at self.now) (child_of parent.now fork index) (contains thread_cmp passed.now) from.now
-            → IfOk result (λ found. IsFirst begins (frame_at self.now) (child_of parent.now fork index) (contains thread_cmp passed.now) found) }
+            → IfOk result (λ found. IsFirstFree begins (frame_at self.now) (child_of parent.now fork index) (contains thread_cmp passed.now) found) }
     {
         if self.has_ended() {
             return Ok(None);

@@ -2,7 +2,7 @@
 ghost use Rattle.std.specs.Prelude.{◌≡◌, [], ◌++◌, Some, true, false, IfOk, IsSome, IsSomeAnd, option_copied};
 ghost use Rattle.std.specs.BTreeSet.{contains};
 ghost use Rattle.step_names.specs.Order.{thread_cmp};
-ghost use Rattle.branch_tree.specs.First.{IsFirst, NoneBeforePath};
+ghost use Rattle.branch_tree.specs.First.{IsFirstFree, NoneBeforePath};
 ghost use Rattle.branch_tree.specs.Paths.{Path};
 ghost use Rattle.branch_tree.specs.FlatMap.{IsTree, is_parked, with_frame, grafted, alone};
 ghost use Rattle.branch_tree.specs.Bounds.{place_of};
@@ -122,7 +122,7 @@ impl Tree {
         passed: &BTreeSet<ThreadName>,
     ) -> Result<Option<ThreadName>, AllocError>
         requires { NoneBeforePath true (frame_at self.now) execution.now (contains thread_cmp passed.now) from.now }
-        ensures { IfOk result (λ found. IsFirst true (frame_at self.now) execution.now (contains thread_cmp passed.now) found) }
+        ensures { IfOk result (λ found. IsFirstFree true (frame_at self.now) execution.now (contains thread_cmp passed.now) found) }
     {
         self.root.first_ready(alloc, true, execution, from, passed)
     }

@@ -12,8 +12,8 @@ use Rattle.attr_values.specs.declared.key.KeyAttribute.{KeyAttribute}
 use Rattle.attr_values.specs.declared.key.KeyType.{KeyType}
 use Rattle.attr_values.specs.declared.key.KeyType.TheVariants.{S, N}
 use Rattle.asl_fields.specs.Fields.{is_text}
-use Rattle.command_lines.specs.Grammar.{CommandView, table, define, start, step, undo, plan, rollback, settle, hold, drive, work, show, items, history, held, is_table_name, is_table_name_byte, execution_in, count_in, workers_in, work_of, type_in, key_name_in, key_in, first_word, table_by, table_of, define_of, start_of, words_command}
-use Rattle.command_lines.specs.Spelled.{type_text, key_text, items_text, is_key_name, IsExecution, IsSort, IsProper, line_of}
+use Rattle.command_lines.specs.Grammar.{CommandView, table, define, start, step, undo, plan, rollback, settle, hold, drive, work, show, items, history, held, is_table_name, is_table_name_byte, execution_in, count_in, workers_in, work_of, type_in, key_name_in, key_attribute_in, first_word, table_by, table_of, define_of, start_of, words_command}
+use Rattle.command_lines.specs.Spelled.{type_text, key_text, items_text, is_key_name, IsExecution, IsSort, IsProperCommand, line_of}
 use Rattle.command_lines.specs.GrammarLaws.{LineIsRead}
 use Rattle.command_lines.proofs.Cuts.{cut_some}
 
@@ -65,7 +65,7 @@ type_lacks : (kind : KeyType) → lacks 32 (58 ∷ type_text kind) ≡ true
 type_lacks S = refl
 type_lacks N = refl
 
-key_reads : (key : KeyAttribute) → is_key_name key.name ≡ true → key_in (key_text key) ≡ Some key
+key_reads : (key : KeyAttribute) → is_key_name key.name ≡ true → key_attribute_in (key_text key) ≡ Some key
 key_reads key h =
     let parts = key_name_parts key.name h in
     rw (cut_some 58 key.name (type_text key.kind) parts.2, parts.0, type_reads key.kind)
@@ -74,12 +74,12 @@ key_lacks : (key : KeyAttribute) → is_key_name key.name ≡ true → lacks 32 
 key_lacks key h = lacks-append 32 key.name (58 ∷ type_text key.kind) (key_name_parts key.name h).1 (type_lacks key.kind)
 
 sort_reads : (name : List ℕ) (partition : KeyAttribute) (sort : Option KeyAttribute) (json : List ℕ) → IsSort partition sort json
-    → table_by name partition (key_in (first_word (items_text sort json))) (items_text sort json) ≡ Some (table name (record { partition = partition; sort = sort }) json)
+    → table_by name partition (key_attribute_in (first_word (items_text sort json))) (items_text sort json) ≡ Some (table name (record { partition = partition; sort = sort }) json)
 sort_reads name partition None json kept = rw kept
 sort_reads name partition (Some sort) json kept =
     let cut = cut_some 32 (key_text sort) json (key_lacks sort kept.0) in
     let first : first_word (key_text sort ++ 32 ∷ json) ≡ key_text sort = rw cut in
-    ap (λ (key : Option KeyAttribute). table_by name partition key (key_text sort ++ 32 ∷ json)) (ap key_in first ∙ key_reads sort kept.0)
+    ap (λ (key : Option KeyAttribute). table_by name partition key (key_text sort ++ 32 ∷ json)) (ap key_attribute_in first ∙ key_reads sort kept.0)
     ∙ rw (cut, not-true (is_text sort.name partition.name) kept.1)
 
 -- ---- lines
@@ -112,7 +112,7 @@ work_reads workers moves few some = rw (
   count_reads moves some,
 )
 
-text_reads : (command : CommandView) → IsProper command → words_command (line_of command) ≡ Some command
+text_reads : (command : CommandView) → IsProperCommand command → words_command (line_of command) ≡ Some command
 text_reads (table name schema json) kept = table_reads name schema.partition schema.sort json kept.0 kept.1 kept.2
 text_reads (define name json) kept = define_reads name json kept
 text_reads (start exec machine json) kept = start_reads exec machine json kept.0 kept.1

@@ -12,7 +12,7 @@ use Rattle.std.specs.Option.{option_map_or}
 use Rattle.std.specs.Str.{is_utf8}
 use Rattle.asl_fields.specs.Fields.{is_text}
 use Rattle.step_names.specs.Thread.{Thread, execution, is_name, is_name_byte}
-use Rattle.step_names.specs.Grammar.{read_number, read_thread, read_step}
+use Rattle.step_names.specs.Grammar.{read_step_number, read_thread, read_step}
 use Rattle.step_names.specs.declared.step.StepName.{StepName}
 use Rattle.attr_values.specs.declared.key.KeyAttribute.{KeyAttribute}
 use Rattle.attr_values.specs.declared.key.KeySchema.{KeySchema}
@@ -83,7 +83,7 @@ abbrev pub within_drive : ℕ → Option ℕ
 within_drive number = if nat_le 1 number && nat_le number most_driven then Some number else None
 
 abbrev pub count_in : List ℕ → Option ℕ
-count_in word = read_number word >>= within_drive
+count_in word = read_step_number word >>= within_drive
 
 -- a round has at most so many workers
 abbrev pub most_workers : ℕ
@@ -94,7 +94,7 @@ abbrev pub within_workers : ℕ → Option ℕ
 within_workers number = if nat_le 1 number && nat_le number most_workers then Some number else None
 
 abbrev pub workers_in : List ℕ → Option ℕ
-workers_in word = read_number word >>= within_workers
+workers_in word = read_step_number word >>= within_workers
 
 -- K: it isn't empty, and has no `[` in front
 abbrev pub key_name_in : List ℕ → Option (List ℕ)
@@ -106,8 +106,8 @@ abbrev pub type_in : List ℕ → Option KeyType
 type_in text = if is_text text (codes "S") then Some S else (if is_text text (codes "N") then Some N else None)
 
 -- K `:` TYPE
-abbrev pub key_in : List ℕ → Option KeyAttribute
-key_in word = do
+abbrev pub key_attribute_in : List ℕ → Option KeyAttribute
+key_attribute_in word = do
   (text, letter) ← cut_at 58 word
   name ← key_name_in text
   kind ← type_in letter
@@ -127,8 +127,8 @@ table_of text = do
   (first, after_name) ← cut_at 32 text
   name ← table_name_in first
   (second, after_key) ← cut_at 32 after_name
-  partition ← key_in second
-  table_by name partition (key_in (first_word after_key)) after_key
+  partition ← key_attribute_in second
+  table_by name partition (key_attribute_in (first_word after_key)) after_key
 
 -- NAME J
 abbrev pub define_of : List ℕ → Option CommandView

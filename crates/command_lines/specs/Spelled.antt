@@ -8,7 +8,7 @@ use Rattle.attr_values.specs.declared.key.KeyAttribute.{KeyAttribute}
 use Rattle.attr_values.specs.declared.key.KeyType.{KeyType}
 use Rattle.attr_values.specs.declared.key.KeyType.TheVariants.{S, N}
 use Rattle.asl_fields.specs.Fields.{is_text}
-use Rattle.command_lines.specs.Grammar.{CommandView, table, define, start, step, undo, plan, rollback, settle, hold, drive, work, show, items, history, held, is_table_name, first_word, key_in, most_driven, most_workers}
+use Rattle.command_lines.specs.Grammar.{CommandView, table, define, start, step, undo, plan, rollback, settle, hold, drive, work, show, items, history, held, is_table_name, first_word, key_attribute_in, most_driven, most_workers}
 
 abbrev pub type_text : KeyType → List ℕ
 type_text S = codes "S"
@@ -51,22 +51,22 @@ is_key_name (b ∷ name) = not (b == 91) && (list_all (λ c. not (c == 32)) (b �
 
 -- a second key has another name; where there is none, J begins with no word that is a key
 abbrev pub IsSort : KeyAttribute → Option KeyAttribute → List ℕ → Type 0
-IsSort partition None json = key_in (first_word json) ≡ None
+IsSort partition None json = key_attribute_in (first_word json) ≡ None
 IsSort partition (Some sort) json = IsTrue (is_key_name sort.name) × IsTrue (not (is_text sort.name partition.name))
 
-abbrev pub IsProper : CommandView → Type 0
-IsProper (table name schema json) = IsTrue (is_table_name name) × IsTrue (is_key_name schema.partition.name) × IsSort schema.partition schema.sort json
-IsProper (define name json) = IsTrue (is_name name)
-IsProper (start exec machine json) = IsExecution exec × IsTrue (is_name machine)
-IsProper (step thread) = IsThread thread
-IsProper (undo named) = IsStep named.thread named.no
-IsProper (plan named) = IsStep named.thread named.no
-IsProper (rollback named) = IsStep named.thread named.no
-IsProper settle = Unit {0}
-IsProper (hold named) = IsStep named.thread named.no
-IsProper (drive count) = (1 ≤ count) × (count ≤ most_driven)
-IsProper (work workers moves) = ((1 ≤ workers) × (workers ≤ most_workers)) × ((1 ≤ moves) × (moves ≤ most_driven))
-IsProper (show thread) = IsThread thread
-IsProper items = Unit {0}
-IsProper history = Unit {0}
-IsProper held = Unit {0}
+abbrev pub IsProperCommand : CommandView → Type 0
+IsProperCommand (table name schema json) = IsTrue (is_table_name name) × IsTrue (is_key_name schema.partition.name) × IsSort schema.partition schema.sort json
+IsProperCommand (define name json) = IsTrue (is_name name)
+IsProperCommand (start exec machine json) = IsExecution exec × IsTrue (is_name machine)
+IsProperCommand (step thread) = IsThread thread
+IsProperCommand (undo named) = IsStep named.thread named.no
+IsProperCommand (plan named) = IsStep named.thread named.no
+IsProperCommand (rollback named) = IsStep named.thread named.no
+IsProperCommand settle = Unit {0}
+IsProperCommand (hold named) = IsStep named.thread named.no
+IsProperCommand (drive count) = (1 ≤ count) × (count ≤ most_driven)
+IsProperCommand (work workers moves) = ((1 ≤ workers) × (workers ≤ most_workers)) × ((1 ≤ moves) × (moves ≤ most_driven))
+IsProperCommand (show thread) = IsThread thread
+IsProperCommand items = Unit {0}
+IsProperCommand history = Unit {0}
+IsProperCommand held = Unit {0}

@@ -1,7 +1,7 @@
 // The words of a line.
 ghost use Rattle.std.specs.Prelude.{◌≡◌, ◌<◌, ◌==◌, not, None, Some, MatchOption, option_map};
 ghost use Rattle.std.specs.List.{list_all};
-ghost use Rattle.command_lines.specs.Grammar.{is_one_line, is_table_name, is_table_name_byte, cut_at, first_word, key_in, attribute_of};
+ghost use Rattle.command_lines.specs.Grammar.{is_one_line, is_table_name, is_table_name_byte, cut_at, first_word, key_attribute_in, attribute_of};
 
 use attr_values::KeyType;
 use step_names::is_name_byte;
@@ -63,7 +63,7 @@ pub(crate) fn first_word(text: &str) -> &str
 
 /// A key, where a word is a name, a colon and `S` or `N`. The name isn't empty, and has no `[` in front.
 pub(crate) fn read_key(word: &str) -> Option<KeyWord<'_>>
-    ensures { option_map attribute_of result ≡ key_in word.now }
+    ensures { option_map attribute_of result ≡ key_attribute_in word.now }
 {
     let (name, kind) = cut(word, ':')?;
     if name.is_empty() || name.starts_with('[') {

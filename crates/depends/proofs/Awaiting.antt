@@ -7,7 +7,7 @@ use Rattle.saved_steps.specs.declared.fact.Fact.{Fact}
 use Rattle.step_names.specs.Thread.{Thread}
 use Rattle.depends.specs.Dependence.{awaited, awaited_by, awaits}
 use Rattle.depends.proofs.Awaited.{awaited_parts, awaited_whole, is_awaited, place_whole}
-use Rattle.depends.specs.Above.{IsDownward, above, forks_above, forks_from, goes_by}
+use Rattle.depends.specs.Above.{IsDownward, fork_above, forks_above, forks_from, goes_by}
 use Rattle.depends.specs.declared.above.Above.{Above}
 use Rattle.depends.proofs.Anyone.{same_bool}
 use Rattle.depends.proofs.Rising.{lies_from, lies_to}
@@ -28,15 +28,15 @@ last_got {A} xs y = ap (slice_get (xs ++ y ∷ [])) (let l = length-append xs (y
     at [] = refl
     at (z ∷ zs) = at zs
 
-pub forks_end : (exec : List ℕ) (front path : List (ℕ × ℕ)) (b : ℕ × ℕ) → forks_from exec front (path ++ b ∷ []) ≡ forks_from exec front path ++ above exec (front ++ path) b ∷ []
-forks_end exec front [] b = ap (λ (l : List (ℕ × ℕ)). above exec l b ∷ []) (sym (no_more front))
+pub forks_end : (exec : List ℕ) (front path : List (ℕ × ℕ)) (b : ℕ × ℕ) → forks_from exec front (path ++ b ∷ []) ≡ forks_from exec front path ++ fork_above exec (front ++ path) b ∷ []
+forks_end exec front [] b = ap (λ (l : List (ℕ × ℕ)). fork_above exec l b ∷ []) (sym (no_more front))
   where
     no_more : (l : List (ℕ × ℕ)) → l ++ [] ≡ l
     no_more [] = refl
     no_more (x ∷ l) = ap (λ (k : List (ℕ × ℕ)). x ∷ k) (no_more l)
 forks_end exec front (c ∷ path) b =
-    ap (λ (l : List Above). above exec front c ∷ l)
-    (forks_end exec (front ++ c ∷ []) path b ∙ ap (λ (l : List (ℕ × ℕ)). forks_from exec (front ++ c ∷ []) path ++ above exec l b ∷ []) (append_assoc front (c ∷ []) path))
+    ap (λ (l : List Above). fork_above exec front c ∷ l)
+    (forks_end exec (front ++ c ∷ []) path b ∙ ap (λ (l : List (ℕ × ℕ)). forks_from exec (front ++ c ∷ []) path ++ fork_above exec l b ∷ []) (append_assoc front (c ∷ []) path))
 
 -- a path has an end, or is none
 pub record Ended (path : List (ℕ × ℕ)) : Type 0 where
@@ -49,9 +49,9 @@ ended b [] = record { front = []; last = b; whole = refl }
 ended b (c ∷ path) = let e = ended c path in record { front = b ∷ e.front; last = e.last; whole = ap (λ (l : List (ℕ × ℕ)). b ∷ l) e.whole }
 
 -- the fork of the last branch
-pub own_fork : (exec : List ℕ) (path : List (ℕ × ℕ)) (e : Ended path) → slice_get (forks_from exec [] path) (length (forks_from exec [] path) - 1) ≡ Some (above exec e.front e.last)
+pub own_fork : (exec : List ℕ) (path : List (ℕ × ℕ)) (e : Ended path) → slice_get (forks_from exec [] path) (length (forks_from exec [] path) - 1) ≡ Some (fork_above exec e.front e.last)
 own_fork exec path e =
-    ap (λ (l : List Above). slice_get l (length l - 1)) (ap (forks_from exec []) e.whole ∙ forks_end exec [] e.front e.last) ∙ last_got (forks_from exec [] e.front) (above exec e.front e.last)
+    ap (λ (l : List Above). slice_get l (length l - 1)) (ap (forks_from exec []) e.whole ∙ forks_end exec [] e.front e.last) ∙ last_got (forks_from exec [] e.front) (fork_above exec e.front e.last)
 
 -- ---- what is awaited
 
@@ -65,7 +65,7 @@ goes_on bound (b ∷ (d ∷ front)) c j r l = rw (same_itself b) (goes_on bound 
 
 module _ (f : Fact) (t : Thread) (e : Ended f.name.thread.path) (some : 1 ≤ f.bound) where
   abbrev pub own : Above
-  own = above f.name.thread.exec e.front e.last
+  own = fork_above f.name.thread.exec e.front e.last
 
   to : list_any (goes_by own.fork (before f.bound own.branch)) (forks_above t) ≡ true → awaits f t ≡ true
   to h =

@@ -10,14 +10,14 @@ use Rattle.trace_theory.proofs.Lists.{by_bool}
 use Rattle.trace_theory.proofs.Least.{Once, after_at}
 use Rattle.trace_theory.proofs.Records.{run_seen, free_record, record_free}
 use Rattle.saved_steps.specs.Saving.{SavedState}
-use Rattle.saved_steps.specs.Run.{run}
+use Rattle.saved_steps.specs.Run.{run_steps}
 use Rattle.saved_steps.specs.Steps.{Step}
 use Rattle.saved_steps.specs.World.{Setting}
 use Rattle.saved_steps.specs.declared.fact.Fact.{Fact}
 use Rattle.depends.specs.Dependence.{depends_directly}
 use Rattle.depends.specs.Instance.{steps}
 use Rattle.depends.specs.Laws.{facts_of, RunsAreSeen, PlansAreConsequences, MaximalStepsHaveNoDependent}
-use Rattle.depends.specs.Plans.{first_dependent, depends_on_some, consequences_from, consequences_at, plan}
+use Rattle.depends.specs.Plans.{first_dependent, depends_on_some, consequences_behind, consequences_at, plan}
 use Rattle.depends.proofs.Named.{steps_have_names}
 
 -- ---- places in lists
@@ -63,7 +63,7 @@ module _ (s : Setting) (ts : List (Occurrence Step Fact SavedState)) where
       rw (there, others) refl
 
   follow_alike : (back front : List (Occurrence Step Fact SavedState)) (places : List ℕ) (marked : List (Occurrence Step Fact SavedState)) (n : ℕ) → front ++ back ≡ ts → length front ≡ n → map (slice_get ts) places ≡ map Some marked
-      → map (slice_get ts) (consequences_from (facts_of ts) places n (facts_of back)) ≡ map Some (theory.consequences_from (steps s) marked back)
+      → map (slice_get ts) (consequences_behind (facts_of ts) places n (facts_of back)) ≡ map Some (theory.consequences_from (steps s) marked back)
   follow_alike [] front places marked n whole place h = refl
   follow_alike (t ∷ back) front places marked n whole place h =
       let told = decide_alike places marked t.fact h in
@@ -100,7 +100,7 @@ plans_are_consequences s base v ts place t from runs at =
         let all = front ++ t ∷ back in
         let names = steps_have_names s base from in
         let marked = follow_alike s all back (front ++ t ∷ []) (length front ∷ []) (t ∷ []) (length front + 1) (append_assoc front (t ∷ []) back) (length-append front (t ∷ [])) (ap (λ (o : Option (Occurrence Step Fact SavedState)). o ∷ []) (at_front front back t)) in
-        let behind = ap (λ (l : List Fact). map (slice_get all) (consequences_from (facts_of all) (length front ∷ []) (length front + 1) l)) (facts_behind front back t) in
+        let behind = ap (λ (l : List Fact). map (slice_get all) (consequences_behind (facts_of all) (length front ∷ []) (length front + 1) l)) (facts_behind front back t) in
         let forward : map (slice_get all) (consequences_at (facts_of all) (length front)) ≡ map Some (theory.consequences (steps s) all t.step) =
         ap₂ (λ (o : Option (Occurrence Step Fact SavedState)) (os : List (Option (Occurrence Step Fact SavedState))). o ∷ os) (at_front front back t) (behind ∙ marked) ∙ ap (map Some) (sym (after_at (steps s) base names front back t (λ x y b. names.once all v x y runs b))) in
         map-reverse (slice_get all) (consequences_at (facts_of all) (length front)) ∙ ap reverse forward ∙ sym (map-reverse Some (theory.consequences (steps s) all t.step))
@@ -133,4 +133,4 @@ free_steps_have_no_dependent s base v ts place t from runs at =
         )
 
 pub runs_are_seen : RunsAreSeen
-runs_are_seen s w names = run_seen (steps s) (λ t. t.fact) (run s) (λ w. refl) (λ w n ns. refl) names w
+runs_are_seen s w names = run_seen (steps s) (λ t. t.fact) (run_steps s) (λ w. refl) (λ w n ns. refl) names w

@@ -14,7 +14,7 @@ use Rattle.saved_steps.specs.declared.fact.Fact.{Fact}
 use Rattle.saved_steps.specs.declared.fact.Kind.TheVariants.{Start}
 use Rattle.trace_theory.proofs.Runs.{map_some, Runs}
 use Rattle.depends.specs.Instance.{TakenStep, steps}
-use Rattle.depends.specs.Laws.{Extends}
+use Rattle.depends.specs.Laws.{ExtendsSetting}
 
 -- where a frame stands, it stands with more machines too
 and_then_more : {A B : Type 0} (k : A → Option B) (o p : Option A) (b : B) → ((a : A) → o ≡ Some a → p ≡ Some a) → option_and_then k o ≡ Some b → option_and_then k p ≡ Some b
@@ -29,7 +29,7 @@ start_more : {A : Type 0} (there : Option A) (o p : Option Effect) (d : Effect) 
 start_more None o p d more h = more h
 start_more (Some x) o p d more h = h
 
-module _ (s more : Setting) (e : Extends s more) where
+module _ (s more : Setting) (e : ExtendsSetting s more) where
   effect_more : (w : World) (step : Step) (d : Effect) → effect_of s w step ≡ Some d → effect_of (record { machines = more.machines; table = s.table; schema = s.schema }) w step ≡ Some d
   effect_more w (started exec machine input) d h =
       start_more (w.frames (execution exec)) (option_map (λ (m : Definition). own_effect Start (start_name exec) (first_frame machine m input)) (s.machines machine)) (option_map (λ (m : Definition). own_effect Start (start_name exec) (first_frame machine m input)) (more.machines machine)) d

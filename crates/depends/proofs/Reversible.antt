@@ -27,7 +27,7 @@ use Rattle.step_names.specs.Thread.{Thread, execution, child_of}
 use Rattle.step_names.specs.Under.{is_under}
 use Rattle.step_names.specs.declared.step.StepName.{StepName}
 use Rattle.step_names.proofs.OrderLaws.{thread_same, thread_itself}
-use Rattle.saved_steps.specs.Effects.{Effect, next_step, own_effect, call_effect, effect_of_turn, kids, first_fault, outputs, effect_over, effect_in, stands, frame_effect, move_effect, if_numbered, effect_of, waits, first_bound, bounded}
+use Rattle.saved_steps.specs.Effects.{Effect, next_step, own_effect, call_effect, effect_of_turn, kids, first_fault, outputs, effect_over, effect_in, stands, frame_effect, move_effect, if_numbered, effect_of, waits, first_bound, effect_with_bound}
 use Rattle.saved_steps.specs.Bounds.{Place, place_of, sibling, bound_in, in_window}
 use Rattle.saved_steps.specs.Held.{paths_of}
 use Rattle.saved_steps.specs.Paths.{Path}
@@ -48,7 +48,7 @@ use Rattle.trace_theory.proofs.Lists.{by_bool}
 use Rattle.trace_theory.proofs.Planned.{plans_are_reversible}
 use Rattle.trace_theory.proofs.Runs.{and_then_some, map_some, reached_good, reached_here}
 use Rattle.depends.specs.Dependence.{conflicts, begins, awaited_by, awaits, depends_directly}
-use Rattle.depends.specs.Instance.{Cell, frame_at, item_at, a_frame, an_item, at, steps, plans, reaches, forked_by, is_thread, is_end, looks, touches, writes, leaves}
+use Rattle.depends.specs.Instance.{Cell, frame_at, item_at, a_frame, an_item, at, steps, plans, reaches, forked_by, is_thread, is_path_end, looks, touches, writes, leaves}
 use Rattle.depends.proofs.Awaited.{sibling_awaited, is_awaited, place_whole, other_branch, awaited_parts, awaited_whole}
 use Rattle.depends.specs.Laws.{HasNoFrames, IsFrom, StepsAreReversible}
 use Rattle.depends.proofs.Planned.{IsPlanned, numbered, planned}
@@ -134,7 +134,7 @@ module _ (name : StepName) (level : Definition) (work : Work) (f : Frame) (w x :
       by_mode : (e : Decision) → call_effect name level work f (table.at_key items key e) ≡ (let k : Effect = record { fact = record { name = name; kind = Call; access = Some record { key = key; mode = e.access }; bound = 0 }; frame = after_answer level work f e.answer; branches = []; item = item_then key e.access e.new (items key) } in k)
       by_mode e = ap (λ (o : Option Attributes). let k : Effect = record { fact = record { name = name; kind = Call; access = Some record { key = key; mode = e.access }; bound = 0 }; frame = after_answer level work f e.answer; branches = []; item = o } in k) (then_is e.access e.new)
         where
-          then_is : (mode : AccessMode) (new : Option Attributes) → table.items_after items key mode new key ≡ item_then key mode new (items key)
+          then_is : (mode : AccessMode) (new : Option Attributes) → table.table_after items key mode new key ≡ item_then key mode new (items key)
           then_is Read new = refl
           then_is Write new = refl
 
@@ -181,7 +181,7 @@ module _ (w x : World) (t : Thread) (f : Frame) (d : Effect) (a : Agree w x d) (
       let no : (d.fact.name.no == 1) ≡ true = eq-eqb d.fact.name.no 1 (ap (λ (n : StepName). n.no) named ∙ ap (λ n. n + 1) (eqb-true f.count 0 k)) in
       let there : place_of d.fact.name.thread.path ≡ Some b = ap (λ (v : Thread). place_of v.path) own_thread ∙ place in
       let forked : forked_by d.fact ≡ Some u = rw (no, there) refl in
-      let seen_there : looks d.fact u ≡ true = or_left (is_thread (forked_by d.fact) u) (is_end (awaited_by d.fact u)) (ap (λ o. is_thread o u) forked ∙ thread_itself u) in
+      let seen_there : looks d.fact u ≡ true = or_left (is_thread (forked_by d.fact) u) (is_path_end (awaited_by d.fact u)) (ap (λ o. is_thread o u) forked ∙ thread_itself u) in
       let e : x.frames u ≡ w.frames u = a.looked u seen_there in
       subst (λ (v : Thread). paths_of x.frames v.exec b.0 ≡ paths_of w.frames v.exec b.0) own_thread e
 
@@ -191,7 +191,7 @@ module _ (w x : World) (t : Thread) (f : Frame) (d : Effect) (a : Agree w x d) (
       let u : Thread = record { exec = d.fact.name.thread.exec; path = sibling b j } in
       let there : place_of d.fact.name.thread.path ≡ Some b = ap (λ (v : Thread). place_of v.path) own_thread ∙ place in
       let awaited_there : awaited_by d.fact u ≡ Some [] = awaited_whole d.fact u [] (record { some = some; exec = refl; goes = sibling_awaited d.fact.bound d.fact.name.thread.path b j there l }) in
-      let seen_there : looks d.fact u ≡ true = or_right (is_thread (forked_by d.fact) u) (is_end (awaited_by d.fact u)) (ap is_end awaited_there) in
+      let seen_there : looks d.fact u ≡ true = or_right (is_thread (forked_by d.fact) u) (is_path_end (awaited_by d.fact u)) (ap is_path_end awaited_there) in
       subst (λ (v : Thread). paths_of x.frames v.exec (sibling b j) ≡ paths_of w.frames v.exec (sibling b j)) own_thread (a.looked u seen_there)
 
   bound_alike : first_bound x.frames t f ≡ first_bound w.frames t f
@@ -234,7 +234,7 @@ phase_alike s w x t at f Ready d a named h =
     let again = turn_alike s w x (next_step t f) at f (turn at f) k.effect_of items k.is in
     let begun : waits x.frames t f ≡ false = waits_alike w x t f d a named bound ∙ k.begins in
     turn_goes x.frames t f (effect_of_turn s x (next_step t f) at f (turn at f)) begun
-    ∙ ap₂ (λ (n : ℕ) (o : Option Effect). option_map (bounded n) o) (bound_alike w x t f d a named bound) again
+    ∙ ap₂ (λ (n : ℕ) (o : Option Effect). option_map (effect_with_bound n) o) (bound_alike w x t f d a named bound) again
     ∙ ap Some k.told
 phase_alike s w x t at f (Parked n m) d a named h =
     let c = close_move (next_step t f) at f (first_fault (kids w t f n)) (outputs (kids w t f n)) d h in
@@ -390,7 +390,7 @@ child_there : (t : Thread) (b : Place) → place_of t.path ≡ Some b → t ≡ 
 child_there t b h = ap (λ (p : Path). let u : Thread = record { exec = t.exec; path = p } in u) (place_whole t.path b h)
 
 looked : (s : Fact) (t : Thread) → looks s t ≡ true → Looked s t
-looked s t h = elim (either (is_thread (forked_by s) t) (is_end (awaited_by s t)) h) [ inl k ↦ by_fork k | inr k ↦ by_window (awaited_by s t) refl k ]
+looked s t h = elim (either (is_thread (forked_by s) t) (is_path_end (awaited_by s t)) h) [ inl k ↦ by_fork k | inr k ↦ by_window (awaited_by s t) refl k ]
   where
     by_fork : is_thread (forked_by s) t ≡ true → Looked s t
     by_fork k = by_bool (s.name.no == 1) _ (λ j. by_place (place_of s.name.thread.path) refl (rw j at k)) (λ j. let e = rw j at k in cc)
@@ -406,7 +406,7 @@ looked s t h = elim (either (is_thread (forked_by s) t) (is_end (awaited_by s t)
           what = inl (thread_same (record { exec = s.name.thread.exec; path = b.0 }) t j);
         }
 
-    by_window : (o : Option Path) → awaited_by s t ≡ o → is_end o ≡ true → Looked s t
+    by_window : (o : Option Path) → awaited_by s t ≡ o → is_path_end o ≡ true → Looked s t
     by_window None e k = cc
     by_window (Some (b ∷ p)) e k = cc
     by_window (Some []) e k =

@@ -9,7 +9,7 @@ use Rattle.step_names.specs.Order.{step_cmp}
 use Rattle.step_names.specs.Thread.{Thread}
 use Rattle.step_names.specs.Under.{is_under}
 use Rattle.step_names.specs.declared.step.StepName.{StepName}
-use Rattle.depends.specs.Above.{above, forks_above, forks_from, goes_by}
+use Rattle.depends.specs.Above.{fork_above, forks_above, forks_from, goes_by}
 use Rattle.depends.specs.declared.above.Above.{Above}
 use Rattle.depends.proofs.Anyone.{any_same, same_bool}
 
@@ -20,18 +20,18 @@ module _ (passes : Above → Bool) (exec : List ℕ) where
     pub branch : ℕ × ℕ
     pub rest : List (ℕ × ℕ)
     pub whole : path ≡ before ++ branch ∷ rest
-    pub there : passes (above exec (front ++ before) branch) ≡ true
+    pub there : passes (fork_above exec (front ++ before) branch) ≡ true
 
   pub parted : (front path : List (ℕ × ℕ)) → list_any passes (forks_from exec front path) ≡ true → Parted front path
   parted front [] h = cc
   parted front (b ∷ path) h =
-      elim (or_cases (passes (above exec front b)) (list_any passes (forks_from exec (front ++ b ∷ []) path)) h) [
+      elim (or_cases (passes (fork_above exec front b)) (list_any passes (forks_from exec (front ++ b ∷ []) path)) h) [
         | inl k ↦ record {
           before = [];
           branch = b;
           rest = path;
           whole = refl;
-          there = ap (λ l. passes (above exec l b)) (append-nil front) ∙ k;
+          there = ap (λ l. passes (fork_above exec l b)) (append-nil front) ∙ k;
         }
         | inr k ↦
             let p = parted (front ++ b ∷ []) path k in
@@ -40,13 +40,13 @@ module _ (passes : Above → Bool) (exec : List ℕ) where
               branch = p.branch;
               rest = p.rest;
               whole = ap (λ (l : List (ℕ × ℕ)). b ∷ l) p.whole;
-              there = ap (λ l. passes (above exec l p.branch)) (sym (append_assoc front (b ∷ []) p.before)) ∙ p.there;
+              there = ap (λ l. passes (fork_above exec l p.branch)) (sym (append_assoc front (b ∷ []) p.before)) ∙ p.there;
             }
       ]
 
-  pub joined : (front before : List (ℕ × ℕ)) (branch : ℕ × ℕ) (rest : List (ℕ × ℕ)) → passes (above exec (front ++ before) branch) ≡ true → list_any passes (forks_from exec front (before ++ branch ∷ rest)) ≡ true
-  joined front [] branch rest h = or_left _ _ (ap (λ l. passes (above exec l branch)) (sym (append-nil front)) ∙ h)
-  joined front (b ∷ before) branch rest h = or_right _ _ (joined (front ++ b ∷ []) before branch rest (ap (λ l. passes (above exec l branch)) (append_assoc front (b ∷ []) before) ∙ h))
+  pub joined : (front before : List (ℕ × ℕ)) (branch : ℕ × ℕ) (rest : List (ℕ × ℕ)) → passes (fork_above exec (front ++ before) branch) ≡ true → list_any passes (forks_from exec front (before ++ branch ∷ rest)) ≡ true
+  joined front [] branch rest h = or_left _ _ (ap (λ l. passes (fork_above exec l branch)) (sym (append-nil front)) ∙ h)
+  joined front (b ∷ before) branch rest h = or_right _ _ (joined (front ++ b ∷ []) before branch rest (ap (λ l. passes (fork_above exec l branch)) (append_assoc front (b ∷ []) before) ∙ h))
 
 -- a thread lies under a fork by a branch whose index passes
 pub record LiesBy (t : Thread) (s : StepName) (test : ℕ → Bool) : Type 0 where
@@ -59,7 +59,7 @@ pub record LiesBy (t : Thread) (s : StepName) (test : ℕ → Bool) : Type 0 whe
 pub lies_to : (t : Thread) (s : StepName) (test : ℕ → Bool) → list_any (goes_by s test) (forks_above t) ≡ true → LiesBy t s test
 lies_to t s test h =
     let p = parted (goes_by s test) t.exec [] t.path h in
-    let x = above t.exec p.before p.branch in
+    let x = fork_above t.exec p.before p.branch in
     let k = and_parts (eq_by_cmp step_cmp x.fork s) (test x.branch) p.there in
     let same = step_same x.fork s k.0 in
     record {
@@ -74,7 +74,7 @@ pub lies_from : (t : Thread) (s : StepName) (test : ℕ → Bool) → LiesBy t s
 lies_from t s test l =
     subst (λ path. list_any (goes_by s test) (forks_from t.exec [] path) ≡ true) (sym l.path)
     (joined (goes_by s test) t.exec [] s.thread.path (s.no, l.branch) l.rest
-    (and_from _ (test l.branch) (step_eq (above t.exec s.thread.path (s.no, l.branch)).fork s (ap (λ (e : List ℕ). (above e s.thread.path (s.no, l.branch)).fork) l.exec)) l.passes))
+    (and_from _ (test l.branch) (step_eq (fork_above t.exec s.thread.path (s.no, l.branch)).fork s (ap (λ (e : List ℕ). (fork_above e s.thread.path (s.no, l.branch)).fork) l.exec)) l.passes))
 
 -- by any branch
 pub lies_under : (t : Thread) (s : StepName) → list_any (goes_by s (λ i. true)) (forks_above t) ≡ is_under t s.thread s.no

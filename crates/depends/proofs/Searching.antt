@@ -7,7 +7,7 @@ use Rattle.std.proofs.lemmas.Option.{slice_get-get_or, slice_get-map, get_or_fro
 use Rattle.saved_steps.specs.declared.fact.Fact.{Fact}
 use Rattle.saved_steps.specs.declared.record.StepRecord.{StepRecord}
 use Rattle.depends.specs.Dependence.{depends_directly}
-use Rattle.depends.specs.Plans.{depends_on, depends_on_some, consequences_from, consequences_at}
+use Rattle.depends.specs.Plans.{depends_on, depends_on_some, consequences_behind, consequences_at}
 
 abbrev pub facts : List StepRecord → List Fact
 facts rs = map (λ (r : StepRecord). r.fact) rs
@@ -35,10 +35,10 @@ module _ (rs : List StepRecord) (i : ℕ) (d : StepRecord) (within : i < length 
 
   -- ---- marked places
 
-  pub marks : (places : List ℕ) → depends_on_some (facts rs) places (get_or rs i d).fact ≡ true → consequences_from (facts rs) places i (drop i (facts rs)) ≡ i ∷ consequences_from (facts rs) (places ++ i ∷ []) (i + 1) (drop (i + 1) (facts rs))
+  pub marks : (places : List ℕ) → depends_on_some (facts rs) places (get_or rs i d).fact ≡ true → consequences_behind (facts rs) places i (drop i (facts rs)) ≡ i ∷ consequences_behind (facts rs) (places ++ i ∷ []) (i + 1) (drop (i + 1) (facts rs))
   marks places h = let e = facts_from in rw (e, h) refl
 
-  pub passes : (places : List ℕ) → depends_on_some (facts rs) places (get_or rs i d).fact ≡ false → consequences_from (facts rs) places i (drop i (facts rs)) ≡ consequences_from (facts rs) places (i + 1) (drop (i + 1) (facts rs))
+  pub passes : (places : List ℕ) → depends_on_some (facts rs) places (get_or rs i d).fact ≡ false → consequences_behind (facts rs) places i (drop i (facts rs)) ≡ consequences_behind (facts rs) places (i + 1) (drop (i + 1) (facts rs))
   passes places h = let e = facts_from in rw (e, h) refl
 
 -- a step depends on those at some places where it does on the first or on those at the others
@@ -58,15 +58,15 @@ module _ (rs : List StepRecord) (places : List ℕ) (k : ℕ) (d : StepRecord) (
   place_passes h = next_place ∙ ap (λ b. b || depends_on_some (facts rs) (drop (k + 1) places) f) h
 
 -- a place that the pass forward comes to
-module _ (rs : List StepRecord) (at i : ℕ) (d : StepRecord) (places : List ℕ) (within : i < length rs) (all : places ++ consequences_from (facts rs) places i (drop i (facts rs)) ≡ consequences_at (facts rs) at) where
-  pub is_marked : depends_on_some (facts rs) places (get_or rs i d).fact ≡ true → (places ++ i ∷ []) ++ consequences_from (facts rs) (places ++ i ∷ []) (i + 1) (drop (i + 1) (facts rs)) ≡ consequences_at (facts rs) at
-  is_marked h = append_assoc places (i ∷ []) (consequences_from (facts rs) (places ++ i ∷ []) (i + 1) (drop (i + 1) (facts rs))) ∙ ap (λ (l : List ℕ). places ++ l) (sym (marks rs i d within places h)) ∙ all
+module _ (rs : List StepRecord) (at i : ℕ) (d : StepRecord) (places : List ℕ) (within : i < length rs) (all : places ++ consequences_behind (facts rs) places i (drop i (facts rs)) ≡ consequences_at (facts rs) at) where
+  pub is_marked : depends_on_some (facts rs) places (get_or rs i d).fact ≡ true → (places ++ i ∷ []) ++ consequences_behind (facts rs) (places ++ i ∷ []) (i + 1) (drop (i + 1) (facts rs)) ≡ consequences_at (facts rs) at
+  is_marked h = append_assoc places (i ∷ []) (consequences_behind (facts rs) (places ++ i ∷ []) (i + 1) (drop (i + 1) (facts rs))) ∙ ap (λ (l : List ℕ). places ++ l) (sym (marks rs i d within places h)) ∙ all
 
-  pub is_passed : depends_on_some (facts rs) places (get_or rs i d).fact ≡ false → places ++ consequences_from (facts rs) places (i + 1) (drop (i + 1) (facts rs)) ≡ consequences_at (facts rs) at
+  pub is_passed : depends_on_some (facts rs) places (get_or rs i d).fact ≡ false → places ++ consequences_behind (facts rs) places (i + 1) (drop (i + 1) (facts rs)) ≡ consequences_at (facts rs) at
   is_passed h = ap (λ (l : List ℕ). places ++ l) (sym (passes rs i d within places h)) ∙ all
 
-  pub is_marked_in : (more : List ℕ) → more ≡ places ++ i ∷ [] → depends_on_some (facts rs) places (get_or rs i d).fact ≡ true → more ++ consequences_from (facts rs) more (i + 1) (drop (i + 1) (facts rs)) ≡ consequences_at (facts rs) at
-  is_marked_in more e h = subst (λ (l : List ℕ). l ++ consequences_from (facts rs) l (i + 1) (drop (i + 1) (facts rs)) ≡ consequences_at (facts rs) at) (sym e) (is_marked h)
+  pub is_marked_in : (more : List ℕ) → more ≡ places ++ i ∷ [] → depends_on_some (facts rs) places (get_or rs i d).fact ≡ true → more ++ consequences_behind (facts rs) more (i + 1) (drop (i + 1) (facts rs)) ≡ consequences_at (facts rs) at
+  is_marked_in more e h = subst (λ (l : List ℕ). l ++ consequences_behind (facts rs) l (i + 1) (drop (i + 1) (facts rs)) ≡ consequences_at (facts rs) at) (sym e) (is_marked h)
 
-  pub is_passed_in : (same : List ℕ) → same ≡ places → depends_on_some (facts rs) places (get_or rs i d).fact ≡ false → same ++ consequences_from (facts rs) same (i + 1) (drop (i + 1) (facts rs)) ≡ consequences_at (facts rs) at
-  is_passed_in same e h = subst (λ (l : List ℕ). l ++ consequences_from (facts rs) l (i + 1) (drop (i + 1) (facts rs)) ≡ consequences_at (facts rs) at) (sym e) (is_passed h)
+  pub is_passed_in : (same : List ℕ) → same ≡ places → depends_on_some (facts rs) places (get_or rs i d).fact ≡ false → same ++ consequences_behind (facts rs) same (i + 1) (drop (i + 1) (facts rs)) ≡ consequences_at (facts rs) at
+  is_passed_in same e h = subst (λ (l : List ℕ). l ++ consequences_behind (facts rs) l (i + 1) (drop (i + 1) (facts rs)) ≡ consequences_at (facts rs) at) (sym e) (is_passed h)

@@ -17,8 +17,8 @@ use Rattle.saved_steps.specs.Steps.{closes, is_close, is_fork, is_write, makes, 
 use Rattle.saved_steps.specs.declared.fact.Access.{Access}
 use Rattle.saved_steps.specs.declared.fact.Fact.{Fact}
 use Rattle.depends.specs.Dependence.{awaited, awaits, begins, conflicts, depends_directly}
-use Rattle.depends.specs.Above.{above, forks_above, forks_from, passes}
-use Rattle.depends.specs.Kinds.{AreForks, AreKeys, AreUnder, forks, is_of, lies_by, touches, writes}
+use Rattle.depends.specs.Above.{fork_above, forks_above, forks_from, passes}
+use Rattle.depends.specs.Kinds.{AreForks, AreKeyMarks, AreUnder, is_fork_named, is_of_thread, lies_by, fact_touches, fact_writes}
 use Rattle.depends.specs.declared.above.Above.{Above}
 use Rattle.depends.specs.declared.forks.ForkMarks.{ForkMarks}
 use Rattle.depends.specs.declared.keys.KeyMarks.{KeyMarks}
@@ -29,7 +29,7 @@ use Rattle.depends.proofs.Rising.{is_above, lies_under}
 
 -- ---- forks
 
-made : (t : Thread) (g : Fact) → list_any (λ (x : Above). forks x.fork g) (forks_above t) ≡ makes g t
+made : (t : Thread) (g : Fact) → list_any (λ (x : Above). is_fork_named x.fork g) (forks_above t) ≡ makes g t
 made t g = by (is_fork g.kind) refl
   where
     by : (b : Bool) → is_fork g.kind ≡ b → list_any (λ (x : Above). is_fork g.kind && eq_by_cmp step_cmp g.name x.fork) (forks_above t) ≡ (is_fork g.kind && is_under t g.name.thread g.name.no)
@@ -38,9 +38,9 @@ made t g = by (is_fork g.kind) refl
 
 pub made_above : (facts : List Fact) (m : ForkMarks) (t : Thread) → AreForks facts m → list_any (λ (x : Above). contains step_cmp m.names x.fork) (forks_above t) ≡ list_any (λ g. makes g t) facts
 made_above facts m t are =
-    any_same (λ (x : Above). contains step_cmp m.names x.fork) (λ x. list_any (forks x.fork) facts) (forks_above t) (λ x. are x.fork)
-    ∙ any_swap (λ (x : Above) (g : Fact). forks x.fork g) (forks_above t) facts
-    ∙ any_same (λ g. list_any (λ (x : Above). forks x.fork g) (forks_above t)) (λ g. makes g t) facts (made t)
+    any_same (λ (x : Above). contains step_cmp m.names x.fork) (λ x. list_any (is_fork_named x.fork) facts) (forks_above t) (λ x. are x.fork)
+    ∙ any_swap (λ (x : Above) (g : Fact). is_fork_named x.fork g) (forks_above t) facts
+    ∙ any_same (λ g. list_any (λ (x : Above). is_fork_named x.fork g) (forks_above t)) (λ g. makes g t) facts (made t)
 
 -- ---- the forks above steps
 
@@ -90,10 +90,10 @@ awaited_before facts m f own some is are = by f.name.thread.path refl
     by (b ∷ path) e =
         let end = ended b path in
         let here : Ended f.name.thread.path = record { front = end.front; last = end.last; whole = e ∙ end.whole } in
-        let same = same_Some own (above f.name.thread.exec here.front here.last) (sym is ∙ own_fork f.name.thread.exec f.name.thread.path here) in
+        let same = same_Some own (fork_above f.name.thread.exec here.front here.last) (sym is ∙ own_fork f.name.thread.exec f.name.thread.path here) in
         ap (λ (x : Above). passes (before f.bound x.branch) (get step_cmp m.least x.fork)) same
-        ∙ are (above f.name.thread.exec here.front here.last).fork (before f.bound here.last.1) (before_down f.bound here.last.1)
-        ∙ any_same (lies_by (above f.name.thread.exec here.front here.last).fork (before f.bound here.last.1)) (λ g. awaits f g.name.thread) facts (λ g. awaits_is f g.name.thread here some)
+        ∙ are (fork_above f.name.thread.exec here.front here.last).fork (before f.bound here.last.1) (before_down f.bound here.last.1)
+        ∙ any_same (lies_by (fork_above f.name.thread.exec here.front here.last).fork (before f.bound here.last.1)) (λ g. awaits f g.name.thread) facts (λ g. awaits_is f g.name.thread here some)
 
 -- ---- items
 
@@ -124,11 +124,11 @@ module _ (facts : List Fact) (m : KeyMarks) (later : Option Access) where
   pub accesses_none : later ≡ None → false ≡ list_any (λ g. conflicts g.access later) facts
   accesses_none e = sym (any_never (λ g. conflicts g.access later) facts (λ g. ap (conflicts g.access) e ∙ no_access g.access))
 
-  pub written_to : (a : Access) → later ≡ Some a → a.mode ≡ Write → AreKeys facts m → has_key is_same_key m.touched a.key ≡ list_any (λ g. conflicts g.access later) facts
-  written_to a e w are = are.touched a.key ∙ any_same (touches a.key) (λ g. conflicts g.access later) facts (λ g. by_a_write g.access a (ap is_write w) ∙ ap (conflicts g.access) (sym e))
+  pub written_to : (a : Access) → later ≡ Some a → a.mode ≡ Write → AreKeyMarks facts m → has_key is_same_key m.touched a.key ≡ list_any (λ g. conflicts g.access later) facts
+  written_to a e w are = are.touched a.key ∙ any_same (fact_touches a.key) (λ g. conflicts g.access later) facts (λ g. by_a_write g.access a (ap is_write w) ∙ ap (conflicts g.access) (sym e))
 
-  pub read_from : (a : Access) → later ≡ Some a → a.mode ≡ Read → AreKeys facts m → has_key is_same_key m.written a.key ≡ list_any (λ g. conflicts g.access later) facts
-  read_from a e r are = are.wrote a.key ∙ any_same (writes a.key) (λ g. conflicts g.access later) facts (λ g. by_a_read g.access a (ap is_write r) ∙ ap (conflicts g.access) (sym e))
+  pub read_from : (a : Access) → later ≡ Some a → a.mode ≡ Read → AreKeyMarks facts m → has_key is_same_key m.written a.key ≡ list_any (λ g. conflicts g.access later) facts
+  read_from a e r are = are.wrote a.key ∙ any_same (fact_writes a.key) (λ g. conflicts g.access later) facts (λ g. by_a_read g.access a (ap is_write r) ∙ ap (conflicts g.access) (sym e))
 
 -- ---- all of them
 
@@ -146,7 +146,7 @@ in_turn false false false false false w = refl
 
 module _ (facts : List Fact) (f : Fact) where
   abbrev of_it : Bool
-  of_it = list_any (is_of f.name.thread) facts
+  of_it = list_any (is_of_thread f.name.thread) facts
 
   abbrev begin_it : Bool
   begin_it = list_any (λ g. begins g f.name.thread) facts
@@ -189,7 +189,7 @@ module _ (facts : List Fact) (f : Fact) where
 
   depends_if : list_any (λ g. depends_directly g f) facts ≡ (told_itself || told_above)
   depends_if =
-      any_or (is_of f.name.thread) (λ g. begins g f.name.thread || (makes g f.name.thread || (closes f g.name.thread || (conflicts g.access f.access || awaits f g.name.thread)))) facts
+      any_or (is_of_thread f.name.thread) (λ g. begins g f.name.thread || (makes g f.name.thread || (closes f g.name.thread || (conflicts g.access f.access || awaits f g.name.thread)))) facts
       ∙ ap (λ b. of_it || b)
       (any_or (λ g. begins g f.name.thread) (λ g. makes g f.name.thread || (closes f g.name.thread || (conflicts g.access f.access || awaits f g.name.thread))) facts
       ∙ ap (λ b. begin_it || b)

@@ -9,7 +9,7 @@ use Rattle.step_names.specs.Thread.{Thread, child_of}
 use Rattle.step_names.specs.Under.{is_under}
 use Rattle.step_names.proofs.OrderLaws.{thread_same, thread_itself}
 use Rattle.saved_steps.specs.Effects.{Effect, effect_of}
-use Rattle.saved_steps.specs.Run.{begun_at, begun, after_effect, take_step}
+use Rattle.saved_steps.specs.Run.{begun_at, begun_frame, after_effect, take_step}
 use Rattle.saved_steps.specs.Steps.{Step, is_fork, is_close, makes, closes}
 use Rattle.saved_steps.specs.World.{Setting, World, is_same_thread}
 use Rattle.saved_steps.specs.declared.fact.Fact.{Fact}
@@ -25,7 +25,7 @@ use Rattle.depends.proofs.Turned.{is_parked}
 
 -- what stands then under the fork that it makes or closes
 abbrev pub below : Effect → Thread → Option Frame
-below d t = cond (makes d.fact t) (begun d t) None
+below d t = cond (makes d.fact t) (begun_frame d t) None
 
 pub frame_own : (w : World) (d : Effect) (t : Thread) → is_same_thread d.fact.name.thread t ≡ true → (after_effect w d).frames t ≡ Some d.frame
 frame_own w d t h = rw h refl

@@ -7,12 +7,12 @@ use Rattle.step_names.specs.declared.step.StepName.{StepName}
 use Rattle.depends.specs.declared.above.Above.{Above}
 
 -- the fork of which this is a branch, over the thread at the end of these branches
-abbrev pub above : List ℕ → List (ℕ × ℕ) → ℕ × ℕ → Above
-above exec front b = record { fork = record { thread = record { exec = exec; path = front }; no = b.0 }; branch = b.1 }
+abbrev pub fork_above : List ℕ → List (ℕ × ℕ) → ℕ × ℕ → Above
+fork_above exec front b = record { fork = record { thread = record { exec = exec; path = front }; no = b.0 }; branch = b.1 }
 
 abbrev pub forks_from : List ℕ → List (ℕ × ℕ) → List (ℕ × ℕ) → List Above
 forks_from exec front [] = []
-forks_from exec front (b ∷ path) = above exec front b ∷ forks_from exec (front ++ b ∷ []) path
+forks_from exec front (b ∷ path) = fork_above exec front b ∷ forks_from exec (front ++ b ∷ []) path
 
 abbrev pub forks_above : Thread → List Above
 forks_above t = forks_from t.exec [] t.path

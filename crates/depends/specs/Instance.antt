@@ -8,7 +8,7 @@ use Rattle.trace_theory.specs.Footprints.{Plans}
 use Rattle.trace_theory.specs.Traces.{Machine, Occurrence}
 use Rattle.saved_steps.specs.Effects.{Effect, effect_of}
 use Rattle.saved_steps.specs.Saving.{SavedState, kept, undo}
-use Rattle.saved_steps.specs.Run.{begun, after_effect, take_step}
+use Rattle.saved_steps.specs.Run.{begun_frame, after_effect, take_step}
 use Rattle.saved_steps.specs.Steps.{Step, name_of, makes, closes, touches_key, writes_key}
 use Rattle.saved_steps.specs.World.{Setting, World, is_same_thread, is_same_step}
 use Rattle.saved_steps.specs.declared.fact.Fact.{Fact}
@@ -58,14 +58,14 @@ abbrev pub is_thread : Option Thread → Thread → Bool
 is_thread None t = false
 is_thread (Some u) t = is_same_thread u t
 
-abbrev pub is_end : Option Path → Bool
-is_end None = false
-is_end (Some []) = true
-is_end (Some (b ∷ p)) = false
+abbrev pub is_path_end : Option Path → Bool
+is_path_end None = false
+is_path_end (Some []) = true
+is_path_end (Some (b ∷ p)) = false
 
 -- and at the branches for which it waited
 abbrev pub looks : Fact → Thread → Bool
-looks s t = is_thread (forked_by s) t || is_end (awaited_by s t)
+looks s t = is_thread (forked_by s) t || is_path_end (awaited_by s t)
 
 -- a step touches its own thread, what lies under the fork that it makes or closes, what a first move looks at, and the item of
 -- its key
@@ -80,7 +80,7 @@ writes d (item_at key) = writes_key d.fact key
 
 -- what stands afterwards where it writes
 abbrev pub leaves : Effect → Cell → Content
-leaves d (frame_at t) = a_frame (if is_same_thread d.fact.name.thread t then Some d.frame else if makes d.fact t then begun d t else None)
+leaves d (frame_at t) = a_frame (if is_same_thread d.fact.name.thread t then Some d.frame else if makes d.fact t then begun_frame d t else None)
 leaves d (item_at key) = an_item d.item
 
 abbrev pub plans : Setting → Plans World Step Fact Cell Content Effect

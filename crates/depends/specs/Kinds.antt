@@ -28,27 +28,27 @@ use Rattle.depends.specs.declared.under.UnderMarks.{UnderMarks}
 -- ---- what a step tells
 
 -- it is of this thread
-abbrev pub is_of : Thread → Fact → Bool
-is_of t g = is_same_thread g.name.thread t
+abbrev pub is_of_thread : Thread → Fact → Bool
+is_of_thread t g = is_same_thread g.name.thread t
 
 -- it is the start of this execution
 abbrev pub starts : List ℕ → Fact → Bool
 starts exec g = is_start g.kind && is_text g.name.thread.exec exec
 
 -- it is this step, and a fork
-abbrev pub forks : StepName → Fact → Bool
-forks s g = is_fork g.kind && eq_by_cmp step_cmp g.name s
+abbrev pub is_fork_named : StepName → Fact → Bool
+is_fork_named s g = is_fork g.kind && eq_by_cmp step_cmp g.name s
 
 -- its thread lies under this fork, by a branch whose index passes a test
 abbrev pub lies_by : StepName → (ℕ → Bool) → Fact → Bool
 lies_by s test g = list_any (goes_by s test) (forks_above g.name.thread)
 
 -- it accessed this key; it wrote it
-abbrev pub touches : Key → Fact → Bool
-touches key g = touches_key g key
+abbrev pub fact_touches : Key → Fact → Bool
+fact_touches key g = touches_key g key
 
-abbrev pub writes : Key → Fact → Bool
-writes key g = writes_key g key
+abbrev pub fact_writes : Key → Fact → Bool
+fact_writes key g = writes_key g key
 
 -- ---- of some steps
 
@@ -61,17 +61,17 @@ abbrev pub has_thread : ThreadMarks → Thread → Bool
 has_thread m t = is_it (get_first nat_eq m.first (thread_hash t)) t || contains thread_cmp m.others t
 
 abbrev pub AreThreads : List Fact → ThreadMarks → Type 0
-AreThreads facts m = (t : Thread) → has_thread m t ≡ list_any (is_of t) facts
+AreThreads facts m = (t : Thread) → has_thread m t ≡ list_any (is_of_thread t) facts
 
-abbrev pub AreStarts : List Fact → StartMarks → Type 0
-AreStarts facts m = (exec : List ℕ) → contains text_cmp m.execs exec ≡ list_any (starts exec) facts
+abbrev pub AreStartMarks : List Fact → StartMarks → Type 0
+AreStartMarks facts m = (exec : List ℕ) → contains text_cmp m.execs exec ≡ list_any (starts exec) facts
 
 abbrev pub AreForks : List Fact → ForkMarks → Type 0
-AreForks facts m = (s : StepName) → contains step_cmp m.names s ≡ list_any (forks s) facts
+AreForks facts m = (s : StepName) → contains step_cmp m.names s ≡ list_any (is_fork_named s) facts
 
 abbrev pub AreUnder : List Fact → UnderMarks → Type 0
 AreUnder facts m = (s : StepName) (test : ℕ → Bool) → IsDownward test → passes test (get step_cmp m.least s) ≡ list_any (lies_by s test) facts
 
-pub record AreKeys (facts : List Fact) (m : KeyMarks) : Type 0 where
-  pub touched : (key : Key) → has_key is_same_key m.touched key ≡ list_any (touches key) facts
-  pub wrote : (key : Key) → has_key is_same_key m.written key ≡ list_any (writes key) facts
+pub record AreKeyMarks (facts : List Fact) (m : KeyMarks) : Type 0 where
+  pub touched : (key : Key) → has_key is_same_key m.touched key ≡ list_any (fact_touches key) facts
+  pub wrote : (key : Key) → has_key is_same_key m.written key ≡ list_any (fact_writes key) facts

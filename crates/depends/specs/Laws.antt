@@ -5,7 +5,7 @@ use Rattle.step_names.specs.Thread.{Thread}
 use Rattle.trace_theory.specs.Footprints.{IsReached}
 use Rattle.trace_theory.specs.Traces as theory
 use Rattle.trace_theory.specs.Traces.{IsRun, consequences, IsMaximal, IsReversible, HasNames, Square, Loop, LeastConsequences, OrdersUndo, LinearizationsAgree, HoldIsWhatIsLeft}
-use Rattle.saved_steps.specs.Run.{run}
+use Rattle.saved_steps.specs.Run.{run_steps}
 use Rattle.saved_steps.specs.Steps.{Step}
 use Rattle.saved_steps.specs.World.{Setting, World}
 use Rattle.saved_steps.specs.declared.fact.Fact.{Fact}
@@ -13,7 +13,7 @@ use Rattle.depends.specs.Instance.{TakenStep, steps}
 use Rattle.depends.specs.Plans.{first_dependent, plan}
 
 -- of the same table, with the machines that there are in the first and perhaps more
-pub record Extends (s more : Setting) : Type 0 where
+pub record ExtendsSetting (s more : Setting) : Type 0 where
   pub table : more.table ≡ s.table
   pub schema : more.schema ≡ s.schema
   pub machines : (name : List ℕ) (d : Definition) → s.machines name ≡ Some d → more.machines name ≡ Some d
@@ -31,7 +31,7 @@ facts_of ts = map (λ t. t.fact) ts
 
 -- the theory's runs are runs, seen with what each step kept
 abbrev pub RunsAreSeen : Type 0
-RunsAreSeen = (s : Setting) (w : World) (names : List Step) → run s w names ≡ option_map (λ p. (p.0, facts_of p.1)) (theory.run (steps s) w names)
+RunsAreSeen = (s : Setting) (w : World) (names : List Step) → run_steps s w names ≡ option_map (λ p. (p.0, facts_of p.1)) (theory.run (steps s) w names)
 
 -- independent neighbours swap, and what a step kept undoes it
 abbrev pub StepsAreReversible : Type 0

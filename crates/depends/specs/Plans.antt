@@ -19,16 +19,16 @@ abbrev pub depends_on_some : List Fact → List ℕ → Fact → Bool
 depends_on_some facts places f = list_any (λ place. depends_on (slice_get facts place) f) places
 
 -- one pass forward over the steps from a place on: a step that depends directly on a marked one is marked too
-abbrev pub consequences_from : List Fact → List ℕ → ℕ → List Fact → List ℕ
-consequences_from facts marked place [] = []
-consequences_from facts marked place (f ∷ fs) =
+abbrev pub consequences_behind : List Fact → List ℕ → ℕ → List Fact → List ℕ
+consequences_behind facts marked place [] = []
+consequences_behind facts marked place (f ∷ fs) =
     if depends_on_some facts marked f
-    then place ∷ consequences_from facts (marked ++ place ∷ []) (place + 1) fs
-    else consequences_from facts marked (place + 1) fs
+    then place ∷ consequences_behind facts (marked ++ place ∷ []) (place + 1) fs
+    else consequences_behind facts marked (place + 1) fs
 
 -- the step at a place and its consequences, in the order of the history
 abbrev pub consequences_at : List Fact → ℕ → List ℕ
-consequences_at facts at = at ∷ consequences_from facts (at ∷ []) (at + 1) (drop (at + 1) facts)
+consequences_at facts at = at ∷ consequences_behind facts (at ∷ []) (at + 1) (drop (at + 1) facts)
 
 -- the order in which they are undone: the latest first
 abbrev pub plan : List Fact → ℕ → List ℕ

@@ -5,7 +5,7 @@ ghost use Rattle.std.specs.List.{list_any};
 ghost use Rattle.item_store.specs.Table.{is_same_key};
 ghost use Rattle.depends.specs.Dependence.{conflicts};
 ghost use Rattle.saved_steps.specs.declared.fact.Fact.{Fact as Step};
-ghost use Rattle.depends.specs.Kinds.{AreKeys};
+ghost use Rattle.depends.specs.Kinds.{AreKeyMarks};
 
 use attr_values::Key;
 use item_store::AccessMode;
@@ -22,7 +22,7 @@ pub(crate) struct KeyMarks {
 
 impl KeyMarks {
     pub(crate) fn new(alloc: Global) -> KeyMarks
-        ensures { AreKeys [] result }
+        ensures { AreKeyMarks [] result }
     {
         KeyMarks {
             touched: HashSet::new(alloc),
@@ -31,7 +31,7 @@ impl KeyMarks {
     }
 
     pub(crate) fn add(&mut self, fact: &Fact) -> Result<(), AllocError>
-        ensures { OnOk result ((facts : List Step) → AreKeys facts self.old → AreKeys (facts ++ fact.now ∷ []) self.new) }
+        ensures { OnOk result ((facts : List Step) → AreKeyMarks facts self.old → AreKeyMarks (facts ++ fact.now ∷ []) self.new) }
     {
         let Some(access) = &fact.access else {
             return Ok(());
@@ -45,7 +45,7 @@ impl KeyMarks {
 
     /// Whether a step accessed the key of a later access, and not both read.
     pub(crate) fn has(&self, later: &Option<Access>) -> bool
-        ensures { (facts : List Step) → AreKeys facts self.now → result ≡ list_any (λ g. conflicts g.access later.now) facts }
+        ensures { (facts : List Step) → AreKeyMarks facts self.now → result ≡ list_any (λ g. conflicts g.access later.now) facts }
     {
         let Some(access) = later else {
             return false;

@@ -5,7 +5,7 @@ ghost use Rattle.std.specs.List.{list_any};
 ghost use Rattle.depends.specs.Dependence.{awaits, begins, conflicts, depends_directly};
 ghost use Rattle.saved_steps.specs.Steps.{closes, makes};
 ghost use Rattle.saved_steps.specs.declared.fact.Fact.{Fact as Step};
-ghost use Rattle.depends.specs.Kinds.{AreThreads, AreUnder, is_of};
+ghost use Rattle.depends.specs.Kinds.{AreThreads, AreUnder, is_of_thread};
 ghost use Rattle.depends.specs.Marks.{AreMarksOf};
 
 use crate::above::forks_above;
@@ -70,7 +70,7 @@ impl Marks {
     /// Whether it does for an item, for its thread, or as a step of a started execution.
     fn has_itself(&self, later: &Fact) -> Result<bool, AllocError>
         ensures { IfOk result (λ b. (facts : List Step) → AreMarksOf facts self.now
-            → b ≡ (list_any (λ g. conflicts g.access later.now.access) facts || (list_any (is_of later.now.name.thread) facts || list_any (λ g. begins g later.now.name.thread) facts))) }
+            → b ≡ (list_any (λ g. conflicts g.access later.now.access) facts || (list_any (is_of_thread later.now.name.thread) facts || list_any (λ g. begins g later.now.name.thread) facts))) }
     {
         if self.keys.has(&later.access) {
             return Ok(true);

@@ -3,7 +3,7 @@ ghost use Rattle.std.specs.Prelude.{◌≡◌, ◌∷◌, ◌++◌, [], List, On
 ghost use Rattle.std.specs.List.{list_any};
 ghost use Rattle.saved_steps.specs.declared.fact.Fact.{Fact as Step};
 ghost use Rattle.depends.specs.Dependence.{is_start};
-ghost use Rattle.depends.specs.Kinds.{AreStarts, starts};
+ghost use Rattle.depends.specs.Kinds.{AreStartMarks, starts};
 
 use json_tree::Text;
 use saved_steps::{Fact, Kind};
@@ -18,7 +18,7 @@ pub(crate) struct StartMarks {
 
 impl StartMarks {
     pub(crate) fn new(alloc: Global) -> StartMarks
-        ensures { AreStarts [] result }
+        ensures { AreStartMarks [] result }
     {
         StartMarks {
             execs: BTreeSet::new(alloc),
@@ -26,7 +26,7 @@ impl StartMarks {
     }
 
     pub(crate) fn add(&mut self, fact: &Fact) -> Result<(), AllocError>
-        ensures { OnOk result ((facts : List Step) → AreStarts facts self.old → AreStarts (facts ++ fact.now ∷ []) self.new) }
+        ensures { OnOk result ((facts : List Step) → AreStartMarks facts self.old → AreStartMarks (facts ++ fact.now ∷ []) self.new) }
     {
         if !is_start(fact.kind) {
             return Ok(());
@@ -37,7 +37,7 @@ impl StartMarks {
 
     /// Whether a step is the start of this execution.
     pub(crate) fn has(&self, exec: &Text) -> bool
-        ensures { (facts : List Step) → AreStarts facts self.now → result ≡ list_any (starts exec.now) facts }
+        ensures { (facts : List Step) → AreStartMarks facts self.now → result ≡ list_any (starts exec.now) facts }
     {
         self.execs.contains(exec)
     }

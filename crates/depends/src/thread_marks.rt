@@ -6,7 +6,7 @@ ghost use Rattle.std.specs.List.{list_any};
 ghost use Rattle.saved_steps.specs.World.{is_same_thread};
 ghost use Rattle.saved_steps.specs.declared.fact.Fact.{Fact as Step};
 ghost use Rattle.depends.specs.Hashes.{thread_hash};
-ghost use Rattle.depends.specs.Kinds.{AreThreads, is_of};
+ghost use Rattle.depends.specs.Kinds.{AreThreads, is_of_thread};
 
 use saved_steps::Fact;
 use std::alloc::{AllocError, Global};
@@ -50,7 +50,7 @@ impl ThreadMarks {
 
     /// Whether a step is of this thread.
     pub(crate) fn has(&self, thread: &ThreadName) -> bool
-        ensures { (facts : List Step) → AreThreads facts self.now → result ≡ list_any (is_of thread.now) facts }
+        ensures { (facts : List Step) → AreThreads facts self.now → result ≡ list_any (is_of_thread thread.now) facts }
     {
         match self.is_first(thread_hash(thread), thread) {
             Some(true) => true,

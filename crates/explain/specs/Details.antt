@@ -10,7 +10,7 @@ use Rattle.attr_values.specs.Reading.{read_datum}
 use Rattle.attr_values.specs.declared.fault.ItemFault.{ItemFault}
 use Rattle.attr_values.specs.declared.key.KeyAttribute.{KeyAttribute}
 use Rattle.attr_values.specs.declared.key.KeySchema.{KeySchema}
-use Rattle.item_store.specs.Calls.{pairs_of, may_have, item_field, text_of, returns_of, condition_in}
+use Rattle.item_store.specs.Calls.{field_pairs, may_have, item_field, text_of, returns_of, condition_in}
 use Rattle.item_store.specs.declared.call.Action.{Action}
 use Rattle.explain.specs.declared.details.Flaw.{Flaw}
 use Rattle.explain.specs.declared.details.Flaw.TheVariants as flaw
@@ -37,20 +37,20 @@ is_list _ = false
 
 -- a field of an object
 abbrev pub field_in : List ℕ → Data → Option Data
-field_in name (fields ms) = get_field name (pairs_of ms)
+field_in name (fields ms) = get_field name (field_pairs ms)
 field_in name _ = None
 
-abbrev pub is_object : Data → Bool
-is_object (fields ms) = true
-is_object _ = false
+abbrev pub is_object_data : Data → Bool
+is_object_data (fields ms) = true
+is_object_data _ = false
 
 -- what a flaw says of the value that is to be the action's call
 abbrev pub HasFlaw : Action → Data → Flaw → Type 0
-HasFlaw action d flaw.NoObject = is_object d ≡ false
+HasFlaw action d flaw.NoObject = is_object_data d ≡ false
 HasFlaw action d (flaw.UnknownField name) = (may_have action name ≡ false) × (is_some (field_in name d) ≡ true)
 HasFlaw action d (flaw.MissingField name) = ((name ≡ codes "TableName") ⊎ (name ≡ item_field action)) × (field_in name d ≡ None)
 HasFlaw action d flaw.BadTableName = option_and_then text_of (field_in (codes "TableName") d) ≡ None
-HasFlaw action d flaw.BadItem = option_and_then (λ item. Some (is_object item)) (field_in (item_field action) d) ≡ Some false
+HasFlaw action d flaw.BadItem = option_and_then (λ item. Some (is_object_data item)) (field_in (item_field action) d) ≡ Some false
 HasFlaw action d (flaw.BadAttribute name fault) = (value : Data) × (option_and_then (field_in name) (field_in (item_field action) d) ≡ Some value) × (read_datum 32 value ≡ Err fault)
 HasFlaw action d flaw.BadReturnValues = returns_of (field_in (codes "ReturnValues") d) ≡ None
 HasFlaw action d flaw.BadCondition = condition_in (field_in (codes "ConditionExpression") d) ≡ None

@@ -13,7 +13,7 @@ use Rattle.asl_forward.specs.Fault.{Fault}
 use Rattle.asl_forward.specs.Frame.{Frame}
 use Rattle.asl_forward.specs.Phase.{Phase}
 use Rattle.asl_forward.specs.Phase.TheVariants as phase
-use Rattle.asl_forward.specs.Results.{work_of, after_answer, after_join, after_branch}
+use Rattle.asl_forward.specs.Results.{state_work, after_answer, after_join, after_branch}
 use Rattle.asl_forward.specs.Turn.{located}
 use Rattle.asl_forward.specs.declared.prepared.Outcome.{Outcome}
 use Rattle.asl_forward.specs.declared.prepared.Outcome.TheVariants as outcome
@@ -31,7 +31,7 @@ reply_at table item c = reply_by c.request item (key_asked table.table table.sch
 -- ---- the frame afterwards
 
 abbrev pub after_reply : Definition → Frame → Reply → Option Frame
-after_reply d f reply = option_and_then (λ at. option_map (λ w. after_answer at.0 w f reply) (work_of at.1)) (located d f)
+after_reply d f reply = option_and_then (λ at. option_map (λ w. after_answer at.0 w f reply) (state_work at.1)) (located d f)
 
 -- the frame that a turn with this outcome comes to
 abbrev pub frame_after : Definition → Frame → Store → Option Attributes → Outcome → Option Frame
@@ -41,7 +41,7 @@ frame_after d f table item (outcome.Fork g fs) = Some g
 
 -- the frame after a join with these outputs
 abbrev pub frame_joined : Definition → Frame → List Data → Option Frame
-frame_joined d f outputs = option_and_then (λ at. option_map (λ w. after_join at.0 w f outputs) (work_of at.1)) (located d f)
+frame_joined d f outputs = option_and_then (λ at. option_map (λ w. after_join at.0 w f outputs) (state_work at.1)) (located d f)
 
 -- the frame after a branch has ended with this error
 abbrev pub frame_terminated : Definition → Frame → Fault → Option Frame
@@ -49,10 +49,10 @@ frame_terminated d f fault = option_map (λ at. after_branch at f fault) (locate
 
 -- ---- the error
 
-abbrev pub fault_in : Phase → Option Fault
-fault_in (phase.Failed fault) = Some fault
-fault_in _ = None
+abbrev pub phase_fault : Phase → Option Fault
+phase_fault (phase.Failed fault) = Some fault
+phase_fault _ = None
 
 -- the error with which a thread of this frame has failed
 abbrev pub failed_with : Option Frame → Option Fault
-failed_with f = option_and_then (λ g. fault_in g.phase) f
+failed_with f = option_and_then (λ g. phase_fault g.phase) f

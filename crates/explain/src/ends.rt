@@ -1,6 +1,6 @@
 // The frame that a turn, a join or a terminate comes to.
 ghost use Rattle.std.specs.Prelude.{◌≡◌, ◌+◌, ◌<◌, ◌^◌, Some, IfOk, IfSome, IsSome, option_copied};
-ghost use Rattle.explain.specs.Ends.{frame_after, frame_joined, frame_terminated, failed_with, fault_in};
+ghost use Rattle.explain.specs.Ends.{frame_after, frame_joined, frame_terminated, failed_with, phase_fault};
 ghost use Rattle.asl_forward.specs.Turn.{located};
 
 use crate::answers::answer;
@@ -96,7 +96,7 @@ fn frame_terminated(
 
 /// The error with which a thread of this frame has failed.
 fn fault_in(next: &Frame) -> Result<Option<Fault>, AllocError>
-    ensures { IfOk result (λ o. o ≡ fault_in next.now.phase) }
+    ensures { IfOk result (λ o. o ≡ phase_fault next.now.phase) }
 {
     match &next.phase {
         Phase::Failed(fault) => Ok(Some(fault.copy()?)),

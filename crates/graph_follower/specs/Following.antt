@@ -15,5 +15,5 @@ abbrev pub Feeds : {S : Type 0} → List ℕ → Sitting S → Sitting S → Typ
 Feeds line old new = (new ≡ old) ⊎ IsGiven line old new
 
 -- of the lines of an input those behind an equals sign and a blank are fed, and nothing else changes anything
-abbrev pub Follows : {S : Type 0} → List ℕ → Sitting S → Sitting S → Type 0
-Follows line old new = (new ≡ old) ⊎ ((fed : List ℕ) × (line ≡ codes "= " ++ fed) × IsGiven fed old new)
+abbrev pub FollowsFedLine : {S : Type 0} → List ℕ → Sitting S → Sitting S → Type 0
+FollowsFedLine line old new = (new ≡ old) ⊎ ((fed : List ℕ) × (line ≡ codes "= " ++ fed) × IsGiven fed old new)

@@ -1,6 +1,6 @@
 // A book with what questions need beside it.
 ghost use Rattle.std.specs.Prelude.{◌≡◌, false};
-ghost use Rattle.graph_follower.specs.Following.{Feeds, Follows, IsGiven};
+ghost use Rattle.graph_follower.specs.Following.{Feeds, FollowsFedLine, IsGiven};
 
 use crate::giving::give_line;
 use command_lines::{Command, CommandFault};
@@ -92,7 +92,7 @@ impl<S: Alter> Follower<S> {
         rt: &T,
         line: &[u8],
     ) -> Result<Vec<u8>, Followed>
-        ensures { self.old.is_failed ≡ false → Follows line.now self.old self.new }
+        ensures { self.old.is_failed ≡ false → FollowsFedLine line.now self.old self.new }
     {
         if let Some(line) = line.strip_prefix(b"= ".as_slice()) {
             return self.feed(rt, line);

@@ -4,7 +4,7 @@ ghost use Rattle.base64.specs.Engines.{standard};
 ghost use Rattle.base64.specs.GeneralPurpose.{encode_of};
 ghost use Rattle.json_tree.specs.View.{data_of};
 ghost use Rattle.json_tree.specs.Written.{text_of};
-ghost use Rattle.graph_page.specs.Markup.{Adds, Grows};
+ghost use Rattle.graph_page.specs.Markup.{AddsMarkup, GrowsText};
 ghost use Rattle.graph_page.specs.Quoting.{data_byte, data_text, html_byte, html_text};
 
 use base64::engine::general_purpose::STANDARD;
@@ -41,14 +41,14 @@ impl Markup {
 
     /// Adds words of the program as they are.
     pub(crate) fn tags(&mut self, words: &'static str) -> Result<(), AllocError>
-        ensures { Adds result self.old self.new words.now }
+        ensures { AddsMarkup result self.old self.new words.now }
     {
         self.bytes.extend_from_slice(words.as_bytes())
     }
 
     /// Adds several words of the program as they are, one behind the other.
     pub(crate) fn all_tags(&mut self, parts: &[&'static str]) -> Result<(), AllocError>
-        ensures { Grows result self.old self.new }
+        ensures { GrowsText result self.old self.new }
     {
         for part in parts {
             self.tags(part)?;
@@ -59,7 +59,7 @@ impl Markup {
     /// Adds the SHA-256 digest of these words, one behind the other, in Base64, as a policy names a script or a style (Content Security
     /// Policy Level 3, section 2.3.1).
     pub(crate) fn digest(&mut self, parts: &[&'static str]) -> Result<(), AllocError>
-        ensures { Grows result self.old self.new }
+        ensures { GrowsText result self.old self.new }
     {
         let mut hasher = Sha256::new();
         for part in parts {
@@ -69,7 +69,7 @@ impl Markup {
     }
 
     fn base64(&mut self, bytes: &[u8]) -> Result<(), AllocError>
-        ensures { Adds result self.old self.new (encode_of standard bytes.now) }
+        ensures { AddsMarkup result self.old self.new (encode_of standard bytes.now) }
     {
         let text = STANDARD.encode(self.alloc, bytes)?;
         self.bytes.extend_from_slice(text.as_bytes())
@@ -79,7 +79,7 @@ impl Markup {
 
     /// Adds a text, so that it neither begins nor ends a tag, nor ends the quotes that it is in.
     pub(crate) fn text(&mut self, text: &[u8]) -> Result<(), AllocError>
-        ensures { Adds result self.old self.new (html_text text.now) }
+        ensures { AddsMarkup result self.old self.new (html_text text.now) }
     {
         for byte in text {
             self.html_byte(*byte)?;
@@ -88,7 +88,7 @@ impl Markup {
     }
 
     fn html_byte(&mut self, byte: u8) -> Result<(), AllocError>
-        ensures { Adds result self.old self.new (html_byte byte) }
+        ensures { AddsMarkup result self.old self.new (html_byte byte) }
     {
         match byte {
             b'&' => self.tags("&amp;"),
@@ -101,14 +101,14 @@ impl Markup {
 
     /// Adds a value as JSON, so that no tag begins in it.
     pub(crate) fn data(&mut self, json: &Json) -> Result<(), AllocError>
-        ensures { Adds result self.old self.new (data_text (text_of (data_of json.now))) }
+        ensures { AddsMarkup result self.old self.new (data_text (text_of (data_of json.now))) }
     {
         let text = write_text(self.alloc, json)?;
         self.data_bytes(text.as_bytes())
     }
 
     fn data_bytes(&mut self, text: &[u8]) -> Result<(), AllocError>
-        ensures { Adds result self.old self.new (data_text text.now) }
+        ensures { AddsMarkup result self.old self.new (data_text text.now) }
     {
         for byte in text {
             self.data_byte(*byte)?;
@@ -117,7 +117,7 @@ impl Markup {
     }
 
     fn data_byte(&mut self, byte: u8) -> Result<(), AllocError>
-        ensures { Adds result self.old self.new (data_byte byte) }
+        ensures { AddsMarkup result self.old self.new (data_byte byte) }
     {
         match byte {
             b'<' => self.tags("\\u003c"),
@@ -126,7 +126,7 @@ impl Markup {
     }
 
     fn byte(&mut self, byte: u8) -> Result<(), AllocError>
-        ensures { Adds result self.old self.new (byte ∷ []) }
+        ensures { AddsMarkup result self.old self.new (byte ∷ []) }
     {
         self.bytes.push(byte)?;
         Ok(())

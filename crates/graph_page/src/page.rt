@@ -1,6 +1,6 @@
 // The whole page: its head, a table for who has no script, the answers, and the viewer.
 ghost use Rattle.std.specs.Prelude.{IfOk};
-ghost use Rattle.graph_page.specs.Markup.{Grows, IsWhole};
+ghost use Rattle.graph_page.specs.Markup.{GrowsText, IsWhole};
 
 use crate::markup::Markup;
 use crate::table::write_table;
@@ -56,7 +56,7 @@ pub fn page_of(alloc: Global, parts: &PageParts<'_>) -> Result<Vec<u8>, AllocErr
 
 /// All that is between the beginning and the end.
 fn write_whole(html: &mut Markup, alloc: Global, parts: &PageParts<'_>) -> Result<(), AllocError>
-    ensures { Grows result html.old html.new }
+    ensures { GrowsText result html.old html.new }
 {
     write_head(html, parts)?;
     write_fallback(html, alloc, parts)?;
@@ -67,7 +67,7 @@ fn write_whole(html: &mut Markup, alloc: Global, parts: &PageParts<'_>) -> Resul
 }
 
 fn write_head(html: &mut Markup, parts: &PageParts<'_>) -> Result<(), AllocError>
-    ensures { Grows result html.old html.new }
+    ensures { GrowsText result html.old html.new }
 {
     html.tags(HEAD)?;
     write_policy(html, parts)?;
@@ -78,7 +78,7 @@ fn write_head(html: &mut Markup, parts: &PageParts<'_>) -> Result<(), AllocError
 
 /// What the page may load and run: nothing but its own script and style.
 fn write_policy(html: &mut Markup, parts: &PageParts<'_>) -> Result<(), AllocError>
-    ensures { Grows result html.old html.new }
+    ensures { GrowsText result html.old html.new }
 {
     html.tags(POLICY)?;
     html.digest(parts.script)?;
@@ -88,7 +88,7 @@ fn write_policy(html: &mut Markup, parts: &PageParts<'_>) -> Result<(), AllocErr
 }
 
 fn write_style(html: &mut Markup, parts: &PageParts<'_>) -> Result<(), AllocError>
-    ensures { Grows result html.old html.new }
+    ensures { GrowsText result html.old html.new }
 {
     html.tags("<title>")?;
     write_title(html, parts)?;
@@ -98,7 +98,7 @@ fn write_style(html: &mut Markup, parts: &PageParts<'_>) -> Result<(), AllocErro
 
 /// The journal's name, and the step at which the page opens.
 fn write_title(html: &mut Markup, parts: &PageParts<'_>) -> Result<(), AllocError>
-    ensures { Grows result html.old html.new }
+    ensures { GrowsText result html.old html.new }
 {
     html.text(parts.name.as_bytes())?;
     match parts.show {
@@ -112,7 +112,7 @@ fn write_title(html: &mut Markup, parts: &PageParts<'_>) -> Result<(), AllocErro
 
 /// The steps as a table, for who has no script.
 fn write_fallback(html: &mut Markup, alloc: Global, parts: &PageParts<'_>) -> Result<(), AllocError>
-    ensures { Grows result html.old html.new }
+    ensures { GrowsText result html.old html.new }
 {
     html.tags("<noscript>\n<h1>")?;
     write_title(html, parts)?;
@@ -123,7 +123,7 @@ fn write_fallback(html: &mut Markup, alloc: Global, parts: &PageParts<'_>) -> Re
 
 /// The answers, for the script.
 fn write_data(html: &mut Markup, alloc: Global, parts: &PageParts<'_>) -> Result<(), AllocError>
-    ensures { Grows result html.old html.new }
+    ensures { GrowsText result html.old html.new }
 {
     let data = data_of(alloc, parts)?;
     html.tags("<script type=\"application/json\" id=\"book\">")?;

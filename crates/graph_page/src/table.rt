@@ -1,5 +1,5 @@
 // The steps as a table, for who has no script.
-ghost use Rattle.graph_page.specs.Markup.{Grows};
+ghost use Rattle.graph_page.specs.Markup.{GrowsText};
 
 use crate::markup::Markup;
 use json_tree::{Json, write_text};
@@ -10,7 +10,7 @@ const HEAD: &str =
 
 /// The steps of an answer, one in a row.
 pub(crate) fn write_table(html: &mut Markup, alloc: Global, steps: &Json) -> Result<(), AllocError>
-    ensures { Grows result html.old html.new }
+    ensures { GrowsText result html.old html.new }
 {
     html.tags(HEAD)?;
     write_rows(html, alloc, list_in(steps, "steps"))?;
@@ -18,7 +18,7 @@ pub(crate) fn write_table(html: &mut Markup, alloc: Global, steps: &Json) -> Res
 }
 
 fn write_rows(html: &mut Markup, alloc: Global, rows: &[Json]) -> Result<(), AllocError>
-    ensures { Grows result html.old html.new }
+    ensures { GrowsText result html.old html.new }
 {
     for row in rows {
         write_row(html, alloc, row)?;
@@ -27,7 +27,7 @@ fn write_rows(html: &mut Markup, alloc: Global, rows: &[Json]) -> Result<(), All
 }
 
 fn write_row(html: &mut Markup, alloc: Global, row: &Json) -> Result<(), AllocError>
-    ensures { Grows result html.old html.new }
+    ensures { GrowsText result html.old html.new }
 {
     html.tags("<tr><td>")?;
     write_name(html, alloc, row)?;
@@ -39,7 +39,7 @@ fn write_row(html: &mut Markup, alloc: Global, row: &Json) -> Result<(), AllocEr
 
 /// The cells of a step's name, kind and state.
 fn write_name(html: &mut Markup, alloc: Global, row: &Json) -> Result<(), AllocError>
-    ensures { Grows result html.old html.new }
+    ensures { GrowsText result html.old html.new }
 {
     write_cell(html, alloc, row, "step")?;
     write_cell(html, alloc, row, "kind")?;
@@ -48,7 +48,7 @@ fn write_name(html: &mut Markup, alloc: Global, row: &Json) -> Result<(), AllocE
 
 /// A field, up to the next cell.
 fn write_cell(html: &mut Markup, alloc: Global, row: &Json, name: &str) -> Result<(), AllocError>
-    ensures { Grows result html.old html.new }
+    ensures { GrowsText result html.old html.new }
 {
     write_value(html, alloc, field(row, name))?;
     html.tags("</td><td>")
@@ -56,7 +56,7 @@ fn write_cell(html: &mut Markup, alloc: Global, row: &Json, name: &str) -> Resul
 
 /// The cell of what a call did to which key.
 fn write_key(html: &mut Markup, alloc: Global, row: &Json) -> Result<(), AllocError>
-    ensures { Grows result html.old html.new }
+    ensures { GrowsText result html.old html.new }
 {
     match field(row, "key") {
         None | Some(Json::Null) => html.tags(""),
@@ -65,7 +65,7 @@ fn write_key(html: &mut Markup, alloc: Global, row: &Json) -> Result<(), AllocEr
 }
 
 fn write_access(html: &mut Markup, alloc: Global, row: &Json, key: &Json) -> Result<(), AllocError>
-    ensures { Grows result html.old html.new }
+    ensures { GrowsText result html.old html.new }
 {
     write_value(html, alloc, field(row, "access"))?;
     html.tags(" ")?;
@@ -74,7 +74,7 @@ fn write_access(html: &mut Markup, alloc: Global, row: &Json, key: &Json) -> Res
 
 /// The cell of what a step went on to.
 fn write_outcome(html: &mut Markup, alloc: Global, outcome: Option<&Json>) -> Result<(), AllocError>
-    ensures { Grows result html.old html.new }
+    ensures { GrowsText result html.old html.new }
 {
     html.tags("</td><td>")?;
     match outcome {
@@ -85,7 +85,7 @@ fn write_outcome(html: &mut Markup, alloc: Global, outcome: Option<&Json>) -> Re
 }
 
 fn write_going(html: &mut Markup, alloc: Global, outcome: &Json) -> Result<(), AllocError>
-    ensures { Grows result html.old html.new }
+    ensures { GrowsText result html.old html.new }
 {
     write_value(html, alloc, field(outcome, "to"))?;
     match detail_of(outcome) {
@@ -106,7 +106,7 @@ fn detail_of(outcome: &Json) -> Option<&Json> {
 }
 
 fn write_detail(html: &mut Markup, alloc: Global, detail: &Json) -> Result<(), AllocError>
-    ensures { Grows result html.old html.new }
+    ensures { GrowsText result html.old html.new }
 {
     html.tags(" ")?;
     write_value(html, alloc, Some(detail))
@@ -114,7 +114,7 @@ fn write_detail(html: &mut Markup, alloc: Global, detail: &Json) -> Result<(), A
 
 /// The steps on which one depends, each with its reason.
 fn write_causes(html: &mut Markup, alloc: Global, causes: &[Json]) -> Result<(), AllocError>
-    ensures { Grows result html.old html.new }
+    ensures { GrowsText result html.old html.new }
 {
     for (place, cause) in causes.iter().enumerate() {
         html.tags(if place == 0 { "" } else { ", " })?;
@@ -124,7 +124,7 @@ fn write_causes(html: &mut Markup, alloc: Global, causes: &[Json]) -> Result<(),
 }
 
 fn write_cause(html: &mut Markup, alloc: Global, cause: &Json) -> Result<(), AllocError>
-    ensures { Grows result html.old html.new }
+    ensures { GrowsText result html.old html.new }
 {
     write_value(html, alloc, field(cause, "step"))?;
     html.tags(" (")?;
@@ -134,7 +134,7 @@ fn write_cause(html: &mut Markup, alloc: Global, cause: &Json) -> Result<(), All
 
 /// A text as it is, another value as JSON, and nothing of `null`.
 fn write_value(html: &mut Markup, alloc: Global, value: Option<&Json>) -> Result<(), AllocError>
-    ensures { Grows result html.old html.new }
+    ensures { GrowsText result html.old html.new }
 {
     match value {
         None | Some(Json::Null) => html.tags(""),

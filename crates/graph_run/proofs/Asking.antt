@@ -13,8 +13,8 @@ use Rattle.graph_run.specs.declared.asked.Asked.{Asked}
 use Rattle.graph_run.specs.declared.asked.Asked.TheVariants.{Question as Ask, Serve}
 use Rattle.graph_run.specs.declared.asked.AskRefusal.{AskRefusal}
 use Rattle.graph_run.specs.declared.asked.AskRefusal.TheVariants.{Shown, Usage, Memory}
-use Rattle.graph_run.specs.Questions.{Asks, AsksBeside, AsksNothing, has_any, IsAskedIn, IsFlag, IsQuestionIn, IsQuestionOf, IsServedIn, IsServeOf, NamesIn, Serves, pair_of, question_of}
-use Rattle.graph_run.specs.Words.{program, IsRefusedBy, Names, Refuses}
+use Rattle.graph_run.specs.Questions.{Asks, AsksBeside, AsksNothing, has_any, IsAskedIn, IsFlag, IsQuestionIn, IsQuestionOf, IsServedIn, IsServeOf, NamesIn, AsksToServe, pair_of, question_of}
+use Rattle.graph_run.specs.Words.{graph_program, IsAskRefusedBy, NamesAsked, RefusesAsked}
 
 pub flag_rows : (f : Found) (id : Text) (value : Bool) → (one_text f id ≡ None → value ≡ false) → (one_text f id ≡ Some (codes "true") → value ≡ true)
     → (one_text f id ≡ Some (codes "false") → value ≡ false) → IsFlag (one_of id (rows_of f)) value
@@ -58,14 +58,14 @@ served_in rows file (Err Usage) named alone ok err = cc
 served_in rows file (Err (Shown text)) named alone ok err = cc
 
 -- a line asks for a question, or for lines to be followed
-pub of_question : (rows : List Row) (r : Result Asked AskRefusal) → Serves rows false → IsQuestionIn rows r → IsAskedIn rows r
+pub of_question : (rows : List Row) (r : Result Asked AskRefusal) → AsksToServe rows false → IsQuestionIn rows r → IsAskedIn rows r
 of_question rows (Ok (Ask file question)) s h = (s, h)
 of_question rows (Ok (Serve file)) s h = absurd h
 of_question rows (Err Memory) s h = tt
 of_question rows (Err Usage) s h = inr (s, h)
 of_question rows (Err (Shown text)) s h = absurd h
 
-pub of_serve : (rows : List Row) (r : Result Asked AskRefusal) → Serves rows true → IsServedIn rows r → IsAskedIn rows r
+pub of_serve : (rows : List Row) (r : Result Asked AskRefusal) → AsksToServe rows true → IsServedIn rows r → IsAskedIn rows r
 of_serve rows (Ok (Ask file question)) s h = absurd h
 of_serve rows (Ok (Serve file)) s h = (s, h)
 of_serve rows (Err Memory) s h = tt
@@ -73,31 +73,31 @@ of_serve rows (Err Usage) s h = inl (s, h)
 of_serve rows (Err (Shown text)) s h = absurd h
 
 -- the rows of a parse by the program's command
-pub rows_are : (a : App) (m : ArgMatches) (words : List Text) → a ≡ program → HasMatchesOf a words m → rows_of (found_of m) ≡ matches_of program words
+pub rows_are : (a : App) (m : ArgMatches) (words : List Text) → a ≡ graph_program → HasMatchesOf a words m → rows_of (found_of m) ≡ matches_of graph_program words
 rows_are a m words app has = (has (ap is_simple app)).0 ∙ ap (λ x. matches_of x words) app
 
-pub taken_by : (a : App) (words : List Text) → a ≡ program → fault_of a words ≡ [] → fault_of program words ≡ []
+pub taken_by : (a : App) (words : List Text) → a ≡ graph_program → fault_of a words ≡ [] → fault_of graph_program words ≡ []
 taken_by a words app h = subst (λ x. fault_of x words ≡ []) app h
 
-pub names_by : (words : List Text) (rows : List Row) (r : Result Asked AskRefusal) → rows ≡ matches_of program words → fault_of program words ≡ []
-    → IsAskedIn rows r → IfOk r (Names words)
+pub names_by : (words : List Text) (rows : List Row) (r : Result Asked AskRefusal) → rows ≡ matches_of graph_program words → fault_of graph_program words ≡ []
+    → IsAskedIn rows r → IfOk r (NamesAsked words)
 names_by words rows (Ok asked) e taken h = record { taken = taken; names = subst (λ x. NamesIn x asked) e h }
 names_by words rows (Err refusal) e taken h = tt
 
-pub refuses_by : (words : List Text) (rows : List Row) (r : Result Asked AskRefusal) → rows ≡ matches_of program words → IsAskedIn rows r
-    → IfErr r (Refuses words)
+pub refuses_by : (words : List Text) (rows : List Row) (r : Result Asked AskRefusal) → rows ≡ matches_of graph_program words → IsAskedIn rows r
+    → IfErr r (RefusesAsked words)
 refuses_by words rows (Ok asked) e h = tt
 refuses_by words rows (Err Memory) e h = tt
 refuses_by words rows (Err Usage) e h = inl (subst AsksNothing e h)
 refuses_by words rows (Err (Shown text)) e h = absurd h
 
 -- the errors of a parse by the program's command
-pub among_faults : (a : App) (words : List Text) (e : Error) → a ≡ program → HasKind (fault_of a words) e
-    → (kind_of e ≡ kind.OutOfMemory) ⊎ IsAmong (kind_of e) (fault_of program words)
+pub among_faults : (a : App) (words : List Text) (e : Error) → a ≡ graph_program → HasKind (fault_of a words) e
+    → (kind_of e ≡ kind.OutOfMemory) ⊎ IsAmong (kind_of e) (fault_of graph_program words)
 among_faults a words e app h = subst (λ x. HasKind (fault_of x words) e) app h
 
-pub refuses : (words : List Text) (k : ErrorKind) (r : AskRefusal) → (k ≡ kind.OutOfMemory) ⊎ IsAmong k (fault_of program words)
-    → IsRefusedBy k r → Refuses words r
+pub refuses : (words : List Text) (k : ErrorKind) (r : AskRefusal) → (k ≡ kind.OutOfMemory) ⊎ IsAmong k (fault_of graph_program words)
+    → IsAskRefusedBy k r → RefusesAsked words r
 refuses words k Memory h told = tt
 refuses words k (Shown text) (inl e) (inl help) = cc
 refuses words k (Shown text) (inl e) (inr version) = cc

@@ -35,9 +35,9 @@ steps_of (Some step) None None = plan_of step
 steps_of None (Some steps) None = pair_of steps
 steps_of _ _ _ = None
 
-abbrev pub list_of : Option Text → Option (List Text) → Option Text → Option Question
-list_of None None None = Some (Lines lines.List)
-list_of _ _ _ = None
+abbrev pub list_question : Option Text → Option (List Text) → Option Text → Option Question
+list_question None None None = Some (Lines lines.List)
+list_question _ _ _ = None
 
 abbrev pub dot_of : Option Text → Option (List Text) → Option Text → Option Question
 dot_of None None from = option_map (λ step. Lines (lines.Dot step)) (from_of from)
@@ -49,18 +49,18 @@ html_of _ _ _ = None
 
 -- the one question that these values ask: of --list, --dot, --html, --plan, --why, and --from
 abbrev pub question_of : Bool → Bool → Bool → Option Text → Option (List Text) → Option Text → Option Question
-question_of true false false plan why from = list_of plan why from
+question_of true false false plan why from = list_question plan why from
 question_of false true false plan why from = dot_of plan why from
 question_of false false true plan why from = html_of plan why from
 question_of false false false plan why from = steps_of plan why from
 question_of _ _ _ _ _ _ = None
 
 -- What is answered to that: the question, or that there is none. Want of memory says nothing.
-abbrev pub Gives : {T : Type 0} → Result T AskRefusal → Option T → Type 0
-Gives (Ok given) asked = asked ≡ Some given
-Gives (Err Usage) asked = asked ≡ None
-Gives (Err Memory) asked = Unit {0}
-Gives (Err (Shown text)) asked = ⊥
+abbrev pub GivesQuestion : {T : Type 0} → Result T AskRefusal → Option T → Type 0
+GivesQuestion (Ok given) asked = asked ≡ Some given
+GivesQuestion (Err Usage) asked = asked ≡ None
+GivesQuestion (Err Memory) asked = Unit {0}
+GivesQuestion (Err (Shown text)) asked = ⊥
 
 -- ---- the values of a line
 
@@ -90,7 +90,7 @@ pub record Asks (rows : List Row) (question : Option Question) : Type 0 where
 pub record IsAnsweredIn (rows : List Row) (result : Result Question AskRefusal) : Type 0 where
   pub question : Option Question
   pub asks : Asks rows question
-  pub gives : Gives result question
+  pub gives : GivesQuestion result question
 
 -- one of these values is there: of --list, --dot, --html, --plan, --why, and --from
 abbrev pub has_any : Bool → Bool → Bool → Option Text → Option (List Text) → Option Text → Bool
@@ -107,8 +107,8 @@ pub record AsksBeside (rows : List Row) (more : Bool) : Type 0 where
   pub beside : more ≡ has_any list dot html (first_of (codes "plan") rows) (all_of (codes "why") rows) (first_of (codes "from") rows)
 
 -- whether a line asks for the following of lines
-abbrev pub Serves : List Row → Bool → Type 0
-Serves rows value = IsFlag (one_of (codes "serve") rows) value
+abbrev pub AsksToServe : List Row → Bool → Type 0
+AsksToServe rows value = IsFlag (one_of (codes "serve") rows) value
 
 -- why a line asks for no question: it names no file, or asks not just one
 abbrev pub AsksNoQuestion : List Row → Type 0
@@ -116,7 +116,7 @@ AsksNoQuestion rows = (first_of (codes "file") rows ≡ None) ⊎ Asks rows None
 
 -- why a line asks for nothing: it asks for lines to be followed and for something beside that, or for neither that nor a question
 abbrev pub AsksNothing : List Row → Type 0
-AsksNothing rows = (Serves rows true × AsksBeside rows true) ⊎ (Serves rows false × AsksNoQuestion rows)
+AsksNothing rows = (AsksToServe rows true × AsksBeside rows true) ⊎ (AsksToServe rows false × AsksNoQuestion rows)
 
 -- this question of the book of this file
 abbrev pub IsQuestionOf : Text → Question → Asked → Type 0
@@ -138,8 +138,8 @@ pub record NamesServe (rows : List Row) (file : Option Text) : Type 0 where
   pub alone : AsksBeside rows false
 
 abbrev pub NamesIn : List Row → Asked → Type 0
-NamesIn rows (Ask file question) = Serves rows false × NamesQuestion rows (string_bytes file) question
-NamesIn rows (Serve file) = Serves rows true × NamesServe rows (option_map string_bytes file)
+NamesIn rows (Ask file question) = AsksToServe rows false × NamesQuestion rows (string_bytes file) question
+NamesIn rows (Serve file) = AsksToServe rows true × NamesServe rows (option_map string_bytes file)
 
 -- what is asked of a file's book
 abbrev pub IsQuestionIn : List Row → Result Asked AskRefusal → Type 0

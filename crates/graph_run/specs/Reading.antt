@@ -3,7 +3,7 @@ use Rattle.std.specs.Prelude.{◌≡◌, ◌⊎◌, ℕ, List, Result, Ok, Err}
 use Rattle.sqlite.specs.State.{State, HasCleanDisk, Survives}
 use Rattle.sqlite.specs.declared.error.Error.{Error}
 use Rattle.book_journal.specs.Entries.{HoldLines}
-use Rattle.book_journal.specs.Faults.{fault_of}
+use Rattle.book_journal.specs.Faults.{journal_fault_of}
 use Rattle.book_journal.specs.Kept.{lines_in, IsOpened, IsSame}
 use Rattle.book_journal.specs.declared.fault.JournalFault.{JournalFault}
 use Rattle.rollback_run.specs.Faults.{of_journal}
@@ -29,4 +29,4 @@ module _ {Held : Type 0} (show : Held → State) where
 
   abbrev pub ReadsNone : Result Held Error → ExitCause → Type 0
   ReadsNone (Ok connection) cause = GivesNoLines connection cause
-  ReadsNone (Err error) cause = cause ≡ of_journal (fault_of error)
+  ReadsNone (Err error) cause = cause ≡ of_journal (journal_fault_of error)

@@ -1,7 +1,7 @@
 -- How the answering of a question ends.
 use Rattle.std.specs.Prelude.{◌≡◌, ℕ, List, Bool, true, false, Option, Result, Ok, Err}
 use Rattle.std.specs.Io.KnownBytes.{Keeps}
-use Rattle.rollback_run.specs.Faults.{fault_status, fault_text, IsBegun}
+use Rattle.rollback_run.specs.Faults.{fault_status, exit_text, IsBegun}
 use Rattle.rollback_run.specs.declared.fault.ExitCause.{ExitCause}
 
 -- the program's status: 1 where there is no answer
@@ -11,6 +11,6 @@ status_of (Ok false) = 1
 status_of (Err fault) = fault_status fault
 
 -- a fault is told as the other program tells it, and nothing else is
-abbrev pub IsTold : Result Bool ExitCause → Option (List ℕ) → Option (List ℕ) → Type 0
-IsTold (Ok found) old new = Keeps old new
-IsTold (Err fault) old new = IsBegun (fault_text fault) old new
+abbrev pub IsAskFaultSaid : Result Bool ExitCause → Option (List ℕ) → Option (List ℕ) → Type 0
+IsAskFaultSaid (Ok found) old new = Keeps old new
+IsAskFaultSaid (Err fault) old new = IsBegun (exit_text fault) old new

@@ -3,8 +3,8 @@ ghost use Rattle.std.specs.Prelude.{◌≡◌, map, false, IfOk, IfErr, string_b
 ghost use Rattle.std.specs.IoError.{error_kind};
 ghost use Rattle.clap.specs.Words.{app_of, rule_of, rows_of, found_of, kind_of};
 ghost use Rattle.step_names.specs.Grammar.{read_step};
-ghost use Rattle.graph_run.specs.Words.{program, with_lines, with_pictures, file_rule, flag_rule, option_rule, why_rule, unread_refusal, IsRefusedBy, Names, Refuses};
-ghost use Rattle.graph_run.specs.Questions.{from_of, plan_of, why_of, list_of, dot_of, html_of, steps_of, pair_of, question_of, has_any, text_in, texts_in, Gives, IsAskedIn, IsAnsweredIn, IsQuestionIn, IsQuestionOf, IsServedIn, IsServeOf};
+ghost use Rattle.graph_run.specs.Words.{graph_program, with_lines, with_pictures, file_rule, flag_rule, graph_option_rule, why_rule, graph_unread_refusal, IsAskRefusedBy, NamesAsked, RefusesAsked};
+ghost use Rattle.graph_run.specs.Questions.{from_of, plan_of, why_of, list_question, dot_of, html_of, steps_of, pair_of, question_of, has_any, text_in, texts_in, GivesQuestion, IsAskedIn, IsAnsweredIn, IsQuestionIn, IsQuestionOf, IsServedIn, IsServeOf};
 
 use clap::error::ErrorKind;
 use clap::{Arg, ArgAction, ArgMatches, Command, Error};
@@ -70,7 +70,7 @@ impl From<AllocError> for AskRefusal {
 
 /// How it is told that the words of the command line can't be had.
 pub fn unread_words(error: &io::Error) -> AskRefusal
-    ensures { result ≡ unread_refusal (error_kind error.now) }
+    ensures { result ≡ graph_unread_refusal (error_kind error.now) }
 {
     match error.kind() {
         io::ErrorKind::OutOfMemory => AskRefusal::Memory,
@@ -85,8 +85,8 @@ pub fn unread_words(error: &io::Error) -> AskRefusal
 /// `Shown` if help or the version is asked for, `Usage` if the words name no file, not just one question, or a step by no name of
 /// one, or ask to serve and something else, and `Memory`.
 pub fn asked_of(alloc: Global, words: &[String]) -> Result<Asked, AskRefusal>
-    ensures ok { IfOk result (Names (map string_bytes words.now)) }
-    ensures err { IfErr result (Refuses (map string_bytes words.now)) }
+    ensures ok { IfOk result (NamesAsked (map string_bytes words.now)) }
+    ensures err { IfErr result (RefusesAsked (map string_bytes words.now)) }
 {
     match command(alloc) {
         Ok(command) => match command.try_get_matches_from(words) {
@@ -98,7 +98,7 @@ pub fn asked_of(alloc: Global, words: &[String]) -> Result<Asked, AskRefusal>
 }
 
 fn command<'a>(alloc: Global) -> Result<Command<'a>, AllocError>
-    ensures { IfOk result (λ c. app_of c ≡ program) }
+    ensures { IfOk result (λ c. app_of c ≡ graph_program) }
 {
     let command = Command::new(alloc, "rollback_graph")
         .version(VERSION)
@@ -172,7 +172,7 @@ fn flag<'a>(alloc: Global, name: &'a str, help: &'a str) -> Arg<'a>
 }
 
 fn option<'a>(alloc: Global, name: &'a str, help: &'a str) -> Arg<'a>
-    ensures rule { rule_of result ≡ option_rule name.entry.now }
+    ensures rule { rule_of result ≡ graph_option_rule name.entry.now }
     ensures local { result.global ≡ false }
 {
     Arg::new(alloc, name)
@@ -295,7 +295,7 @@ fn question_of(
     why: Option<&[&str]>,
     from: Option<&str>,
 ) -> Result<Question, AskRefusal>
-    ensures { Gives result (question_of flags.0 flags.1 flags.2 (text_in plan.entry) (texts_in why.entry) (text_in from.entry)) }
+    ensures { GivesQuestion result (question_of flags.0 flags.1 flags.2 (text_in plan.entry) (texts_in why.entry) (text_in from.entry)) }
 {
     match flags {
         (true, false, false) => list_of(plan, why, from),
@@ -311,7 +311,7 @@ fn list_of(
     why: Option<&[&str]>,
     from: Option<&str>,
 ) -> Result<Question, AskRefusal>
-    ensures { Gives result (list_of (text_in plan.entry) (texts_in why.entry) (text_in from.entry)) }
+    ensures { GivesQuestion result (list_question (text_in plan.entry) (texts_in why.entry) (text_in from.entry)) }
 {
     match (plan, why, from) {
         (None, None, None) => Ok(Question::Lines(texts::Question::List)),
@@ -325,7 +325,7 @@ fn dot_of(
     why: Option<&[&str]>,
     from: Option<&str>,
 ) -> Result<Question, AskRefusal>
-    ensures { Gives result (dot_of (text_in plan.entry) (texts_in why.entry) (text_in from.entry)) }
+    ensures { GivesQuestion result (dot_of (text_in plan.entry) (texts_in why.entry) (text_in from.entry)) }
 {
     match (plan, why) {
         (None, None) => match from_of(alloc, from) {
@@ -342,7 +342,7 @@ fn html_of(
     why: Option<&[&str]>,
     from: Option<&str>,
 ) -> Result<Question, AskRefusal>
-    ensures { Gives result (html_of (text_in plan.entry) (texts_in why.entry) (text_in from.entry)) }
+    ensures { GivesQuestion result (html_of (text_in plan.entry) (texts_in why.entry) (text_in from.entry)) }
 {
     match (plan, why) {
         (None, None) => match from_of(alloc, from) {
@@ -360,7 +360,7 @@ fn steps_of(
     why: Option<&[&str]>,
     from: Option<&str>,
 ) -> Result<Question, AskRefusal>
-    ensures { Gives result (steps_of (text_in plan.entry) (texts_in why.entry) (text_in from.entry)) }
+    ensures { GivesQuestion result (steps_of (text_in plan.entry) (texts_in why.entry) (text_in from.entry)) }
 {
     match (plan, why, from) {
         (Some(step), None, None) => plan_of(alloc, step),
@@ -370,7 +370,7 @@ fn steps_of(
 }
 
 fn pair_of(alloc: Global, steps: &[&str]) -> Result<Question, AskRefusal>
-    ensures { Gives result (pair_of (map (λ step. step.now) steps.now)) }
+    ensures { GivesQuestion result (pair_of (map (λ step. step.now) steps.now)) }
 {
     if steps.len() != 2 {
         return Err(AskRefusal::Usage);
@@ -379,7 +379,7 @@ fn pair_of(alloc: Global, steps: &[&str]) -> Result<Question, AskRefusal>
 }
 
 fn plan_of(alloc: Global, step: &str) -> Result<Question, AskRefusal>
-    ensures { Gives result (plan_of step.now) }
+    ensures { GivesQuestion result (plan_of step.now) }
 {
     match step_of(alloc, step) {
         Ok(step) => Ok(Question::Lines(texts::Question::Plan(step))),
@@ -388,7 +388,7 @@ fn plan_of(alloc: Global, step: &str) -> Result<Question, AskRefusal>
 }
 
 fn why_of(alloc: Global, first: &str, last: &str) -> Result<Question, AskRefusal>
-    ensures { Gives result (why_of first.now last.now) }
+    ensures { GivesQuestion result (why_of first.now last.now) }
 {
     let from = match step_of(alloc, first) {
         Ok(from) => from,
@@ -405,7 +405,7 @@ fn why_of(alloc: Global, first: &str, last: &str) -> Result<Question, AskRefusal
 
 /// The step of a picture, if one is named.
 fn from_of(alloc: Global, from: Option<&str>) -> Result<Option<StepName>, AskRefusal>
-    ensures { Gives result (from_of (text_in from.entry)) }
+    ensures { GivesQuestion result (from_of (text_in from.entry)) }
 {
     match from {
         Some(step) => match step_of(alloc, step) {
@@ -417,7 +417,7 @@ fn from_of(alloc: Global, from: Option<&str>) -> Result<Option<StepName>, AskRef
 }
 
 fn step_of(alloc: Global, text: &str) -> Result<StepName, AskRefusal>
-    ensures { Gives result (read_step text.now) }
+    ensures { GivesQuestion result (read_step text.now) }
 {
     match StepName::read(alloc, text) {
         Ok(step) => Ok(step),
@@ -427,7 +427,7 @@ fn step_of(alloc: Global, text: &str) -> Result<StepName, AskRefusal>
 }
 
 fn refusal(alloc: Global, error: &Error) -> AskRefusal
-    ensures { IsRefusedBy (kind_of error.now) result }
+    ensures { IsAskRefusedBy (kind_of error.now) result }
 {
     match error.kind() {
         ErrorKind::DisplayHelp | ErrorKind::DisplayVersion => match format!(in alloc; "{error}") {

@@ -4,8 +4,8 @@ ghost use Rattle.sqlite.specs.Held.{state};
 ghost use Rattle.journaled_book.specs.Journaled.{log_of};
 ghost use Rattle.rollback_run.specs.Serving.{WritesReply};
 ghost use Rattle.rollback_run.specs.Faults.{of_journal, of_open};
-ghost use Rattle.graph_run.specs.Answering.{Answers, Gives, GivesNone, HasOutcome, IsAnswered, IsRefusal, IsWritten, Opens, OpensNone};
-ghost use Rattle.graph_run.specs.Status.{IsTold, status_of};
+ghost use Rattle.graph_run.specs.Answering.{AnswersQuestion, GivesFile, GivesNoFile, HasAnswer, IsQuestionAnswered, IsAskRefusal, IsAnswerWritten, OpensFile, OpensNoFile};
+ghost use Rattle.graph_run.specs.Status.{IsAskFaultSaid, status_of};
 
 use crate::asked::AskRefusal;
 use book_journal::{Journal, JournalFault};
@@ -31,7 +31,7 @@ pub fn run<S: Alter + Drop, W: Write>(
     connection: Result<Connection<S>, Error>,
     writer: &mut W,
 ) -> Result<bool, ExitCause>
-    ensures { HasOutcome (λ held. state S.Store held) connection result (W.contents writer.old) (W.contents writer.new) }
+    ensures { HasAnswer (λ held. state S.Store held) connection result (W.contents writer.old) (W.contents writer.new) }
 {
     match open(alloc, connection) {
         Ok(book) => answer_from(alloc, question, book, writer),
@@ -46,7 +46,7 @@ fn answer_from<S: Alter + Drop, W: Write>(
     book: JournaledBook<S>,
     writer: &mut W,
 ) -> Result<bool, ExitCause>
-    ensures { Answers result (W.contents writer.old) (W.contents writer.new) }
+    ensures { AnswersQuestion result (W.contents writer.old) (W.contents writer.new) }
 {
     let answered = ask(alloc, book.book(), question);
     drop(book);
@@ -55,7 +55,7 @@ fn answer_from<S: Alter + Drop, W: Write>(
 
 /// Writes what was answered.
 fn tell<W: Write>(answered: Result<Answer, AllocError>, writer: &mut W) -> Result<bool, ExitCause>
-    ensures { IsAnswered answered result (W.contents writer.old) (W.contents writer.new) }
+    ensures { IsQuestionAnswered answered result (W.contents writer.old) (W.contents writer.new) }
 {
     match answered {
         Ok(answer) => show_answer(answer, writer),
@@ -65,7 +65,7 @@ fn tell<W: Write>(answered: Result<Answer, AllocError>, writer: &mut W) -> Resul
 
 /// Writes an answer, and tells whether it is what was asked.
 fn show_answer<W: Write>(answer: Answer, writer: &mut W) -> Result<bool, ExitCause>
-    ensures { IsWritten answer result (W.contents writer.old) (W.contents writer.new) }
+    ensures { IsAnswerWritten answer result (W.contents writer.old) (W.contents writer.new) }
 {
     match show(writer, answer.page.as_bytes()) {
         Ok(()) => Ok(answer.is_found),
@@ -76,7 +76,7 @@ fn show_answer<W: Write>(answer: Answer, writer: &mut W) -> Result<bool, ExitCau
 /// The program's status for a run that ended so. A fault is told on `faults`.
 pub fn status_of<W: Write>(outcome: Result<bool, ExitCause>, faults: &mut W) -> u8
     ensures status { result ≡ status_of outcome }
-    ensures told { IsTold outcome (W.contents faults.old) (W.contents faults.new) }
+    ensures told { IsAskFaultSaid outcome (W.contents faults.old) (W.contents faults.new) }
 {
     match outcome {
         Ok(true) => finish(Ok(()), Ok(()), faults),
@@ -87,7 +87,7 @@ pub fn status_of<W: Write>(outcome: Result<bool, ExitCause>, faults: &mut W) -> 
 
 /// Tells why the words ask for nothing, and answers the program's status.
 pub fn refuse<W: Write, E: Write>(refusal: AskRefusal, writer: &mut W, faults: &mut E) -> u8
-    ensures { IsRefusal refusal result (W.contents writer.old) (W.contents writer.new) (E.contents faults.old) (E.contents faults.new) }
+    ensures { IsAskRefusal refusal result (W.contents writer.old) (W.contents writer.new) (E.contents faults.old) (E.contents faults.new) }
 {
     match refusal {
         AskRefusal::Shown(text) => rollback_run::refuse(ModeRefusal::Shown(text), writer, faults),
@@ -141,8 +141,8 @@ fn open<S: Alter + Drop>(
     alloc: Global,
     connection: Result<Connection<S>, Error>,
 ) -> Result<JournaledBook<S>, ExitCause>
-    ensures ok { IfOk result (λ j. Opens (λ held. state S.Store held) connection (log_of j.book)) }
-    ensures err { IfErr result (OpensNone (λ held. state S.Store held) connection) }
+    ensures ok { IfOk result (λ j. OpensFile (λ held. state S.Store held) connection (log_of j.book)) }
+    ensures err { IfErr result (OpensNoFile (λ held. state S.Store held) connection) }
 {
     match connection {
         Ok(connection) => open_connected(alloc, connection),
@@ -154,8 +154,8 @@ fn open_connected<S: Alter + Drop>(
     alloc: Global,
     connection: Connection<S>,
 ) -> Result<JournaledBook<S>, ExitCause>
-    ensures ok { IfOk result (λ j. Gives (λ held. state S.Store held) connection (log_of j.book)) }
-    ensures err { IfErr result (GivesNone (λ held. state S.Store held) connection) }
+    ensures ok { IfOk result (λ j. GivesFile (λ held. state S.Store held) connection (log_of j.book)) }
+    ensures err { IfErr result (GivesNoFile (λ held. state S.Store held) connection) }
 {
     match Journal::open(connection) {
         Ok(journal) => match JournaledBook::open(alloc, journal) {

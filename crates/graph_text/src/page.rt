@@ -4,7 +4,7 @@ ghost use Rattle.json_tree.specs.View.{data_of};
 ghost use Rattle.json_tree.specs.Written.{quoted, text_of};
 ghost use Rattle.step_names.specs.Written.{step_text, thread_text};
 ghost use Rattle.graph_text.specs.Quoting.{dot_byte, dot_text};
-ghost use Rattle.graph_text.specs.Writing.{Writes};
+ghost use Rattle.graph_text.specs.Writing.{WritesPage};
 
 use itoa::Buffer;
 use json_tree::{Json, Text, write_text};
@@ -44,14 +44,14 @@ impl Page {
 
     /// Adds a text as it is.
     pub fn word(&mut self, word: &str) -> Result<(), AllocError>
-        ensures { Writes result self.old self.new word.now }
+        ensures { WritesPage result self.old self.new word.now }
     {
         self.bytes.extend_from_slice(word.as_bytes())
     }
 
     /// Adds a number in digits.
     pub(crate) fn number(&mut self, number: u64) -> Result<(), AllocError>
-        ensures { Writes result self.old self.new (decimal number) }
+        ensures { WritesPage result self.old self.new (decimal number) }
     {
         let mut digits = Buffer::new();
         self.word(digits.format(number))
@@ -67,7 +67,7 @@ impl Page {
 
     /// Adds the name of a step.
     pub(crate) fn step(&mut self, alloc: Global, step: &StepName) -> Result<(), AllocError>
-        ensures { Writes result self.old self.new (step_text step.now) }
+        ensures { WritesPage result self.old self.new (step_text step.now) }
     {
         let text = step.write_text(alloc)?;
         self.word(text.as_str())
@@ -75,14 +75,14 @@ impl Page {
 
     /// Adds the name of a thread.
     pub(crate) fn thread(&mut self, alloc: Global, thread: &ThreadName) -> Result<(), AllocError>
-        ensures { Writes result self.old self.new (thread_text thread.now) }
+        ensures { WritesPage result self.old self.new (thread_text thread.now) }
     {
         let text = thread.write_text(alloc)?;
         self.word(text.as_str())
     }
 
     pub(crate) fn json(&mut self, alloc: Global, json: &Json) -> Result<(), AllocError>
-        ensures { Writes result self.old self.new (text_of (data_of json.now)) }
+        ensures { WritesPage result self.old self.new (text_of (data_of json.now)) }
     {
         let text = write_text(alloc, json)?;
         self.word(text.as_str())
@@ -90,7 +90,7 @@ impl Page {
 
     /// Adds a text as a JSON text.
     pub(crate) fn quoted(&mut self, alloc: Global, text: &str) -> Result<(), AllocError>
-        ensures { Writes result self.old self.new (quoted text.now) }
+        ensures { WritesPage result self.old self.new (quoted text.now) }
     {
         let text = Json::Text(Text::new(alloc, text)?);
         self.json(alloc, &text)
@@ -100,7 +100,7 @@ impl Page {
 
     /// Adds a text so that it may be between the double quotes of a text of Graphviz.
     pub(crate) fn dot(&mut self, text: &str) -> Result<(), AllocError>
-        ensures { Writes result self.old self.new (dot_text text.now) }
+        ensures { WritesPage result self.old self.new (dot_text text.now) }
     {
         for byte in text.as_bytes() {
             self.dot_byte(*byte)?;
@@ -109,7 +109,7 @@ impl Page {
     }
 
     fn dot_byte(&mut self, byte: u8) -> Result<(), AllocError>
-        ensures { Writes result self.old self.new (dot_byte byte) }
+        ensures { WritesPage result self.old self.new (dot_byte byte) }
     {
         match byte {
             b'"' => self.word("\\\""),
@@ -120,7 +120,7 @@ impl Page {
     }
 
     fn byte(&mut self, byte: u8) -> Result<(), AllocError>
-        ensures { Writes result self.old self.new (byte ∷ []) }
+        ensures { WritesPage result self.old self.new (byte ∷ []) }
     {
         self.bytes.push(byte)?;
         Ok(())

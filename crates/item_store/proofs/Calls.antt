@@ -4,9 +4,9 @@ use Rattle.std.proofs.Math.Path.{fun_ext}
 use Rattle.attr_values.specs.declared.key.Key.{Key}
 use Rattle.attr_values.specs.declared.key.KeySchema.{KeySchema}
 use Rattle.item_store.specs.Deciding.{Attributes, decision}
-use Rattle.item_store.specs.Laws.{ChangesOnly, AgreeAt, SameOutcome, CallsChangeOneItem, CallsLookAtOneItem, SwapsAreUndone}
+use Rattle.item_store.specs.Laws.{ChangesOnly, AgreeAtKey, SameOutcome, CallsChangeOneItem, CallsLookAtOneItem, SwapsAreUndone}
 use Rattle.item_store.specs.Calls.{call_of}
-use Rattle.item_store.specs.Table.{Table, is_same_key, key_asked, on_form, on_key, items_after}
+use Rattle.item_store.specs.Table.{Table, is_same_key, key_asked, on_form, on_key, table_after}
 use Rattle.item_store.specs.declared.access.AccessMode.{AccessMode}
 use Rattle.item_store.specs.declared.access.AccessMode.TheVariants.{Read, Write}
 use Rattle.item_store.specs.declared.call.Call.{Call}
@@ -14,7 +14,7 @@ use Rattle.item_store.specs.declared.call.Request.{Request}
 use Rattle.item_store.specs.declared.fault.CallFault.{CallFault}
 use Rattle.item_store.proofs.Slots.{same_key}
 
-changes_at : (items : Table) (key : Key) (mode : AccessMode) (new : Option Attributes) → ChangesOnly (Some (key, mode)) items (items_after items key mode new)
+changes_at : (items : Table) (key : Key) (mode : AccessMode) (new : Option Attributes) → ChangesOnly (Some (key, mode)) items (table_after items key mode new)
 changes_at items key Read new = refl
 changes_at items key Write new = λ q apart. ap (λ b. cond b new (items q)) apart
 
@@ -29,21 +29,21 @@ changes_form table schema items (Some c) = changes_key items c.request (key_aske
 pub calls_change : CallsChangeOneItem
 calls_change table schema items action d = changes_form table schema items (call_of action d)
 
-after_at : (a b : Table) (key : Key) (mode : AccessMode) (new : Option Attributes) → a key ≡ b key → items_after a key mode new key ≡ items_after b key mode new key
+after_at : (a b : Table) (key : Key) (mode : AccessMode) (new : Option Attributes) → a key ≡ b key → table_after a key mode new key ≡ table_after b key mode new key
 after_at a b key Read new h = h
 after_at a b key Write new h = ap (cond (is_same_key key key) new) h
 
-looks_key : (a b : Table) (request : Request) (r : Result Key CallFault) → AgreeAt (on_key a request r).access a b → SameOutcome (on_key a request r) (on_key b request r)
+looks_key : (a b : Table) (request : Request) (r : Result Key CallFault) → AgreeAtKey (on_key a request r).access a b → SameOutcome (on_key a request r) (on_key b request r)
 looks_key a b request (Ok key) h =
     let same : decision request (a key) ≡ decision request (b key) = ap (decision request) h in
     record {
       answer = ap (λ d. d.answer) same;
       access = ap (λ d. Some (key, d.access)) same;
-      item = after_at a b key (decision request (a key)).access (decision request (a key)).new h ∙ ap (λ d. items_after b key d.access d.new key) same;
+      item = after_at a b key (decision request (a key)).access (decision request (a key)).new h ∙ ap (λ d. table_after b key d.access d.new key) same;
     }
 looks_key a b request (Err e) h = record { answer = refl; access = refl; item = tt }
 
-looks_form : (table : List ℕ) (schema : KeySchema) (a b : Table) (c : Option Call) → AgreeAt (on_form table schema a c).access a b → SameOutcome (on_form table schema a c) (on_form table schema b c)
+looks_form : (table : List ℕ) (schema : KeySchema) (a b : Table) (c : Option Call) → AgreeAtKey (on_form table schema a c).access a b → SameOutcome (on_form table schema a c) (on_form table schema b c)
 looks_form table schema a b None h = record { answer = refl; access = refl; item = tt }
 looks_form table schema a b (Some c) h = looks_key a b c.request (key_asked table schema c) h
 

@@ -5,7 +5,7 @@ use Rattle.std.proofs.lemmas.List.{append-nil}
 use Rattle.std.specs.Char.{is_ascii_alphabetic}
 use Rattle.std.specs.Int.{is_in_range}
 use Rattle.std.specs.List.{list_all}
-use Rattle.item_store.specs.Condition.{is_text, is_space, is_name_byte, is_attribute_name, after_spaces, cut_at, kind_of, name_before_spaces, attribute_of, written, condition_from, condition_of}
+use Rattle.item_store.specs.Condition.{is_text, is_space, is_condition_name_byte, is_attribute_name, after_spaces, cut_at_byte, condition_kind_of, name_before_spaces, condition_attribute, condition_on, condition_from, condition_of}
 use Rattle.item_store.specs.Spelling.{spaces, function_name, SpellsCondition, ConditionsAreSpelled}
 use Rattle.item_store.specs.declared.call.Condition.{Condition}
 use Rattle.item_store.specs.declared.call.ConditionKind.{ConditionKind}
@@ -79,21 +79,21 @@ cut_part false p c s rest x h k again =
     let back : m.0.1 ≡ x.1 = ap (λ y. y.1) m.2 in
     ap (λ t. c ∷ t) (again m.0 m.1) ∙ (λ j. front j ++ p ∷ back j)
 
-cut_parts : (p : ℕ) (s : List ℕ) (x : List ℕ × List ℕ) → cut_at p s ≡ Some x → s ≡ x.0 ++ p ∷ x.1
+cut_parts : (p : ℕ) (s : List ℕ) (x : List ℕ × List ℕ) → cut_at_byte p s ≡ Some x → s ≡ x.0 ++ p ∷ x.1
 cut_parts p [] x h = cc
-cut_parts p (c ∷ s) x h = cut_part (c == p) p c s (cut_at p s) x refl h (cut_parts p s)
+cut_parts p (c ∷ s) x h = cut_part (c == p) p c s (cut_at_byte p s) x refl h (cut_parts p s)
 
 not_true : (b : Bool) → not b ≡ true → b ≡ false
 not_true true h = absurd (true≢false (sym h))
 not_true false h = refl
 
-cut_first : (p : ℕ) (xs ys : List ℕ) → lacks p xs ≡ true → cut_at p (xs ++ p ∷ ys) ≡ Some (xs, ys)
+cut_first : (p : ℕ) (xs ys : List ℕ) → lacks p xs ≡ true → cut_at_byte p (xs ++ p ∷ ys) ≡ Some (xs, ys)
 cut_first p [] ys h = rw (eq-eqb p p refl) refl
 cut_first p (c ∷ xs) ys h =
     let b = both_true (not (c == p)) (lacks p xs) h in
     rw (not_true (c == p) b.0, cut_first p xs ys b.1) refl
 
-cut_missing : (p : ℕ) (xs : List ℕ) → lacks p xs ≡ true → cut_at p xs ≡ None
+cut_missing : (p : ℕ) (xs : List ℕ) → lacks p xs ≡ true → cut_at_byte p xs ≡ None
 cut_missing p [] h = refl
 cut_missing p (c ∷ xs) h =
     let b = both_true (not (c == p)) (lacks p xs) h in
@@ -142,10 +142,10 @@ kind_by false true s k h g e =
     text_same s (function_name NotExists) g ∙ ap function_name same
 kind_by false false s k h g e = cc
 
-kind_name : (s : List ℕ) (k : ConditionKind) → kind_of s ≡ Some k → s ≡ function_name k
+kind_name : (s : List ℕ) (k : ConditionKind) → condition_kind_of s ≡ Some k → s ≡ function_name k
 kind_name s k h = kind_by (is_text s (function_name Exists)) (is_text s (function_name NotExists)) s k refl refl h
 
-kind_read : (k : ConditionKind) → kind_of (after_spaces (function_name k)) ≡ Some k
+kind_read : (k : ConditionKind) → condition_kind_of (after_spaces (function_name k)) ≡ Some k
 kind_read Exists = refl
 kind_read NotExists = refl
 
@@ -159,22 +159,22 @@ letter_by : (d u l x : Bool) → (u || l) ≡ true → (((d || u) || l) || x) �
 letter_by true u l x h = refl
 letter_by false u l x h = rw h refl
 
-letter_passes : (c : ℕ) → is_ascii_alphabetic c ≡ true → is_name_byte c ≡ true
+letter_passes : (c : ℕ) → is_ascii_alphabetic c ≡ true → is_condition_name_byte c ≡ true
 letter_passes c h = letter_by (is_in_range 48 57 c) (is_in_range 65 90 c) (is_in_range 97 122 c) (c == 95) h
 
-name_passes : (a : List ℕ) → is_attribute_name a ≡ true → list_all is_name_byte a ≡ true
+name_passes : (a : List ℕ) → is_attribute_name a ≡ true → list_all is_condition_name_byte a ≡ true
 name_passes [] h = refl
 name_passes (c ∷ s) h =
-    let b = both_true (is_ascii_alphabetic c) (list_all is_name_byte s) h in
-    and_true (is_name_byte c) (list_all is_name_byte s) (letter_passes c b.0) b.1
+    let b = both_true (is_ascii_alphabetic c) (list_all is_condition_name_byte s) h in
+    and_true (is_condition_name_byte c) (list_all is_condition_name_byte s) (letter_passes c b.0) b.1
 
 name_first : (a rest : List ℕ) → is_attribute_name a ≡ true → after_spaces (a ++ rest) ≡ a ++ rest
 name_first [] rest h = absurd (true≢false (sym h))
 name_first (c ∷ s) rest h =
-    let b = both_true (is_ascii_alphabetic c) (list_all is_name_byte s) h in
+    let b = both_true (is_ascii_alphabetic c) (list_all is_condition_name_byte s) h in
     rw (not_true (c == 32) (passes_apart is_ascii_alphabetic (c == 32) c 32 refl b.0 refl)) refl
 
-name_by : (t a : List ℕ) (r : Option (List ℕ × List ℕ)) → cut_at 32 t ≡ r → name_before_spaces t r ≡ Some a → (n : ℕ) × (t ≡ a ++ spaces n) × (is_attribute_name a ≡ true)
+name_by : (t a : List ℕ) (r : Option (List ℕ × List ℕ)) → cut_at_byte 32 t ≡ r → name_before_spaces t r ≡ Some a → (n : ℕ) × (t ≡ a ++ spaces n) × (is_attribute_name a ≡ true)
 name_by t a None h k =
     let i = if_some (is_attribute_name t) (Some t) a k in
     let same : t ≡ a = cc in
@@ -186,17 +186,17 @@ name_by t a (Some x) h k =
     let n = are_spaces x.1 b.1 in
     (suc n.0, cut_parts 32 t x h ∙ (λ j. same j ++ 32 ∷ n.1 j), subst (λ y. is_attribute_name y ≡ true) same b.0)
 
-attribute_spelled : (s a : List ℕ) → attribute_of s ≡ Some a → (m : ℕ) × (n : ℕ) × (s ≡ spaces m ++ (a ++ spaces n)) × (is_attribute_name a ≡ true)
+attribute_spelled : (s a : List ℕ) → condition_attribute s ≡ Some a → (m : ℕ) × (n : ℕ) × (s ≡ spaces m ++ (a ++ spaces n)) × (is_attribute_name a ≡ true)
 attribute_spelled s a h =
     let m = spaces_off s in
-    let n = name_by (after_spaces s) a (cut_at 32 (after_spaces s)) refl h in
+    let n = name_by (after_spaces s) a (cut_at_byte 32 (after_spaces s)) refl h in
     (m.0, n.0, m.1 ∙ ap (λ t. spaces m.0 ++ t) n.1, n.2)
 
-name_read : (n : ℕ) (a : List ℕ) → is_attribute_name a ≡ true → name_before_spaces (a ++ spaces n) (cut_at 32 (a ++ spaces n)) ≡ Some a
-name_read zero a h = rw (append-nil a, cut_missing 32 a (lacks_other is_name_byte 32 a (name_passes a h) refl), h) refl
-name_read (suc n) a h = rw (cut_first 32 a (spaces n) (lacks_other is_name_byte 32 a (name_passes a h) refl), and_true (is_attribute_name a) (list_all is_space (spaces n)) h (spaces_are n)) refl
+name_read : (n : ℕ) (a : List ℕ) → is_attribute_name a ≡ true → name_before_spaces (a ++ spaces n) (cut_at_byte 32 (a ++ spaces n)) ≡ Some a
+name_read zero a h = rw (append-nil a, cut_missing 32 a (lacks_other is_condition_name_byte 32 a (name_passes a h) refl), h) refl
+name_read (suc n) a h = rw (cut_first 32 a (spaces n) (lacks_other is_condition_name_byte 32 a (name_passes a h) refl), and_true (is_attribute_name a) (list_all is_space (spaces n)) h (spaces_are n)) refl
 
-attribute_read : (m : ℕ) (a : List ℕ) (n : ℕ) → is_attribute_name a ≡ true → attribute_of (spaces m ++ (a ++ spaces n)) ≡ Some a
+attribute_read : (m : ℕ) (a : List ℕ) (n : ℕ) → is_attribute_name a ≡ true → condition_attribute (spaces m ++ (a ++ spaces n)) ≡ Some a
 attribute_read m a n h = rw (after_spaces-spaces m (a ++ spaces n), name_first a (spaces n) h) (name_read n a h)
 
 -- ---- the whole
@@ -206,11 +206,11 @@ regroup b f i a n m = simp append_assoc
 
 spelled : (s : List ℕ) (c : Condition) → condition_of s ≡ Some c → SpellsCondition s c
 spelled s c h =
-    let x = and_then_some (cut_at 40 s) (λ x. option_and_then (λ y. condition_from (kind_of (after_spaces x.0)) y.0 y.1) (cut_at 41 x.1)) c h in
-    let y = and_then_some (cut_at 41 x.0.1) (λ y. condition_from (kind_of (after_spaces x.0.0)) y.0 y.1) c x.2 in
-    let k = and_then_some (kind_of (after_spaces x.0.0)) (λ k. option_map (written k) (if list_all is_space y.0.1 then attribute_of y.0.0 else None)) c y.2 in
-    let a = map_some (if list_all is_space y.0.1 then attribute_of y.0.0 else None) (written k.0) c k.2 in
-    let i = if_some (list_all is_space y.0.1) (attribute_of y.0.0) a.0 a.1 in
+    let x = and_then_some (cut_at_byte 40 s) (λ x. option_and_then (λ y. condition_from (condition_kind_of (after_spaces x.0)) y.0 y.1) (cut_at_byte 41 x.1)) c h in
+    let y = and_then_some (cut_at_byte 41 x.0.1) (λ y. condition_from (condition_kind_of (after_spaces x.0.0)) y.0 y.1) c x.2 in
+    let k = and_then_some (condition_kind_of (after_spaces x.0.0)) (λ k. option_map (condition_on k) (if list_all is_space y.0.1 then condition_attribute y.0.0 else None)) c y.2 in
+    let a = map_some (if list_all is_space y.0.1 then condition_attribute y.0.0 else None) (condition_on k.0) c k.2 in
+    let i = if_some (list_all is_space y.0.1) (condition_attribute y.0.0) a.0 a.1 in
     let front = spaces_off x.0.0 in
     let name = kind_name (after_spaces x.0.0) k.0 k.1 in
     let inside = attribute_spelled y.0.0 a.0 i.1 in
@@ -233,7 +233,7 @@ read s c p =
     let grouped : s ≡ (spaces p.before ++ f) ++ 40 ∷ (inside ++ 41 ∷ spaces p.after) = p.is ∙ sym (regroup (spaces p.before) f (spaces p.in_front) c.attribute (spaces p.behind) (spaces p.after)) in
     let first = cut_first 40 (spaces p.before ++ f) (inside ++ 41 ∷ spaces p.after) (lacks-append 40 (spaces p.before) f (lacks-spaces 40 p.before refl) (name_lacks_bracket c.kind)) in
     let lacking = lacks-append 41 (spaces p.in_front) (c.attribute ++ spaces p.behind) (lacks-spaces 41 p.in_front refl)
-    (lacks-append 41 c.attribute (spaces p.behind) (lacks_other is_name_byte 41 c.attribute (name_passes c.attribute p.named) refl) (lacks-spaces 41 p.behind refl)) in
+    (lacks-append 41 c.attribute (spaces p.behind) (lacks_other is_condition_name_byte 41 c.attribute (name_passes c.attribute p.named) refl) (lacks-spaces 41 p.behind refl)) in
     let second = cut_first 41 inside (spaces p.after) lacking in
     rw (grouped, first, second, after_spaces-spaces p.before f, kind_read c.kind, spaces_are p.after, attribute_read p.in_front c.attribute p.behind p.named) refl
 

@@ -4,7 +4,7 @@ use Rattle.json_tree.specs.Data.{Data, boolean, text, fields, no_members, member
 use Rattle.attr_values.specs.Datum.{text as text_datum}
 use Rattle.attr_values.specs.declared.key.KeySchema.{KeySchema}
 use Rattle.attr_values.specs.declared.key.KeyType.TheVariants.{S}
-use Rattle.item_store.specs.Condition.{condition_of, written}
+use Rattle.item_store.specs.Condition.{condition_of, condition_on}
 use Rattle.item_store.specs.Deciding.{Attributes, given, refused, read_only, decision}
 use Rattle.item_store.specs.Faults.{validation, no_such_table, check_failed}
 use Rattle.item_store.specs.Table.{Table, call, no_access}
@@ -14,10 +14,10 @@ use Rattle.item_store.specs.declared.call.ConditionKind.TheVariants.{Exists, Not
 use Rattle.item_store.specs.declared.call.Request.TheVariants.{Put, Delete}
 use Rattle.item_store.specs.declared.call.ReturnValues.TheVariants.{AllOld}
 
-spaces_stand : condition_of (codes "  attribute_exists( v_1  ) ") ≡ Some (written Exists (codes "v_1"))
+spaces_stand : condition_of (codes "  attribute_exists( v_1  ) ") ≡ Some (condition_on Exists (codes "v_1"))
 spaces_stand = refl
 
-not_there : condition_of (codes "attribute_not_exists(id)") ≡ Some (written NotExists (codes "id"))
+not_there : condition_of (codes "attribute_not_exists(id)") ≡ Some (condition_on NotExists (codes "id"))
 not_there = refl
 
 no_space_before_bracket : condition_of (codes "attribute_exists (v)") ≡ None
@@ -33,7 +33,7 @@ abbrev old_item : Attributes
 old_item = (codes "id", text_datum (codes "k")) ∷ []
 
 -- a put with `attribute_not_exists(id)` on an item that is there reads it, and is refused
-refused_put : decision (Put old_item (record { condition = Some (written NotExists (codes "id")); returns = AllOld })) (Some old_item) ≡ read_only (refused check_failed)
+refused_put : decision (Put old_item (record { condition = Some (condition_on NotExists (codes "id")); returns = AllOld })) (Some old_item) ≡ read_only (refused check_failed)
 refused_put = refl
 
 -- a delete of nothing writes, and has no old item to answer

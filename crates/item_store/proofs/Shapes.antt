@@ -2,9 +2,9 @@
 use Rattle.std.proofs.Common.{◌≡◌, ℕ, List, [], ◌∷◌, refl, ap}
 use Rattle.json_tree.specs.Data.{Data, members_of}
 use Rattle.attr_values.specs.Datum.{Datum, attributes_of}
-use Rattle.item_store.specs.Calls.{pairs_of, attribute_pairs}
+use Rattle.item_store.specs.Calls.{field_pairs, attribute_pairs}
 
-pub pairs_again : (ms : List (List ℕ × Data)) → pairs_of (members_of ms) ≡ ms
+pub pairs_again : (ms : List (List ℕ × Data)) → field_pairs (members_of ms) ≡ ms
 pairs_again [] = refl
 pairs_again (m ∷ ms) = ap (λ xs. m ∷ xs) (pairs_again ms)
 

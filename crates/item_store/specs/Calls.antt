@@ -19,9 +19,9 @@ use Rattle.item_store.specs.declared.call.ReturnValues.TheVariants.{Nothing, All
 use Rattle.item_store.specs.declared.call.Terms.{Terms}
 
 -- the fields of an object, in order
-abbrev pub pairs_of : Members → List (List ℕ × Data)
-pairs_of no_members = []
-pairs_of (member k d ms) = (k, d) ∷ pairs_of ms
+abbrev pub field_pairs : Members → List (List ℕ × Data)
+field_pairs no_members = []
+field_pairs (member k d ms) = (k, d) ∷ field_pairs ms
 
 -- the attributes of an item, in order
 abbrev pub attribute_pairs : Attributes → List (List ℕ × Datum)
@@ -86,7 +86,7 @@ form_in action ms =
     else None
 
 abbrev pub form_of : Action → Data → Option Form
-form_of action (fields ms) = form_in action (pairs_of ms)
+form_of action (fields ms) = form_in action (field_pairs ms)
 form_of action _ = None
 
 abbrev pub request_of : Action → List (List ℕ × Datum) → Terms → Request
@@ -94,13 +94,13 @@ request_of GetItem key terms = Get key
 request_of PutItem item terms = Put item terms
 request_of DeleteItem key terms = Delete key terms
 
-abbrev pub item_of : Result Attributes ItemFault → Option (List (List ℕ × Datum))
-item_of (Ok ms) = Some (attribute_pairs ms)
-item_of (Err e) = None
+abbrev pub item_pairs : Result Attributes ItemFault → Option (List (List ℕ × Datum))
+item_pairs (Ok ms) = Some (attribute_pairs ms)
+item_pairs (Err e) = None
 
 -- the call that a form makes, where its item or key is one
 abbrev pub call_from : Action → Form → Option Call
-call_from action f = option_map (λ item. record { table = f.table; request = request_of action item f.terms }) (item_of (read_item f.item))
+call_from action f = option_map (λ item. record { table = f.table; request = request_of action item f.terms }) (item_pairs (read_item f.item))
 
 -- the call that a value writes, if any
 abbrev pub call_of : Action → Data → Option Call

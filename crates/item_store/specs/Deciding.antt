@@ -27,9 +27,9 @@ pub data Reply : Type 0 where
   refused : List ℕ → Reply
 
 -- whether an answer takes memory: each does but the empty object
-abbrev pub takes_memory : Reply → Bool
-takes_memory (given (json.fields json.no_members)) = false
-takes_memory _ = true
+abbrev pub reply_takes_memory : Reply → Bool
+reply_takes_memory (given (json.fields json.no_members)) = false
+reply_takes_memory _ = true
 
 -- what a request does: the answer, how it touches its item, and, where that is a write, the item afterwards
 pub record Decision : Type 0 where

@@ -21,19 +21,19 @@ CallsChangeOneItem = (table : List ℕ) (schema : KeySchema) (items : Table) (ac
     → let o = call table schema items action d in ChangesOnly o.access items o.items
 
 -- two tables have one item at the key of an access
-abbrev pub AgreeAt : Option (Key × AccessMode) → Table → Table → Type 0
-AgreeAt None a b = Unit {0}
-AgreeAt (Some access) a b = a access.0 ≡ b access.0
+abbrev pub AgreeAtKey : Option (Key × AccessMode) → Table → Table → Type 0
+AgreeAtKey None a b = Unit {0}
+AgreeAtKey (Some access) a b = a access.0 ≡ b access.0
 
 pub record SameOutcome (o p : Outcome) : Type 0 where
   pub answer : o.answer ≡ p.answer
   pub access : o.access ≡ p.access
-  pub item : AgreeAt o.access o.items p.items
+  pub item : AgreeAtKey o.access o.items p.items
 
 -- a call looks at no item but the one that its access names
 abbrev pub CallsLookAtOneItem : Type 0
 CallsLookAtOneItem = (table : List ℕ) (schema : KeySchema) (a b : Table) (action : Action) (d : Data)
-    → AgreeAt (call table schema a action d).access a b → SameOutcome (call table schema a action d) (call table schema b action d)
+    → AgreeAtKey (call table schema a action d).access a b → SameOutcome (call table schema a action d) (call table schema b action d)
 
 -- an item that is put at a key, and then what stood there put back, is no change
 abbrev pub SwapsAreUndone : Type 0

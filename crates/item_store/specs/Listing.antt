@@ -22,14 +22,14 @@ pub record IsListing (items : Table) (listed : List Attributes) : Type 0 where
 abbrev pub item_at : Slots → SlotNo → Option Attributes
 item_at slots n = option_and_then (λ e. e.1) (slice_get slots n.index)
 
-abbrev pub with_entry : Key → Option Attributes → List (Key × Attributes) → List (Key × Attributes)
-with_entry key None rest = rest
-with_entry key (Some item) rest = (key, item) ∷ rest
+abbrev pub with_listed : Key → Option Attributes → List (Key × Attributes) → List (Key × Attributes)
+with_listed key None rest = rest
+with_listed key (Some item) rest = (key, item) ∷ rest
 
 -- the items that stand in the slots of some keys, with these keys
 abbrev pub entries_in : Slots → List (Key × SlotNo) → List (Key × Attributes)
 entries_in slots [] = []
-entries_in slots (e ∷ es) = with_entry e.0 (item_at slots e.1) (entries_in slots es)
+entries_in slots (e ∷ es) = with_listed e.0 (item_at slots e.1) (entries_in slots es)
 
 -- what an iterator has still to give
 abbrev pub items_left : Items → List Attributes

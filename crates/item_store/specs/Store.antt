@@ -28,8 +28,8 @@ abbrev pub items_in : Slots → Table
 items_in slots key = what_stands (lookup (is_same_key key) slots)
 
 -- the items by their keys
-abbrev pub items_of : Store → Table
-items_of s = items_in s.slots
+abbrev pub stored_items : Store → Table
+stored_items s = items_in s.slots
 
 -- the keys of the slots, in the order of their making
 abbrev pub slot_keys : Store → List Key

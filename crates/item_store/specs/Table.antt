@@ -76,13 +76,13 @@ abbrev pub told : CallFault → List ℕ
 told WrongTable = no_such_table
 told _ = validation
 
-abbrev pub items_after : Table → Key → AccessMode → Option Attributes → Table
-items_after items key Read new = items
-items_after items key Write new = with_item items key new
+abbrev pub table_after : Table → Key → AccessMode → Option Attributes → Table
+table_after items key Read new = items
+table_after items key Write new = with_item items key new
 
 -- what is decided on the item of the key happens to that item alone
 abbrev pub at_key : Table → Key → Decision → Outcome
-at_key items key d = record { answer = d.answer; access = Some (key, d.access); items = items_after items key d.access d.new }
+at_key items key d = record { answer = d.answer; access = Some (key, d.access); items = table_after items key d.access d.new }
 
 abbrev pub on_key : Table → Request → Result Key CallFault → Outcome
 on_key items request (Ok key) = at_key items key (decision request (items key))

@@ -2,7 +2,7 @@
 
 ghost use Rattle.std.specs.Prelude.{◌≡◌, ◌<◌, false, length, slice_index, IsTrue, option_map, MatchOption, None, Some};
 ghost use Rattle.std.specs.List.{list_all};
-ghost use Rattle.item_store.specs.Condition.{after_spaces, attribute_of, condition_of, cut_at, is_attribute_name, is_name_byte, is_space, kind_of};
+ghost use Rattle.item_store.specs.Condition.{after_spaces, condition_attribute, condition_of, cut_at_byte, is_attribute_name, is_condition_name_byte, is_space, condition_kind_of};
 ghost use Rattle.item_store.specs.Lent.{condition_seen};
 
 use crate::call::ConditionKind;
@@ -29,7 +29,7 @@ pub(crate) fn read_condition(text: &str) -> Option<LentCondition<'_>>
 }
 
 fn kind_of(name: &str) -> Option<ConditionKind>
-    ensures { result ≡ kind_of name.now }
+    ensures { result ≡ condition_kind_of name.now }
 {
     match name {
         "attribute_exists" => Some(ConditionKind::Exists),
@@ -40,7 +40,7 @@ fn kind_of(name: &str) -> Option<ConditionKind>
 
 /// A name with spaces round it.
 fn attribute_of(text: &str) -> Option<&str>
-    ensures { option_map (λ s. s.now) result ≡ attribute_of text.now }
+    ensures { option_map (λ s. s.now) result ≡ condition_attribute text.now }
 {
     let text = after_spaces(text);
     match cut(text, ' ') {
@@ -53,7 +53,7 @@ fn attribute_of(text: &str) -> Option<&str>
 /// What stands before the first separator, and what after it.
 fn cut(text: &str, separator: char) -> Option<(&str, &str)>
     requires { separator < 128 }
-    ensures { MatchOption result (cut_at separator text.now ≡ None) (λ x. cut_at separator text.now ≡ Some (x.0.now, x.1.now)) }
+    ensures { MatchOption result (cut_at_byte separator text.now ≡ None) (λ x. cut_at_byte separator text.now ≡ Some (x.0.now, x.1.now)) }
 {
     text.split_once(separator)
 }
@@ -94,13 +94,13 @@ fn is_attribute_name(text: &str) -> bool
 }
 
 fn all_name_bytes(bytes: &[u8]) -> bool
-    ensures { result ≡ list_all is_name_byte bytes.now }
+    ensures { result ≡ list_all is_condition_name_byte bytes.now }
 {
     bytes.iter().all(|c| is_name_byte(*c))
 }
 
 fn is_name_byte(c: u8) -> bool
-    ensures { result ≡ is_name_byte c }
+    ensures { result ≡ is_condition_name_byte c }
 {
     c.is_ascii_alphanumeric() || c == b'_'
 }

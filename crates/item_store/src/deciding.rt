@@ -4,7 +4,7 @@ ghost use Rattle.std.specs.Prelude.{◌≡◌, IsTrue, IfOk, OnErr};
 ghost use Rattle.std.specs.Option.{option_copied};
 ghost use Rattle.json_tree.specs.View.{data_of};
 ghost use Rattle.item_store.specs.Condition.{has_attribute, holds};
-ghost use Rattle.item_store.specs.Deciding.{decision, decision_of, given, object_with, read_only, refused, takes_memory, write};
+ghost use Rattle.item_store.specs.Deciding.{decision, decision_of, given, object_with, read_only, refused, reply_takes_memory, write};
 ghost use Rattle.item_store.specs.Faults.{check_failed};
 
 use crate::access::AccessMode;
@@ -35,7 +35,7 @@ pub struct Decided {
 /// the answer, where that has an item or an error's name; an item that is put is moved.
 pub fn decide(alloc: Global, call: Call, old: Option<&Item>) -> Result<Decided, AllocError>
     ensures decision { IfOk result (λ d. decision_of d ≡ decision call.request (option_copied old.entry)) }
-    ensures memory { OnErr result (IsTrue (takes_memory (decision call.request (option_copied old.entry)).answer)) }
+    ensures memory { OnErr result (IsTrue (reply_takes_memory (decision call.request (option_copied old.entry)).answer)) }
 {
     let Call { table: _, request } = call;
     match request {
@@ -57,7 +57,7 @@ fn decide_write(
     old: Option<&Item>,
 ) -> Result<Decided, AllocError>
     ensures decision { IfOk result (λ d. decision_of d ≡ write terms new (option_copied old.entry)) }
-    ensures memory { OnErr result (IsTrue (takes_memory (write terms new (option_copied old.entry)).answer)) }
+    ensures memory { OnErr result (IsTrue (reply_takes_memory (write terms new (option_copied old.entry)).answer)) }
 {
     if !holds(&terms.condition, old) {
         return refused_write(alloc);
@@ -109,7 +109,7 @@ fn has_attribute(name: &str, old: Option<&Item>) -> bool
 /// An object with an item in its one field, or with no field where there is none.
 fn object_with(alloc: Global, name: &str, item: Option<&Item>) -> Result<Json, AllocError>
     ensures json { IfOk result (λ j. data_of j ≡ object_with name.now (option_copied item.entry)) }
-    ensures memory { OnErr result (IsTrue (takes_memory (given (object_with name.now (option_copied item.entry))))) }
+    ensures memory { OnErr result (IsTrue (reply_takes_memory (given (object_with name.now (option_copied item.entry))))) }
 {
     let mut fields = JsonFields::new(alloc);
     if let Some(item) = item {

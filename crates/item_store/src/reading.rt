@@ -3,7 +3,7 @@
 ghost use Rattle.std.specs.Prelude.{◌≡◌, ◌⊎◌, Some, None, Err, IsTrue, IfOk, MatchResult, option_map};
 ghost use Rattle.json_tree.specs.Fields.{get_field};
 ghost use Rattle.json_tree.specs.View.{data_of};
-ghost use Rattle.item_store.specs.Calls.{call_of, condition_in, form_in, form_of, has_form, has_its_fields, item_field, item_of, may_have, request_of, returns_of, terms_of, text_of};
+ghost use Rattle.item_store.specs.Calls.{call_of, condition_in, form_in, form_of, has_form, has_its_fields, item_field, item_pairs, may_have, request_of, returns_of, terms_of, text_of};
 ghost use Rattle.attr_values.specs.Reading.{is_object, read_item};
 ghost use Rattle.item_store.specs.Lent.{condition_seen, form_seen, terms_seen};
 
@@ -177,8 +177,8 @@ fn returns_of(json: Option<&Json>) -> Option<ReturnValues>
 /// Reads an item or a key, whose faults are all of the call's form.
 #[tactic(auto, using(crate::proofs::Shapes::attributes_again))]
 fn read_values(alloc: Global, json: &Json) -> Result<Item, CallFault>
-    ensures read { MatchResult result (λ i. item_of (read_item (data_of json.now)) ≡ Some i)
-        (λ e. (e ≡ CallFault.Memory) ⊎ ((e ≡ CallFault.Malformed) × (item_of (read_item (data_of json.now)) ≡ None))) }
+    ensures read { MatchResult result (λ i. item_pairs (read_item (data_of json.now)) ≡ Some i)
+        (λ e. (e ≡ CallFault.Memory) ⊎ ((e ≡ CallFault.Malformed) × (item_pairs (read_item (data_of json.now)) ≡ None))) }
     ensures memory { result ≡ Err CallFault.Memory → IsTrue (is_object (data_of json.now)) }
 {
     match read_item(alloc, json) {

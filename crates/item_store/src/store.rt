@@ -4,7 +4,7 @@ ghost use Rattle.std.specs.Prelude.{◌≡◌, ◌⊎◌, ◌<◌, ◌^◌, [], 
 ghost use Rattle.std.specs.Option.{option_copied};
 ghost use Rattle.attr_values.specs.Key.{has_text};
 ghost use Rattle.attr_values.specs.declared.key.Key.{Key};
-ghost use Rattle.item_store.specs.Store.{items_of, slot_keys, slot_key, has_slot_of, with_slot};
+ghost use Rattle.item_store.specs.Store.{stored_items, slot_keys, slot_key, has_slot_of, with_slot};
 ghost use Rattle.item_store.specs.Listing.{items_left, IsListing};
 ghost use Rattle.item_store.specs.Table.{key_asked, with_item};
 ghost use Rattle.item_store.specs.declared.slot.SlotNo.{SlotNo};
@@ -97,7 +97,7 @@ impl ItemStore {
     pub fn slot(&mut self, key: Key) -> Result<SlotNo, AllocError>
         ensures slots { OnOk result (self.new ≡ with_slot self.old key) }
         ensures found { IfOk result (λ n. slot_key self.new n ≡ Some key) }
-        ensures items { items_of self.new ≡ items_of self.old }
+        ensures items { stored_items self.new ≡ stored_items self.old }
         ensures kept { OnOk result ((n : SlotNo) (q : Key) → slot_key self.old n ≡ Some q → slot_key self.new n ≡ Some q) }
         ensures err { OnErr result (self.new ≡ self.old) }
         ensures absent { OnErr result (has_slot_of self.old key ≡ false) }
@@ -114,7 +114,7 @@ impl ItemStore {
         requires { has_slot_of self.old key ≡ false }
         ensures slots { OnOk result (self.new ≡ with_slot self.old key) }
         ensures found { IfOk result (λ n. slot_key self.new n ≡ Some key) }
-        ensures items { items_of self.new ≡ items_of self.old }
+        ensures items { stored_items self.new ≡ stored_items self.old }
         ensures kept { OnOk result ((n : SlotNo) (q : Key) → slot_key self.old n ≡ Some q → slot_key self.new n ≡ Some q) }
         ensures err { OnErr result (self.new ≡ self.old) }
         ensures one { IfOk result (λ n. (m : SlotNo) → slot_key self.new m ≡ Some key → m ≡ n) }
@@ -138,7 +138,7 @@ impl ItemStore {
     /// The item that stands in a slot, if any. One step, and no memory.
     pub fn look(&self, slot: SlotNo) -> Option<&Item>
         requires { IsSome (slot_key self.now slot) }
-        ensures { (key : Key) → slot_key self.now slot ≡ Some key → option_copied result ≡ items_of self.now key }
+        ensures { (key : Key) → slot_key self.now slot ≡ Some key → option_copied result ≡ stored_items self.now key }
     {
         self.slots[slot.index].as_ref()
     }
@@ -146,8 +146,8 @@ impl ItemStore {
     /// Puts an item, or none, into a slot, and hands out what stood there. One step, and no memory.
     pub fn swap(&mut self, slot: SlotNo, item: Option<Item>) -> Option<Item>
         requires { IsSome (slot_key self.old slot) }
-        ensures old { (key : Key) → slot_key self.old slot ≡ Some key → result ≡ items_of self.old key }
-        ensures items { (key : Key) → slot_key self.old slot ≡ Some key → items_of self.new ≡ with_item (items_of self.old) key item }
+        ensures old { (key : Key) → slot_key self.old slot ≡ Some key → result ≡ stored_items self.old key }
+        ensures items { (key : Key) → slot_key self.old slot ≡ Some key → stored_items self.new ≡ with_item (stored_items self.old) key item }
         ensures slots { slot_keys self.new ≡ slot_keys self.old }
         ensures table { self.new.table ≡ self.old.table }
         ensures schema { self.new.schema ≡ self.old.schema }
@@ -158,7 +158,7 @@ impl ItemStore {
     /// The items in the order of their keys, lent. Takes no memory; each item takes a step, and so does each slot in which
     /// none stands.
     pub fn items(&self) -> Items<'_>
-        ensures items { IsListing (items_of self.now) (items_left result) }
+        ensures items { IsListing (stored_items self.now) (items_left result) }
         ensures fits { length (items_left result) < 2 ^ 63 }
     {
         Items::new(self.order.iter(), &self.slots)

@@ -20,11 +20,11 @@ use Rattle.rollback_book.specs.declared.making.Entered.{Entered}
 use Rattle.rollback_book.specs.declared.making.Entered.TheVariants as entered
 use Rattle.rollback_book.specs.declared.making.Made.{Made}
 use Rattle.book_journal.specs.declared.fault.JournalFault.{JournalFault}
-use Rattle.journaled_book.specs.Changes.{Appends, IsReady, IsStoreFault}
+use Rattle.journaled_book.specs.Changes.{Appends, IsMadeReady, IsStoreFault}
 use Rattle.journaled_book.specs.Journaled.{log_of}
 
 -- what is made ready is accepted, as the log from before has it
-pub entry_accepted : (book now : Option BookView) (m : Made) (entry : Entry) → IsReady now m → log_of now ≡ log_of book → m.entry ≡ entry → IfSome book (λ b. IsAccepted b.log entry)
+pub entry_accepted : (book now : Option BookView) (m : Made) (entry : Entry) → IsMadeReady now m → log_of now ≡ log_of book → m.entry ≡ entry → IfSome book (λ b. IsAccepted b.log entry)
 entry_accepted None now m entry ready same is = tt
 entry_accepted (Some b) None m entry ready same is = absurd ready
 entry_accepted (Some b) (Some n) m entry ready same is =

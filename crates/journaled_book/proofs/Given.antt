@@ -4,7 +4,7 @@ use Rattle.std.specs.Prelude.{IsOk}
 use Rattle.std.proofs.lemmas.List.{length-map, length-take-le, take_more, drop_more, map-append, take-append-drop}
 use Rattle.attr_values.specs.declared.fault.ItemFault.{ItemFault}
 use Rattle.item_store.specs.Table.{Table}
-use Rattle.book_log.specs.Beginning.{table_of}
+use Rattle.book_log.specs.Beginning.{begun_table}
 use Rattle.book_log.specs.Legal.{IsLegal}
 use Rattle.book_log.specs.Log.{Log, appended}
 use Rattle.book_log.specs.declared.begin.Begin.{Begin}
@@ -49,7 +49,7 @@ first_line (l ∷ lines) line begin h is = absurd h
 
 -- ---- and their book
 
-first_legal : (begin : Begin) (r : Result Table ItemFault) → table_of begin ≡ r → IsOk r → IsLegal (record { begin = begin; entries = [] })
+first_legal : (begin : Begin) (r : Result Table ItemFault) → begun_table begin ≡ r → IsOk r → IsLegal (record { begin = begin; entries = [] })
 unfolding IsLegal
 first_legal begin (Ok items) e h = ((items, e), tt)
 first_legal begin (Err fault) e h = cc
@@ -60,7 +60,7 @@ began log e = ap (λ (entries : List Entry). let s : Log = record { begin = log.
 pub more_given : (lines : List (List ℕ)) (before : Option Log) (line : List ℕ) (after : Log) → Give lines before → Follows before line after → Give (lines ++ line ∷ []) (Some after)
 more_given lines None line after h f =
     subst (λ (s : Log). Give (lines ++ line ∷ []) (Some s)) (began after f.empty)
-    (record { are_lines = first_line lines line after.begin h.are_lines f.is_line; is_legal = first_legal after.begin (table_of after.begin) refl f.is_table })
+    (record { are_lines = first_line lines line after.begin h.are_lines f.is_line; is_legal = first_legal after.begin (begun_table after.begin) refl f.is_table })
 more_given lines (Some before) line after h f =
     subst (λ (s : Log). Give (lines ++ line ∷ []) (Some s)) (sym f.after_is)
     (record { are_lines = more_lines lines before line f.entry h.are_lines f.is_line; is_legal = accepted_is_legal before f.entry h.is_legal f.is_accepted })

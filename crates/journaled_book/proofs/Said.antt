@@ -19,9 +19,9 @@ use Rattle.rollback_book.specs.Kind.{Kind}
 use Rattle.rollback_book.specs.Fact.{Fact}
 use Rattle.rollback_book.specs.Dependence.{depends_directly}
 use Rattle.book_log.specs.Answers.{absent, settle_answer, free_answer, found_answer, from_step, HoldLacks, IsDefineRefusal, SettleLacks, StepLacks, hold_answer, is_full_for_define, start_answer, step_answer, undo_answer, plan_answer}
-use Rattle.book_log.specs.Beginning.{table_of}
+use Rattle.book_log.specs.Beginning.{begun_table}
 use Rattle.book_log.specs.Legal.{IsAccepted}
-use Rattle.book_log.specs.Log.{Log, appended, facts_of, machine_of}
+use Rattle.book_log.specs.Log.{Log, appended, log_facts, machine_of}
 use Rattle.book_log.specs.declared.begin.Begin.{Begin}
 use Rattle.book_log.specs.declared.entry.Entry.{Entry}
 use Rattle.book_log.specs.declared.entry.Entry.TheVariants.{Define, Start, Step as Stepped, Undo, Rollback, Settle, Hold}
@@ -29,7 +29,7 @@ use Rattle.book_log.specs.declared.refusal.Refusal.{Refusal}
 use Rattle.book_log.specs.declared.refusal.Refusal.TheVariants.{NoMachine, MachineTaken, BadMachine, ExecTaken, NoThread, NotReady, NoStep, HasDependents, Stale, Full, Memory, Settled, Held}
 use Rattle.command_lines.specs.Grammar as command_view
 use Rattle.command_lines.specs.Grammar.{CommandView, command_of}
-use Rattle.rollback_book.specs.Making.{Answers}
+use Rattle.rollback_book.specs.Making.{AnswersMade}
 use Rattle.rollback_book.specs.Planned.{OrMemory}
 use Rattle.rollback_book.specs.declared.making.Change.{Change}
 use Rattle.rollback_book.specs.declared.making.Change.TheVariants as change
@@ -162,7 +162,7 @@ abbrev beginning : List ℕ → KeySchema → List Data → Begin
 beginning name schema items = record { table = name; schema = schema; items = items }
 
 pub table_refused : (line name : List ℕ) (schema : KeySchema) (json : List ℕ) (items : List Data) → command_of line ≡ Some (command_view.table name schema json) → read_json json ≡ Some (list (items_of items))
-    → ¬ IsOk (table_of (beginning name schema items)) → (begin : Begin) → IsBeginLine line begin → IsOk (table_of begin) → ⊥
+    → ¬ IsOk (begun_table (beginning name schema items)) → (begin : Begin) → IsBeginLine line begin → IsOk (begun_table begin) → ⊥
 table_refused line name schema json items is read none begin h ok =
     let e = both line (command_view.table begin.table begin.schema h.json) (command_view.table name schema json) h.is_table is in
     let named : begin.table ≡ name = cc in
@@ -172,11 +172,11 @@ table_refused line name schema json items is read none begin h ok =
     let same : begin ≡ beginning name schema items =
     ap (λ (n : List ℕ). beginning n begin.schema begin.items) named ∙ ap (λ (k : KeySchema). beginning name k begin.items) keyed ∙ ap (λ (ds : List Data). beginning name schema ds) listed
     in
-    none (subst (λ (b : Begin). IsOk (table_of b)) same ok)
+    none (subst (λ (b : Begin). IsOk (begun_table b)) same ok)
 
 -- ---- what is made of a change is its line's entry
 
-pub made_said : (log : Log) (what : Change) (made : Made) (line : List ℕ) → Answers log what (Ok made) → SaysChange what line → IsLineOf line made.entry
+pub made_said : (log : Log) (what : Change) (made : Made) (line : List ℕ) → AnswersMade log what (Ok made) → SaysChange what line → IsLineOf line made.entry
 made_said log (change.Define name definition) made line h says =
     subst (IsLineOf line) (sym h.2.0) (record { json = says.0; is_define = says.1; definition = view definition.now; is_read = says.2; defines = h.1 })
 made_said log (change.Start exec machine input) made line h says = subst (IsLineOf line) (sym h.2.0) says
@@ -185,11 +185,11 @@ made_said log (change.Step thread) made line h says =
 made_said log change.Settle made line h says = subst (IsLineOf line) (sym h.1.0) says
 made_said log (change.Hold step) made line h says = subst (IsLineOf line) (sym h.2.0) says
 
-pub said_if_ok : (log : Log) (what : Change) (r : Result Made Refusal) → Answers log what r → IfOk r (λ made. (line : List ℕ) → SaysChange what line → IsLineOf line made.entry)
+pub said_if_ok : (log : Log) (what : Change) (r : Result Made Refusal) → AnswersMade log what r → IfOk r (λ made. (line : List ℕ) → SaysChange what line → IsLineOf line made.entry)
 said_if_ok log what (Ok made) h = λ line says. made_said log what made line h says
 said_if_ok log what (Err e) h = tt
 
-pub made_added : (log between after : Log) (what : Change) (made : Made) → Answers log what (Ok made) → IsAccepted between made.entry → between ≡ log → after ≡ appended between made.entry
+pub made_added : (log between after : Log) (what : Change) (made : Made) → AnswersMade log what (Ok made) → IsAccepted between made.entry → between ≡ log → after ≡ appended between made.entry
     → (line : List ℕ) → SaysChange what line → Adds log line after
 made_added log between after what made h is_accepted same is line says = record {
   entry = made.entry;
@@ -235,7 +235,7 @@ define_refused log name d (Stale entries) h told machine defines free room = abs
 define_refused log name d Settled h told machine defines free room = absurd h
 define_refused log name d (Held step) h told machine defines free room = absurd h
 
-pub refused_said : (log : Log) (what : Change) (e : Refusal) (line : List ℕ) → Answers log what (Err e) → refused_line e ≡ line_fault.Damaged → SaysChange what line → IsDamaged (Some log) line
+pub refused_said : (log : Log) (what : Change) (e : Refusal) (line : List ℕ) → AnswersMade log what (Err e) → refused_line e ≡ line_fault.Damaged → SaysChange what line → IsDamaged (Some log) line
 refused_said log (change.Define name definition) e line h told says =
     by_define line (λ entry. IsAccepted log entry → ⊥) name.now says.0 says.1
     (λ machine d read defines ok. define_refused log name.now d e (subst (λ (x : source.Data). IsDefineRefusal log name.now x e) (same_Some _ _ (sym says.2 ∙ read)) h) told machine defines ok.0 ok.1)
@@ -278,7 +278,7 @@ found_itself gone name x (Some p) e = free_itself name x (find (depends_directly
 
 undo_itself : (log : Log) (name x : StepName) → undo_answer log name ≡ Ok x → x ≡ name
 unfolding undo_answer
-undo_itself log name x e = found_itself (absent log name) name x (from_step name (facts_of log)) e
+undo_itself log name x e = found_itself (absent log name) name x (from_step name (log_facts log)) e
 
 pub undo_added : (log after : Log) (name step x : StepName) → name ≡ step → Ok x ≡ undo_answer log name → after ≡ appended log (Undo name) → AddsBy log (command_view.undo step) after
 undo_added log after name step x same answer is line says =

@@ -8,7 +8,7 @@ use Rattle.sqlite.specs.State.{State, HasCleanDisk, Survives}
 use Rattle.sqlite.specs.declared.error.Error.{Error}
 use Rattle.step_names.specs.declared.step.StepName.{StepName}
 use Rattle.book_log.specs.Answers.{IsDefineRefusal, plan_answer, undo_answer}
-use Rattle.book_log.specs.Beginning.{table_of}
+use Rattle.book_log.specs.Beginning.{begun_table}
 use Rattle.book_log.specs.Legal.{IsAccepted}
 use Rattle.book_log.specs.Log.{Log}
 use Rattle.book_log.specs.declared.begin.Begin.{Begin}
@@ -16,7 +16,7 @@ use Rattle.book_log.specs.declared.entry.Entry.TheVariants.{Define}
 use Rattle.book_log.specs.declared.refusal.Refusal.{Refusal}
 use Rattle.book_log.specs.declared.refusal.Refusal.TheVariants as refused
 use Rattle.book_journal.specs.Entries.{AddLines, HoldLines}
-use Rattle.book_journal.specs.Faults.{fault_of}
+use Rattle.book_journal.specs.Faults.{journal_fault_of}
 use Rattle.book_journal.specs.Kept.{lines_in, IsAtRest, IsSame, LeavesAllOrNone, MayAdd}
 use Rattle.book_journal.specs.declared.fault.JournalFault.{JournalFault}
 use Rattle.rollback_book.specs.Book.{BookView}
@@ -59,19 +59,19 @@ pub record IsRead (old new : State) : Type 0 where
 
 -- an error of the database, as it is told
 abbrev pub IsStoreFault : JournalFault → Type 0
-IsStoreFault fault = (cause : Error) × (fault ≡ fault_of cause)
+IsStoreFault fault = (cause : Error) × (fault ≡ journal_fault_of cause)
 
 -- ---- the book
 
 -- everything is made for this command, and the book is as it was left when this was made
-abbrev pub IsReady : Option BookView → Made → Type 0
-IsReady None m = ⊥
-IsReady (Some b) m = CanEnter b m
+abbrev pub IsMadeReady : Option BookView → Made → Type 0
+IsMadeReady None m = ⊥
+IsMadeReady (Some b) m = CanEnter b m
 
 -- an item is none, or memory was refused, or the journal refused the line
 abbrev pub RefusesBegin : Begin → BeginRefusal → Type 0
-RefusesBegin begin (begin_refusal.Item fault) = (fault ≡ item.Memory) ⊎ (table_of begin ≡ Err fault)
-RefusesBegin begin (begin_refusal.Journal fault) = IsOk (table_of begin) × IsStoreFault fault
+RefusesBegin begin (begin_refusal.Item fault) = (fault ≡ item.Memory) ⊎ (begun_table begin ≡ Err fault)
+RefusesBegin begin (begin_refusal.Journal fault) = IsOk (begun_table begin) × IsStoreFault fault
 
 -- the book refuses, or it would not but for want of memory; or the journal refuses what the book would not
 abbrev pub RefusesChange : {T : Type 0} → Result T Refusal → EntryFault → Type 0
@@ -106,9 +106,9 @@ AnswersUndo log step (Ok name) = (undo_answer log step ≡ Ok step) × (name ≡
 AnswersUndo log step (Err fault) = RefusesUndo log step fault
 
 -- as a book plans
-abbrev pub PlansRollback : Log → StepName → Result PlanRoom Refusal → Type 0
-PlansRollback log step (Ok plan) = (plan.step ≡ step) × IsPlanned log plan
-PlansRollback log step (Err refusal) = ((refusal ≡ refused.Memory) × IsOk (plan_answer log step)) ⊎ (plan_answer log step ≡ Err refusal)
+abbrev pub PlansJournaledRollback : Log → StepName → Result PlanRoom Refusal → Type 0
+PlansJournaledRollback log step (Ok plan) = (plan.step ≡ step) × IsPlanned log plan
+PlansJournaledRollback log step (Err refusal) = ((refusal ≡ refused.Memory) × IsOk (plan_answer log step)) ⊎ (plan_answer log step ≡ Err refusal)
 
 -- commands were accepted since a plan was made after so many entries; or the journal refuses
 abbrev pub RefusesRollback : Log → StepName → List StepName → ℕ → EntryFault → Type 0

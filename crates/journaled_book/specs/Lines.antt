@@ -10,7 +10,7 @@ use Rattle.json_tree.specs.declared.tree.Json.{Json}
 use Rattle.asl_tree.specs.Definition.{Definition}
 use Rattle.rollback_book.specs.Profile.{Defines}
 use Rattle.step_names.specs.Thread.{Thread}
-use Rattle.book_log.specs.Beginning.{table_of}
+use Rattle.book_log.specs.Beginning.{begun_table}
 use Rattle.book_log.specs.Legal.{IsAccepted}
 use Rattle.book_log.specs.Log.{Log, appended}
 use Rattle.book_log.specs.declared.begin.Begin.{Begin}
@@ -79,13 +79,13 @@ AreLinesOf (line ∷ lines) (Some log) = IsBeginLine line log.begin × AreEntryL
 
 -- No entry that the line says is accepted then: the line isn't what its place needs, or it is refused for another cause than memory.
 abbrev pub IsDamaged : Option Log → List ℕ → Type 0
-IsDamaged None line = (begin : Begin) → IsBeginLine line begin → IsOk (table_of begin) → ⊥
+IsDamaged None line = (begin : Begin) → IsBeginLine line begin → IsOk (begun_table begin) → ⊥
 IsDamaged (Some log) line = (entry : Entry) → IsLineOf line entry → IsAccepted log entry → ⊥
 
 -- the line begins this log
 pub record Begins (line : List ℕ) (log : Log) : Type 0 where
   pub is_line : IsBeginLine line log.begin
-  pub is_table : IsOk (table_of log.begin)
+  pub is_table : IsOk (begun_table log.begin)
   pub empty : log.entries ≡ []
 
 -- the entry that the line says is accepted

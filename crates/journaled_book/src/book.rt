@@ -1,12 +1,12 @@
 ghost use Rattle.std.specs.Prelude.{◌≡◌, ℕ, List, [], None, Some, IsOk, IsSome, IfOk, IfErr, IfSome, OnOk, OnErr, MatchResult, is_some, option_map};
 ghost use Rattle.sqlite.specs.Held.{state};
 ghost use Rattle.sqlite.specs.State.{HasCleanDisk};
-ghost use Rattle.book_log.specs.Beginning.{table_of};
+ghost use Rattle.book_log.specs.Beginning.{begun_table};
 ghost use Rattle.book_journal.specs.Kept.{lines_in, IsAtRest};
 ghost use Rattle.rollback_book.specs.Calls.{MakesUndoRoom};
-ghost use Rattle.rollback_book.specs.Making.{Answers, IsProper};
+ghost use Rattle.rollback_book.specs.Making.{AnswersMade, IsProperChange};
 ghost use Rattle.rollback_book.specs.Planned.{IsPlanned, WasPlanned};
-ghost use Rattle.journaled_book.specs.Changes.{AnswersRollback, AnswersUndo, Appends, IsRead, IsReady, IsStoreFault, PlansRollback, RefusesBegin};
+ghost use Rattle.journaled_book.specs.Changes.{AnswersRollback, AnswersUndo, Appends, IsRead, IsMadeReady, IsStoreFault, PlansJournaledRollback, RefusesBegin};
 ghost use Rattle.journaled_book.specs.Journaled.{IsJournalOf, log_of, with_entry};
 ghost use Rattle.journaled_book.specs.Lines.{IsBeginLine, IsLineOf, SaysChange};
 ghost use Rattle.journaled_book.specs.Opening.{OpensTo, RefusesOpen};
@@ -105,7 +105,7 @@ impl<S: Alter> JournaledBook<S> {
     pub fn begin(&mut self, alloc: Global, begin: Begin, line: &str) -> Result<(), BeginRefusal>
         requires closed { self.old.book ≡ None }
         requires line { IsBeginLine line.now begin }
-        ensures ok { OnOk result ((log_of self.new.book ≡ Some (record { begin = begin; entries = [] })) × IsOk (table_of begin)) }
+        ensures ok { OnOk result ((log_of self.new.book ≡ Some (record { begin = begin; entries = [] })) × IsOk (begun_table begin)) }
         ensures refused { IfErr result (RefusesBegin begin) }
         ensures err { OnErr result (self.new.book ≡ None) }
         ensures journal { Appends (state S.Store self.old.journal) (state S.Store self.new.journal) line.now result }
@@ -119,9 +119,9 @@ impl<S: Alter> JournaledBook<S> {
     /// are the same then.
     pub(crate) fn ready(&mut self, alloc: Global, change: Change<'_>) -> Result<Made, Refusal>
         requires open { IsSome self.old.book }
-        requires proper { IsProper change }
-        ensures answer { IfSome self.old.book (λ b. Answers b.log change.entry result) }
-        ensures ready { IfOk result (λ made. IsReady self.new.book made) }
+        requires proper { IsProperChange change }
+        ensures answer { IfSome self.old.book (λ b. AnswersMade b.log change.entry result) }
+        ensures ready { IfOk result (λ made. IsMadeReady self.new.book made) }
         ensures line { IfOk result (λ made. (line : List ℕ) → SaysChange change.entry line → IsLineOf line made.entry) }
         ensures log { log_of self.new.book ≡ log_of self.old.book }
         ensures journal { self.new.journal ≡ self.old.journal }
@@ -140,7 +140,7 @@ impl<S: Alter> JournaledBook<S> {
     ///
     /// As the journal refuses the line. Book and journal are as before then.
     pub(crate) fn enter(&mut self, made: Made, line: &str) -> Result<Entered, JournalFault>
-        requires ready { IsReady self.old.book made }
+        requires ready { IsMadeReady self.old.book made }
         requires line { IsLineOf line.now made.entry }
         ensures ok { IfOk result (λ answer. (answer ≡ made.answer) × (log_of self.new.book ≡ with_entry (log_of self.old.book) made.entry)) }
         ensures refused { IfErr result IsStoreFault }
@@ -186,7 +186,7 @@ impl<S: Alter> JournaledBook<S> {
     /// Plans the rollback of a step, as `Book::plan_room`.
     pub fn plan_room(&self, alloc: Global, step: &StepName) -> Result<PlanRoom, Refusal>
         requires { IsSome self.now.book }
-        ensures { IfSome self.now.book (λ b. PlansRollback b.log step.now result) }
+        ensures { IfSome self.now.book (λ b. PlansJournaledRollback b.log step.now result) }
     {
         let Some(book) = &self.book else {
             unreachable!()

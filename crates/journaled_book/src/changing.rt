@@ -1,7 +1,7 @@
 // What is done to a book and its journal together.
 ghost use Rattle.std.specs.Prelude.{◌≡◌, ◌⊎◌, [], None, Some, IsOk, IfOk, IfErr, OnOk, OnErr};
 ghost use Rattle.sqlite.specs.Held.{state};
-ghost use Rattle.book_log.specs.Beginning.{table_of};
+ghost use Rattle.book_log.specs.Beginning.{begun_table};
 ghost use Rattle.book_log.specs.Log.{appended};
 ghost use Rattle.book_journal.specs.Kept.{IsAtRest};
 ghost use Rattle.rollback_book.specs.Making.{CanEnter};
@@ -25,7 +25,7 @@ pub(crate) fn begin<S: Alter>(
     line: &str,
 ) -> Result<Book, BeginRefusal>
     requires { IsAtRest (state S.Store journal.old) }
-    ensures ok { IfOk result (λ book. (book.log ≡ record { begin = begin; entries = [] }) × IsOk (table_of begin)) }
+    ensures ok { IfOk result (λ book. (book.log ≡ record { begin = begin; entries = [] }) × IsOk (begun_table begin)) }
     ensures refused { IfErr result (RefusesBegin begin) }
     ensures journal { Appends (state S.Store journal.old) (state S.Store journal.new) line.now result }
 {

@@ -1,13 +1,13 @@
 // What one line does to a book.
 ghost use Rattle.std.specs.Prelude.{◌≡◌, ℕ, List, Err, IfOk, IsOk, OnOk, Some, None};
 ghost use Rattle.book_log.specs.Answers.{plan_answer};
-ghost use Rattle.book_log.specs.Beginning.{table_of};
+ghost use Rattle.book_log.specs.Beginning.{begun_table};
 ghost use Rattle.book_log.specs.Legal.{IsAccepted};
 ghost use Rattle.book_log.specs.Log.{Log, appended};
 ghost use Rattle.book_log.specs.declared.refusal.Refusal.{Refusal};
 ghost use Rattle.command_lines.specs.Grammar as grammar;
 ghost use Rattle.command_lines.specs.Grammar.{command_view};
-ghost use Rattle.rollback_book.specs.Making.{Answers, IsProper};
+ghost use Rattle.rollback_book.specs.Making.{AnswersMade, IsProperChange};
 ghost use Rattle.rollback_book.specs.declared.making.Made.{Made};
 ghost use Rattle.journaled_book.specs.Journaled.{log_of};
 ghost use Rattle.journaled_book.specs.Lines.{Adds, Begins, Follows, IsDamaged, SaysChange};
@@ -195,7 +195,7 @@ fn enter_hold(alloc: Global, book: &mut Book, step: &StepName) -> Result<(), Lin
 }
 
 fn enter_change(alloc: Global, book: &mut Book, change: Change<'_>) -> Result<(), LineFault>
-    requires { IsProper change }
+    requires { IsProperChange change }
     ensures ok { OnOk result ((line : List ℕ) → SaysChange change.entry line → Adds book.old.log line book.new.log) }
     ensures damaged { result ≡ Err LineFault.Damaged → (line : List ℕ) → SaysChange change.entry line → IsDamaged (Some book.old.log) line }
 {

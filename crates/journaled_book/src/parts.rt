@@ -6,7 +6,7 @@ ghost use Rattle.json_tree.specs.Data.{depth, list, items_of, most_levels};
 ghost use Rattle.json_tree.specs.Reading.{read_json};
 ghost use Rattle.json_tree.specs.View.{data_of};
 ghost use Rattle.json_tree.specs.Data.{Data};
-ghost use Rattle.book_log.specs.Beginning.{table_of};
+ghost use Rattle.book_log.specs.Beginning.{begun_table};
 
 use crate::fault::LineFault;
 use attr_values::ItemFault;
@@ -60,8 +60,8 @@ pub(crate) fn read_definition(alloc: Global, text: &str) -> Result<Value, LineFa
 
 /// A book without entries.
 pub(crate) fn open_book(alloc: Global, begin: Begin) -> Result<Book, LineFault>
-    ensures ok { IfOk result (λ book. (book.log ≡ record { begin = begin; entries = [] }) × IsOk (table_of begin)) }
-    ensures damaged { result ≡ Err LineFault.Damaged → ¬ (IsOk (table_of begin)) }
+    ensures ok { IfOk result (λ book. (book.log ≡ record { begin = begin; entries = [] }) × IsOk (begun_table begin)) }
+    ensures damaged { result ≡ Err LineFault.Damaged → ¬ (IsOk (begun_table begin)) }
 {
     match Book::open(alloc, begin) {
         Ok(book) => Ok(book),

@@ -8,7 +8,7 @@ use Rattle.std.proofs.lemmas.List.Edits.{length-remove, remove-append_left, remo
 use Rattle.std.proofs.lemmas.Option.{same_Some, slice_get_within}
 use Rattle.linked_classes.proofs.Gets.{one_or_other, older, newest, set_here, set_elsewhere}
 use Rattle.linked_classes.proofs.Numbered.{more_rises, less_rises, was}
-use Rattle.linked_classes.specs.Numbers.{AreBlocks, AreStarts, IsOwn, IsTaken, joined, lowered}
+use Rattle.linked_classes.specs.Numbers.{AreBlocks, AreStarts, IsOwn, IsNumberTaken, joined, lowered_blocks}
 use Rattle.linked_classes.specs.Places.{IsRising}
 use Rattle.linked_classes.specs.declared.numbers.Block.{Block}
 
@@ -154,26 +154,26 @@ starts_with s (x ∷ xs) h c at = let l = length-append x.numbers.items (joined 
 
 -- ---- blocks start earlier
 
-pub lowered_joined : (k : ℕ) (bs : List Block) → joined (lowered k bs) ≡ joined bs
+pub lowered_joined : (k : ℕ) (bs : List Block) → joined (lowered_blocks k bs) ≡ joined bs
 lowered_joined k [] = refl
 lowered_joined zero (x ∷ xs) = ap (λ (ns : List ℕ). x.numbers.items ++ ns) (lowered_joined zero xs)
 lowered_joined (suc k) (x ∷ xs) = ap (λ (ns : List ℕ). x.numbers.items ++ ns) (lowered_joined k xs)
 
-lowered_starts : (s t : ℕ) (bs : List Block) → t ≡ s + 1 → AreStarts t bs → AreStarts s (lowered zero bs)
+lowered_starts : (s t : ℕ) (bs : List Block) → t ≡ s + 1 → AreStarts t bs → AreStarts s (lowered_blocks zero bs)
 lowered_starts s t [] e h = tt
 lowered_starts s t (x ∷ xs) e h = let f = h.0 in (omega (arith, e, f), lowered_starts (s + length x.numbers.items) (t + length x.numbers.items) xs (omega (arith, e)) h.1)
 
-pub lower_one : (bs : List Block) (k : ℕ) (b : Block) → slice_get bs k ≡ Some b → lowered (suc k) (slice_set bs k (record b { start = b.start - 1 })) ≡ lowered k bs
+pub lower_one : (bs : List Block) (k : ℕ) (b : Block) → slice_get bs k ≡ Some b → lowered_blocks (suc k) (slice_set bs k (record b { start = b.start - 1 })) ≡ lowered_blocks k bs
 lower_one [] k b is = absurd (none_there k b is)
-lower_one (x ∷ xs) zero b is = ap (λ (c : Block). record c { start = c.start - 1 } ∷ lowered zero xs) (sym (same_Some x b is))
+lower_one (x ∷ xs) zero b is = ap (λ (c : Block). record c { start = c.start - 1 } ∷ lowered_blocks zero xs) (sym (same_Some x b is))
 lower_one (x ∷ xs) (suc k) b is = ap (λ (cs : List Block). x ∷ cs) (lower_one xs k b is)
 
-pub lowered_past : (bs : List Block) (k : ℕ) → length bs ≤ k → lowered k bs ≡ bs
+pub lowered_past : (bs : List Block) (k : ℕ) → length bs ≤ k → lowered_blocks k bs ≡ bs
 lowered_past [] k h = refl
 lowered_past (x ∷ xs) zero h = absurd (omega (arith, h))
 lowered_past (x ∷ xs) (suc k) h = ap (λ (cs : List Block). x ∷ cs) (lowered_past xs k (omega (arith, h)))
 
-pub lowered_length : (k : ℕ) (bs : List Block) → length (lowered k bs) ≡ length bs
+pub lowered_length : (k : ℕ) (bs : List Block) → length (lowered_blocks k bs) ≡ length bs
 lowered_length k [] = refl
 lowered_length zero (x ∷ xs) = ap suc (lowered_length zero xs)
 lowered_length (suc k) (x ∷ xs) = ap suc (lowered_length k xs)
@@ -185,7 +185,7 @@ pub record Lowered (bs : List Block) (i : ℕ) (c : Block) : Type 0 where
   pub numbers : c.numbers ≡ block.numbers
   pub start : c.start ≤ block.start
 
-pub lowered_at : (k : ℕ) (bs : List Block) (i : ℕ) (c : Block) → slice_get (lowered k bs) i ≡ Some c → Lowered bs i c
+pub lowered_at : (k : ℕ) (bs : List Block) (i : ℕ) (c : Block) → slice_get (lowered_blocks k bs) i ≡ Some c → Lowered bs i c
 lowered_at k [] i c is = absurd (none_there i c is)
 lowered_at zero (x ∷ xs) zero c is =
     let same = same_Some (record x { start = x.start - 1 }) c is in
@@ -200,7 +200,7 @@ lowered_at (suc k) (x ∷ xs) (suc i) c is = let r = lowered_at k xs i c is in r
 
 -- ---- a number goes
 
-pub starts_without : (s : ℕ) (bs : List Block) → AreStarts s bs → (k i : ℕ) (b c : Block) → slice_get bs k ≡ Some b → i < length b.numbers.items → c.start ≡ b.start → c.numbers.items ≡ remove b.numbers.items i → AreStarts s (lowered (suc k) (slice_set bs k c))
+pub starts_without : (s : ℕ) (bs : List Block) → AreStarts s bs → (k i : ℕ) (b c : Block) → slice_get bs k ≡ Some b → i < length b.numbers.items → c.start ≡ b.start → c.numbers.items ≡ remove b.numbers.items i → AreStarts s (lowered_blocks (suc k) (slice_set bs k c))
 starts_without s [] h k i b c is w start items = absurd (none_there k b is)
 starts_without s (x ∷ xs) h zero i b c is w start items =
     let same = same_Some x b is in
@@ -368,10 +368,10 @@ module _ (bs : List Block) (end : ℕ) (h : AreBlocks bs end) (k i : ℕ) (b c :
         roomy = omega (arith, capacity, q);
       }
 
-  pub joined_less : joined (lowered (suc k) (slice_set bs k c)) ≡ remove (joined bs) (b.start + i)
+  pub joined_less : joined (lowered_blocks (suc k) (slice_set bs k c)) ≡ remove (joined bs) (b.start + i)
   joined_less = lowered_joined (suc k) (slice_set bs k c) ∙ joined_without 0 bs h.starts k i (b.start + i) b c is (omega arith) w items
 
-  pub fewer_blocks : AreBlocks (lowered (suc k) (slice_set bs k c)) end
+  pub fewer_blocks : AreBlocks (lowered_blocks (suc k) (slice_set bs k c)) end
   fewer_blocks =
       let within = slice_get_within bs k b is in
       let set = length-set bs k c in
@@ -417,8 +417,8 @@ pub record Gone (bs after : List Block) (end at n : ℕ) : Type 0 where
 
 module _ (bs new : List Block) (end k at n : ℕ) (h : AreBlocks bs end) (within : k < length bs)
     (range : (b : Block) → slice_get bs k ≡ Some b → (b.start ≤ at) × (at < b.start + length b.numbers.items))
-    (taken : (b : Block) → slice_get bs k ≡ Some b → IsTaken bs new k (at - b.start) b n) where
-  pub gone : (after : List Block) → after ≡ lowered (k + 1) new → Gone bs after end at n
+    (taken : (b : Block) → slice_get bs k ≡ Some b → IsNumberTaken bs new k (at - b.start) b n) where
+  pub gone : (after : List Block) → after ≡ lowered_blocks (k + 1) new → Gone bs after end at n
   gone after e =
       let o = there_is bs k within in
       let b = o.0 in
@@ -431,7 +431,7 @@ module _ (bs new : List Block) (end k at n : ℕ) (h : AreBlocks bs end) (within
       let w : i < length b.numbers.items = omega (arith, low, high) in
       let same : at ≡ b.start + i = omega (arith, low) in
       let step : k + 1 ≡ suc k = omega arith in
-      let now : after ≡ lowered (suc k) (slice_set bs k t.left) = e ∙ ap (λ m. lowered m new) step ∙ ap (lowered (suc k)) t.changed in
+      let now : after ≡ lowered_blocks (suc k) (slice_set bs k t.left) = e ∙ ap (λ m. lowered_blocks m new) step ∙ ap (lowered_blocks (suc k)) t.changed in
       record {
         blocks = subst (λ xs. AreBlocks xs end) (sym now) (fewer_blocks bs end h k i b t.left is w t.start t.items t.capacity);
         items = ap joined now ∙ joined_less bs end h k i b t.left is w t.start t.items t.capacity ∙ ap (remove (joined bs)) (sym same);

@@ -39,5 +39,5 @@ module _ {T : Type 0} where
     pub reaches : length cells ≤ end
 
   -- the numbers have room for the next, and so have the values
-  abbrev pub has_room : Numbers → Cells T → Bool
-  has_room n c = n.has_room && (nat_lt n.end c.room && nat_le 1 c.spare)
+  abbrev pub has_listed_room : Numbers → Cells T → Bool
+  has_listed_room n c = n.has_room && (nat_lt n.end c.room && nat_le 1 c.spare)

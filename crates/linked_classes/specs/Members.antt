@@ -25,8 +25,8 @@ abbrev pub before_in : Option Member → Option ℕ
 before_in None = None
 before_in (Some m) = m.before
 
-abbrev pub classes_in : (ℕ → Option Member) → ℕ → Option ℕ
-classes_in cell k = class_in (cell k)
+abbrev pub member_classes : (ℕ → Option Member) → ℕ → Option ℕ
+member_classes cell k = class_in (cell k)
 
 abbrev pub nexts_in : (ℕ → Option Member) → ℕ → Option ℕ
 nexts_in cell k = next_in (cell k)
@@ -35,5 +35,5 @@ abbrev pub befores_in : (ℕ → Option Member) → ℕ → Option ℕ
 befores_in cell k = before_in (cell k)
 
 pub record AreMembers (cell : ℕ → Option Member) (first last : List (Option ℕ)) : Type 0 where
-  pub linked : AreLinked (classes_in cell) (nexts_in cell) (befores_in cell) (cell_at first) (cell_at last) (length first)
+  pub linked : AreLinked (member_classes cell) (nexts_in cell) (befores_in cell) (cell_at first) (cell_at last) (length first)
   pub ends : length first ≤ length last

@@ -37,17 +37,17 @@ pub record AreBlocks (bs : List Block) (end : ℕ) : Type 0 where
   pub small : end ≤ 4294967295
 
 -- so many blocks, with the next number, have room for it: in the last, or in a fresh one
-abbrev pub has_room : ℕ → ℕ → ℕ → ℕ → Bool
-has_room count capacity fresh end = nat_lt end 4294967295 && (nat_lt end (512 * count) || (nat_lt count capacity && nat_le 512 fresh))
+abbrev pub has_number_room : ℕ → ℕ → ℕ → ℕ → Bool
+has_number_room count capacity fresh end = nat_lt end 4294967295 && (nat_lt end (512 * count) || (nat_lt count capacity && nat_le 512 fresh))
 
 -- the blocks from one on start one place earlier
-abbrev pub lowered : ℕ → List Block → List Block
-lowered k [] = []
-lowered zero (b ∷ bs) = record b { start = b.start - 1 } ∷ lowered zero bs
-lowered (suc k) (b ∷ bs) = b ∷ lowered k bs
+abbrev pub lowered_blocks : ℕ → List Block → List Block
+lowered_blocks k [] = []
+lowered_blocks zero (b ∷ bs) = record b { start = b.start - 1 } ∷ lowered_blocks zero bs
+lowered_blocks (suc k) (b ∷ bs) = b ∷ lowered_blocks k bs
 
 -- the block at a place has one number less, and the others are as they were
-pub record IsTaken (old new : List Block) (here i : ℕ) (b : Block) (number : ℕ) : Type 0 where
+pub record IsNumberTaken (old new : List Block) (here i : ℕ) (b : Block) (number : ℕ) : Type 0 where
   pub left : Block
   pub changed : new ≡ slice_set old here left
   pub start : left.start ≡ b.start

@@ -62,8 +62,8 @@ pub record AreSets (ns : List ℕ) (f : ℕ → Option ℕ) (end count reached :
   pub small : end ≤ 715827882
 
 -- there is room for the next value, of this number, and for its classes
-abbrev pub has_room : Bool → ℕ → Classes → Bool
-has_room ready end c = ready && (nat_lt end 715827882 && (nat_le (6 * end + 6) c.room && nat_le 6 c.spare))
+abbrev pub has_classed_room : Bool → ℕ → Classes → Bool
+has_classed_room ready end c = ready && (nat_lt end 715827882 && (nat_le (6 * end + 6) c.room && nat_le 6 c.spare))
 
 -- classes came to the slots of a number, as far as some of its sets
 pub record IsPut (old now : ℕ → Option ℕ) (n sets : ℕ) (classes : List (Option ℕ)) : Type 0 where

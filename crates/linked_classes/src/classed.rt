@@ -38,14 +38,14 @@ impl<T> Model for ClassedVec<T> {
 
     ghost use Rattle.std.specs.Prelude.{◌/◌, min, length};
     ghost use Rattle.linked_classes.specs.Classes.{class_of};
-    ghost use Rattle.linked_classes.specs.Sets.{AreSets, has_room};
+    ghost use Rattle.linked_classes.specs.Sets.{AreSets, has_classed_room};
 
     ghost view = { λ s. record {
       items = s.listed.items;
       numbers = s.listed.numbers;
       slots = s.slots.classes;
       width = min (s.slots.width / 6) 715827882;
-      has_room = has_room s.listed.has_room s.listed.end s.slots;
+      has_room = has_classed_room s.listed.has_room s.listed.end s.slots;
     } };
 
     ghost invariant = { λ s. AreSets s.listed.numbers (class_of s.slots) s.listed.end (length s.listed.items) (length s.slots.classes) };

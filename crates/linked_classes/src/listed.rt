@@ -24,13 +24,13 @@ impl<T> Model for NumberedVec<T> {
     ghost coded = { listed_code T.code };
 
     ghost use Rattle.linked_classes.specs.Cells.{cell_at};
-    ghost use Rattle.linked_classes.specs.Listed.{AreFilled, has_room, values_at};
+    ghost use Rattle.linked_classes.specs.Listed.{AreFilled, has_listed_room, values_at};
 
     ghost view = { λ s. record {
       items = values_at (cell_at s.values.cells) s.numbers.items;
       numbers = s.numbers.items;
       end = s.numbers.end;
-      has_room = has_room s.numbers s.values;
+      has_room = has_listed_room s.numbers s.values;
     } };
 
     ghost invariant = { λ s. AreFilled s.numbers.items s.numbers.end s.values.cells };

@@ -2,7 +2,7 @@
 ghost use Rattle.std.specs.Prelude.{◌≡◌, ◌<◌, ◌≤◌, length, max, IfSome, IsSome, OnOk};
 ghost use Rattle.linked_classes.specs.Cells.{cell_at};
 ghost use Rattle.linked_classes.specs.Linked.{relinked, reended};
-ghost use Rattle.linked_classes.specs.Members.{classes_in, nexts_in, befores_in};
+ghost use Rattle.linked_classes.specs.Members.{member_classes, nexts_in, befores_in};
 
 use crate::sparse::SparseVec;
 use std::alloc::AllocError;
@@ -20,7 +20,7 @@ pub struct Member {
 /// Links a member, if there is one, to the next.
 pub(crate) fn link_next(members: &mut SparseVec<Member>, number: Option<u32>, next: Option<u32>)
     requires { IfSome number (λ k. IsSome (cell_at members.old.cells k)) }
-    ensures classes { classes_in (cell_at members.new.cells) ≡ classes_in (cell_at members.old.cells) }
+    ensures classes { member_classes (cell_at members.new.cells) ≡ member_classes (cell_at members.old.cells) }
     ensures nexts { nexts_in (cell_at members.new.cells) ≡ relinked number (nexts_in (cell_at members.old.cells)) next }
     ensures befores { befores_in (cell_at members.new.cells) ≡ befores_in (cell_at members.old.cells) }
     ensures end { length members.new.cells ≡ length members.old.cells }
@@ -44,7 +44,7 @@ pub(crate) fn link_next(members: &mut SparseVec<Member>, number: Option<u32>, ne
 /// Links a member, if there is one, to the one before it.
 pub(crate) fn link_before(members: &mut SparseVec<Member>, number: Option<u32>, before: Option<u32>)
     requires { IfSome number (λ k. IsSome (cell_at members.old.cells k)) }
-    ensures classes { classes_in (cell_at members.new.cells) ≡ classes_in (cell_at members.old.cells) }
+    ensures classes { member_classes (cell_at members.new.cells) ≡ member_classes (cell_at members.old.cells) }
     ensures nexts { nexts_in (cell_at members.new.cells) ≡ nexts_in (cell_at members.old.cells) }
     ensures befores { befores_in (cell_at members.new.cells) ≡ relinked number (befores_in (cell_at members.old.cells)) before }
     ensures end { length members.new.cells ≡ length members.old.cells }

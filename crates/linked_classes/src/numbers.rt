@@ -1,6 +1,6 @@
 // Rising numbers, each at a place.
 ghost use Rattle.std.specs.Prelude.{◌≡◌, ◌==◌, ◌<◌, ◌≤◌, ◌+◌, ◌-◌, ◌*◌, ℕ, [], ◌∷◌, ◌++◌, Some, OnOk, true, length, remove, slice_get, vec_capacity};
-ghost use Rattle.linked_classes.specs.Numbers.{AreBlocks, AreStarts, IsTaken, joined, lowered};
+ghost use Rattle.linked_classes.specs.Numbers.{AreBlocks, AreStarts, IsNumberTaken, joined, lowered_blocks};
 ghost use Rattle.linked_classes.specs.Places.{IsRising};
 ghost use Rattle.linked_classes.specs.declared.numbers.Block.{Block as Held};
 
@@ -33,14 +33,14 @@ struct Block {
 
 impl Model for RisingNumbers {
     ghost use Rattle.std.specs.Prelude.{◌≡◌, [], length, vec_capacity};
-    ghost use Rattle.linked_classes.specs.Numbers.{Numbers, AreBlocks, joined, has_room};
+    ghost use Rattle.linked_classes.specs.Numbers.{Numbers, AreBlocks, joined, has_number_room};
 
     ghost Value = { Numbers };
 
     ghost view = { λ a. record {
       items = joined a.blocks.items;
       end = a.end;
-      has_room = has_room (length a.blocks.items) (vec_capacity a.blocks) (vec_capacity a.fresh) a.end;
+      has_room = has_number_room (length a.blocks.items) (vec_capacity a.blocks) (vec_capacity a.fresh) a.end;
     } };
 
     ghost invariant = { λ a. AreBlocks a.blocks.items a.end × (a.fresh.items ≡ []) };
@@ -230,7 +230,7 @@ fn open_block(blocks: &mut Vec<Block>, fresh: Vec<u32>, number: u32)
 fn take_from(blocks: &mut Vec<Block>, here: usize, at: usize) -> u32
     requires there { here < length blocks.old.items }
     requires within { (b : Held) → slice_get blocks.old.items here ≡ Some b → (b.start ≤ at) × (at < b.start + length b.numbers.items) }
-    ensures { (b : Held) → slice_get blocks.old.items here ≡ Some b → IsTaken blocks.old.items blocks.new.items here (at - b.start) b result }
+    ensures { (b : Held) → slice_get blocks.old.items here ≡ Some b → IsNumberTaken blocks.old.items blocks.new.items here (at - b.start) b result }
 {
     let start = blocks[here].start;
     blocks[here].numbers.remove(at - start)
@@ -239,7 +239,7 @@ fn take_from(blocks: &mut Vec<Block>, here: usize, at: usize) -> u32
 /// Lets the blocks from one on start one place earlier.
 fn lower(blocks: &mut Vec<Block>, from: usize)
     requires { (k : ℕ) (b : Held) → from ≤ k → slice_get blocks.old.items k ≡ Some b → 1 ≤ b.start }
-    ensures { blocks.new.items ≡ lowered from blocks.old.items }
+    ensures { blocks.new.items ≡ lowered_blocks from blocks.old.items }
 {
     lower_each(blocks.as_mut_slice(), from);
 }
@@ -247,7 +247,7 @@ fn lower(blocks: &mut Vec<Block>, from: usize)
 /// The same of a slice, whose length isn't read again for each.
 fn lower_each(blocks: &mut [Block], from: usize)
     requires { (k : ℕ) (b : Held) → from ≤ k → slice_get blocks.old k ≡ Some b → 1 ≤ b.start }
-    ensures { blocks.new ≡ lowered from blocks.old }
+    ensures { blocks.new ≡ lowered_blocks from blocks.old }
 {
     let mut at = from;
     while at < blocks.len() {

@@ -1,7 +1,7 @@
 -- The lines that are handed on, one part after another.
 use Rattle.std.proofs.Common.{◌≡◌, ◌⊎◌, inl, inr, ℕ, Bool, true, false, List, [], ◌∷◌, ◌++◌, length, Option, Some, refl, sym, ap, subst, ◌∙◌, append_assoc, append-nil}
 use Rattle.std.specs.Prelude.{nat_le, Result, Ok, Err}
-use Rattle.operator_line.specs.Lines.{grown, kept, within_limit, ended_line, last_line}
+use Rattle.operator_line.specs.Lines.{grown, kept_front, within_limit, ended_line, last_line}
 use Rattle.operator_line.specs.Texts.{lines_of, lines_after, has_no_feed}
 use Rattle.operator_line.specs.Handing.{Hands, Runs, RunsUntil, RunsSome, HandsLast, HandsPiece, HandsRead}
 use Rattle.operator_line.specs.declared.serving.ServeFault.{ServeFault}
@@ -36,13 +36,13 @@ module _ {X : Type 0} (R : Option (List ℕ) → X → X → Type 0) where
 
   -- ---- one line
 
-  line-handed : (front bytes rest : List ℕ) (a b : X) → has_no_feed bytes ≡ true → R (ended_line (grown bytes (kept front))) a b
+  line-handed : (front bytes rest : List ℕ) (a b : X) → has_no_feed bytes ≡ true → R (ended_line (grown bytes (kept_front front))) a b
       → RunsUntil R (lines_after front (bytes ++ 10 ∷ rest)) (lines_after [] rest) a b
   line-handed front bytes rest a b h w =
       let line_is = lines-feed bytes front rest h ∙ ap (λ (l : Option (List ℕ)). l ∷ lines_after [] rest) (sym (ended-is front bytes)) in
-      subst (λ (l : List (Option (List ℕ))). RunsUntil R l (lines_after [] rest) a b) (sym line_is) (until-line (ended_line (grown bytes (kept front))) (lines_after [] rest) a b w)
+      subst (λ (l : List (Option (List ℕ))). RunsUntil R l (lines_after [] rest) a b) (sym line_is) (until-line (ended_line (grown bytes (kept_front front))) (lines_after [] rest) a b w)
 
-  line-perhaps : (front bytes rest : List ℕ) (a b : X) → has_no_feed bytes ≡ true → (b ≡ a) ⊎ R (ended_line (grown bytes (kept front))) a b → RunsSome R (lines_after front (bytes ++ 10 ∷ rest)) a b
+  line-perhaps : (front bytes rest : List ℕ) (a b : X) → has_no_feed bytes ≡ true → (b ≡ a) ⊎ R (ended_line (grown bytes (kept_front front))) a b → RunsSome R (lines_after front (bytes ++ 10 ∷ rest)) a b
   line-perhaps front bytes rest a b h (inl same) = some-none _ a b same
   line-perhaps front bytes rest a b h (inr w) = some-until _ _ a b (line-handed front bytes rest a b h w)
 
@@ -51,10 +51,10 @@ module _ {X : Type 0} (R : Option (List ℕ) → X → X → Type 0) where
   -- of the piece this rest is left
   pub record HandsSoFar (front : List ℕ) (piece : List ℕ) (rest : List ℕ) (line : Option (List ℕ)) (s : X) (t : X) : Type 0 where
     pub tail : List ℕ
-    pub line_is : line ≡ kept tail
+    pub line_is : line ≡ kept_front tail
     pub until : (more : List ℕ) → RunsUntil R (lines_after front (piece ++ more)) (lines_after tail (rest ++ more)) s t
 
-  pub hands-begins : (front piece : List ℕ) (line : Option (List ℕ)) (s : X) → line ≡ kept front → HandsSoFar front piece piece line s s
+  pub hands-begins : (front piece : List ℕ) (line : Option (List ℕ)) (s : X) → line ≡ kept_front front → HandsSoFar front piece piece line s s
   hands-begins front piece line s e = record { tail = front; line_is = e; until = λ more. until-none (lines_after front (piece ++ more)) s s refl }
 
   module _ (front piece rest bytes after : List ℕ) (line : Option (List ℕ)) (s t u : X) (h : has_no_feed bytes ≡ true) (parted : rest ≡ bytes ++ 10 ∷ after) (soon : HandsSoFar front piece rest line s t) where
@@ -64,7 +64,7 @@ module _ {X : Type 0} (R : Option (List ℕ) → X → X → Type 0) where
 
     pub hands-goes_on : R (ended_line (grown bytes line)) t u → HandsSoFar front piece after (Some []) s u
     hands-goes_on w =
-        let w' : R (ended_line (grown bytes (kept soon.tail))) t u = subst (λ (l : Option (List ℕ)). R (ended_line (grown bytes l)) t u) soon.line_is w in
+        let w' : R (ended_line (grown bytes (kept_front soon.tail))) t u = subst (λ (l : Option (List ℕ)). R (ended_line (grown bytes l)) t u) soon.line_is w in
         record {
           tail = [];
           line_is = refl;
@@ -73,7 +73,7 @@ module _ {X : Type 0} (R : Option (List ℕ) → X → X → Type 0) where
 
     pub hands-fails : (e : ServeFault) (line' : Option (List ℕ)) → (u ≡ t) ⊎ R (ended_line (grown bytes line)) t u → HandsPiece R (Err e) front piece line' s u
     hands-fails e line' w =
-        let w' : (u ≡ t) ⊎ R (ended_line (grown bytes (kept soon.tail))) t u = subst (λ (l : Option (List ℕ)). (u ≡ t) ⊎ R (ended_line (grown bytes l)) t u) soon.line_is w in
+        let w' : (u ≡ t) ⊎ R (ended_line (grown bytes (kept_front soon.tail))) t u = subst (λ (l : Option (List ℕ)). (u ≡ t) ⊎ R (ended_line (grown bytes l)) t u) soon.line_is w in
         λ more. until-some _ _ s t u (here more) (line-perhaps soon.tail bytes (after ++ more) t u h w')
 
   module _ (front piece rest : List ℕ) (line line' : Option (List ℕ)) (s t : X) (soon : HandsSoFar front piece rest line s t) where
@@ -98,7 +98,7 @@ module _ {X : Type 0} (R : Option (List ℕ) → X → X → Type 0) where
     pub tail : List ℕ
     pub rest : List ℕ
     pub left_is : left ≡ Some rest
-    pub line_is : line ≡ kept tail
+    pub line_is : line ≡ kept_front tail
     pub until : RunsUntil R (lines_of input) (lines_after tail rest) s t
 
   pub handing-begins : (input : List ℕ) (left line : Option (List ℕ)) (s : X) → left ≡ Some input → line ≡ Some [] → HandsReading input left line s s
@@ -106,9 +106,9 @@ module _ {X : Type 0} (R : Option (List ℕ) → X → X → Type 0) where
 
   -- what asking the reader once does
   abbrev pub HandsAsked : Result Bool ServeFault → Option (List ℕ) → Option (List ℕ) → Option (List ℕ) → Option (List ℕ) → X → X → Type 0
-  HandsAsked result left left' line line' t u = (front : List ℕ) (text : List ℕ) → line ≡ kept front → left ≡ Some text → HandsRead R result front text left' line' t u
+  HandsAsked result left left' line line' t u = (front : List ℕ) (text : List ℕ) → line ≡ kept_front front → left ≡ Some text → HandsRead R result front text left' line' t u
 
-  last-handed : (tail : List ℕ) (t u : X) → HandsLast R (last_line (kept tail)) t u → RunsUntil R (lines_after tail []) [] t u
+  last-handed : (tail : List ℕ) (t u : X) → HandsLast R (last_line (kept_front tail)) t u → RunsUntil R (lines_after tail []) [] t u
   last-handed [] t u w = until-none [] t u w
   last-handed (c ∷ tail) t u w =
       (until-line (within_limit (c ∷ tail)) [] t u (subst (λ (l : Option (Option (List ℕ))). HandsLast R l t u) (last-by c tail (nat_le (length (c ∷ tail)) 1048577) refl) w))
@@ -130,8 +130,8 @@ module _ {X : Type 0} (R : Option (List ℕ) → X → X → Type 0) where
     handing-ends v result asks last =
         let (over, gone, line_is, same) = asks soon.tail soon.rest soon.line_is soon.left_is in
         let until : RunsUntil R (lines_of input) (lines_after soon.tail []) s t = subst (λ (x : List ℕ). RunsUntil R (lines_of input) (lines_after soon.tail x) s t) over soon.until in
-        let w : HandsLast R (last_line (kept soon.tail)) t v =
-        subst (λ (x : X). HandsLast R (last_line (kept soon.tail)) x v) same (subst (λ (l : Option (List ℕ)). HandsLast R (last_line l) u v) line_is last) in
+        let w : HandsLast R (last_line (kept_front soon.tail)) t v =
+        subst (λ (x : X). HandsLast R (last_line (kept_front soon.tail)) x v) same (subst (λ (l : Option (List ℕ)). HandsLast R (last_line l) u v) line_is last) in
         ended result (lines_of input) s v (until-then _ _ _ s t v until (last-handed soon.tail t v w))
 
   pub handing-stops : (input : List ℕ) (left line : Option (List ℕ)) (s t : X) → HandsReading input left line s t → RunsSome R (lines_of input) s t

@@ -14,7 +14,7 @@ use Rattle.attr_values.specs.declared.fault.ItemFault.{ItemFault}
 use Rattle.item_store.specs.Table.{Table}
 use Rattle.attr_values.specs.declared.fault.ItemFault.TheVariants as item_fault
 use Rattle.book_journal.specs.declared.fault.JournalFault.{JournalFault}
-use Rattle.book_log.specs.Beginning.{table_of}
+use Rattle.book_log.specs.Beginning.{begun_table}
 use Rattle.book_log.specs.declared.begin.Begin.{Begin}
 use Rattle.journaled_book.specs.Changes.{RefusesBegin}
 use Rattle.journaled_book.specs.declared.fault.BeginRefusal.{BeginRefusal}
@@ -70,11 +70,11 @@ begin-unwritten begin (Ok items) reply after ok h = inr h
 begin-unwritten begin (Err fault) reply after ok h = cc
 
 -- why it isn't begun, where an item is told, or the journal
-pub begin-item : (begin : Begin) (refusal : BeginRefusal) (fault : ItemFault) → refusal ≡ not_begun.Item fault → RefusesBegin begin refusal → (fault ≡ item_fault.Memory) ⊎ (table_of begin ≡ Err fault)
-begin-item begin (not_begun.Item f) fault e h = let same : f ≡ fault = cc in subst (λ (x : ItemFault). (x ≡ item_fault.Memory) ⊎ (table_of begin ≡ Err x)) same h
+pub begin-item : (begin : Begin) (refusal : BeginRefusal) (fault : ItemFault) → refusal ≡ not_begun.Item fault → RefusesBegin begin refusal → (fault ≡ item_fault.Memory) ⊎ (begun_table begin ≡ Err fault)
+begin-item begin (not_begun.Item f) fault e h = let same : f ≡ fault = cc in subst (λ (x : ItemFault). (x ≡ item_fault.Memory) ⊎ (begun_table begin ≡ Err x)) same h
 begin-item begin (not_begun.Journal f) fault e h = cc
 
-pub begin-journal : (begin : Begin) (refusal : BeginRefusal) (fault : JournalFault) → refusal ≡ not_begun.Journal fault → RefusesBegin begin refusal → IsOk (table_of begin)
+pub begin-journal : (begin : Begin) (refusal : BeginRefusal) (fault : JournalFault) → refusal ≡ not_begun.Journal fault → RefusesBegin begin refusal → IsOk (begun_table begin)
 begin-journal begin (not_begun.Journal f) fault e h = h.0
 begin-journal begin (not_begun.Item f) fault e h = cc
 

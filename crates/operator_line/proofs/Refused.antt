@@ -21,7 +21,7 @@ use Rattle.book_log.specs.declared.moved.Moved.{Moved}
 use Rattle.journaled_book.specs.declared.fault.EntryFault.{EntryFault}
 use Rattle.command_lines.specs.Grammar as command_view
 use Rattle.command_lines.specs.Grammar.{CommandView, command_of}
-use Rattle.operator_line.specs.Answers.{AnswersUnchanged, AnswersAppended, OfWhole, OfSource, AnswersBegin, AnswersItems, AnswersDefine, AnswersStarted, AnswersStep, AnswersUndo, AnswersPlan, AnswersRollback, AnswersSettle, AnswersHold, Turn, took, skipped, taken_in, DrivesAtMost, drive_reply, AnswersDrive, AnswersWork, AnswersShow, AnswersOpen, AnswersClosed, AnswersView, AnswersText, AnswersLine}
+use Rattle.operator_line.specs.Answers.{AnswersUnchanged, AnswersAppended, OfWhole, OfSource, AnswersBegin, AnswersItems, AnswersDefine, AnswersStarted, RepliesStep, RepliesUndo, AnswersPlan, RepliesRollback, RepliesSettle, RepliesHold, Turn, took, skipped, turn_steps, DrivesAtMost, drive_reply, AnswersDrive, AnswersWork, AnswersShow, AnswersOpen, AnswersClosed, AnswersView, AnswersText, AnswersLine}
 use Rattle.operator_line.specs.LineLaws.{is_refusal}
 
 -- what changes nothing where it is refused
@@ -73,11 +73,11 @@ started_keeps : (log : Log) (entry : Entry) (answer : Result StepName Refusal) �
 started_keeps log entry (Ok name) = enters _ _ _ refl
 started_keeps log entry (Err refusal) = keeps _ _
 
-step_keeps : (log : Log) (answer : Result Moved Refusal) → Unchanging (AnswersStep log answer) (Some log)
+step_keeps : (log : Log) (answer : Result Moved Refusal) → Unchanging (RepliesStep log answer) (Some log)
 step_keeps log (Ok m) = enters _ _ _ refl
 step_keeps log (Err refusal) = keeps _ _
 
-undo_keeps : (log : Log) (name : StepName) (answer : Result StepName Refusal) → Unchanging (AnswersUndo log name answer) (Some log)
+undo_keeps : (log : Log) (name : StepName) (answer : Result StepName Refusal) → Unchanging (RepliesUndo log name answer) (Some log)
 undo_keeps log name (Ok undone) = enters _ _ _ refl
 undo_keeps log name (Err refusal) = keeps _ _
 
@@ -85,20 +85,20 @@ plan_keeps : (log : Log) (answer : Result (List StepName) Refusal) → Unchangin
 plan_keeps log (Ok names) = accepts _ _ _ refl
 plan_keeps log (Err refusal) = keeps _ _
 
-rollback_keeps : (log : Log) (name : StepName) (answer : Result (List StepName) Refusal) → Unchanging (AnswersRollback log name answer) (Some log)
+rollback_keeps : (log : Log) (name : StepName) (answer : Result (List StepName) Refusal) → Unchanging (RepliesRollback log name answer) (Some log)
 rollback_keeps log name (Ok names) = enters _ _ _ refl
 rollback_keeps log name (Err refusal) = keeps _ _
 
-settle_keeps : (log : Log) (answer : Result (Unit {0}) Refusal) → Unchanging (AnswersSettle log answer) (Some log)
+settle_keeps : (log : Log) (answer : Result (Unit {0}) Refusal) → Unchanging (RepliesSettle log answer) (Some log)
 settle_keeps log (Ok done) = enters _ _ _ refl
 settle_keeps log (Err refusal) = keeps _ _
 
-hold_keeps : (log : Log) (name : StepName) (answer : Result ℕ Refusal) → Unchanging (AnswersHold log name answer) (Some log)
+hold_keeps : (log : Log) (name : StepName) (answer : Result ℕ Refusal) → Unchanging (RepliesHold log name answer) (Some log)
 hold_keeps log name (Ok count) = enters _ _ _ refl
 hold_keeps log name (Err refusal) = keeps _ _
 
 drive_told : (log last : Log) (count : ℕ) (passed : List Thread) (turns : List Turn) (stop : Option EntryFault) → DrivesAtMost count passed log turns stop last
-    → Unchanging (AnswersUnchanged (drive_reply (taken_in turns) stop) (Some last)) (Some log)
+    → Unchanging (AnswersUnchanged (drive_reply (turn_steps turns) stop) (Some last)) (Some log)
 drive_told log last count passed [] None d = accepts _ _ _ refl
 drive_told log last zero passed [] (Some fault) d = absurd d
 drive_told log last (suc count) passed [] (Some fault) d = λ reply after h refused. h.1 ∙ ap Some d.1

@@ -19,7 +19,7 @@ use Rattle.journaled_book.specs.Changes.{RefusesChange, RefusesChangeOr, Refuses
 use Rattle.journaled_book.specs.Journaled.{log_of}
 use Rattle.journaled_book.specs.declared.fault.EntryFault.{EntryFault}
 use Rattle.journaled_book.specs.declared.fault.EntryFault.TheVariants as by
-use Rattle.operator_line.specs.Answers.{AnswersUnchanged, journal_reply, change_reply, AnswersDefine, AnswersHold, AnswersSettle, AnswersStep, AnswersStarted}
+use Rattle.operator_line.specs.Answers.{AnswersUnchanged, journal_reply, change_reply, AnswersDefine, RepliesHold, RepliesSettle, RepliesStep, AnswersStarted}
 use Rattle.reply_lines.specs.Replies.{count_reply, done_reply, moved_reply, step_reply, refusal_reply}
 
 -- what holds of a book's log holds of this one
@@ -48,12 +48,12 @@ or_none answer (by.Journal f) h = h
 -- ---- a step
 
 pub step-done : {U : Type 0} → (log : Log) (after : Option Log) (m : Moved) (answer : Result Moved Refusal) (r : Result U AllocError) (text : List ℕ) → answer ≡ Ok m
-    → after ≡ Some (appended log (Stepped m.name m.kind)) → OnOk r (text ≡ moved_reply m) → OnOk r (AnswersStep log answer text after)
-step-done log after m answer r text is a w = subst (λ (x : Result Moved Refusal). OnOk r (AnswersStep log x text after)) (sym is) (on_ok_weaker r (λ e. inl (e, a)) w)
+    → after ≡ Some (appended log (Stepped m.name m.kind)) → OnOk r (text ≡ moved_reply m) → OnOk r (RepliesStep log answer text after)
+step-done log after m answer r text is a w = subst (λ (x : Result Moved Refusal). OnOk r (RepliesStep log x text after)) (sym is) (on_ok_weaker r (λ e. inl (e, a)) w)
 
 pub step-refused : {U : Type 0} → (log : Log) (after : Option Log) (fault : EntryFault) (answer : Result Moved Refusal) (r : Result U AllocError) (text : List ℕ) (lacks : Type 0) → RefusesChangeOr lacks answer fault
-    → after ≡ Some log → (fault ≡ by.Book Memory → OnOk r ⊥) → OnOk r (text ≡ change_reply fault) → OnOk r (AnswersStep log answer text after)
-step-refused log after fault answer r text lacks = change-refused (AnswersStep log) log (λ e text after h. h) (λ m text after h. inr h) lacks fault answer r text after
+    → after ≡ Some log → (fault ≡ by.Book Memory → OnOk r ⊥) → OnOk r (text ≡ change_reply fault) → OnOk r (RepliesStep log answer text after)
+step-refused log after fault answer r text lacks = change-refused (RepliesStep log) log (λ e text after h. h) (λ m text after h. inr h) lacks fault answer r text after
 
 -- ---- a start
 
@@ -68,22 +68,22 @@ start-refused log after entry fault answer r text h = change-refused (AnswersSta
 -- ---- a settlement
 
 pub settle-done : {U : Type 0} → (log : Log) (after : Option Log) (answer : Result (Unit {0}) Refusal) (r : Result U AllocError) (text : List ℕ) → answer ≡ Ok tt
-    → after ≡ Some (appended log Settle) → OnOk r (text ≡ done_reply) → OnOk r (AnswersSettle log answer text after)
-settle-done log after answer r text is a w = subst (λ (x : Result (Unit {0}) Refusal). OnOk r (AnswersSettle log x text after)) (sym is) (on_ok_weaker r (λ e. inl (e, a)) w)
+    → after ≡ Some (appended log Settle) → OnOk r (text ≡ done_reply) → OnOk r (RepliesSettle log answer text after)
+settle-done log after answer r text is a w = subst (λ (x : Result (Unit {0}) Refusal). OnOk r (RepliesSettle log x text after)) (sym is) (on_ok_weaker r (λ e. inl (e, a)) w)
 
 pub settle-refused : {U : Type 0} → (log : Log) (after : Option Log) (fault : EntryFault) (answer : Result (Unit {0}) Refusal) (r : Result U AllocError) (text : List ℕ) (lacks : Type 0) → RefusesChangeOr lacks answer fault
-    → after ≡ Some log → (fault ≡ by.Book Memory → OnOk r ⊥) → OnOk r (text ≡ change_reply fault) → OnOk r (AnswersSettle log answer text after)
-settle-refused log after fault answer r text lacks = change-refused (AnswersSettle log) log (λ e text after h. h) (λ m text after h. inr h) lacks fault answer r text after
+    → after ≡ Some log → (fault ≡ by.Book Memory → OnOk r ⊥) → OnOk r (text ≡ change_reply fault) → OnOk r (RepliesSettle log answer text after)
+settle-refused log after fault answer r text lacks = change-refused (RepliesSettle log) log (λ e text after h. h) (λ m text after h. inr h) lacks fault answer r text after
 
 -- ---- a hold
 
 pub hold-done : {U : Type 0} → (log : Log) (after : Option Log) (name : StepName) (count : ℕ) (answer : Result ℕ Refusal) (r : Result U AllocError) (text : List ℕ) → answer ≡ Ok count
-    → after ≡ Some (appended log (Hold name count)) → OnOk r (text ≡ count_reply count) → OnOk r (AnswersHold log name answer text after)
-hold-done log after name count answer r text is a w = subst (λ (x : Result ℕ Refusal). OnOk r (AnswersHold log name x text after)) (sym is) (on_ok_weaker r (λ e. inl (e, a)) w)
+    → after ≡ Some (appended log (Hold name count)) → OnOk r (text ≡ count_reply count) → OnOk r (RepliesHold log name answer text after)
+hold-done log after name count answer r text is a w = subst (λ (x : Result ℕ Refusal). OnOk r (RepliesHold log name x text after)) (sym is) (on_ok_weaker r (λ e. inl (e, a)) w)
 
 pub hold-refused : {U : Type 0} → (log : Log) (after : Option Log) (name : StepName) (fault : EntryFault) (answer : Result ℕ Refusal) (r : Result U AllocError) (text : List ℕ) (lacks : Type 0) → RefusesChangeOr lacks answer fault
-    → after ≡ Some log → (fault ≡ by.Book Memory → OnOk r ⊥) → OnOk r (text ≡ change_reply fault) → OnOk r (AnswersHold log name answer text after)
-hold-refused log after name fault answer r text lacks = change-refused (AnswersHold log name) log (λ e text after h. h) (λ m text after h. inr h) lacks fault answer r text after
+    → after ≡ Some log → (fault ≡ by.Book Memory → OnOk r ⊥) → OnOk r (text ≡ change_reply fault) → OnOk r (RepliesHold log name answer text after)
+hold-refused log after name fault answer r text lacks = change-refused (RepliesHold log name) log (λ e text after h. h) (λ m text after h. inr h) lacks fault answer r text after
 
 -- ---- a definition
 

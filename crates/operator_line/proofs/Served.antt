@@ -6,11 +6,11 @@ use lib.ListN.{length-take}
 use Rattle.std.specs.Io.KnownBytes.{Appends, Keeps, Consumes}
 use Rattle.std.proofs.KnownBytes.{Appends-nil, Appends-trans, Appends-kept}
 use Rattle.book_log.specs.Log.{Log}
-use Rattle.operator_line.specs.Lines.{grown, kept, within_limit, without_return, ended_line, last_line}
+use Rattle.operator_line.specs.Lines.{grown, kept_front, within_limit, without_return, ended_line, last_line}
 use Rattle.operator_line.specs.Texts.{lines_of, lines_after, has_no_feed}
 use Rattle.operator_line.specs.Answers.{AnswersLine, AnswersLines}
 use Rattle.reply_lines.specs.Replies.{memory_reply}
-use Rattle.operator_line.specs.Serving.{AnswersUntil, AnswersBefore, AnswersPart, AnswersUpTo, AnswersFailed, AnswersRead, FailsLine, fails, has_failed, WritesPart, WritesReply, ServesLine, ServesLast, ServesPiece, ServesRead, Serves}
+use Rattle.operator_line.specs.Serving.{AnswersUntil, AnswersBefore, AnswersPart, AnswersUpTo, AnswersFailed, AnswersRead, FailsLine, fails, serving_failed, WritesPart, WritesReply, ServesLine, ServesLast, ServesPiece, ServesRead, Serves}
 use Rattle.operator_line.specs.declared.serving.ServeFault.{ServeFault}
 use Rattle.operator_line.specs.declared.serving.ServeFault.TheVariants.{Read, Write, Journal, Memory}
 
@@ -104,12 +104,12 @@ memory-told (Err Memory) line a b o n some same w = absurd w
 
 -- ---- lines
 
-kept-by : (front more : List ℕ) (fits : Bool) → nat_le (length front) 1048577 ≡ fits → grown more (cond fits (Some front) None) ≡ kept (front ++ more)
+kept-by : (front more : List ℕ) (fits : Bool) → nat_le (length front) 1048577 ≡ fits → grown more (cond fits (Some front) None) ≡ kept_front (front ++ more)
 kept-by front more true e = search (rules, length-append front more)
 kept-by front more false e = grind (rules, e, length-append front more)
 
 -- what is kept grows with the line
-pub kept-grown : (front more : List ℕ) → grown more (kept front) ≡ kept (front ++ more)
+pub kept-grown : (front more : List ℕ) → grown more (kept_front front) ≡ kept_front (front ++ more)
 kept-grown front more = kept-by front more (nat_le (length front) 1048577) refl
 
 without_return-length : (front : List ℕ) (ends : Bool) → length front ≤ suc (length (cond ends (take (length front - 1) front) front))
@@ -123,7 +123,7 @@ ended-by front false e =
     ap (λ (b : Bool). cond b (Some (without_return front)) None) (sym long)
 
 -- the line that is ended is the one that began so, within its limit
-pub ended-kept : (front : List ℕ) → ended_line (kept front) ≡ within_limit (without_return front)
+pub ended-kept : (front : List ℕ) → ended_line (kept_front front) ≡ within_limit (without_return front)
 ended-kept front = ended-by front (nat_le (length front) 1048577) refl
 
 lines-step : (c : ℕ) (bytes front rest : List ℕ) (feeds : Bool) → (c == 10) ≡ feeds → has_no_feed (c ∷ bytes) ≡ true
@@ -143,7 +143,7 @@ lines-more (c ∷ bytes) front rest h = lines-step c bytes front rest (c == 10) 
 pub lines-feed : (bytes front rest : List ℕ) → has_no_feed bytes ≡ true → lines_after front (bytes ++ 10 ∷ rest) ≡ within_limit (without_return (front ++ bytes)) ∷ lines_after [] rest
 lines-feed bytes front rest h = lines-more bytes front (10 ∷ rest) h
 
-pub ended-is : (front bytes : List ℕ) → ended_line (grown bytes (kept front)) ≡ within_limit (without_return (front ++ bytes))
+pub ended-is : (front bytes : List ℕ) → ended_line (grown bytes (kept_front front)) ≡ within_limit (without_return (front ++ bytes))
 ended-is front bytes = ap ended_line (kept-grown front bytes) ∙ ended-kept (front ++ bytes)
 
 -- ---- one line
@@ -155,29 +155,29 @@ none-before lines a b o n same keeps = record {
 }
 
 module _ (front bytes rest : List ℕ) (h : has_no_feed bytes ≡ true) (a b : Option Log) (o n : Option (List ℕ)) where
-  line_is : lines_after front (bytes ++ 10 ∷ rest) ≡ ended_line (grown bytes (kept front)) ∷ lines_after [] rest
+  line_is : lines_after front (bytes ++ 10 ∷ rest) ≡ ended_line (grown bytes (kept_front front)) ∷ lines_after [] rest
   line_is = lines-feed bytes front rest h ∙ ap (λ (l : Option (List ℕ)). l ∷ lines_after [] rest) (sym (ended-is front bytes))
 
-  pub line-served : (reply : List ℕ) → AnswersLine a (ended_line (grown bytes (kept front))) reply b → Appends o n reply → AnswersUntil (lines_after front (bytes ++ 10 ∷ rest)) (lines_after [] rest) a b o n
-  line-served reply w k = subst (λ (l : List (Option (List ℕ))). AnswersUntil l (lines_after [] rest) a b o n) (sym line_is) (until-line (ended_line (grown bytes (kept front))) (lines_after [] rest) reply a b o n w k)
+  pub line-served : (reply : List ℕ) → AnswersLine a (ended_line (grown bytes (kept_front front))) reply b → Appends o n reply → AnswersUntil (lines_after front (bytes ++ 10 ∷ rest)) (lines_after [] rest) a b o n
+  line-served reply w k = subst (λ (l : List (Option (List ℕ))). AnswersUntil l (lines_after [] rest) a b o n) (sym line_is) (until-line (ended_line (grown bytes (kept_front front))) (lines_after [] rest) reply a b o n w k)
 
-  pub line-part : AnswersPart (ended_line (grown bytes (kept front))) a b o n → AnswersUpTo (lines_after front (bytes ++ 10 ∷ rest)) a b o n
+  pub line-part : AnswersPart (ended_line (grown bytes (kept_front front))) a b o n → AnswersUpTo (lines_after front (bytes ++ 10 ∷ rest)) a b o n
   line-part part = record {
-    line = ended_line (grown bytes (kept front));
+    line = ended_line (grown bytes (kept_front front));
     later = lines_after [] rest;
     between = a;
     contents = o;
-    until = subst (λ (l : List (Option (List ℕ))). AnswersUntil l (ended_line (grown bytes (kept front)) ∷ lines_after [] rest) a a o o) (sym line_is) (until-none (ended_line (grown bytes (kept front)) ∷ lines_after [] rest) a o);
+    until = subst (λ (l : List (Option (List ℕ))). AnswersUntil l (ended_line (grown bytes (kept_front front)) ∷ lines_after [] rest) a a o o) (sym line_is) (until-none (ended_line (grown bytes (kept_front front)) ∷ lines_after [] rest) a o);
     part = part;
   }
 
-  pub line-lost : FailsLine (ended_line (grown bytes (kept front))) a b o n → AnswersFailed (lines_after front (bytes ++ 10 ∷ rest)) a b o n
+  pub line-lost : FailsLine (ended_line (grown bytes (kept_front front))) a b o n → AnswersFailed (lines_after front (bytes ++ 10 ∷ rest)) a b o n
   line-lost fails = record {
-    line = ended_line (grown bytes (kept front));
+    line = ended_line (grown bytes (kept_front front));
     later = lines_after [] rest;
     between = a;
     contents = o;
-    until = subst (λ (l : List (Option (List ℕ))). AnswersUntil l (ended_line (grown bytes (kept front)) ∷ lines_after [] rest) a a o o) (sym line_is) (until-none (ended_line (grown bytes (kept front)) ∷ lines_after [] rest) a o);
+    until = subst (λ (l : List (Option (List ℕ))). AnswersUntil l (ended_line (grown bytes (kept_front front)) ∷ lines_after [] rest) a a o o) (sym line_is) (until-none (ended_line (grown bytes (kept_front front)) ∷ lines_after [] rest) a o);
     fails = fails;
   }
 
@@ -212,7 +212,7 @@ line-flushed (Err e) line reply a b o p n is w k keeps =
 -- a line of a piece that is not answered whole
 pub line-failed : (e : ServeFault) (front piece tail bytes after : List ℕ) (line : Option (List ℕ)) (s t u : Option Log) (o p n : Option (List ℕ)) → has_no_feed bytes ≡ true
     → ((more : List ℕ) → AnswersUntil (lines_after front (piece ++ more)) (lines_after tail ((bytes ++ 10 ∷ after) ++ more)) s t o p)
-    → ServesLine (Err e) (ended_line (grown bytes (kept tail))) t u p n → ServesPiece (Err e) front piece line s u o n
+    → ServesLine (Err e) (ended_line (grown bytes (kept_front tail))) t u p n → ServesPiece (Err e) front piece line s u o n
 line-failed Write front piece tail bytes after line s t u o p n h until w = λ more.
     until-up_to (lines_after front (piece ++ more)) (lines_after tail (bytes ++ 10 ∷ (after ++ more))) s t u o p n
     (subst (λ (l : List ℕ). AnswersUntil (lines_after front (piece ++ more)) (lines_after tail l) s t o p) (append_assoc bytes (10 ∷ after) more) (until more))
@@ -228,13 +228,13 @@ line-failed Memory front piece tail bytes after line s t u o p n h until w = λ 
 -- a line of a piece that is
 pub line-goes_on : (front piece tail bytes after reply : List ℕ) (s t u : Option Log) (o p n : Option (List ℕ)) → has_no_feed bytes ≡ true
     → ((more : List ℕ) → AnswersUntil (lines_after front (piece ++ more)) (lines_after tail ((bytes ++ 10 ∷ after) ++ more)) s t o p)
-    → AnswersLine t (ended_line (grown bytes (kept tail))) reply u → Appends p n reply
+    → AnswersLine t (ended_line (grown bytes (kept_front tail))) reply u → Appends p n reply
     → (more : List ℕ) → AnswersUntil (lines_after front (piece ++ more)) (lines_after [] (after ++ more)) s u o n × AnswersUpTo (lines_after front (piece ++ more)) s u o n
 line-goes_on front piece tail bytes after reply s t u o p n h until w k more =
     let here : AnswersUntil (lines_after front (piece ++ more)) (lines_after tail (bytes ++ 10 ∷ (after ++ more))) s t o p =
     subst (λ (l : List ℕ). AnswersUntil (lines_after front (piece ++ more)) (lines_after tail l) s t o p) (append_assoc bytes (10 ∷ after) more) (until more) in (
       until-then (lines_after front (piece ++ more)) (lines_after tail (bytes ++ 10 ∷ (after ++ more))) (lines_after [] (after ++ more)) s t u o p n here (line-served tail bytes (after ++ more) h t u p n reply w k),
-      until-up_to (lines_after front (piece ++ more)) (lines_after tail (bytes ++ 10 ∷ (after ++ more))) s t u o p n here (line-part tail bytes (after ++ more) h t u p n (part-whole (ended_line (grown bytes (kept tail))) reply t u p n w k)),
+      until-up_to (lines_after front (piece ++ more)) (lines_after tail (bytes ++ 10 ∷ (after ++ more))) s t u o p n here (line-part tail bytes (after ++ more) h t u p n (part-whole (ended_line (grown bytes (kept_front tail))) reply t u p n w k)),
     )
 
 -- what is left of a piece belongs to the line at hand
@@ -269,7 +269,7 @@ last-none (Ok u) input a t b o p n until w = until-kept (lines_of input) [] a b 
 last-none (Err e) input a t b o p n until w = absurd w
 
 -- what stands after the last line feed
-pub last-served : (result : Result Unit ServeFault) (tail input : List ℕ) (a t b : Option Log) (o p n : Option (List ℕ)) → AnswersUntil (lines_of input) (lines_after tail []) a t o p → ServesLast result (last_line (kept tail)) t b p n → Serves result input a b o n
+pub last-served : (result : Result Unit ServeFault) (tail input : List ℕ) (a t b : Option Log) (o p n : Option (List ℕ)) → AnswersUntil (lines_of input) (lines_after tail []) a t o p → ServesLast result (last_line (kept_front tail)) t b p n → Serves result input a b o n
 last-served result [] input a t b o p n until w = last-none result input a t b o p n until w
 last-served result (c ∷ tail) input a t b o p n until w =
     last-line result (within_limit (c ∷ tail)) input a t b o p n until
@@ -301,11 +301,11 @@ if_some (Some x) h = h x refl
 -- of the piece this rest is left; a line ended before it, if has_line says so
 pub record IsSoFar (front : List ℕ) (piece : List ℕ) (rest : List ℕ) (has_line : Bool) (line : Option (List ℕ)) (s : Option Log) (t : Option Log) (o : Option (List ℕ)) (n : Option (List ℕ)) : Type 0 where
   pub tail : List ℕ
-  pub line_is : line ≡ kept tail
+  pub line_is : line ≡ kept_front tail
   pub until : (more : List ℕ) → AnswersUntil (lines_after front (piece ++ more)) (lines_after tail (rest ++ more)) s t o n
   pub up_to : has_line ≡ true → (more : List ℕ) → AnswersUpTo (lines_after front (piece ++ more)) s t o n
 
-pub so_far-begins : (front piece : List ℕ) (line : Option (List ℕ)) (s : Option Log) (o : Option (List ℕ)) → line ≡ kept front → IsSoFar front piece piece false line s s o o
+pub so_far-begins : (front piece : List ℕ) (line : Option (List ℕ)) (s : Option Log) (o : Option (List ℕ)) → line ≡ kept_front front → IsSoFar front piece piece false line s s o o
 so_far-begins front piece line s o e = record {
   tail = front;
   line_is = e;
@@ -320,7 +320,7 @@ module _ (front piece rest bytes after : List ℕ) (has_line : Bool) (line : Opt
 
   pub so_far-goes_on : (reply : List ℕ) → AnswersLine t (ended_line (grown bytes line)) reply u → Appends p n reply → IsSoFar front piece after true (Some []) s u o n
   so_far-goes_on reply w k =
-      let w' : AnswersLine t (ended_line (grown bytes (kept soon.tail))) reply u = subst (λ (l : Option (List ℕ)). AnswersLine t (ended_line (grown bytes l)) reply u) soon.line_is w in
+      let w' : AnswersLine t (ended_line (grown bytes (kept_front soon.tail))) reply u = subst (λ (l : Option (List ℕ)). AnswersLine t (ended_line (grown bytes l)) reply u) soon.line_is w in
       record {
         tail = [];
         line_is = refl;
@@ -357,7 +357,7 @@ pub record IsReading (input : List ℕ) (left : Option (List ℕ)) (line : Optio
   pub tail : List ℕ
   pub rest : List ℕ
   pub left_is : left ≡ Some rest
-  pub line_is : line ≡ kept tail
+  pub line_is : line ≡ kept_front tail
   pub until : AnswersUntil (lines_of input) (lines_after tail rest) s t o n
 
 pub reading-begins : (input : List ℕ) (left line : Option (List ℕ)) (s : Option Log) (o : Option (List ℕ)) → left ≡ Some input → line ≡ Some [] → IsReading input left line s s o o
@@ -365,7 +365,7 @@ reading-begins input left line s o e f = record { tail = []; rest = input; left_
 
 -- what asking the reader once does
 abbrev pub Asks : Result Bool ServeFault → Option (List ℕ) → Option (List ℕ) → Option (List ℕ) → Option (List ℕ) → Option Log → Option Log → Option (List ℕ) → Option (List ℕ) → Type 0
-Asks result left left' line line' t u p n = (front : List ℕ) (text : List ℕ) → line ≡ kept front → left ≡ Some text → ServesRead result front text left' line' t u p n
+Asks result left left' line line' t u p n = (front : List ℕ) (text : List ℕ) → line ≡ kept_front front → left ≡ Some text → ServesRead result front text left' line' t u p n
 
 module _ (input : List ℕ) (left left' line line' : Option (List ℕ)) (s t u : Option Log) (o p n : Option (List ℕ)) (soon : IsReading input left line s t o p) where
   pub reading-goes_on : Asks (Ok true) left left' line line' t u p n → IsReading input left' line' s u o n
@@ -424,15 +424,15 @@ failed-whole r e is o P = if_some o (λ _ _. subst (λ (x : Result Unit ServeFau
 
 -- ---- ends by which a session doesn't fail
 
-pub flush_keeps : (r : Result Unit ServeFault) → IfErr r (λ e. e ≡ Write) → has_failed r ≡ false
+pub flush_keeps : (r : Result Unit ServeFault) → IfErr r (λ e. e ≡ Write) → serving_failed r ≡ false
 flush_keeps (Ok u) is = refl
 flush_keeps (Err e) is = ap fails is
 
-pub add_keeps : (r : Result Unit ServeFault) → IfErr r (λ e. e ≡ Memory) → has_failed r ≡ false
+pub add_keeps : (r : Result Unit ServeFault) → IfErr r (λ e. e ≡ Memory) → serving_failed r ≡ false
 add_keeps (Ok u) is = refl
 add_keeps (Err e) is = ap fails is
 
-pub write_keeps : (r : Result Unit ServeFault) (reply : List ℕ) (o n : Option (List ℕ)) → WritesReply r reply o n → has_failed r ≡ false
+pub write_keeps : (r : Result Unit ServeFault) (reply : List ℕ) (o n : Option (List ℕ)) → WritesReply r reply o n → serving_failed r ≡ false
 write_keeps (Ok u) reply o n w = refl
 write_keeps (Err Write) reply o n w = refl
 write_keeps (Err Read) reply o n w = absurd w

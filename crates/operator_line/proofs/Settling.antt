@@ -16,8 +16,8 @@ use Rattle.journaled_book.specs.Journaled.{GoesOnBy}
 use Rattle.journaled_book.specs.Lines.{AreEntryLines, IsLineOf}
 use Rattle.journaled_book.proofs.Given.{both_entry_lines}
 use Rattle.reply_lines.specs.Replies.{names_reply}
-use Rattle.operator_line.specs.Answers.{Takes, Works}
-use Rattle.operator_line.specs.Answering.{GoesOnFrom, Settles, Stays, WorksBy, since, stepped_names}
+use Rattle.operator_line.specs.Answers.{TakesSteps, Works}
+use Rattle.operator_line.specs.Answering.{GoesOnFrom, SettlesWork, Stays, WorksBy, since, stepped_names}
 use Rattle.operator_line.specs.declared.working.Worked.{Worked}
 use Rattle.operator_line.specs.declared.working.Worked.TheVariants as worked
 
@@ -44,13 +44,13 @@ names_few (Settle ∷ es) = let h = names_few es in omega (arith, h)
 names_few (Hold name count ∷ es) = let h = names_few es in omega (arith, h)
 
 -- steps that are legal were taken, each a move where it stands
-takes_legal : (log : Log) (es : List Entry) → AreSteps es → GoesOnLegally log es → Takes log (stepped_names es) (with_entries log es)
+takes_legal : (log : Log) (es : List Entry) → AreSteps es → GoesOnLegally log es → TakesSteps log (stepped_names es) (with_entries log es)
 takes_legal log [] steps legal = with_none log
 takes_legal log (Stepped name kind ∷ es) steps legal = (
   record { name = name; kind = kind },
   legal.0,
   refl,
-  subst (Takes (appended log (Stepped name kind)) (stepped_names es)) (with_more log (Stepped name kind) es) (takes_legal (appended log (Stepped name kind)) es steps.1 legal.1),
+  subst (TakesSteps (appended log (Stepped name kind)) (stepped_names es)) (with_more log (Stepped name kind) es) (takes_legal (appended log (Stepped name kind)) es steps.1 legal.1),
 )
 takes_legal log (Define name machine ∷ es) steps legal = absurd steps.0
 takes_legal log (Start exec machine input ∷ es) steps legal = absurd steps.0
@@ -93,11 +93,11 @@ module _ (begun moves : ℕ) (was after : Log) (begun_is : begun ≡ length was.
     names = stepped_names round.more;
     last = after;
     few = let n = names_few round.more in let f = round.few in omega (arith, n, f);
-    takes = subst (Takes was (stepped_names round.more)) (sym round.after_is) (takes_legal was round.more round.steps round.legal);
+    takes = subst (TakesSteps was (stepped_names round.more)) (sym round.after_is) (takes_legal was round.more round.steps round.legal);
     told = (text ∙ ap (λ (es : List Entry). names_reply (stepped_names es)) since_is, is);
   }
 
-  pub settled_works : (w : Worked) (before told : Option Log) (workers : ℕ) → before ≡ Some was → Settles w begun before after told → WorksBy w before workers moves told
+  pub settled_works : (w : Worked) (before told : Option Log) (workers : ℕ) → before ≡ Some was → SettlesWork w begun before after told → WorksBy w before workers moves told
   settled_works (worked.Told reply) before told workers is s = rw is (inl (round_works (string_bytes reply.text) told s.0 s.1))
   settled_works worked.NoMemory before told workers is s = absurd s
   settled_works worked.Lost before told workers is s = (subst IsSome (sym is) refl, s)

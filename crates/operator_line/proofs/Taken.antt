@@ -29,14 +29,14 @@ use Rattle.journaled_book.specs.declared.fault.EntryFault.TheVariants as by
 use Rattle.reply_lines.specs.Replies.{names_reply}
 use Rattle.reply_lines.specs.Replying.{AreLines}
 use Rattle.reply_lines.specs.declared.lines.Lines.{Lines}
-use Rattle.operator_line.specs.Answers.{DrivesAtMost, IsLeastEnabled, NeedsHeld, NoneMoves, StopsDrive, Turn, took, skipped, drive_reply, is_held, is_passed, taken_in}
-use Rattle.operator_line.specs.Driving.{IsFirst, KeepsLines, LooksAtAll, PassesBy, Taken, TakesOne, is_for_hold, passed_in}
+use Rattle.operator_line.specs.Answers.{DrivesAtMost, IsLeastEnabled, NeedsHeld, NoneMoves, StopsDrive, Turn, took, skipped, drive_reply, is_held_refusal, is_passed_by, turn_steps}
+use Rattle.operator_line.specs.Driving.{IsFirstMoving, KeepsLines, LooksAtAll, PassesBy, Taken, TakesOne, is_for_hold, passed_in}
 use Rattle.operator_line.specs.declared.driving.Tried.{Tried}
 use Rattle.operator_line.specs.declared.driving.Tried.TheVariants.{Taken as StepTaken, PassedBy, NoMove}
 
 -- ---- turns
 
-took_more : (turns more : List Turn) → taken_in (turns ++ more) ≡ taken_in turns ++ taken_in more
+took_more : (turns more : List Turn) → turn_steps (turns ++ more) ≡ turn_steps turns ++ turn_steps more
 took_more [] more = refl
 took_more (took name ∷ turns) more = ap (λ (ns : List StepName). name ∷ ns) (took_more turns more)
 took_more (skipped t ∷ turns) more = took_more turns more
@@ -78,7 +78,7 @@ first_is_free log P (Ok None) h = tt
 first_is_free log P (Ok (Some t)) h = not_true (is_enabled log t) (P t) h.1
 first_is_free log P (Err e) h = tt
 
-pub first_found : (log : Log) (P : Thread → Bool) (r : Result (Option Thread) Refusal) → IfOk r (IsFirstToMove log P) → IfOk r (IsFirst P log)
+pub first_found : (log : Log) (P : Thread → Bool) (r : Result (Option Thread) Refusal) → IfOk r (IsFirstToMove log P) → IfOk r (IsFirstMoving P log)
 first_found log P (Ok None) h = h
 first_found log P (Ok (Some t)) h = record { moves = h.1; least = h.2 }
 first_found log P (Err e) h = tt
@@ -118,7 +118,7 @@ pub stops_drive : (log : Log) (passed : Thread → Bool) (t : Thread) (fault : E
 stops_drive log passed t (by.Book e) first (inr h) other = inl h.0
 stops_drive log passed t (by.Book e) first (inl h) other = by_answer (step_answer log t) refl h
   where
-    by_answer : (a : Result Moved Refusal) → step_answer log t ≡ a → OrMemory a e → (e ≡ Memory) ⊎ ((u : Thread) × IsLeastEnabled passed log u × (step_answer log u ≡ Err e) × (is_held e ≡ false))
+    by_answer : (a : Result Moved Refusal) → step_answer log t ≡ a → OrMemory a e → (e ≡ Memory) ⊎ ((u : Thread) × IsLeastEnabled passed log u × (step_answer log u ≡ Err e) × (is_held_refusal e ≡ false))
     by_answer (Ok m) is same = inl same
     by_answer (Err f) is same = inr (t, first, is ∙ ap (λ (x : Refusal). let r : Result Moved Refusal = Err x in r) (sym same), other)
 stops_drive log passed t (by.Journal f) first h other = (t, first, h.0)
@@ -138,9 +138,9 @@ refused_turn log t passed more lines same fault (Err told) first h (inr p) k = (
 pub record HasTaken (count left : ℕ) (before now : Log) (set : BTreeSet Thread) (lines : Lines) : Type 0 where
   pub turns : List Turn
   pub passed : List Thread
-  pub passed_are : (u : Thread) → passed_in set u ≡ is_passed passed u
-  pub lines_are : AreLines lines (map step_text (taken_in turns))
-  pub counted : length (taken_in turns) + left ≡ count
+  pub passed_are : (u : Thread) → passed_in set u ≡ is_passed_by passed u
+  pub lines_are : AreLines lines (map step_text (turn_steps turns))
+  pub counted : length (turn_steps turns) + left ≡ count
   pub goes_on : (rest : List Turn) (stop : Option EntryFault) (after : Log) → DrivesAtMost left passed now rest stop after → DrivesAtMost count [] before (turns ++ rest) stop after
 
 pub begins : (count : ℕ) (before : Log) (set : BTreeSet Thread) (lines : Lines) → ((u : Thread) → passed_in set u ≡ false) → AreLines lines [] → HasTaken count count before before set lines
@@ -155,21 +155,21 @@ pub one_more : (count left : ℕ) (before now next : Log) (set more : BTreeSet T
 one_more count zero before now next set more lines longer some t one = absurd (omega (arith, some))
 one_more count (suc left) before now next set more lines longer some t one =
     let x = one.0.name in
-    let names : taken_in (t.turns ++ took x ∷ []) ≡ taken_in t.turns ++ x ∷ [] = took_more t.turns (took x ∷ []) in
-    let texts : map step_text (taken_in (t.turns ++ took x ∷ [])) ≡ map step_text (taken_in t.turns) ++ step_text x ∷ [] = ap (map step_text) names ∙ map-append step_text (taken_in t.turns) (x ∷ []) in
-    let long : length (taken_in (t.turns ++ took x ∷ [])) ≡ length (taken_in t.turns) + 1 = ap length names ∙ length-append (taken_in t.turns) (x ∷ []) in
+    let names : turn_steps (t.turns ++ took x ∷ []) ≡ turn_steps t.turns ++ x ∷ [] = took_more t.turns (took x ∷ []) in
+    let texts : map step_text (turn_steps (t.turns ++ took x ∷ [])) ≡ map step_text (turn_steps t.turns) ++ step_text x ∷ [] = ap (map step_text) names ∙ map-append step_text (turn_steps t.turns) (x ∷ []) in
+    let long : length (turn_steps (t.turns ++ took x ∷ [])) ≡ length (turn_steps t.turns) + 1 = ap length names ∙ length-append (turn_steps t.turns) (x ∷ []) in
     let c = t.counted in
     record {
       turns = t.turns ++ took x ∷ [];
       passed = t.passed;
-      passed_are = subst (λ (s : BTreeSet Thread). (u : Thread) → passed_in s u ≡ is_passed t.passed u) (sym one.6) t.passed_are;
-      lines_are = subst (AreLines longer) (sym texts) (one.5 (map step_text (taken_in t.turns)) t.lines_are);
+      passed_are = subst (λ (s : BTreeSet Thread). (u : Thread) → passed_in s u ≡ is_passed_by t.passed u) (sym one.6) t.passed_are;
+      lines_are = subst (AreLines longer) (sym texts) (one.5 (map step_text (turn_steps t.turns)) t.lines_are);
       counted = omega (arith, long, c);
       goes_on = λ rest stop after d.
           subst (λ (l : List Turn). DrivesAtMost count [] before l stop after) (sym (append_assoc t.turns (took x ∷ []) rest))
           (t.goes_on (took x ∷ rest) stop after (
             one.0,
-            first_same (passed_in set) (is_passed t.passed) t.passed_are now x.thread one.1,
+            first_same (passed_in set) (is_passed_by t.passed) t.passed_are now x.thread one.1,
             one.2,
             refl,
             subst (λ (s : Log). DrivesAtMost left t.passed s rest stop after) one.3 (subst (λ (n : ℕ). DrivesAtMost n t.passed next rest stop after) (one_less left) d),
@@ -182,17 +182,17 @@ pub one_skipped : (count left : ℕ) (before now next : Log) (set more : BTreeSe
 one_skipped count zero before now next set more lines same some t one = absurd (omega (arith, some))
 one_skipped count (suc left) before now next set more lines same some t one =
     let x = one.0 in
-    let names : taken_in (t.turns ++ skipped x ∷ []) ≡ taken_in t.turns = took_more t.turns (skipped x ∷ []) ∙ append-nil (taken_in t.turns) in
+    let names : turn_steps (t.turns ++ skipped x ∷ []) ≡ turn_steps t.turns = took_more t.turns (skipped x ∷ []) ∙ append-nil (turn_steps t.turns) in
     record {
       turns = t.turns ++ skipped x ∷ [];
       passed = x ∷ t.passed;
       passed_are = λ u. one.5.has u ∙ ap (λ (b : Bool). eq_by_cmp thread_cmp x u || b) (t.passed_are u);
-      lines_are = subst (λ (ns : List StepName). AreLines same (map step_text ns)) (sym names) (one.4.1 (map step_text (taken_in t.turns)) t.lines_are);
+      lines_are = subst (λ (ns : List StepName). AreLines same (map step_text ns)) (sym names) (one.4.1 (map step_text (turn_steps t.turns)) t.lines_are);
       counted = ap (λ (ns : List StepName). length ns + suc left) names ∙ t.counted;
       goes_on = λ rest stop after d.
           subst (λ (l : List Turn). DrivesAtMost count [] before l stop after) (sym (append_assoc t.turns (skipped x ∷ []) rest))
           (t.goes_on (skipped x ∷ rest) stop after (
-            first_same (passed_in set) (is_passed t.passed) t.passed_are now x one.1,
+            first_same (passed_in set) (is_passed_by t.passed) t.passed_are now x one.1,
             one.2,
             subst (λ (s : Log). DrivesAtMost (suc left) (x ∷ t.passed) s rest stop after) one.3 d,
           ));
@@ -207,7 +207,7 @@ kept count left before now set lines same k t = record {
   turns = t.turns;
   passed = t.passed;
   passed_are = t.passed_are;
-  lines_are = k.1 (map step_text (taken_in t.turns)) t.lines_are;
+  lines_are = k.1 (map step_text (turn_steps t.turns)) t.lines_are;
   counted = t.counted;
   goes_on = t.goes_on;
 }
@@ -223,21 +223,21 @@ pub none_left : (count left : ℕ) (before now next : Log) (set more : BTreeSet 
 none_left count zero before now next set more lines same some t one = absurd (omega (arith, some))
 none_left count (suc left) before now next set more lines same some t one =
     subst (λ (s : Log). Taken count before s same None) (sym one.1)
-    (ended count (suc left) before now set same None (kept count (suc left) before now set lines same one.2 t) (none_same (passed_in set) (is_passed t.passed) t.passed_are now one.0, refl))
+    (ended count (suc left) before now set same None (kept count (suc left) before now set lines same one.2 t) (none_same (passed_in set) (is_passed_by t.passed) t.passed_are now one.0, refl))
 
 pub stopped : (count left : ℕ) (before now next : Log) (set more : BTreeSet Thread) (lines same : Lines) (fault : EntryFault) → 0 < left → HasTaken count left before now set lines → TakesOne now next set more lines same (Err fault)
     → Taken count before next same (Some fault)
 stopped count zero before now next set more lines same fault some t one = absurd (omega (arith, some))
 stopped count (suc left) before now next set more lines same fault some t one =
     subst (λ (s : Log). Taken count before s same (Some fault)) (sym one.1)
-    (ended count (suc left) before now set same (Some fault) (kept count (suc left) before now set lines same one.2 t) (stops_same (passed_in set) (is_passed t.passed) t.passed_are now fault one.0, refl))
+    (ended count (suc left) before now set same (Some fault) (kept count (suc left) before now set lines same one.2 t) (stops_same (passed_in set) (is_passed_by t.passed) t.passed_are now fault one.0, refl))
 
 -- ---- what is told
 
 pub few_lines : (count left : ℕ) (before now : Log) (set : BTreeSet Thread) (lines : Lines) → HasTaken count left before now set lines → 0 < left → count < 2 ^ 32 → lines.count + 1 < 2 ^ 32
 few_lines count left before now set lines t some few =
     let l = t.lines_are.counted in
-    let m = length-map (taken_in t.turns) step_text in
+    let m = length-map (turn_steps t.turns) step_text in
     let c = t.counted in
     omega (arith, l, m, c, some, few)
 
@@ -245,7 +245,7 @@ few_lines count left before now set lines t some few =
 pub none_taken : (count : ℕ) (before after : Log) (lines : Lines) (fault : EntryFault) → Taken count before after lines (Some fault) → lines.count ≡ 0 → after ≡ before
 none_taken count before after lines fault t none = by_turns count [] t.turns t.drives (sym t.lines_are.counted ∙ none)
   where
-    by_turns : (n : ℕ) (passed : List Thread) (turns : List Turn) → DrivesAtMost n passed before turns (Some fault) after → length (map step_text (taken_in turns)) ≡ 0 → after ≡ before
+    by_turns : (n : ℕ) (passed : List Thread) (turns : List Turn) → DrivesAtMost n passed before turns (Some fault) after → length (map step_text (turn_steps turns)) ≡ 0 → after ≡ before
     by_turns zero passed [] d e = absurd d
     by_turns (suc n) passed [] d e = d.1
     by_turns n passed (took x ∷ turns) d e = cc

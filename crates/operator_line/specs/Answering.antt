@@ -77,10 +77,10 @@ IsToldOr text worked.NoMemory = Unit {0}
 IsToldOr text worked.Lost = ⊥
 
 -- the steps since then are listed, or the session has failed
-abbrev pub Settles : Worked → ℕ → Option Log → Log → Option Log → Type 0
-Settles (worked.Told reply) begun before now after = (string_bytes reply.text ≡ names_reply (stepped_names (since begun now))) × (after ≡ Some now)
-Settles worked.NoMemory begun before now after = ⊥
-Settles worked.Lost begun before now after = after ≡ before
+abbrev pub SettlesWork : Worked → ℕ → Option Log → Log → Option Log → Type 0
+SettlesWork (worked.Told reply) begun before now after = (string_bytes reply.text ≡ names_reply (stepped_names (since begun now))) × (after ≡ Some now)
+SettlesWork worked.NoMemory begun before now after = ⊥
+SettlesWork worked.Lost begun before now after = after ≡ before
 
 -- the answer is that no step was taken, or that there is no room for one
 abbrev pub TellsNone : Log → List ℕ → Type 0

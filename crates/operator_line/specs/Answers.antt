@@ -27,7 +27,7 @@ use Rattle.step_names.specs.Written.{step_text}
 use Rattle.step_names.specs.declared.step.StepName.{StepName}
 use Rattle.journaled_book.specs.Steps.{name_of}
 use Rattle.book_log.specs.Answers.{settle_answer, hold_answer, IsDefineRefusal, start_answer, step_answer, undo_answer, plan_answer, names_of_facts, is_full_for_step}
-use Rattle.book_log.specs.Beginning.{table_of}
+use Rattle.book_log.specs.Beginning.{begun_table}
 use Rattle.book_log.specs.Legal.{IsAccepted}
 use Rattle.book_log.specs.Log.{Log, appended, left_of, remaining, world_of}
 use Rattle.book_log.specs.declared.begin.Begin.{Begin}
@@ -80,7 +80,7 @@ AnswersBegin begin (Ok items) = AnswersAppended done_reply (Some (record { begin
 AnswersBegin begin (Err fault) = AnswersUnchanged (item_fault_reply fault) None
 
 abbrev pub AnswersBeginning : Begin → List ℕ → Option Log → Type 0
-AnswersBeginning begin = AnswersBegin begin (table_of begin)
+AnswersBeginning begin = AnswersBegin begin (begun_table begin)
 
 -- the items are a list
 abbrev pub AnswersItems : List ℕ → KeySchema → Data → List ℕ → Option Log → Type 0
@@ -96,20 +96,20 @@ AnswersTable name schema json reply after =
     OfJson json (λ told. AnswersUnchanged told None reply after) (λ d. AnswersItems name schema d reply after)
 
 -- a machine is defined where its name is free, where it is one, and where there is room; else it is refused for what stands
-pub record Defines (log : Log) (name : List ℕ) (d : source.Data) (reply : List ℕ) (after : Option Log) : Type 0 where
+pub record RepliesDefine (log : Log) (name : List ℕ) (d : source.Data) (reply : List ℕ) (after : Option Log) : Type 0 where
   pub machine : Definition
   pub is_one : DefinesMachine d machine
   pub is_accepted : IsAccepted log (Define name machine)
   pub told : AnswersAppended done_reply (Some (appended log (Define name machine))) (Some log) reply after
 
-pub record RefusesDefine (log : Log) (name : List ℕ) (d : source.Data) (reply : List ℕ) (after : Option Log) : Type 0 where
+pub record RepliesDefineRefusal (log : Log) (name : List ℕ) (d : source.Data) (reply : List ℕ) (after : Option Log) : Type 0 where
   pub refusal : Refusal
   pub stands : IsDefineRefusal log name d refusal
   pub told : AnswersUnchanged (refusal_reply refusal) (Some log) reply after
 
 abbrev pub AnswersDefine : Log → List ℕ → Option source.Data → List ℕ → Option Log → Type 0
 AnswersDefine log name None reply after = AnswersUnchanged (refused_by bad_json 1) (Some log) reply after
-AnswersDefine log name (Some d) reply after = Defines log name d reply after ⊎ RefusesDefine log name d reply after
+AnswersDefine log name (Some d) reply after = RepliesDefine log name d reply after ⊎ RepliesDefineRefusal log name d reply after
 
 abbrev pub AnswersStarted : Log → Entry → Result StepName Refusal → List ℕ → Option Log → Type 0
 AnswersStarted log entry (Ok name) = AnswersAppended (step_reply name) (Some (appended log entry)) (Some log)
@@ -120,34 +120,34 @@ pub record AnswersInput (log : Log) (exec : Thread) (machine : List ℕ) (d : Da
   pub is_read : data_of input ≡ d
   pub told : AnswersStarted log (Start exec machine input) (start_answer log exec machine) reply after
 
-abbrev pub AnswersStart : Log → Thread → List ℕ → List ℕ → List ℕ → Option Log → Type 0
-AnswersStart log exec machine json reply after =
+abbrev pub RepliesStart : Log → Thread → List ℕ → List ℕ → List ℕ → Option Log → Type 0
+RepliesStart log exec machine json reply after =
     OfJson json (λ told. AnswersUnchanged told (Some log) reply after) (λ d. AnswersInput log exec machine d reply after)
 
-abbrev pub AnswersStep : Log → Result Moved Refusal → List ℕ → Option Log → Type 0
-AnswersStep log (Ok m) = AnswersAppended (moved_reply m) (Some (appended log (Stepped m.name m.kind))) (Some log)
-AnswersStep log (Err refusal) = AnswersUnchanged (refusal_reply refusal) (Some log)
+abbrev pub RepliesStep : Log → Result Moved Refusal → List ℕ → Option Log → Type 0
+RepliesStep log (Ok m) = AnswersAppended (moved_reply m) (Some (appended log (Stepped m.name m.kind))) (Some log)
+RepliesStep log (Err refusal) = AnswersUnchanged (refusal_reply refusal) (Some log)
 
-abbrev pub AnswersUndo : Log → StepName → Result StepName Refusal → List ℕ → Option Log → Type 0
-AnswersUndo log name (Ok undone) = AnswersAppended done_reply (Some (appended log (Undo name))) (Some log)
-AnswersUndo log name (Err refusal) = AnswersUnchanged (refusal_reply refusal) (Some log)
+abbrev pub RepliesUndo : Log → StepName → Result StepName Refusal → List ℕ → Option Log → Type 0
+RepliesUndo log name (Ok undone) = AnswersAppended done_reply (Some (appended log (Undo name))) (Some log)
+RepliesUndo log name (Err refusal) = AnswersUnchanged (refusal_reply refusal) (Some log)
 
 abbrev pub AnswersPlan : Log → Result (List StepName) Refusal → List ℕ → Option Log → Type 0
 AnswersPlan log (Ok names) = AnswersUnchanged (names_reply names) (Some log)
 AnswersPlan log (Err refusal) = AnswersUnchanged (refusal_reply refusal) (Some log)
 
-abbrev pub AnswersRollback : Log → StepName → Result (List StepName) Refusal → List ℕ → Option Log → Type 0
-AnswersRollback log name (Ok names) = AnswersAppended (names_reply names) (Some (appended log (Rollback name names))) (Some log)
-AnswersRollback log name (Err refusal) = AnswersUnchanged (refusal_reply refusal) (Some log)
+abbrev pub RepliesRollback : Log → StepName → Result (List StepName) Refusal → List ℕ → Option Log → Type 0
+RepliesRollback log name (Ok names) = AnswersAppended (names_reply names) (Some (appended log (Rollback name names))) (Some log)
+RepliesRollback log name (Err refusal) = AnswersUnchanged (refusal_reply refusal) (Some log)
 
-abbrev pub AnswersSettle : Log → Result (Unit {0}) Refusal → List ℕ → Option Log → Type 0
-AnswersSettle log (Ok done) = AnswersAppended done_reply (Some (appended log Settle)) (Some log)
-AnswersSettle log (Err refusal) = AnswersUnchanged (refusal_reply refusal) (Some log)
+abbrev pub RepliesSettle : Log → Result (Unit {0}) Refusal → List ℕ → Option Log → Type 0
+RepliesSettle log (Ok done) = AnswersAppended done_reply (Some (appended log Settle)) (Some log)
+RepliesSettle log (Err refusal) = AnswersUnchanged (refusal_reply refusal) (Some log)
 
 -- so many steps are held
-abbrev pub AnswersHold : Log → StepName → Result ℕ Refusal → List ℕ → Option Log → Type 0
-AnswersHold log name (Ok count) = AnswersAppended (count_reply count) (Some (appended log (Hold name count))) (Some log)
-AnswersHold log name (Err refusal) = AnswersUnchanged (refusal_reply refusal) (Some log)
+abbrev pub RepliesHold : Log → StepName → Result ℕ Refusal → List ℕ → Option Log → Type 0
+RepliesHold log name (Ok count) = AnswersAppended (count_reply count) (Some (appended log (Hold name count))) (Some log)
+RepliesHold log name (Err refusal) = AnswersUnchanged (refusal_reply refusal) (Some log)
 
 -- the names of what is left of the hold, the latest first: none without one
 abbrev pub left_names : Log → List StepName
@@ -178,14 +178,14 @@ pub data Turn : Type 0 where
   skipped : Thread → Turn
 
 -- the steps that are taken
-abbrev pub taken_in : List Turn → List StepName
-taken_in [] = []
-taken_in (took name ∷ turns) = name ∷ taken_in turns
-taken_in (skipped t ∷ turns) = taken_in turns
+abbrev pub turn_steps : List Turn → List StepName
+turn_steps [] = []
+turn_steps (took name ∷ turns) = name ∷ turn_steps turns
+turn_steps (skipped t ∷ turns) = turn_steps turns
 
 -- whether a thread is among those that are passed by
-abbrev pub is_passed : List Thread → Thread → Bool
-is_passed passed t = list_any (λ u. eq_by_cmp thread_cmp u t) passed
+abbrev pub is_passed_by : List Thread → Thread → Bool
+is_passed_by passed t = list_any (λ u. eq_by_cmp thread_cmp u t) passed
 
 -- each thread that has a move is passed by
 abbrev pub NoneMoves : (Thread → Bool) → Log → Type 0
@@ -200,13 +200,13 @@ pub record IsLeastEnabled (passed : Thread → Bool) (log : Log) (t : Thread) : 
 abbrev pub NeedsHeld : Log → Thread → Type 0
 NeedsHeld log t = (name : StepName) × (step_answer log t ≡ Err (Held name))
 
-abbrev pub is_held : Refusal → Bool
-is_held (Held name) = true
-is_held _ = false
+abbrev pub is_held_refusal : Refusal → Bool
+is_held_refusal (Held name) = true
+is_held_refusal _ = false
 
 -- a refusal, for another cause than a hold, of the step of the thread whose turn it is, by the book or by the journal; or out of memory
 abbrev pub StopsDrive : (Thread → Bool) → Log → EntryFault → Type 0
-StopsDrive passed log (by.Book refusal) = (refusal ≡ Memory) ⊎ ((t : Thread) × IsLeastEnabled passed log t × (step_answer log t ≡ Err refusal) × (is_held refusal ≡ false))
+StopsDrive passed log (by.Book refusal) = (refusal ≡ Memory) ⊎ ((t : Thread) × IsLeastEnabled passed log t × (step_answer log t ≡ Err refusal) × (is_held_refusal refusal ≡ false))
 StopsDrive passed log (by.Journal fault) = (t : Thread) × IsLeastEnabled passed log t × IsOk (step_answer log t)
 
 -- At most so many steps are taken, each of the least thread that has a move then and isn't passed by, to this log. A thread whose
@@ -215,11 +215,11 @@ abbrev pub DrivesAtMost : ℕ → List Thread → Log → List Turn → Option E
 DrivesAtMost zero passed log [] None after = after ≡ log
 DrivesAtMost zero passed log [] (Some fault) after = ⊥
 DrivesAtMost zero passed log (turn ∷ turns) stop after = ⊥
-DrivesAtMost (suc more) passed log [] None after = NoneMoves (is_passed passed) log × (after ≡ log)
-DrivesAtMost (suc more) passed log [] (Some fault) after = StopsDrive (is_passed passed) log fault × (after ≡ log)
+DrivesAtMost (suc more) passed log [] None after = NoneMoves (is_passed_by passed) log × (after ≡ log)
+DrivesAtMost (suc more) passed log [] (Some fault) after = StopsDrive (is_passed_by passed) log fault × (after ≡ log)
 DrivesAtMost (suc more) passed log (took name ∷ turns) stop after =
-    (m : Moved) × IsLeastEnabled (is_passed passed) log name.thread × (step_answer log name.thread ≡ Ok m) × (name ≡ m.name) × DrivesAtMost more passed (appended log (Stepped m.name m.kind)) turns stop after
-DrivesAtMost (suc more) passed log (skipped t ∷ turns) stop after = IsLeastEnabled (is_passed passed) log t × NeedsHeld log t × DrivesAtMost (suc more) (t ∷ passed) log turns stop after
+    (m : Moved) × IsLeastEnabled (is_passed_by passed) log name.thread × (step_answer log name.thread ≡ Ok m) × (name ≡ m.name) × DrivesAtMost more passed (appended log (Stepped m.name m.kind)) turns stop after
+DrivesAtMost (suc more) passed log (skipped t ∷ turns) stop after = IsLeastEnabled (is_passed_by passed) log t × NeedsHeld log t × DrivesAtMost (suc more) (t ∷ passed) log turns stop after
 
 -- what is answered to a command that isn't accepted
 abbrev pub change_reply : EntryFault → List ℕ
@@ -237,22 +237,22 @@ pub record AnswersDrive (log : Log) (count : ℕ) (reply : List ℕ) (after : Op
   pub stop : Option EntryFault
   pub last : Log
   pub drives : DrivesAtMost count [] log turns stop last
-  pub told : AnswersUnchanged (drive_reply (taken_in turns) stop) (Some last) reply after
+  pub told : AnswersUnchanged (drive_reply (turn_steps turns) stop) (Some last) reply after
 
 -- ---- a round of workers
 
 -- these steps were taken one after another, each a move where it stands
-abbrev pub Takes : Log → List StepName → Log → Type 0
-Takes log [] after = after ≡ log
-Takes log (name ∷ names) after =
-    (m : Moved) × (step_answer log name.thread ≡ Ok m) × (name ≡ m.name) × Takes (appended log (Stepped m.name m.kind)) names after
+abbrev pub TakesSteps : Log → List StepName → Log → Type 0
+TakesSteps log [] after = after ≡ log
+TakesSteps log (name ∷ names) after =
+    (m : Moved) × (step_answer log name.thread ≡ Ok m) × (name ≡ m.name) × TakesSteps (appended log (Stepped m.name m.kind)) names after
 
 -- some steps are taken, at most so many: which they are, and in which order, is open
 pub record Works (log : Log) (moves : ℕ) (reply : List ℕ) (after : Option Log) : Type 0 where
   pub names : List StepName
   pub last : Log
   pub few : length names ≤ moves
-  pub takes : Takes log names last
+  pub takes : TakesSteps log names last
   pub told : AnswersUnchanged (names_reply names) (Some last) reply after
 
 -- none is, where there is no room for one
@@ -269,13 +269,13 @@ AnswersWork log moves reply after = Works log moves reply after ⊎ HasNoRoom lo
 abbrev pub AnswersOpen : Log → CommandView → List ℕ → Option Log → Type 0
 AnswersOpen log (command_view.table name schema json) = AnswersUnchanged (refused table_taken) (Some log)
 AnswersOpen log (command_view.define name json) = AnswersDefine log name (source_text.read json)
-AnswersOpen log (command_view.start exec machine json) = AnswersStart log exec machine json
-AnswersOpen log (command_view.step thread) = AnswersStep log (step_answer log thread)
-AnswersOpen log (command_view.undo name) = AnswersUndo log name (undo_answer log name)
+AnswersOpen log (command_view.start exec machine json) = RepliesStart log exec machine json
+AnswersOpen log (command_view.step thread) = RepliesStep log (step_answer log thread)
+AnswersOpen log (command_view.undo name) = RepliesUndo log name (undo_answer log name)
 AnswersOpen log (command_view.plan name) = AnswersPlan log (plan_answer log name)
-AnswersOpen log (command_view.rollback name) = AnswersRollback log name (plan_answer log name)
-AnswersOpen log command_view.settle = AnswersSettle log (settle_answer log)
-AnswersOpen log (command_view.hold name) = AnswersHold log name (hold_answer log name)
+AnswersOpen log (command_view.rollback name) = RepliesRollback log name (plan_answer log name)
+AnswersOpen log command_view.settle = RepliesSettle log (settle_answer log)
+AnswersOpen log (command_view.hold name) = RepliesHold log name (hold_answer log name)
 AnswersOpen log (command_view.drive count) = AnswersDrive log count
 AnswersOpen log (command_view.work workers moves) = AnswersWork log moves
 AnswersOpen log (command_view.show thread) = AnswersShow log ((world_of log).frames thread)

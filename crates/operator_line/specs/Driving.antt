@@ -18,7 +18,7 @@ use Rattle.journaled_book.specs.declared.fault.EntryFault.{EntryFault}
 use Rattle.journaled_book.specs.declared.fault.EntryFault.TheVariants as by
 use Rattle.reply_lines.specs.Replying.{AreLines}
 use Rattle.reply_lines.specs.declared.lines.Lines.{Lines}
-use Rattle.operator_line.specs.Answers.{DrivesAtMost, IsLeastEnabled, NeedsHeld, NoneMoves, StopsDrive, Turn, is_held, taken_in}
+use Rattle.operator_line.specs.Answers.{DrivesAtMost, IsLeastEnabled, NeedsHeld, NoneMoves, StopsDrive, Turn, is_held_refusal, turn_steps}
 use Rattle.operator_line.specs.declared.driving.Tried.{Tried}
 use Rattle.operator_line.specs.declared.driving.Tried.TheVariants.{Taken as StepTaken, PassedBy, NoMove}
 
@@ -26,7 +26,7 @@ use Rattle.operator_line.specs.declared.driving.Tried.TheVariants.{Taken as Step
 pub record Taken (count : ℕ) (before after : Log) (lines : Lines) (stop : Option EntryFault) : Type 0 where
   pub turns : List Turn
   pub drives : DrivesAtMost count [] before turns stop after
-  pub lines_are : AreLines lines (map step_text (taken_in turns))
+  pub lines_are : AreLines lines (map step_text (turn_steps turns))
 
 -- the lines are the same
 abbrev pub KeepsLines : Lines → Lines → Type 0
@@ -45,7 +45,7 @@ pub record AddsThread (t : Thread) (old new : BTreeSet Thread) : Type 0 where
   pub more : btree_set_len new ≡ btree_set_len old + 1
 
 abbrev pub is_for_hold : EntryFault → Bool
-is_for_hold (by.Book refusal) = is_held refusal
+is_for_hold (by.Book refusal) = is_held_refusal refusal
 is_for_hold (by.Journal fault) = false
 
 -- a refusal of a step that needs what is held has its thread passed by; each other is answered, and so is refused memory
@@ -78,11 +78,11 @@ TakesOne before after passed more old new (Ok NoMove) = NoneMoves (passed_in pas
 TakesOne before after passed more old new (Err fault) = StopsDrive (passed_in passed) before fault × (after ≡ before) × KeepsLines old new
 
 -- the threads that are passed by are the same, or one more
-abbrev pub Grows : BTreeSet Thread → BTreeSet Thread → Result Tried EntryFault → Type 0
-Grows old new (Ok StepTaken) = new ≡ old
-Grows old new (Ok PassedBy) = (btree_set_len old < 2 ^ 63) × (btree_set_len new ≡ btree_set_len old + 1)
-Grows old new (Ok NoMove) = Unit {0}
-Grows old new (Err fault) = Unit {0}
+abbrev pub GrowsPassedBy : BTreeSet Thread → BTreeSet Thread → Result Tried EntryFault → Type 0
+GrowsPassedBy old new (Ok StepTaken) = new ≡ old
+GrowsPassedBy old new (Ok PassedBy) = (btree_set_len old < 2 ^ 63) × (btree_set_len new ≡ btree_set_len old + 1)
+GrowsPassedBy old new (Ok NoMove) = Unit {0}
+GrowsPassedBy old new (Err fault) = Unit {0}
 
 -- ---- of a session with a book
 
@@ -93,6 +93,6 @@ abbrev pub TakenOf : ℕ → Option Log → Option Log → Lines → Option Entr
 TakenOf count old new lines stop = (before : Log) → old ≡ Some before → (after : Log) × (new ≡ Some after) × Taken count before after lines stop
 
 -- the least thread that has a move and isn't passed by, if there is one
-abbrev pub IsFirst : (Thread → Bool) → Log → Option Thread → Type 0
-IsFirst passed log None = NoneMoves passed log
-IsFirst passed log (Some t) = IsLeastEnabled passed log t
+abbrev pub IsFirstMoving : (Thread → Bool) → Log → Option Thread → Type 0
+IsFirstMoving passed log None = NoneMoves passed log
+IsFirstMoving passed log (Some t) = IsLeastEnabled passed log t

@@ -1,6 +1,6 @@
 -- Lines that are handed on one after another, and what each does to what stands before and after it.
 use Rattle.std.specs.Prelude.{◌≡◌, ℕ, Bool, true, false, List, [], ◌∷◌, ◌++◌, Option, None, Some, Result, Ok, Err}
-use Rattle.operator_line.specs.Lines.{kept}
+use Rattle.operator_line.specs.Lines.{kept_front}
 use Rattle.operator_line.specs.Texts.{lines_after}
 use Rattle.operator_line.specs.declared.serving.ServeFault.{ServeFault}
 
@@ -35,12 +35,12 @@ HandsLast R None old new = new ≡ old
 -- those did that end in a piece of the input, and the line at hand goes on with what stands behind them
 abbrev pub HandsPiece : {X : Type 0} → (Option (List ℕ) → X → X → Type 0) → Result Unit ServeFault → List ℕ → List ℕ → Option (List ℕ) → X → X → Type 0
 HandsPiece R (Ok _) front piece line old new =
-    (tail : List ℕ) × (line ≡ kept tail) × ((more : List ℕ) → RunsUntil R (lines_after front (piece ++ more)) (lines_after tail more) old new)
+    (tail : List ℕ) × (line ≡ kept_front tail) × ((more : List ℕ) → RunsUntil R (lines_after front (piece ++ more)) (lines_after tail more) old new)
 HandsPiece R (Err e) front piece line old new = (more : List ℕ) → RunsSome R (lines_after front (piece ++ more)) old new
 
 -- those did that end in what the reader gives
 abbrev pub HandsRead : {X : Type 0} → (Option (List ℕ) → X → X → Type 0) → Result Bool ServeFault → List ℕ → List ℕ → Option (List ℕ) → Option (List ℕ) → X → X → Type 0
 HandsRead R (Ok true) front text left line old new =
-    (tail : List ℕ) × (rest : List ℕ) × (left ≡ Some rest) × (line ≡ kept tail) × RunsUntil R (lines_after front text) (lines_after tail rest) old new
-HandsRead R (Ok false) front text left line old new = (text ≡ []) × (left ≡ Some []) × (line ≡ kept front) × (new ≡ old)
+    (tail : List ℕ) × (rest : List ℕ) × (left ≡ Some rest) × (line ≡ kept_front tail) × RunsUntil R (lines_after front text) (lines_after tail rest) old new
+HandsRead R (Ok false) front text left line old new = (text ≡ []) × (left ≡ Some []) × (line ≡ kept_front front) × (new ≡ old)
 HandsRead R (Err e) front text left line old new = RunsSome R (lines_after front text) old new

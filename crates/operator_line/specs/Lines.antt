@@ -1,6 +1,7 @@
 -- Lines, as they are put together. A line that is too long is nothing.
 use Rattle.std.specs.Prelude.{ℕ, ◌+◌, ◌-◌, ◌==◌, List, [], ◌∷◌, ◌++◌, length, take, drop, nat_le, if◌then◌else◌, Option, None, Some, option_and_then}
 use lib.Pointwise.{pointwise}
+use Rattle.command_lines.specs.Grammar.{longest_line}
 use Rattle.operator_line.specs.declared.line.Line.{Line}
 use Rattle.operator_line.specs.declared.line.Line.TheVariants.{Whole, TooLong}
 
@@ -10,12 +11,8 @@ grown more None = None
 grown more (Some bytes) = if nat_le (length bytes + length more) 1048577 then Some (bytes ++ more) else None
 
 -- what is kept of a line that has begun so
-abbrev pub kept : List ℕ → Option (List ℕ)
-kept front = if nat_le (length front) 1048577 then Some front else None
-
--- a line has at most so many bytes, without its end
-abbrev pub longest_line : ℕ
-longest_line = 1048576
+abbrev pub kept_front : List ℕ → Option (List ℕ)
+kept_front front = if nat_le (length front) 1048577 then Some front else None
 
 -- a line has at most 1,048,576 bytes
 abbrev pub within_limit : List ℕ → Option (List ℕ)

@@ -4,7 +4,7 @@ use Rattle.std.specs.Io.KnownBytes.{Appends, Keeps}
 use Rattle.book_log.specs.Log.{Log}
 use Rattle.command_lines.specs.Grammar as command_view
 use Rattle.command_lines.specs.Grammar.{command_of}
-use Rattle.operator_line.specs.Lines.{kept}
+use Rattle.operator_line.specs.Lines.{kept_front}
 use Rattle.operator_line.specs.Texts.{lines_of, lines_after}
 use Rattle.operator_line.specs.Answers.{AnswersLine, AnswersLines}
 use Rattle.operator_line.specs.declared.serving.ServeFault.{ServeFault}
@@ -87,9 +87,9 @@ fails Write = false
 fails Journal = true
 fails Memory = false
 
-abbrev pub has_failed : {T : Type 0} → Result T ServeFault → Bool
-has_failed (Ok done) = false
-has_failed (Err fault) = fails fault
+abbrev pub serving_failed : {T : Type 0} → Result T ServeFault → Bool
+serving_failed (Ok done) = false
+serving_failed (Err fault) = fails fault
 
 -- how serving ends
 abbrev pub Serves : Result Unit ServeFault → List ℕ → Option Log → Option Log → Option (List ℕ) → Option (List ℕ) → Type 0
@@ -134,7 +134,7 @@ ServesLast (Err e) None before after old new = ⊥
 -- lines that are left are those of what the line at hand has now, and of that.
 abbrev pub ServesPiece : Result Unit ServeFault → List ℕ → List ℕ → Option (List ℕ) → Option Log → Option Log → Option (List ℕ) → Option (List ℕ) → Type 0
 ServesPiece (Ok _) front piece line before after old new =
-    (tail : List ℕ) × (line ≡ kept tail) × ((more : List ℕ) → AnswersUntil (lines_after front (piece ++ more)) (lines_after tail more) before after old new)
+    (tail : List ℕ) × (line ≡ kept_front tail) × ((more : List ℕ) → AnswersUntil (lines_after front (piece ++ more)) (lines_after tail more) before after old new)
 ServesPiece (Err Write) front piece line before after old new = (more : List ℕ) → AnswersUpTo (lines_after front (piece ++ more)) before after old new
 ServesPiece (Err Read) front piece line before after old new = ⊥
 ServesPiece (Err Journal) front piece line before after old new = (more : List ℕ) → AnswersFailed (lines_after front (piece ++ more)) before after old new
@@ -143,8 +143,8 @@ ServesPiece (Err Memory) front piece line before after old new = (more : List �
 -- The lines that end in what the reader gives are. It gave all there was where there is no more.
 abbrev pub ServesRead : Result Bool ServeFault → List ℕ → List ℕ → Option (List ℕ) → Option (List ℕ) → Option Log → Option Log → Option (List ℕ) → Option (List ℕ) → Type 0
 ServesRead (Ok true) front text left line before after old new =
-    (tail : List ℕ) × (rest : List ℕ) × (left ≡ Some rest) × (line ≡ kept tail) × AnswersUntil (lines_after front text) (lines_after tail rest) before after old new
-ServesRead (Ok false) front text left line before after old new = (text ≡ []) × (left ≡ Some []) × (line ≡ kept front) × (after ≡ before) × Keeps old new
+    (tail : List ℕ) × (rest : List ℕ) × (left ≡ Some rest) × (line ≡ kept_front tail) × AnswersUntil (lines_after front text) (lines_after tail rest) before after old new
+ServesRead (Ok false) front text left line before after old new = (text ≡ []) × (left ≡ Some []) × (line ≡ kept_front front) × (after ≡ before) × Keeps old new
 ServesRead (Err Write) front text left line before after old new = AnswersUpTo (lines_after front text) before after old new
 ServesRead (Err Read) front text left line before after old new = (left ≡ Some text) × (after ≡ before) × Keeps old new
 ServesRead (Err Journal) front text left line before after old new = AnswersFailed (lines_after front text) before after old new

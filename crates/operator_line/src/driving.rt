@@ -4,7 +4,7 @@ ghost use Rattle.book_log.specs.Legal.{IsLegal};
 ghost use Rattle.journaled_book.specs.Cursors.{IsUpTo, place_of};
 ghost use Rattle.sqlite.specs.Held.{state};
 ghost use Rattle.operator_line.specs.Answers.{AnswersDrive};
-ghost use Rattle.operator_line.specs.Driving.{AddsThread, Grows, IsFirst, IsFound, LooksAtAll, PassesBy, TakenOf, TakesOneOf, passed_in};
+ghost use Rattle.operator_line.specs.Driving.{AddsThread, GrowsPassedBy, IsFirstMoving, IsFound, LooksAtAll, PassesBy, TakenOf, TakesOneOf, passed_in};
 ghost use Rattle.operator_line.specs.Sessions.{WasClean, log_in};
 ghost use Rattle.reply_lines.specs.Replying.{AreLines, has_room_for_lines};
 
@@ -97,7 +97,7 @@ fn take_step<S: Alter>(
     requires few { lines.old.count + 1 < 2 ^ 32 }
     requires room { has_room_for_lines reply.old.text (string_len lines.old.text) }
     ensures step { TakesOneOf (log_in book.old) (log_in book.new) passed.old passed.new lines.old lines.new result }
-    ensures grows { Grows passed.old passed.new result }
+    ensures grows { GrowsPassedBy passed.old passed.new result }
     ensures all { OnOk result (LooksAtAll (log_in book.new) passed.new cursor.new) }
     ensures open { IsSome book.new.book }
     ensures text { string_bytes reply.new.text ≡ string_bytes reply.old.text }
@@ -131,7 +131,7 @@ fn first_ready<S: Alter>(
 ) -> Result<Option<ThreadName>, Refusal>
     requires open { IsSome book.now.book }
     requires all { LooksAtAll (log_in book.now) passed.now cursor.now }
-    ensures first { IfSome (log_in book.now) (λ log. IfOk result (IsFirst (passed_in passed.now) log)) }
+    ensures first { IfSome (log_in book.now) (λ log. IfOk result (IsFirstMoving (passed_in passed.now) log)) }
     ensures found { IfSome (log_in book.now) (λ log. IfOk result (IsFound (passed_in passed.now) log)) }
     ensures legal { IfSome (log_in book.now) IsLegal }
     ensures free { IfOk result (λ found. IfSome found (λ thread. passed_in passed.now thread ≡ false)) }
@@ -155,7 +155,7 @@ fn pass_by(
 ) -> Result<Tried, EntryFault>
     requires { passed_in passed.old thread ≡ false }
     ensures passes { PassesBy thread fault passed.old passed.new result }
-    ensures grows { Grows passed.old passed.new result }
+    ensures grows { GrowsPassedBy passed.old passed.new result }
     ensures cursor { OnOk result (IsUpTo thread (place_of cursor.new)) }
 {
     match fault {

@@ -9,7 +9,7 @@ ghost use Rattle.operator_line.specs.Sessions.{KeepsLine, WasClean, has_own_line
 ghost use Rattle.command_lines.specs.Grammar as grammar;
 ghost use Rattle.command_lines.specs.Grammar.{command_of, command_view};
 ghost use Rattle.reply_lines.specs.Replies.{json_reply, item_fault_reply, names_reply};
-ghost use Rattle.reply_lines.specs.Replying.{Writes};
+ghost use Rattle.reply_lines.specs.Replying.{AppendsReply};
 
 use crate::driving::drive;
 use crate::working::tell_no_steps;
@@ -421,7 +421,7 @@ pub(crate) fn refuse_change(
     fault: EntryFault,
     reply: &mut Reply,
 ) -> Result<(), AllocError>
-    ensures ok { Writes result reply.old reply.new (change_reply fault) }
+    ensures ok { AppendsReply result reply.old reply.new (change_reply fault) }
     ensures memory { fault ≡ EntryFault.Book Refusal.Memory → OnOk result ⊥ }
 {
     match fault {
@@ -432,7 +432,7 @@ pub(crate) fn refuse_change(
 
 /// Tells what is wrong with a text of JSON.
 fn refuse_json(fault: JsonFault, reply: &mut Reply) -> Result<(), AllocError>
-    ensures ok { Writes result reply.old reply.new (json_reply fault) }
+    ensures ok { AppendsReply result reply.old reply.new (json_reply fault) }
     ensures memory { fault ≡ JsonFault.Memory → OnOk result ⊥ }
 {
     match fault {
@@ -444,7 +444,7 @@ fn refuse_json(fault: JsonFault, reply: &mut Reply) -> Result<(), AllocError>
 
 /// Tells what is wrong with an item of the table's beginning.
 fn refuse_item(fault: ItemFault, reply: &mut Reply) -> Result<(), AllocError>
-    ensures ok { Writes result reply.old reply.new (item_fault_reply fault) }
+    ensures ok { AppendsReply result reply.old reply.new (item_fault_reply fault) }
     ensures memory { fault ≡ ItemFault.Memory → OnOk result ⊥ }
 {
     match fault {

@@ -1,8 +1,8 @@
 // Serving an input: line after line, its reply is written before the next is read.
 ghost use Rattle.std.specs.Prelude.{◌≡◌, ◌⊎◌, ◌<◌, ◌≤◌, ℕ, List, ◌∷◌, ◌++◌, [], true, false, Some, None, Ok, Err, IfSome, IfErr, IsTrue, length, slice_index, take, MatchOption, OnOk, OnErr};
 ghost use Rattle.std.specs.Io.KnownBytes.{Keeps};
-ghost use Rattle.operator_line.specs.Lines.{grown, ended_line, last_line, bytes_of, kept};
-ghost use Rattle.operator_line.specs.Serving.{AnswersRead, IsGone, has_failed, lost_reply, ServesLast, ServesLine, ServesPiece, ServesRead, Serves, WritesPart, WritesReply};
+ghost use Rattle.operator_line.specs.Lines.{grown, ended_line, last_line, bytes_of, kept_front};
+ghost use Rattle.operator_line.specs.Serving.{AnswersRead, IsGone, serving_failed, lost_reply, ServesLast, ServesLine, ServesPiece, ServesRead, Serves, WritesPart, WritesReply};
 ghost use Rattle.operator_line.specs.Handing.{Hands, HandsLast, HandsPiece, HandsRead};
 ghost use Rattle.operator_line.specs.Sessions.{KeepsOne, session_log};
 ghost use Rattle.operator_line.specs.Texts.{has_no_feed, lines_of};
@@ -78,7 +78,7 @@ pub fn serve<T: Threads + Wait + Sync, R: Read, W: Write, S: Alter>(
     ensures read { result ≡ Err ServeFault.Read → IfSome (R.remaining reader.old) (λ input.
         AnswersRead input (R.remaining reader.new) (session_log session.old) (session_log session.new) (W.contents writer.old) (W.contents writer.new)) }
     ensures whole { IfSome (R.remaining reader.old) (λ _. OnOk result (R.remaining reader.new ≡ Some [])) }
-    ensures failed { session.old.is_failed ≡ false → session.new.is_failed ≡ has_failed result }
+    ensures failed { session.old.is_failed ≡ false → session.new.is_failed ≡ serving_failed result }
     ensures gone { session.old.is_failed ≡ true → IsGone result session.old session.new (R.remaining reader.old) (R.remaining reader.new) (W.contents writer.old) (W.contents writer.new) }
     ensures handed { IfSome (R.remaining reader.old) (λ input. Hands (KeepsOne (λ held. state S.Store held)) result (lines_of input) session.old.journal session.new.journal) }
 {
@@ -99,7 +99,7 @@ pub fn serve_at_most<T: Threads + Wait + Sync, R: Read, W: Write, S: Alter>(
     ensures read { result ≡ Err ServeFault.Read → IfSome (R.remaining reader.old) (λ input.
         AnswersRead input (R.remaining reader.new) (session_log session.old) (session_log session.new) (W.contents writer.old) (W.contents writer.new)) }
     ensures whole { IfSome (R.remaining reader.old) (λ _. OnOk result (R.remaining reader.new ≡ Some [])) }
-    ensures failed { session.old.is_failed ≡ false → session.new.is_failed ≡ has_failed result }
+    ensures failed { session.old.is_failed ≡ false → session.new.is_failed ≡ serving_failed result }
     ensures gone { session.old.is_failed ≡ true → IsGone result session.old session.new (R.remaining reader.old) (R.remaining reader.new) (W.contents writer.old) (W.contents writer.new) }
     ensures handed { IfSome (R.remaining reader.old) (λ input. Hands (KeepsOne (λ held. state S.Store held)) result (lines_of input) session.old.journal session.new.journal) }
 {
@@ -124,7 +124,7 @@ fn serve_all<T: Threads + Wait + Sync, R: Read, W: Write, S: Alter>(
     ensures read { result ≡ Err ServeFault.Read → IfSome (R.remaining reader.old) (λ input.
         AnswersRead input (R.remaining reader.new) (session_log session.old) (session_log session.new) (W.contents writer.old) (W.contents writer.new)) }
     ensures whole { IfSome (R.remaining reader.old) (λ _. OnOk result (R.remaining reader.new ≡ Some [])) }
-    ensures failed { session.new.is_failed ≡ has_failed result }
+    ensures failed { session.new.is_failed ≡ serving_failed result }
     ensures handed { IfSome (R.remaining reader.old) (λ input. Hands (KeepsOne (λ held. state S.Store held)) result (lines_of input) session.old.journal session.new.journal) }
 {
     let Ok(mut piece) = vec![in alloc; 0u8; PIECE] else {
@@ -153,10 +153,10 @@ fn serve_read<T: Threads + Wait + Sync, R: Read, W: Write, S: Alter>(
 ) -> Result<bool, ServeFault>
     requires some { 0 < length piece.old }
     requires here { session.old.is_failed ≡ false }
-    ensures failed { session.new.is_failed ≡ has_failed result }
-    ensures read { (front : List ℕ) (text : List ℕ) → buffers.old.line ≡ kept front → R.remaining reader.old ≡ Some text
+    ensures failed { session.new.is_failed ≡ serving_failed result }
+    ensures read { (front : List ℕ) (text : List ℕ) → buffers.old.line ≡ kept_front front → R.remaining reader.old ≡ Some text
         → ServesRead result front text (R.remaining reader.new) buffers.new.line (session_log session.old) (session_log session.new) (W.contents writer.old) (W.contents writer.new) }
-    ensures handed { (front : List ℕ) (text : List ℕ) → buffers.old.line ≡ kept front → R.remaining reader.old ≡ Some text
+    ensures handed { (front : List ℕ) (text : List ℕ) → buffers.old.line ≡ kept_front front → R.remaining reader.old ≡ Some text
         → HandsRead (KeepsOne (λ held. state S.Store held)) result front text (R.remaining reader.new) buffers.new.line session.old.journal session.new.journal }
 {
     match reader.read(piece) {
@@ -185,10 +185,10 @@ fn serve_piece<T: Threads + Wait + Sync, W: Write, S: Alter>(
     session: &mut Session<S>,
 ) -> Result<(), ServeFault>
     requires here { session.old.is_failed ≡ false }
-    ensures failed { session.new.is_failed ≡ has_failed result }
-    ensures piece { (front : List ℕ) → buffers.old.line ≡ kept front
+    ensures failed { session.new.is_failed ≡ serving_failed result }
+    ensures piece { (front : List ℕ) → buffers.old.line ≡ kept_front front
         → ServesPiece result front piece.now buffers.new.line (session_log session.old) (session_log session.new) (W.contents writer.old) (W.contents writer.new) }
-    ensures handed { (front : List ℕ) → buffers.old.line ≡ kept front → HandsPiece (KeepsOne (λ held. state S.Store held)) result front piece.now buffers.new.line session.old.journal session.new.journal }
+    ensures handed { (front : List ℕ) → buffers.old.line ≡ kept_front front → HandsPiece (KeepsOne (λ held. state S.Store held)) result front piece.now buffers.new.line session.old.journal session.new.journal }
 {
     let mut rest = piece;
     let mut has_line = false;
@@ -235,7 +235,7 @@ fn serve_line<T: Threads + Wait + Sync, W: Write, S: Alter>(
     session: &mut Session<S>,
 ) -> Result<(), ServeFault>
     requires here { session.old.is_failed ≡ false }
-    ensures failed { session.new.is_failed ≡ has_failed result }
+    ensures failed { session.new.is_failed ≡ serving_failed result }
     ensures answers { ServesLine result (ended_line (grown front.now buffers.old.line)) (session_log session.old) (session_log session.new) (W.contents writer.old) (W.contents writer.new) }
     ensures begun { OnOk result (buffers.new.line ≡ Some []) }
     ensures handed { OnOk result (KeepsOne (λ held. state S.Store held) (ended_line (grown front.now buffers.old.line)) session.old.journal session.new.journal) }
@@ -262,7 +262,7 @@ fn serve_last<T: Threads + Wait + Sync, W: Write, S: Alter>(
     session: &mut Session<S>,
 ) -> Result<(), ServeFault>
     requires here { session.old.is_failed ≡ false }
-    ensures failed { session.new.is_failed ≡ has_failed result }
+    ensures failed { session.new.is_failed ≡ serving_failed result }
     ensures last { ServesLast result (last_line buffers.old.line) (session_log session.old) (session_log session.new) (W.contents writer.old) (W.contents writer.new) }
     ensures handed { HandsLast (KeepsOne (λ held. state S.Store held)) (last_line buffers.old.line) session.old.journal session.new.journal }
 {
@@ -293,7 +293,7 @@ fn write_answer<T: Threads + Wait + Sync, W: Write, S: Alter>(
     session: &mut Session<S>,
 ) -> Result<(), ServeFault>
     requires here { session.old.is_failed ≡ false }
-    ensures failed { session.new.is_failed ≡ has_failed result }
+    ensures failed { session.new.is_failed ≡ serving_failed result }
     ensures answers { ServesLine result (bytes_of line.entry) (session_log session.old) (session_log session.new) (W.contents writer.old) (W.contents writer.new) }
     ensures no_memory { result ≡ Err ServeFault.Memory → ⊥ }
     ensures handed { KeepsOne (λ held. state S.Store held) (bytes_of line.entry) session.old.journal session.new.journal }
@@ -349,7 +349,7 @@ pub fn write_all<W: Write>(writer: &mut W, reply: &[u8]) -> Result<(), ServeFaul
 ///
 /// `Write` where the writer refuses.
 pub fn flush<W: Write>(writer: &mut W) -> Result<(), ServeFault>
-    ensures kept { Keeps (W.contents writer.old) (W.contents writer.new) }
+    ensures kept_front { Keeps (W.contents writer.old) (W.contents writer.new) }
     ensures err { IfErr result (λ e. e ≡ ServeFault.Write) }
 {
     match writer.flush() {

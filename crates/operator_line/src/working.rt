@@ -8,7 +8,7 @@ ghost use Rattle.book_rounds.specs.Rounds.{AreSteps};
 ghost use Rattle.book_rounds.specs.Work.{IsStep};
 ghost use Rattle.journaled_book.specs.Journaled.{GoesOnBy, journal_of, log_of};
 ghost use Rattle.journaled_book.specs.Lines.{AreEntryLines};
-ghost use Rattle.operator_line.specs.Answering.{GoesOnFrom, IsToldOr, Settles, Stays, TellsNone, WorksBy, is_gone, since, stepped_names};
+ghost use Rattle.operator_line.specs.Answering.{GoesOnFrom, IsToldOr, SettlesWork, Stays, TellsNone, WorksBy, is_gone, since, stepped_names};
 ghost use Rattle.operator_line.specs.Answers.{HasNoRoom};
 ghost use Rattle.operator_line.specs.Sessions.{WasClean, session_log, sitting_of};
 ghost use Rattle.reply_lines.specs.Replies.{names_reply, no_table, refused};
@@ -150,7 +150,7 @@ pub(crate) fn tell_no_steps(alloc: Global, reply: &mut Reply) -> Result<(), Allo
 fn settle<S: Alter>(alloc: Global, away: AwayBook<S>, book: Book, begun: usize) -> (Hand<S>, Worked)
     requires goes { GoesOnFrom begun (log_of away.book) book.log }
     requires few { length (since begun book.log) < 2 ^ 32 }
-    ensures settled { Settles result.1 begun (log_of away.book) book.log (session_log (sitting_of result.0)) }
+    ensures settled { SettlesWork result.1 begun (log_of away.book) book.log (session_log (sitting_of result.0)) }
     ensures failed { (sitting_of result.0).is_failed ≡ is_gone result.1 }
     ensures clean { WasClean (λ held. state S.Store held) away.journal (sitting_of result.0).journal }
 {

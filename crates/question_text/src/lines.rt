@@ -2,7 +2,7 @@
 ghost use Rattle.std.specs.Prelude.{◌≡◌, []};
 ghost use Rattle.json_tree.specs.View.{data_of};
 ghost use Rattle.json_tree.specs.Written.{text_of};
-ghost use Rattle.question_text.specs.Writing.{Writes};
+ghost use Rattle.question_text.specs.Writing.{WritesLines};
 
 use json_tree::{Json, write_text};
 use std::alloc::{AllocError, Global};
@@ -34,14 +34,14 @@ impl Lines {
 
     /// Adds a text as it is.
     pub fn add(&mut self, text: &str) -> Result<(), AllocError>
-        ensures { Writes result self.old self.new text.now }
+        ensures { WritesLines result self.old self.new text.now }
     {
         self.bytes.extend_from_slice(text.as_bytes())
     }
 
     /// Adds a value as JSON.
     pub(crate) fn value(&mut self, json: &Json) -> Result<(), AllocError>
-        ensures { Writes result self.old self.new (text_of (data_of json.now)) }
+        ensures { WritesLines result self.old self.new (text_of (data_of json.now)) }
     {
         let text = write_text(self.alloc, json)?;
         self.add(text.as_str())

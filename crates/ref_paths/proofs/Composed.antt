@@ -5,18 +5,18 @@ use Rattle.json_tree.specs.Data.{Data, fields, no_members}
 use Rattle.ref_paths.specs.Composition.{pick_placed_at}
 use Rattle.ref_paths.specs.Laws.{Part}
 use Rattle.ref_paths.specs.Picking.{pick_at}
-use Rattle.ref_paths.specs.Placing.{opened_at, put_at, place_at}
+use Rattle.ref_paths.specs.Placing.{opened_at, put_value_at, place_at}
 use Rattle.ref_paths.specs.declared.path.PathStep.{PathStep}
 use Rattle.ref_paths.specs.declared.path.PathStep.TheVariants.{Name, Index}
 use Rattle.ref_paths.proofs.PickedAgain.{child_put, elsewhere_stays}
 
 same_new : (o : Option Data) (s : PathStep) (placing picking : List PathStep) (v d c : Data) → opened_at s d ≡ Some c → place_at placing v c ≡ o
-    → option_map (pick_at (s ∷ picking)) (option_map (λ new. put_at s new d) o) ≡ option_map (pick_at picking) o
+    → option_map (pick_at (s ∷ picking)) (option_map (λ new. put_value_at s new d) o) ≡ option_map (pick_at picking) o
 same_new None s placing picking v d c opened is = refl
 same_new (Some new) s placing picking v d c opened is = ap (λ x. Some (option_and_then (pick_at picking) x)) (child_put s d c new opened)
 
 same_open : (o : Option Data) (s : PathStep) (placing picking : List PathStep) (v d : Data) → opened_at s d ≡ o
-    → option_map (pick_at (s ∷ picking)) (option_and_then (λ child. option_map (λ new. put_at s new d) (place_at placing v child)) o) ≡ option_and_then (λ c. pick_placed_at placing picking v c) o
+    → option_map (pick_at (s ∷ picking)) (option_and_then (λ child. option_map (λ new. put_value_at s new d) (place_at placing v child)) o) ≡ option_and_then (λ c. pick_placed_at placing picking v c) o
 same_open None s placing picking v d is = refl
 same_open (Some c) s placing picking v d is = same_new (place_at placing v c) s placing picking v d c is refl
 
@@ -26,11 +26,11 @@ same_way s placing picking v d = same_open (opened_at s d) s placing picking v d
 
 -- whether a value can be placed goes by the rest of the path
 step_open : (o : Option Data) (s : PathStep) (placing : List PathStep) (v d : Data)
-    → is_some (option_and_then (λ child. option_map (λ new. put_at s new d) (place_at placing v child)) o) ≡ is_some (option_and_then (place_at placing v) o)
+    → is_some (option_and_then (λ child. option_map (λ new. put_value_at s new d) (place_at placing v child)) o) ≡ is_some (option_and_then (place_at placing v) o)
 step_open None s placing v d = refl
 step_open (Some c) s placing v d = some_mapped (place_at placing v c)
   where
-    some_mapped : (o : Option Data) → is_some (option_map (λ new. put_at s new d) o) ≡ is_some o
+    some_mapped : (o : Option Data) → is_some (option_map (λ new. put_value_at s new d) o) ≡ is_some o
     some_mapped None = refl
     some_mapped (Some new) = refl
 

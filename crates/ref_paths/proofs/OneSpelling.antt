@@ -8,7 +8,7 @@ use Rattle.std.specs.Str.{all_ascii_digits}
 use Rattle.std.specs.Str.Parse.{digits_value}
 use Rattle.std.specs.Fmt.{decimal}
 use Rattle.std.specs.List.{list_all}
-use Rattle.ref_paths.specs.Grammar.{is_name_byte, is_quotable, SpellsStep, SpellsSteps}
+use Rattle.ref_paths.specs.Grammar.{is_path_name_byte, is_quotable, SpellsStep, SpellsSteps}
 use Rattle.ref_paths.specs.Laws.{TextsSpellOnePath}
 use Rattle.ref_paths.specs.Scanner.{bracketed, indexed, scan}
 use Rattle.ref_paths.specs.declared.path.PathStep.{PathStep}
@@ -42,12 +42,12 @@ cut_one p (c ∷ a) (d ∷ b) x y ha hb hx hy e =
     (cc, r.1)
 
 -- steps begin with no byte of a name
-front_ends : (step : PathStep) (front rest : List ℕ) → SpellsStep step front → Ends is_name_byte (front ++ rest)
+front_ends : (step : PathStep) (front rest : List ℕ) → SpellsStep step front → Ends is_path_name_byte (front ++ rest)
 front_ends (Name n) front rest (inl h) = rw h.2 refl
 front_ends (Name n) front rest (inr h) = rw h.1 refl
 front_ends (Index n) front rest h = rw h.1 refl
 
-steps_end : (path : List PathStep) (text : List ℕ) → SpellsSteps path text → Ends is_name_byte text
+steps_end : (path : List PathStep) (text : List ℕ) → SpellsSteps path text → Ends is_path_name_byte text
 steps_end [] text h = rw h tt
 steps_end (step ∷ path) text h = rw h.4 (front_ends step h.0 h.1 h.2)
 
@@ -77,11 +77,11 @@ index_text n x = ap (λ z. 91 ∷ z) (append_assoc (decimal n) (93 ∷ []) x)
 quoted_text : (n x : List ℕ) → 91 ∷ 39 ∷ ((n ++ 39 ∷ 93 ∷ []) ++ x) ≡ 91 ∷ 39 ∷ (n ++ 39 ∷ 93 ∷ x)
 quoted_text n x = ap (λ z. 91 ∷ 39 ∷ z) (append_assoc n (39 ∷ 93 ∷ []) x)
 
-one_step : (s t : PathStep) (a b x y : List ℕ) → SpellsStep s a → SpellsStep t b → Ends is_name_byte x → Ends is_name_byte y → a ++ x ≡ b ++ y → (s ≡ t) × (x ≡ y)
+one_step : (s t : PathStep) (a b x y : List ℕ) → SpellsStep s a → SpellsStep t b → Ends is_path_name_byte x → Ends is_path_name_byte y → a ++ x ≡ b ++ y → (s ≡ t) × (x ≡ y)
 one_step (Name n) (Name m) a b x y (inl h) (inl g) hx hy e =
     let whole : 46 ∷ (n ++ x) ≡ 46 ∷ (m ++ y) = ap (λ z. z ++ x) (sym h.2) ∙ e ∙ ap (λ z. z ++ y) g.2 in
     let rest : n ++ x ≡ m ++ y = cc in
-    let r = cut_one is_name_byte n m x y h.1 g.1 hx hy rest in
+    let r = cut_one is_path_name_byte n m x y h.1 g.1 hx hy rest in
     (ap Name r.0, r.1)
 one_step (Name n) (Name m) a b x y (inl h) (inr g) hx hy e =
     let whole : 46 ∷ (n ++ x) ≡ 91 ∷ 39 ∷ ((m ++ 39 ∷ 93 ∷ []) ++ y) = ap (λ z. z ++ x) (sym h.2) ∙ e ∙ ap (λ z. z ++ y) g.1 in

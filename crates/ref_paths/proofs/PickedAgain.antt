@@ -10,7 +10,7 @@ use Rattle.json_tree.specs.Data.{Data, list, fields, no_members}
 use Rattle.json_tree.specs.Fields.{text_cmp, get_field, with_field}
 use Rattle.ref_paths.specs.Laws.{Part, PlacedIsPicked, ElsewhereStays}
 use Rattle.ref_paths.specs.Picking.{values_of, pairs_of, child_at, pick_at}
-use Rattle.ref_paths.specs.Placing.{opened_at, put_at, place_at}
+use Rattle.ref_paths.specs.Placing.{opened_at, put_value_at, place_at}
 use Rattle.ref_paths.specs.declared.path.PathStep.{PathStep}
 use Rattle.ref_paths.specs.declared.path.PathStep.TheVariants.{Name, Index}
 use Rattle.json_tree.proofs.Same.{text_same}
@@ -60,12 +60,12 @@ pub set_other : (ds : List Data) (n m : ℕ) (d : Data) → m ≢ n → slice_ge
 set_other ds n m d apart = set_other_at ds n m d apart (cases_lt m (length ds))
 
 -- one step
-pub child_put : (s : PathStep) (d c new : Data) → opened_at s d ≡ Some c → child_at s (put_at s new d) ≡ Some new
+pub child_put : (s : PathStep) (d c new : Data) → opened_at s d ≡ Some c → child_at s (put_value_at s new d) ≡ Some new
 child_put (Name n) (fields ms) c new h = ap (get_field n) (pairs_again (with_field n new (pairs_of ms))) ∙ get_with n new (pairs_of ms)
 child_put (Index n) (list ds) c new h = ap (λ xs. slice_get xs n) (values_again (slice_set (values_of ds) n new)) ∙ set_same (values_of ds) n new (slice_get_within (values_of ds) n c h)
 child_put _ _ c new h = cc
 
-pub child_put_other : (s t : PathStep) (d c new : Data) → s ≢ t → opened_at s d ≡ Some c → child_at t (put_at s new d) ≡ child_at t d
+pub child_put_other : (s t : PathStep) (d c new : Data) → s ≢ t → opened_at s d ≡ Some c → child_at t (put_value_at s new d) ≡ child_at t d
 child_put_other (Name n) (Name m) (fields ms) c new apart h = ap (get_field m) (pairs_again (with_field n new (pairs_of ms))) ∙ get_other m n new (pairs_of ms) (λ e. apart (ap Name (sym e)))
 child_put_other (Index n) (Index m) (list ds) c new apart h = ap (λ xs. slice_get xs m) (values_again (slice_set (values_of ds) n new)) ∙ set_other (values_of ds) n m new (λ e. apart (ap Index (sym e)))
 child_put_other (Name n) (Index m) (fields ms) c new apart h = refl
@@ -74,13 +74,13 @@ child_put_other _ _ _ c new apart h = cc
 
 -- the parts of a placing
 abbrev pub Parts : PathStep → List PathStep → Data → Data → Data → Type 0
-Parts s path v root after = (c : Data) × (new : Data) × (opened_at s root ≡ Some c) × (place_at path v c ≡ Some new) × (put_at s new root ≡ after)
+Parts s path v root after = (c : Data) × (new : Data) × (opened_at s root ≡ Some c) × (place_at path v c ≡ Some new) × (put_value_at s new root ≡ after)
 
-parts_new : (o : Option Data) (s : PathStep) (path : List PathStep) (v root after c : Data) → opened_at s root ≡ Some c → place_at path v c ≡ o → option_map (λ new. put_at s new root) o ≡ Some after → Parts s path v root after
+parts_new : (o : Option Data) (s : PathStep) (path : List PathStep) (v root after c : Data) → opened_at s root ≡ Some c → place_at path v c ≡ o → option_map (λ new. put_value_at s new root) o ≡ Some after → Parts s path v root after
 parts_new None s path v root after c open_is is h = cc
 parts_new (Some new) s path v root after c open_is is h = (c, new, open_is, is, cc)
 
-parts_open : (o : Option Data) (s : PathStep) (path : List PathStep) (v root after : Data) → opened_at s root ≡ o → option_and_then (λ child. option_map (λ new. put_at s new root) (place_at path v child)) o ≡ Some after → Parts s path v root after
+parts_open : (o : Option Data) (s : PathStep) (path : List PathStep) (v root after : Data) → opened_at s root ≡ o → option_and_then (λ child. option_map (λ new. put_value_at s new root) (place_at path v child)) o ≡ Some after → Parts s path v root after
 parts_open None s path v root after is h = cc
 parts_open (Some c) s path v root after is h = parts_new (place_at path v c) s path v root after c is refl h
 
@@ -123,7 +123,7 @@ elsewhere_stays (s ∷ path) (t ∷ []) v root after (inr both) h = absurd (no_p
 elsewhere_stays (s ∷ path) (t ∷ u ∷ other) v root after (inr both) h =
     let p = place_parts s path v root after h in
     ap (λ x. option_and_then (pick_at (u ∷ other)) (child_at t x)) (sym p.4)
-    ∙ ap (λ x. option_and_then (pick_at (u ∷ other)) (child_at x (put_at s p.1 root))) (sym both.0)
+    ∙ ap (λ x. option_and_then (pick_at (u ∷ other)) (child_at x (put_value_at s p.1 root))) (sym both.0)
     ∙ ap (option_and_then (pick_at (u ∷ other))) (child_put s root p.0 p.1 p.2)
     ∙ elsewhere_stays path (u ∷ other) v p.0 p.1 both.1 p.3
     ∙ picks_open s u other root p.0 p.2 ∙ ap (λ x. pick_at (x ∷ u ∷ other) root) both.0

@@ -11,7 +11,7 @@ use Rattle.std.specs.List.Sorted.{IsStrictlySortedBy}
 use Rattle.std.specs.Option.{option_and_then}
 use Rattle.json_tree.specs.Data.{Data, list, fields, no_members, items_of, members_of}
 use Rattle.json_tree.specs.Fields.{text_cmp, get_field, with_field, IsInNameOrder}
-use Rattle.ref_paths.specs.Nesting.{is_name, nested}
+use Rattle.ref_paths.specs.Nesting.{is_name_step, nested}
 use Rattle.ref_paths.specs.Placing.{place_at}
 use Rattle.ref_paths.specs.declared.path.PathStep.{PathStep}
 use Rattle.ref_paths.specs.declared.path.PathStep.TheVariants.{Name, Index}
@@ -30,12 +30,12 @@ map_none f None = (λ h. refl, λ h. refl)
 map_none f (Some a) = (λ h. cc, λ h. cc)
 
 -- names alone are made as objects, and an index finds no list there
-pub names_place : (p : List PathStep) (v : Data) → list_all is_name p ≡ true → place_at p v (fields no_members) ≡ Some (nested p v)
+pub names_place : (p : List PathStep) (v : Data) → list_all is_name_step p ≡ true → place_at p v (fields no_members) ≡ Some (nested p v)
 names_place [] v h = refl
 names_place (Name n ∷ p) v h = rw (names_place p v h)
 names_place (Index n ∷ p) v h = cc
 
-pub no_names_place : (p : List PathStep) (v : Data) → list_all is_name p ≡ false → place_at p v (fields no_members) ≡ None
+pub no_names_place : (p : List PathStep) (v : Data) → list_all is_name_step p ≡ false → place_at p v (fields no_members) ≡ None
 no_names_place [] v h = cc
 no_names_place (Name n ∷ p) v h = rw (no_names_place p v h)
 no_names_place (Index n ∷ p) v h = refl
@@ -125,13 +125,13 @@ not_none : {A : Type 0} (o : Option A) → o ≡ None → IsSome o → ⊥
 not_none None none some = cc some
 not_none (Some a) none some = cc none
 
-names_at : (b : Bool) (n : List ℕ) (p : List PathStep) (v : Data) (ms : List (List ℕ × Data)) → get_field n ms ≡ None → list_all is_name p ≡ b → IsSome (place_at (Name n ∷ p) v (fields (members_of ms))) → b ≡ true
+names_at : (b : Bool) (n : List ℕ) (p : List PathStep) (v : Data) (ms : List (List ℕ × Data)) → get_field n ms ≡ None → list_all is_name_step p ≡ b → IsSome (place_at (Name n ∷ p) v (fields (members_of ms))) → b ≡ true
 names_at true n p v ms none is some = refl
 names_at false n p v ms none is some =
     absurd (not_none _ (place_absent n p v ms none ∙ ap (option_map (λ new. fields (members_of (with_field n new ms)))) (no_names_place p v is)) some)
 
-pub placed_names : (n : List ℕ) (p : List PathStep) (v : Data) (ms : List (List ℕ × Data)) → get_field n ms ≡ None → IsSome (place_at (Name n ∷ p) v (fields (members_of ms))) → list_all is_name p ≡ true
-placed_names n p v ms none some = names_at (list_all is_name p) n p v ms none refl some
+pub placed_names : (n : List ℕ) (p : List PathStep) (v : Data) (ms : List (List ℕ × Data)) → get_field n ms ≡ None → IsSome (place_at (Name n ∷ p) v (fields (members_of ms))) → list_all is_name_step p ≡ true
+placed_names n p v ms none some = names_at (list_all is_name_step p) n p v ms none refl some
 
 pub placed_field : (n : List ℕ) (p : List PathStep) (v : Data) (ms : List (List ℕ × Data)) (d : Data) → get_field n ms ≡ Some d → IsSome (place_at (Name n ∷ p) v (fields (members_of ms))) → IsSome (place_at p v d)
 placed_field n p v ms d has some = some_mapped _ (place_at p v d) (subst IsSome (place_present n p v ms d has) some)

@@ -3,7 +3,7 @@ use Rattle.std.proofs.Common.{◌≡◌, pos, List, [], ◌∷◌, true, false, 
 use Rattle.json_tree.specs.Data.{Data, null, whole, text, list as list_data, fields as fields_data, no_items, item, no_members, member}
 use Rattle.ref_paths.specs.Filling.{filled}
 use Rattle.ref_paths.specs.Grammar.{SpellsPath}
-use Rattle.ref_paths.specs.TemplateFaults.{is_left_out}
+use Rattle.ref_paths.specs.TemplateFaults.{is_intrinsic_or_context}
 use Rattle.ref_paths.specs.Templates.{constant, from_input, item_index, from_item, list, fields, payload, no_payloads, named, no_named, IsTemplate, unmarked}
 use Rattle.ref_paths.specs.declared.path.PathStep.{PathStep}
 use Rattle.ref_paths.specs.declared.path.PathStep.TheVariants.{Name}
@@ -51,8 +51,8 @@ of_an_item = refl
 without_item : filled input None item_index ≡ None
 without_item = refl
 
-intrinsic : is_left_out (codes "States.Format('a')") ≡ true
+intrinsic : is_intrinsic_or_context (codes "States.Format('a')") ≡ true
 intrinsic = refl
 
-context : is_left_out (codes "$$.Execution.Id") ≡ true
+context : is_intrinsic_or_context (codes "$$.Execution.Id") ≡ true
 context = refl

@@ -12,12 +12,12 @@ use Rattle.std.specs.Fmt.{decimal}
 use Rattle.std.specs.List.{list_all}
 use Rattle.std.specs.Option.{option_and_then}
 use Rattle.std.specs.Str.{IsCharBoundary, IsUtf8}
-use Rattle.ref_paths.specs.Grammar.{is_name_byte, is_quotable, SpellsStep, SpellsSteps, SpellsPath, BeginsPath, FailsAt}
-use Rattle.ref_paths.specs.Scanner.{Place, between, dotted, in_name, bracketed, quoted, closing, indexed, with_digit, extended, begun, after, scan, is_end, GoesOn, ReadsStep, StopsAt, IsIndexSoFar}
+use Rattle.ref_paths.specs.Grammar.{is_path_name_byte, is_quotable, SpellsStep, SpellsSteps, SpellsPath, BeginsPath, FailsAt}
+use Rattle.ref_paths.specs.Scanner.{ScanPlace, between, dotted, in_name, bracketed, quoted, closing, indexed, with_digit, extended, place_begun_by, after, scan, is_end, ScanGoesOn, ReadsStep, StopsAt, IsIndexSoFar}
 use Rattle.ref_paths.specs.declared.path.PathStep.{PathStep}
 use Rattle.ref_paths.specs.declared.path.PathStep.TheVariants.{Name, Index}
 
-pub scan-append : (a b : List ℕ) (p : Option Place) → scan (a ++ b) p ≡ scan b (scan a p)
+pub scan-append : (a b : List ℕ) (p : Option ScanPlace) → scan (a ++ b) p ≡ scan b (scan a p)
 scan-append [] b p = refl
 scan-append (c ∷ a) b p = scan-append a b (option_and_then (after c) p)
 
@@ -26,7 +26,7 @@ scan-none [] = refl
 scan-none (c ∷ a) = scan-none a
 
 -- what no path begins with, none begins with more of
-pub dead_after : (text : List ℕ) (j k : ℕ) (p : Option Place) → j ≤ k → scan (take j text) p ≡ None → scan (take k text) p ≡ None
+pub dead_after : (text : List ℕ) (j k : ℕ) (p : Option ScanPlace) → j ≤ k → scan (take j text) p ≡ None → scan (take k text) p ≡ None
 dead_after text zero k p le h = rw h (scan-none (take k text))
 dead_after [] (suc j) zero p le h = h
 dead_after [] (suc j) (suc k) p le h = h
@@ -34,16 +34,16 @@ dead_after (c ∷ cs) (suc j) zero p le h = absurd (omega arith)
 dead_after (c ∷ cs) (suc j) (suc k) p le h = dead_after cs j k (option_and_then (after c) p) (omega arith) h
 
 -- bytes of a name
-pub names_scan : (name : List ℕ) → list_all is_name_byte name ≡ true → scan name (Some in_name) ≡ Some in_name
+pub names_scan : (name : List ℕ) → list_all is_path_name_byte name ≡ true → scan name (Some in_name) ≡ Some in_name
 names_scan [] h = refl
 names_scan (c ∷ cs) h =
-    let s = and_parts (is_name_byte c) (list_all is_name_byte cs) h in
+    let s = and_parts (is_path_name_byte c) (list_all is_path_name_byte cs) h in
     rw s.0 (names_scan cs s.1)
 
-pub dotted_scan : (name : List ℕ) → name ≢ [] → list_all is_name_byte name ≡ true → scan name (Some dotted) ≡ Some in_name
+pub dotted_scan : (name : List ℕ) → name ≢ [] → list_all is_path_name_byte name ≡ true → scan name (Some dotted) ≡ Some in_name
 dotted_scan [] some h = absurd (some refl)
 dotted_scan (c ∷ cs) some h =
-    let s = and_parts (is_name_byte c) (list_all is_name_byte cs) h in
+    let s = and_parts (is_path_name_byte c) (list_all is_path_name_byte cs) h in
     rw s.0 (names_scan cs s.1)
 
 pub quoted_scan : (name : List ℕ) → list_all is_quotable name ≡ true → scan name (Some quoted) ≡ Some quoted
@@ -58,7 +58,7 @@ digit_byte d h = grind (arith, nat_tests)
 pub extended_digit : (o : Option ℕ) (d : ℕ) → d < 10 → extended o (48 + d) ≡ with_digit o d
 extended_digit o d h = rw (digit_byte d h) (ap (with_digit o) (omega arith))
 
-abbrev pub place_of : Option ℕ → Place
+abbrev pub place_of : Option ℕ → ScanPlace
 place_of None = bracketed
 place_of (Some n) = indexed n
 
@@ -66,7 +66,7 @@ pub record ReadSoFar (text : List ℕ) (steps : List PathStep) (rest : List ℕ)
   pub front : List ℕ
   pub joined : text ≡ 36 ∷ (front ++ rest)
   pub spelled : SpellsSteps steps front
-  pub goes_on : GoesOn front rest
+  pub goes_on : ScanGoesOn front rest
 
 pub take_front : (a b : List ℕ) (k : ℕ) → take (length a + k) (a ++ b) ≡ a ++ take k b
 take_front [] b k = ap (λ n. take n b) (omega arith)
@@ -87,22 +87,22 @@ first_of [] b some h = absurd (omega arith)
 first_of (c ∷ cs) b some h = ap (λ x. x ∷ cs) h
 
 -- a step that leaves nothing open
-pub goes_on_closed : (front rest : List ℕ) → scan front (Some between) ≡ Some between → GoesOn front rest
+pub goes_on_closed : (front rest : List ℕ) → scan front (Some between) ≡ Some between → ScanGoesOn front rest
 goes_on_closed front rest h = λ k low high. scan-append front (take k rest) (Some between) ∙ ap (scan (take k rest)) h
 
 -- what comes after a name is no byte of one, so that it begins a step
-same_between : (rest : List ℕ) (k : ℕ) → 0 < k → 0 < length rest → is_name_byte (get_or rest 0 0) ≡ false → scan (take k rest) (Some in_name) ≡ scan (take k rest) (Some between)
+same_between : (rest : List ℕ) (k : ℕ) → 0 < k → 0 < length rest → is_path_name_byte (get_or rest 0 0) ≡ false → scan (take k rest) (Some in_name) ≡ scan (take k rest) (Some between)
 same_between [] k low some h = absurd (omega arith)
 same_between (c ∷ cs) zero low some h = absurd (omega arith)
-same_between (c ∷ cs) (suc k) low some h = ap (λ b. scan (take k cs) (if b then Some in_name else begun c)) h
+same_between (c ∷ cs) (suc k) low some h = ap (λ b. scan (take k cs) (if b then Some in_name else place_begun_by c)) h
 
-pub goes_on_after_name : (front rest : List ℕ) → scan front (Some between) ≡ Some in_name → (0 < length rest → is_name_byte (get_or rest 0 0) ≡ false) → GoesOn front rest
+pub goes_on_after_name : (front rest : List ℕ) → scan front (Some between) ≡ Some in_name → (0 < length rest → is_path_name_byte (get_or rest 0 0) ≡ false) → ScanGoesOn front rest
 goes_on_after_name front rest h stops = λ k low high.
     let some : 0 < length rest = omega arith in
     scan-append front (take k rest) (Some between) ∙ ap (scan (take k rest)) h ∙ same_between rest k low some (stops some)
 
 -- where the text of steps stops
-pub stops_front : (text front rest : List ℕ) (n : ℕ) (more : List ℕ) (path : List PathStep) (p : Place) → text ≡ front ++ rest → n ≡ length front
+pub stops_front : (text front rest : List ℕ) (n : ℕ) (more : List ℕ) (path : List PathStep) (p : ScanPlace) → text ≡ front ++ rest → n ≡ length front
     → SpellsSteps path (front ++ more) → scan front (Some between) ≡ Some p → (length rest ≡ 0 → is_end (Some p) ≡ false)
     → (0 < length rest → after (get_or rest 0 0) p ≡ None) → StopsAt text n
 stops_front text front [] n more path p joined is spelled reached unended dead =
@@ -131,7 +131,7 @@ pub one_step : (step : PathStep) (text : List ℕ) → SpellsStep step text → 
 one_step step text h = (text, [], h, refl, sym (append_none text))
 
 -- a name after a point
-pub name_reads : (t : List ℕ) (e : ℕ) → 0 < e → e ≤ length t → list_all is_name_byte (take e t) ≡ true → (e < length t → is_name_byte (get_or t e 0) ≡ false) → ReadsStep (46 ∷ t) (Name (take e t)) (drop e t)
+pub name_reads : (t : List ℕ) (e : ℕ) → 0 < e → e ≤ length t → list_all is_path_name_byte (take e t) ≡ true → (e < length t → is_path_name_byte (get_or t e 0) ≡ false) → ReadsStep (46 ∷ t) (Name (take e t)) (drop e t)
 name_reads t e low high names stops =
     let len : length (take e t) ≡ e = length-take e t ∙ omega arith in
     let some : take e t ≢ [] = λ h. omega (arith, ap length h) in
@@ -139,11 +139,11 @@ name_reads t e low high names stops =
       front = 46 ∷ take e t;
       joined = ap (λ x. 46 ∷ x) (sym (take-append-drop e t));
       spelled = inl (some, names, refl);
-      goes_on = goes_on_after_name (46 ∷ take e t) (drop e t) (dotted_scan (take e t) some names) (λ h. ap is_name_byte (get_or-drop e t 0 0 ∙ ap (λ k. get_or t k 0) (omega arith)) ∙ stops (omega (arith, length-drop e t)));
+      goes_on = goes_on_after_name (46 ∷ take e t) (drop e t) (dotted_scan (take e t) some names) (λ h. ap is_path_name_byte (get_or-drop e t 0 0 ∙ ap (λ k. get_or t k 0) (omega arith)) ∙ stops (omega (arith, length-drop e t)));
       shorter = omega (arith, length-drop e t);
     }
 
-pub name_stops : (t : List ℕ) → (0 < length t → is_name_byte (get_or t 0 0) ≡ false) → StopsAt (46 ∷ t) 1
+pub name_stops : (t : List ℕ) → (0 < length t → is_path_name_byte (get_or t 0 0) ≡ false) → StopsAt (46 ∷ t) 1
 name_stops t stops =
     stops_front (46 ∷ t) (46 ∷ []) t 1 (97 ∷ []) (Name (97 ∷ []) ∷ []) dotted refl refl
     (one_step (Name (97 ∷ [])) (46 ∷ 97 ∷ []) (inl (λ h. cc, refl, refl))) refl (λ h. refl) (λ h. rw (stops h))
@@ -260,7 +260,7 @@ begin_stops t some dot bracket =
     stops_front t [] t 0 [] [] between refl refl refl refl (λ h. absurd (omega arith)) (λ h. rw (ne_eqb (get_or t 0 0) 46 dot, ne_eqb (get_or t 0 0) 91 bracket))
 
 -- all that was read so far
-passes_on : (front front' rest : List ℕ) → GoesOn front (front' ++ rest) → GoesOn front' rest → GoesOn (front ++ front') rest
+passes_on : (front front' rest : List ℕ) → ScanGoesOn front (front' ++ rest) → ScanGoesOn front' rest → ScanGoesOn (front ++ front') rest
 passes_on front front' rest h g = λ k low high.
     let whole : take (length front' + k) (front' ++ rest) ≡ front' ++ take k rest = take_front front' rest k in
     ap (λ x. scan x (Some between)) (append_assoc front front' (take k rest) ∙ ap (λ x. front ++ x) (sym whole))
@@ -277,11 +277,11 @@ read_more text steps rest rest' step h r = record {
   front = h.front ++ r.front;
   joined = h.joined ∙ ap (λ x. 36 ∷ (h.front ++ x)) r.joined ∙ ap (λ x. 36 ∷ x) (sym (append_assoc h.front r.front rest'));
   spelled = spelled_after steps (step ∷ []) h.front r.front h.spelled (one_step step r.front r.spelled);
-  goes_on = passes_on h.front r.front rest' (let P : List ℕ → Type 0 = λ x. GoesOn h.front x in subst P r.joined h.goes_on) r.goes_on;
+  goes_on = passes_on h.front r.front rest' (let P : List ℕ → Type 0 = λ x. ScanGoesOn h.front x in subst P r.joined h.goes_on) r.goes_on;
 }
 
 -- what spells steps leads to where a path may end
-step_scan : (step : PathStep) (front : List ℕ) (p : Place) → is_end (Some p) ≡ true → SpellsStep step front → (q : Place) × (is_end (Some q) ≡ true) × (scan front (Some p) ≡ Some q)
+step_scan : (step : PathStep) (front : List ℕ) (p : ScanPlace) → is_end (Some p) ≡ true → SpellsStep step front → (q : ScanPlace) × (is_end (Some q) ≡ true) × (scan front (Some p) ≡ Some q)
 step_scan (Name name) front between end (inl h) = (in_name, refl, ap (λ x. scan x (Some between)) h.2 ∙ dotted_scan name h.0 h.1)
 step_scan (Name name) front in_name end (inl h) = (in_name, refl, ap (λ x. scan x (Some in_name)) h.2 ∙ dotted_scan name h.0 h.1)
 step_scan (Name name) front between end (inr h) = (between, refl, ap (λ x. scan x (Some between)) h.1 ∙ quotes_scan name (39 ∷ 93 ∷ []) h.0)
@@ -290,7 +290,7 @@ step_scan (Index n) front between end h = (between, refl, ap (λ x. scan x (Some
 step_scan (Index n) front in_name end h = (between, refl, ap (λ x. scan x (Some in_name)) h.1 ∙ scan-append (decimal n) (93 ∷ []) (Some bracketed) ∙ ap (scan (93 ∷ [])) (decimal_scan n h.0))
 step_scan _ front _ end h = cc
 
-pub steps_end : (path : List PathStep) (text : List ℕ) (p : Place) → is_end (Some p) ≡ true → SpellsSteps path text → is_end (scan text (Some p)) ≡ true
+pub steps_end : (path : List PathStep) (text : List ℕ) (p : ScanPlace) → is_end (Some p) ≡ true → SpellsSteps path text → is_end (scan text (Some p)) ≡ true
 steps_end [] text p end h = ap (λ x. is_end (scan x (Some p))) h ∙ end
 steps_end (step ∷ path) text p end h =
     let q = step_scan step h.0 p end h.2 in

@@ -32,5 +32,5 @@ abbrev mutual
   filled_fields input it (named k p fs) = option_and_then (λ d. option_map (λ ms. (k, d) ∷ ms) (filled_fields input it fs)) (filled input it p)
 
 -- an item that is lent, with its index
-abbrev pub item_of : Option (ℕ × Bor Json) → Option (ℕ × Data)
-item_of it = option_map (λ i. (i.0, data_of i.1.now)) it
+abbrev pub item_lent : Option (ℕ × Bor Json) → Option (ℕ × Data)
+item_lent it = option_map (λ i. (i.0, data_of i.1.now)) it

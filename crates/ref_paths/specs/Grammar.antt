@@ -8,8 +8,8 @@ use Rattle.ref_paths.specs.declared.path.PathStep.{PathStep}
 use Rattle.ref_paths.specs.declared.path.PathStep.TheVariants.{Name, Index}
 
 -- an ASCII letter or digit, `_`, `-`, or a byte of a character past ASCII
-abbrev pub is_name_byte : ℕ → Bool
-is_name_byte c = is_ascii_alphanumeric c || (c == 95 || (c == 45 || nat_le 128 c))
+abbrev pub is_path_name_byte : ℕ → Bool
+is_path_name_byte c = is_ascii_alphanumeric c || (c == 95 || (c == 45 || nat_le 128 c))
 
 -- any byte but `'`
 abbrev pub is_quotable : ℕ → Bool
@@ -19,7 +19,7 @@ is_quotable c = not (c == 39)
 -- has no leading zero, and `]`.
 abbrev pub SpellsStep : PathStep → List ℕ → Type 0
 SpellsStep (Name name) text =
-    ((name ≢ []) × IsTrue (list_all is_name_byte name) × (text ≡ 46 ∷ name))
+    ((name ≢ []) × IsTrue (list_all is_path_name_byte name) × (text ≡ 46 ∷ name))
     ⊎ (IsTrue (list_all is_quotable name) × (text ≡ 91 ∷ 39 ∷ (name ++ 39 ∷ 93 ∷ [])))
 SpellsStep (Index n) text = (n < 2 ^ 32) × (text ≡ 91 ∷ (decimal n ++ 93 ∷ []))
 

@@ -65,8 +65,8 @@ mutual
 abbrev pub payload_code : Coded Payload
 payload_code = record { code = payload_gv; inj = payload_inj }
 
-abbrev pub list_code : Coded (List Payload)
-list_code = coded_list payload_code
+abbrev pub payload_list_code : Coded (List Payload)
+payload_list_code = coded_list payload_code
 
-abbrev pub fields_code : Coded (List (List ℕ × Payload))
-fields_code = coded_list (coded× (coded_list coded_ℕ) payload_code)
+abbrev pub payload_fields_code : Coded (List (List ℕ × Payload))
+payload_fields_code = coded_list (coded× (coded_list coded_ℕ) payload_code)

@@ -14,11 +14,11 @@ payload_of (Item path) = from_item path
 payload_of (ListOf ps) = list (payloads_of ps)
 payload_of (Fields fs) = fields (named_of fs)
 
-abbrev pub list_of : List Node → List Payload
-list_of = map payload_of
+abbrev pub payload_list_of : List Node → List Payload
+payload_list_of = map payload_of
 
-abbrev pub field_of : NodeField → List ℕ × Payload
-field_of f = (f.name, payload_of f.value)
+abbrev pub payload_field_of : NodeField → List ℕ × Payload
+payload_field_of f = (f.name, payload_of f.value)
 
-abbrev pub fields_of : List NodeField → List (List ℕ × Payload)
-fields_of = map field_of
+abbrev pub payload_fields_of : List NodeField → List (List ℕ × Payload)
+payload_fields_of = map payload_field_of

@@ -21,21 +21,21 @@ same_text = pointwise ◌==◌
 abbrev pub same_data : Data → Data → Bool
 same_data = eq_by_cmp data_cmp
 
-abbrev pub same_step : PathStep → PathStep → Bool
-same_step (Name s) (Name t) = same_text s t
-same_step (Name s) (Index j) = false
-same_step (Index i) (Name t) = false
-same_step (Index i) (Index j) = i == j
+abbrev pub same_path_step : PathStep → PathStep → Bool
+same_path_step (Name s) (Name t) = same_text s t
+same_path_step (Name s) (Index j) = false
+same_path_step (Index i) (Name t) = false
+same_path_step (Index i) (Index j) = i == j
 
-abbrev pub same_path : List PathStep → List PathStep → Bool
-same_path = pointwise same_step
+abbrev pub same_payload_path : List PathStep → List PathStep → Bool
+same_payload_path = pointwise same_path_step
 
 abbrev mutual
   pub same_payload : Payload → Payload → Bool
   same_payload (constant d) (constant e) = same_data d e
-  same_payload (from_input p) (from_input q) = same_path p q
+  same_payload (from_input p) (from_input q) = same_payload_path p q
   same_payload item_index item_index = true
-  same_payload (from_item p) (from_item q) = same_path p q
+  same_payload (from_item p) (from_item q) = same_payload_path p q
   same_payload (list ps) (list qs) = same_payloads ps qs
   same_payload (fields fs) (fields gs) = same_fields fs gs
   same_payload _ _ = false
@@ -82,18 +82,18 @@ text_exact = bytes_eq-Decides
 pub data_exact : IsExact same_data
 data_exact = exact same_data (λ d e h. data_same d e ((Equal-is (data_cmp d e)).0 h)) (λ d. ap is_eq (tied_itself data_cmp_total d))
 
-step_one : (a b : PathStep) → same_step a b ≡ true → a ≡ b
+step_one : (a b : PathStep) → same_path_step a b ≡ true → a ≡ b
 step_one (Name s) (Name t) h = ap Name ((text_exact s t).0 h)
 step_one (Name s) (Index j) h = cc
 step_one (Index i) (Name t) h = cc
 step_one (Index i) (Index j) h = ap Index ((unsigned_Decides i j).0 h)
 
-step_itself : (a : PathStep) → same_step a a ≡ true
+step_itself : (a : PathStep) → same_path_step a a ≡ true
 step_itself (Name s) = (text_exact s s).1 refl
 step_itself (Index i) = (unsigned_Decides i i).1 refl
 
-pub step_exact : IsExact same_step
-step_exact = exact same_step step_one step_itself
+pub path_step_exact : IsExact same_path_step
+path_step_exact = exact same_path_step step_one step_itself
 
 pub list_exact : {A : Type 0} (E : A → A → Bool) → IsExact E → IsExact (pointwise E)
 list_exact E e xs ys = slice_eq-Decides e xs ys (pointwise E xs ys) refl
@@ -111,8 +111,8 @@ option_itself E e (Some x) = (e x x).1 refl
 pub option_exact : {A : Type 0} (E : A → A → Bool) → IsExact E → IsExact (option_eq E)
 option_exact E e = exact (option_eq E) (option_one E e) (option_itself E e)
 
-pub path_exact : IsExact same_path
-path_exact = list_exact same_step step_exact
+pub path_exact : IsExact same_payload_path
+path_exact = list_exact same_path_step path_step_exact
 
 mutual
   payload_one : (p q : Payload) → same_payload p q ≡ true → p ≡ q

@@ -13,8 +13,8 @@ use Rattle.ref_paths.specs.declared.template_reading.SourceFault.{SourceFault}
 use Rattle.ref_paths.specs.declared.template_reading.SourceFault.TheVariants.{NoSource, LeftOut, Memory as NoMemory}
 
 -- an intrinsic function, or a part of the context object
-abbrev pub is_left_out : List ℕ → Bool
-is_left_out s = starts_with ◌==◌ s (codes "States.") || starts_with ◌==◌ s (codes "$$")
+abbrev pub is_intrinsic_or_context : List ℕ → Bool
+is_intrinsic_or_context s = starts_with ◌==◌ s (codes "States.") || starts_with ◌==◌ s (codes "$$")
 
 abbrev pub SpellsNoSource : Bool → List ℕ → Type 0
 SpellsNoSource item_paths s = (p : Payload) → SpellsSource item_paths p s → ⊥
@@ -29,8 +29,8 @@ SpellsNoItemSource item_paths s = IsTrue item_paths → (s ≢ codes "$$.Map.Ite
 
 -- of the text of a marked field
 abbrev pub SourceFaultStands : Bool → List ℕ → SourceFault → Type 0
-SourceFaultStands item_paths s NoSource = SpellsNoSource item_paths s × (is_left_out s ≡ false)
-SourceFaultStands item_paths s LeftOut = SpellsNoSource item_paths s × (is_left_out s ≡ true)
+SourceFaultStands item_paths s NoSource = SpellsNoSource item_paths s × (is_intrinsic_or_context s ≡ false)
+SourceFaultStands item_paths s LeftOut = SpellsNoSource item_paths s × (is_intrinsic_or_context s ≡ true)
 SourceFaultStands item_paths s NoMemory = ⊤
 
 -- of the field of this name, in an object of these fields

@@ -53,11 +53,11 @@ abbrev mutual
   named_depth no_named = 0
   named_depth (named k p fs) = max (depth p) (named_depth fs)
 
-abbrev pub list_depth : List Payload → ℕ
-list_depth ps = payloads_depth (payloads_of ps)
+abbrev pub payload_list_depth : List Payload → ℕ
+payload_list_depth ps = payloads_depth (payloads_of ps)
 
-abbrev pub fields_depth : List (List ℕ × Payload) → ℕ
-fields_depth fs = named_depth (named_of fs)
+abbrev pub payload_fields_depth : List (List ℕ × Payload) → ℕ
+payload_fields_depth fs = named_depth (named_of fs)
 
 -- a name without the `.$` at its end, where it ends so
 abbrev pub unmarked : List ℕ → Option (List ℕ)

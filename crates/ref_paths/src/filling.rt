@@ -3,7 +3,7 @@
 ghost use Rattle.std.specs.Prelude.{◌≡◌, ◌↔◌, [], None, Some, Err, IsTrue, is_some, option_map, IfOk};
 ghost use Rattle.json_tree.specs.Data.{Data, has_room};
 ghost use Rattle.json_tree.specs.View.{data_of};
-ghost use Rattle.ref_paths.specs.Filling.{filled, filled_items, filled_fields, fields_with, item_of};
+ghost use Rattle.ref_paths.specs.Filling.{filled, filled_items, filled_fields, fields_with, item_lent};
 ghost use Rattle.ref_paths.specs.PayloadView.{payload_of};
 ghost use Rattle.ref_paths.specs.Templates.{payloads_of, named_of};
 
@@ -56,9 +56,9 @@ impl Template {
         input: &Json,
         item: Option<(u32, &Json)>,
     ) -> Result<Json, FillFault>
-        ensures ok { IfOk result (λ j. filled (data_of input.now) (item_of item.entry) self.now ≡ Some (data_of j)) }
-        ensures no_such_node { (result ≡ Err FillFault.NoSuchNode) ↔ (filled (data_of input.now) (item_of item.entry) self.now ≡ None) }
-        ensures memory { result ≡ Err FillFault.Memory → (d : Data) → filled (data_of input.now) (item_of item.entry) self.now ≡ Some d → IsTrue (has_room d) }
+        ensures ok { IfOk result (λ j. filled (data_of input.now) (item_lent item.entry) self.now ≡ Some (data_of j)) }
+        ensures no_such_node { (result ≡ Err FillFault.NoSuchNode) ↔ (filled (data_of input.now) (item_lent item.entry) self.now ≡ None) }
+        ensures memory { result ≡ Err FillFault.Memory → (d : Data) → filled (data_of input.now) (item_lent item.entry) self.now ≡ Some d → IsTrue (has_room d) }
     {
         if !can_fill(&self.root, input, item) {
             return Err(FillFault::NoSuchNode);
@@ -70,7 +70,7 @@ impl Template {
 /// Whether every path picks something.
 #[cycle(can_fill)]
 fn can_fill(node: &Node, input: &Json, item: Option<(u32, &Json)>) -> bool
-    ensures { result ≡ is_some (filled (data_of input.now) (item_of item.entry) (payload_of node.now)) }
+    ensures { result ≡ is_some (filled (data_of input.now) (item_lent item.entry) (payload_of node.now)) }
 {
     match node {
         Node::Literal(_) => true,
@@ -87,7 +87,7 @@ fn can_fill(node: &Node, input: &Json, item: Option<(u32, &Json)>) -> bool
 
 #[cycle(can_fill)]
 fn can_fill_list(nodes: &NodeList, input: &Json, item: Option<(u32, &Json)>) -> bool
-    ensures { result ≡ is_some (filled_items (data_of input.now) (item_of item.entry) (payloads_of nodes.now)) }
+    ensures { result ≡ is_some (filled_items (data_of input.now) (item_lent item.entry) (payloads_of nodes.now)) }
 {
     for node in &nodes.inner {
         if !can_fill(node, input, item) {
@@ -99,7 +99,7 @@ fn can_fill_list(nodes: &NodeList, input: &Json, item: Option<(u32, &Json)>) -> 
 
 #[cycle(can_fill)]
 fn can_fill_fields(nodes: &NodeFields, input: &Json, item: Option<(u32, &Json)>) -> bool
-    ensures { result ≡ is_some (filled_fields (data_of input.now) (item_of item.entry) (named_of nodes.now)) }
+    ensures { result ≡ is_some (filled_fields (data_of input.now) (item_lent item.entry) (named_of nodes.now)) }
 {
     for field in &nodes.inner {
         if !can_fill(&field.value, input, item) {
@@ -116,9 +116,9 @@ fn fill_node(
     input: &Json,
     item: Option<(u32, &Json)>,
 ) -> Result<Json, FillFault>
-    ensures ok { IfOk result (λ j. filled (data_of input.now) (item_of item.entry) (payload_of node.now) ≡ Some (data_of j)) }
-    ensures no_such_node { result ≡ Err FillFault.NoSuchNode → filled (data_of input.now) (item_of item.entry) (payload_of node.now) ≡ None }
-    ensures memory { result ≡ Err FillFault.Memory → (d : Data) → filled (data_of input.now) (item_of item.entry) (payload_of node.now) ≡ Some d → IsTrue (has_room d) }
+    ensures ok { IfOk result (λ j. filled (data_of input.now) (item_lent item.entry) (payload_of node.now) ≡ Some (data_of j)) }
+    ensures no_such_node { result ≡ Err FillFault.NoSuchNode → filled (data_of input.now) (item_lent item.entry) (payload_of node.now) ≡ None }
+    ensures memory { result ≡ Err FillFault.Memory → (d : Data) → filled (data_of input.now) (item_lent item.entry) (payload_of node.now) ≡ Some d → IsTrue (has_room d) }
 {
     match node {
         Node::Literal(json) => Ok(json.copy()?),
@@ -154,8 +154,8 @@ fn fill_list(
     input: &Json,
     item: Option<(u32, &Json)>,
 ) -> Result<JsonList, FillFault>
-    ensures ok { IfOk result (λ l. filled_items (data_of input.now) (item_of item.entry) (payloads_of nodes.now) ≡ Some l) }
-    ensures no_such_node { result ≡ Err FillFault.NoSuchNode → filled_items (data_of input.now) (item_of item.entry) (payloads_of nodes.now) ≡ None }
+    ensures ok { IfOk result (λ l. filled_items (data_of input.now) (item_lent item.entry) (payloads_of nodes.now) ≡ Some l) }
+    ensures no_such_node { result ≡ Err FillFault.NoSuchNode → filled_items (data_of input.now) (item_lent item.entry) (payloads_of nodes.now) ≡ None }
 {
     let mut items = Vec::with_capacity(alloc, nodes.inner.len())?;
     for node in &nodes.inner {
@@ -171,8 +171,8 @@ fn fill_fields(
     input: &Json,
     item: Option<(u32, &Json)>,
 ) -> Result<JsonFields, FillFault>
-    ensures ok { IfOk result (λ ms. option_map (fields_with []) (filled_fields (data_of input.now) (item_of item.entry) (named_of nodes.now)) ≡ Some ms) }
-    ensures no_such_node { result ≡ Err FillFault.NoSuchNode → filled_fields (data_of input.now) (item_of item.entry) (named_of nodes.now) ≡ None }
+    ensures ok { IfOk result (λ ms. option_map (fields_with []) (filled_fields (data_of input.now) (item_lent item.entry) (named_of nodes.now)) ≡ Some ms) }
+    ensures no_such_node { result ≡ Err FillFault.NoSuchNode → filled_fields (data_of input.now) (item_lent item.entry) (named_of nodes.now) ≡ None }
 {
     let mut fields = JsonFields::new(alloc);
     for field in &nodes.inner {

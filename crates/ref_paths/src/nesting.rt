@@ -5,7 +5,7 @@ ghost use Rattle.std.specs.Prelude.{◌≡◌, ◌<◌, ◌∷◌, [], length, s
 ghost use Rattle.std.specs.List.{list_all};
 ghost use Rattle.json_tree.specs.Fields.{with_field};
 ghost use Rattle.json_tree.specs.View.{data_of};
-ghost use Rattle.ref_paths.specs.Nesting.{is_name, nested};
+ghost use Rattle.ref_paths.specs.Nesting.{is_name_step, nested};
 
 use crate::path::PathStep;
 use json_tree::{Json, JsonFields, JsonList, Text};
@@ -19,7 +19,7 @@ pub(crate) fn insert_nested(
     rest: &[PathStep],
     value: Json,
 ) -> Result<(), AllocError>
-    requires { list_all is_name rest.now ≡ true }
+    requires { list_all is_name_step rest.now ≡ true }
     ensures ok { OnOk result (members.new ≡ with_field name.now (nested rest.now (data_of value)) members.old) }
     ensures err { OnErr result (members.new ≡ members.old) }
 {
@@ -73,7 +73,7 @@ pub(crate) fn put_item(
 
 /// The value inside an object for each step, made from the inside out.
 fn nest(alloc: Global, steps: &[PathStep], value: Json) -> Result<Json, AllocError>
-    requires { list_all is_name steps.now ≡ true }
+    requires { list_all is_name_step steps.now ≡ true }
     ensures { IfOk result (λ j. data_of j ≡ nested steps.now (data_of value)) }
 {
     let mut inner = value;
@@ -93,7 +93,7 @@ fn nest(alloc: Global, steps: &[PathStep], value: Json) -> Result<Json, AllocErr
 
 /// An object with the value as its only field.
 fn wrap(alloc: Global, step: &PathStep, inner: Json) -> Result<Json, Json>
-    requires { is_name step.now ≡ true }
+    requires { is_name_step step.now ≡ true }
     ensures ok { IfOk result (λ j. data_of j ≡ nested (step.now ∷ []) (data_of inner)) }
     ensures value_returned { IfErr result (λ v. v ≡ inner) }
 {

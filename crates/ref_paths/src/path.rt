@@ -34,11 +34,11 @@ impl Model for RefPath {
 
 impl PartialEq for PathStep {
     ghost use Rattle.std.specs.Cmp.{partial_equiv_from_equiv};
-    ghost use Rattle.ref_paths.specs.Same.{same_step, exact_equiv, step_exact};
+    ghost use Rattle.ref_paths.specs.Same.{same_path_step, exact_equiv, path_step_exact};
 
-    ghost eq = { same_step };
+    ghost eq = { same_path_step };
 
-    ghost laws = { partial_equiv_from_equiv (exact_equiv same_step step_exact) };
+    ghost laws = { partial_equiv_from_equiv (exact_equiv same_path_step path_step_exact) };
 
     fn eq(&self, other: &PathStep) -> bool {
         match (self, other) {
@@ -50,18 +50,18 @@ impl PartialEq for PathStep {
 }
 
 impl Eq for PathStep {
-    ghost use Rattle.ref_paths.specs.Same.{same_step, exact_equiv, step_exact};
+    ghost use Rattle.ref_paths.specs.Same.{same_path_step, exact_equiv, path_step_exact};
 
-    ghost laws = { exact_equiv same_step step_exact };
+    ghost laws = { exact_equiv same_path_step path_step_exact };
 }
 
 impl PartialEq for RefPath {
     ghost use Rattle.std.specs.Cmp.{partial_equiv_from_equiv};
-    ghost use Rattle.ref_paths.specs.Same.{same_path, exact_equiv, path_exact};
+    ghost use Rattle.ref_paths.specs.Same.{same_payload_path, exact_equiv, path_exact};
 
-    ghost eq = { same_path };
+    ghost eq = { same_payload_path };
 
-    ghost laws = { partial_equiv_from_equiv (exact_equiv same_path path_exact) };
+    ghost laws = { partial_equiv_from_equiv (exact_equiv same_payload_path path_exact) };
 
     fn eq(&self, other: &RefPath) -> bool {
         self.steps == other.steps
@@ -69,9 +69,9 @@ impl PartialEq for RefPath {
 }
 
 impl Eq for RefPath {
-    ghost use Rattle.ref_paths.specs.Same.{same_path, exact_equiv, path_exact};
+    ghost use Rattle.ref_paths.specs.Same.{same_payload_path, exact_equiv, path_exact};
 
-    ghost laws = { exact_equiv same_path path_exact };
+    ghost laws = { exact_equiv same_payload_path path_exact };
 }
 
 impl PathStep {

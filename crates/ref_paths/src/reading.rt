@@ -3,7 +3,7 @@
 ghost use Rattle.std.specs.Prelude.{◌≡◌, ◌≢◌, ◌<◌, ◌≤◌, ◌∷◌, ◌++◌, [], true, false, length, take, slice_index, None, Some, Err, IsTrue, MatchOption, IfOk, IfErr};
 ghost use Rattle.std.specs.List.{list_all};
 ghost use Rattle.ref_paths.specs.Faults.{FaultStands, StepFaultStands};
-ghost use Rattle.ref_paths.specs.Grammar.{is_name_byte, is_quotable, SpellsPath};
+ghost use Rattle.ref_paths.specs.Grammar.{is_path_name_byte, is_quotable, SpellsPath};
 ghost use Rattle.ref_paths.specs.Scanner.{ReadsStep, IsIndexSoFar, extended};
 
 use crate::path::{PathStep, RefPath};
@@ -125,8 +125,8 @@ fn read_name(alloc: Global, text: &str) -> Result<(PathStep, &str), PathFault>
 /// How many bytes of a name the bytes begin with.
 fn name_len(bytes: &[u8]) -> usize
     ensures within { result ≤ length bytes.now }
-    ensures names { list_all is_name_byte (take result bytes.now) ≡ true }
-    ensures stops { result < length bytes.now → is_name_byte (slice_index bytes.now result) ≡ false }
+    ensures names { list_all is_path_name_byte (take result bytes.now) ≡ true }
+    ensures stops { result < length bytes.now → is_path_name_byte (slice_index bytes.now result) ≡ false }
 {
     for (i, byte) in bytes.iter().enumerate() {
         if !is_name_byte(*byte) {
@@ -137,7 +137,7 @@ fn name_len(bytes: &[u8]) -> usize
 }
 
 fn is_name_byte(byte: u8) -> bool
-    ensures { result ≡ is_name_byte byte }
+    ensures { result ≡ is_path_name_byte byte }
 {
     byte.is_ascii_alphanumeric() || byte == b'_' || byte == b'-' || byte >= 128
 }

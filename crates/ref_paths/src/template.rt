@@ -47,22 +47,22 @@ pub(crate) struct NodeList {
 
 impl Model for NodeList {
     ghost use Rattle.std.specs.Prelude.{List};
-    ghost use Rattle.ref_paths.specs.PayloadCode.{list_code};
-    ghost use Rattle.ref_paths.specs.Templates.{Payload, list_depth};
+    ghost use Rattle.ref_paths.specs.PayloadCode.{payload_list_code};
+    ghost use Rattle.ref_paths.specs.Templates.{Payload, payload_list_depth};
 
     ghost Value = { List Payload };
 
-    ghost coded = { list_code };
+    ghost coded = { payload_list_code };
 
-    ghost use Rattle.ref_paths.specs.PayloadView.{list_of};
+    ghost use Rattle.ref_paths.specs.PayloadView.{payload_list_of};
 
-    ghost view = { λ a. list_of a.inner.items };
+    ghost view = { λ a. payload_list_of a.inner.items };
 
-    ghost size = { list_depth };
+    ghost size = { payload_list_depth };
 
-    ghost use Rattle.ref_paths.specs.PayloadFalls.{list_falls};
+    ghost use Rattle.ref_paths.specs.PayloadFalls.{payload_list_falls};
 
-    ghost size_decreases = { λ a h. list_falls a.inner.items };
+    ghost size_decreases = { λ a h. payload_list_falls a.inner.items };
 }
 
 /// Fields in the order in which they stood, under their names without `.$`.
@@ -81,22 +81,22 @@ pub(crate) struct NodeField {
 
 impl Model for NodeFields {
     ghost use Rattle.std.specs.Prelude.{List, ℕ};
-    ghost use Rattle.ref_paths.specs.PayloadCode.{fields_code};
-    ghost use Rattle.ref_paths.specs.Templates.{Payload, fields_depth};
+    ghost use Rattle.ref_paths.specs.PayloadCode.{payload_fields_code};
+    ghost use Rattle.ref_paths.specs.Templates.{Payload, payload_fields_depth};
 
     ghost Value = { List (List ℕ × Payload) };
 
-    ghost coded = { fields_code };
+    ghost coded = { payload_fields_code };
 
-    ghost use Rattle.ref_paths.specs.PayloadView.{fields_of};
+    ghost use Rattle.ref_paths.specs.PayloadView.{payload_fields_of};
 
-    ghost view = { λ a. fields_of a.inner.items };
+    ghost view = { λ a. payload_fields_of a.inner.items };
 
-    ghost size = { fields_depth };
+    ghost size = { payload_fields_depth };
 
-    ghost use Rattle.ref_paths.specs.PayloadFalls.{fields_fall};
+    ghost use Rattle.ref_paths.specs.PayloadFalls.{payload_fields_fall};
 
-    ghost size_decreases = { λ a h. fields_fall a.inner.items };
+    ghost size_decreases = { λ a h. payload_fields_fall a.inner.items };
 }
 
 /// Why a value is read as no template. A text is the name of the field that the fault is about, as it stands in its

@@ -3,8 +3,8 @@
 ghost use Rattle.std.specs.Prelude.{◌≡◌, ◌⊎◌, ◌++◌, true, None, Some, Err, IsTrue, MatchOption, codes, option_map, IfOk, IfErr};
 ghost use Rattle.json_tree.specs.Data.{has_room, items_of, members_of};
 ghost use Rattle.json_tree.specs.View.{data_of};
-ghost use Rattle.ref_paths.specs.PayloadView.{payload_of, field_of};
-ghost use Rattle.ref_paths.specs.TemplateFaults.{HasFault, ItemsHaveFault, FieldsHaveFault, FieldHasFault, SourceFaultStands, SpellsNoItemSource, IsItemSource, OnNamed, IsNoTemplate, is_left_out};
+ghost use Rattle.ref_paths.specs.PayloadView.{payload_of, payload_field_of};
+ghost use Rattle.ref_paths.specs.TemplateFaults.{HasFault, ItemsHaveFault, FieldsHaveFault, FieldHasFault, SourceFaultStands, SpellsNoItemSource, IsItemSource, OnNamed, IsNoTemplate, is_intrinsic_or_context};
 ghost use Rattle.ref_paths.specs.Templates.{IsTemplate, ItemsAreTemplates, FieldsAreTemplates, FieldIs, StandsFor, SpellsSource, unmarked};
 
 use crate::path::RefPath;
@@ -98,7 +98,7 @@ fn read_field(
     value: &Json,
     item_paths: bool,
 ) -> Result<NodeField, TemplateFault>
-    ensures ok { IfOk result (λ f. FieldIs item_paths fields.now name.now (data_of value.now) (field_of f) (IsTemplate item_paths (data_of value.now) (payload_of f.value))) }
+    ensures ok { IfOk result (λ f. FieldIs item_paths fields.now name.now (data_of value.now) (payload_field_of f) (IsTemplate item_paths (data_of value.now) (payload_of f.value))) }
     ensures fault { IfErr result (λ e. OnNamed e (FieldHasFault item_paths fields.now name.now (data_of value.now) e ⊎ ((unmarked name.now ≡ None) × HasFault item_paths (data_of value.now) e))) }
 {
     match cut_mark(name) {
@@ -128,7 +128,7 @@ fn read_marked(
     item_paths: bool,
 ) -> Result<NodeField, TemplateFault>
     requires { unmarked name.now ≡ Some target.now }
-    ensures ok { IfOk result (λ f. StandsFor item_paths fields.now target.now (data_of value.now) (field_of f)) }
+    ensures ok { IfOk result (λ f. StandsFor item_paths fields.now target.now (data_of value.now) (payload_field_of f)) }
     ensures fault { IfErr result (λ e. OnNamed e (FieldHasFault item_paths fields.now name.now (data_of value.now) e)) }
 {
     if fields.get(target).is_some() {
@@ -210,7 +210,7 @@ fn read_item_steps(alloc: Global, steps: &str) -> Result<Node, SourceFault>
 }
 
 fn is_left_out(text: &str) -> bool
-    ensures { result ≡ is_left_out text.now }
+    ensures { result ≡ is_intrinsic_or_context text.now }
 {
     text.starts_with("States.") || text.starts_with("$$")
 }

@@ -8,8 +8,8 @@ use Rattle.reply_lines.specs.declared.lines.Lines.{Lines}
 use Rattle.reply_lines.specs.declared.reply.Reply.{Reply}
 
 -- where it succeeds, it adds this text
-abbrev pub Writes : {T : Type 0} → Result T AllocError → Reply → Reply → List ℕ → Type 0
-Writes result old new text = OnOk result (string_bytes new.text ≡ string_bytes old.text ++ text)
+abbrev pub AppendsReply : {T : Type 0} → Result T AllocError → Reply → Reply → List ℕ → Type 0
+AppendsReply result old new text = OnOk result (string_bytes new.text ≡ string_bytes old.text ++ text)
 
 -- there is room for a reply that names one step
 abbrev pub has_room_for_step : String Global → Type 0

@@ -8,7 +8,7 @@ ghost use Rattle.json_tree.specs.View.{data_of};
 ghost use Rattle.json_tree.specs.Written.{quoted, text_of};
 ghost use Rattle.step_names.specs.Written.{step_text};
 ghost use Rattle.reply_lines.specs.Replies.{done_reply, step_reply, moved_reply, kind_text, with_feed, count_reply, list_reply, names_reply, place_text, fault_text, frame_reply, refused, refused_by, refused_for_step, refused_for_field, machine_reply, readiness_text, refusal_reply};
-ghost use Rattle.reply_lines.specs.Replying.{Writes, AreLines, has_room_for_step, has_room_for_lines};
+ghost use Rattle.reply_lines.specs.Replying.{AppendsReply, AreLines, has_room_for_step, has_room_for_lines};
 
 use crate::lines::Lines;
 use attr_values::{Item, write_item};
@@ -63,7 +63,7 @@ impl Reply {
 
     /// `ok`.
     pub fn accept(&mut self) -> Result<(), AllocError>
-        ensures ok { Writes result self.old self.new done_reply }
+        ensures ok { AppendsReply result self.old self.new done_reply }
         ensures room { has_room_for_step self.old.text → OnErr result ⊥ }
     {
         self.text.push_str("ok\n")
@@ -71,7 +71,7 @@ impl Reply {
 
     /// `ok` and a step.
     pub fn accept_step(&mut self, step: &StepName) -> Result<(), AllocError>
-        ensures ok { Writes result self.old self.new (step_reply step.now) }
+        ensures ok { AppendsReply result self.old self.new (step_reply step.now) }
         ensures room { has_room_for_step self.old.text → OnErr result ⊥ }
     {
         self.text.reserve(step.text_len() + 4)?;
@@ -82,7 +82,7 @@ impl Reply {
 
     /// `ok`, a step and its kind.
     pub fn accept_moved(&mut self, moved: &Moved) -> Result<(), AllocError>
-        ensures ok { Writes result self.old self.new (moved_reply moved.now) }
+        ensures ok { AppendsReply result self.old self.new (moved_reply moved.now) }
         ensures room { has_room_for_step self.old.text → OnErr result ⊥ }
     {
         self.text.reserve(moved.name.text_len() + 14)?;
@@ -95,7 +95,7 @@ impl Reply {
     /// `ok` and a number of steps.
     #[tactic(auto, using(crate::proofs::Counts::few_digits))]
     pub fn accept_count(&mut self, count: usize) -> Result<(), AllocError>
-        ensures ok { Writes result self.old self.new (count_reply count) }
+        ensures ok { AppendsReply result self.old self.new (count_reply count) }
         ensures room { has_room_for_step self.old.text → OnErr result ⊥ }
     {
         self.text.reserve(LONGEST_COUNT + 4)?;
@@ -106,7 +106,7 @@ impl Reply {
 
     /// `ok`, the number of steps, and a line for each.
     pub fn accept_steps(&mut self, records: &StepRecords) -> Result<(), AllocError>
-        ensures ok { Writes result self.old self.new (list_reply (map (λ r. step_text r.fact.name) records.now.items)) }
+        ensures ok { AppendsReply result self.old self.new (list_reply (map (λ r. step_text r.fact.name) records.now.items)) }
     {
         self.count(records.len() as u64)?;
         for place in 0..records.len() {
@@ -117,7 +117,7 @@ impl Reply {
 
     /// `ok`, the number of names, and a line for each.
     pub fn accept_names(&mut self, names: &[StepName]) -> Result<(), AllocError>
-        ensures ok { Writes result self.old self.new (names_reply names.now) }
+        ensures ok { AppendsReply result self.old self.new (names_reply names.now) }
     {
         self.count(names.len() as u64)?;
         for name in names {
@@ -129,7 +129,7 @@ impl Reply {
     /// `ok`, the number of items, and a line for each. The lines are made first, since they have to be counted.
     pub fn accept_items(&mut self, alloc: Global, items: Items<'_>) -> Result<(), AllocError>
         requires { length (items_left items) < 2 ^ 63 }
-        ensures ok { Writes result self.old self.new (list_reply (map (λ i. text_of (item_json i)) (items_left items.entry))) }
+        ensures ok { AppendsReply result self.old self.new (list_reply (map (λ i. text_of (item_json i)) (items_left items.entry))) }
     {
         let mut lines = Reply::new(alloc);
         let mut count: u64 = 0;
@@ -152,7 +152,7 @@ impl Reply {
 
     /// `ok`, how many lines there are, and these lines. Takes memory only where no room was made.
     pub fn accept_lines(&mut self, lines: &Lines) -> Result<(), AllocError>
-        ensures ok { (texts : List (List ℕ)) → AreLines lines.now texts → Writes result self.old self.new (list_reply texts) }
+        ensures ok { (texts : List (List ℕ)) → AreLines lines.now texts → AppendsReply result self.old self.new (list_reply texts) }
         ensures room { has_room_for_lines self.old.text (string_len lines.now.text) → OnErr result ⊥ }
     {
         let digits = decimal_len(lines.count);
@@ -165,7 +165,7 @@ impl Reply {
 
     /// `ok` and a thread's frame.
     pub fn accept_frame(&mut self, alloc: Global, frame: &Frame) -> Result<(), AllocError>
-        ensures ok { Writes result self.old self.new (frame_reply frame.now) }
+        ensures ok { AppendsReply result self.old self.new (frame_reply frame.now) }
     {
         match &frame.phase {
             Phase::Ready => {
@@ -194,7 +194,7 @@ impl Reply {
 
     /// `no` and a code.
     pub fn refuse(&mut self, code: u32) -> Result<(), AllocError>
-        ensures ok { Writes result self.old self.new (refused code) }
+        ensures ok { AppendsReply result self.old self.new (refused code) }
     {
         self.word("no ")?;
         self.number(u64::from(code))?;
@@ -203,7 +203,7 @@ impl Reply {
 
     /// `no`, a code and a number.
     pub fn refuse_by(&mut self, code: u32, number: u32) -> Result<(), AllocError>
-        ensures ok { Writes result self.old self.new (refused_by code number) }
+        ensures ok { AppendsReply result self.old self.new (refused_by code number) }
     {
         self.word("no ")?;
         self.number(u64::from(code))?;
@@ -214,7 +214,7 @@ impl Reply {
 
     /// `no` and the refusal of a book.
     pub fn refuse_command(&mut self, alloc: Global, refusal: Refusal) -> Result<(), AllocError>
-        ensures ok { Writes result self.old self.new (refusal_reply refusal) }
+        ensures ok { AppendsReply result self.old self.new (refusal_reply refusal) }
         ensures memory { refusal ≡ Refusal.Memory → OnOk result ⊥ }
     {
         match refusal {
@@ -235,7 +235,7 @@ impl Reply {
     }
 
     fn refuse_for_step(&mut self, code: u32, step: &StepName) -> Result<(), AllocError>
-        ensures ok { Writes result self.old self.new (refused_for_step code step.now) }
+        ensures ok { AppendsReply result self.old self.new (refused_for_step code step.now) }
     {
         self.word("no ")?;
         self.number(u64::from(code))?;
@@ -244,7 +244,7 @@ impl Reply {
     }
 
     fn refuse_readiness(&mut self, readiness: Readiness) -> Result<(), AllocError>
-        ensures ok { Writes result self.old self.new (codes "no 6 " ++ with_feed (readiness_text readiness)) }
+        ensures ok { AppendsReply result self.old self.new (codes "no 6 " ++ with_feed (readiness_text readiness)) }
     {
         self.word("no 6 ")?;
         self.word(readiness_word(readiness))?;
@@ -252,7 +252,7 @@ impl Reply {
     }
 
     fn refuse_machine(&mut self, alloc: Global, fault: MachineFault) -> Result<(), AllocError>
-        ensures ok { Writes result self.old self.new (machine_reply fault) }
+        ensures ok { AppendsReply result self.old self.new (machine_reply fault) }
     {
         match fault {
             MachineFault::Missing(field) => self.refuse_field(alloc, 1, field),
@@ -268,7 +268,7 @@ impl Reply {
     }
 
     fn refuse_field(&mut self, alloc: Global, fault: u32, field: Text) -> Result<(), AllocError>
-        ensures ok { Writes result self.old self.new (refused_for_field fault field) }
+        ensures ok { AppendsReply result self.old self.new (refused_for_field fault field) }
     {
         self.word("no 3 ")?;
         self.number(u64::from(fault))?;
@@ -278,7 +278,7 @@ impl Reply {
 
     /// The state as a JSON text, and the number of moves.
     fn place(&mut self, alloc: Global, frame: &Frame) -> Result<(), AllocError>
-        ensures ok { Writes result self.old self.new (place_text frame.now) }
+        ensures ok { AppendsReply result self.old self.new (place_text frame.now) }
     {
         self.quoted(alloc, &frame.state)?;
         self.word(" ")?;
@@ -286,7 +286,7 @@ impl Reply {
     }
 
     fn fault(&mut self, alloc: Global, fault: &Fault) -> Result<(), AllocError>
-        ensures ok { Writes result self.old self.new (fault_text fault.now) }
+        ensures ok { AppendsReply result self.old self.new (fault_text fault.now) }
     {
         self.quoted(alloc, &fault.error)?;
         self.word(" ")?;
@@ -294,35 +294,35 @@ impl Reply {
     }
 
     fn quoted(&mut self, alloc: Global, text: &Text) -> Result<(), AllocError>
-        ensures ok { Writes result self.old self.new (quoted text.now) }
+        ensures ok { AppendsReply result self.old self.new (quoted text.now) }
     {
         let text = Json::Text(text.copy()?);
         self.json(alloc, &text)
     }
 
     fn item_line(&mut self, alloc: Global, item: &Item) -> Result<(), AllocError>
-        ensures ok { Writes result self.old self.new (with_feed (text_of (item_json item.now))) }
+        ensures ok { AppendsReply result self.old self.new (with_feed (text_of (item_json item.now))) }
     {
         let json = write_item(alloc, item)?;
         self.json_line(alloc, &json)
     }
 
     fn json_line(&mut self, alloc: Global, json: &Json) -> Result<(), AllocError>
-        ensures ok { Writes result self.old self.new (with_feed (text_of (data_of json.now))) }
+        ensures ok { AppendsReply result self.old self.new (with_feed (text_of (data_of json.now))) }
     {
         self.json(alloc, json)?;
         self.word("\n")
     }
 
     fn json(&mut self, alloc: Global, json: &Json) -> Result<(), AllocError>
-        ensures ok { Writes result self.old self.new (text_of (data_of json.now)) }
+        ensures ok { AppendsReply result self.old self.new (text_of (data_of json.now)) }
     {
         let text = write_text(alloc, json)?;
         self.word(text.as_str())
     }
 
     fn step_line(&mut self, step: &StepName) -> Result<(), AllocError>
-        ensures ok { Writes result self.old self.new (with_feed (step_text step.now)) }
+        ensures ok { AppendsReply result self.old self.new (with_feed (step_text step.now)) }
     {
         step.write_to(&mut self.text)?;
         self.word("\n")
@@ -330,7 +330,7 @@ impl Reply {
 
     /// `ok` and how many lines follow.
     fn count(&mut self, lines: u64) -> Result<(), AllocError>
-        ensures ok { Writes result self.old self.new (codes "ok " ++ with_feed (decimal lines)) }
+        ensures ok { AppendsReply result self.old self.new (codes "ok " ++ with_feed (decimal lines)) }
     {
         self.word("ok ")?;
         self.number(lines)?;
@@ -338,13 +338,13 @@ impl Reply {
     }
 
     fn number(&mut self, number: u64) -> Result<(), AllocError>
-        ensures ok { Writes result self.old self.new (decimal number) }
+        ensures ok { AppendsReply result self.old self.new (decimal number) }
     {
         write!(self.text, "{number}")
     }
 
     fn word(&mut self, word: &str) -> Result<(), AllocError>
-        ensures ok { Writes result self.old self.new word.now }
+        ensures ok { AppendsReply result self.old self.new word.now }
     {
         self.text.push_str(word)
     }

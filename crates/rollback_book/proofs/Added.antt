@@ -27,7 +27,7 @@ use Rattle.step_history.proofs.Extended.{more_machines}
 use Rattle.step_history.proofs.Left.{as_many, facts_alike}
 use Rattle.book_log.specs.Answers.{start_answer, is_full_for_step, is_full_for_define}
 use Rattle.book_log.specs.Legal.{IsAccepted}
-use Rattle.book_log.specs.Log.{Log, appended, base_of, settled, held, left_of, machine_of, past_of, setting_of, world_of}
+use Rattle.book_log.specs.Log.{Log, appended, base_of, settled, step_on_hold, left_of, machine_of, past_of, setting_of, world_of}
 use Rattle.book_log.specs.declared.entry.Entry.{Entry}
 use Rattle.book_log.specs.declared.entry.Entry.TheVariants.{Define, Start, Step as Stepped, Undo, Rollback, Settle, Hold as HoldEntry}
 use Rattle.book_log.proofs.Counts.{room_for_step, room_for_define}
@@ -35,7 +35,7 @@ use Rattle.book_log.proofs.LegalRuns.{accepted_is_legal}
 use Rattle.book_log.proofs.HoldSaid.{held_next, hold_said}
 use Rattle.book_log.proofs.Holding.{left_is_after}
 use Rattle.book_log.proofs.Standing.{StandsAt, past_there, knowing, extended, base_kept, base_defined, stands_defined, stands_started, stands_moved, stands_held}
-use Rattle.rollback_book.specs.Book.{BookView, Places, BookInvariant, place_in, placed}
+use Rattle.rollback_book.specs.Book.{BookView, Places, BookInvariant, machine_place, placed_machine}
 use Rattle.rollback_book.specs.Holding.{AddsUnheld, HasHeldRoom, KeepsHold}
 use Rattle.rollback_book.specs.Making.{CanEnter, CanEnterChange, HasLogRoom, IsStepFor}
 use Rattle.rollback_book.specs.declared.hold.Hold.{Hold}
@@ -59,12 +59,12 @@ on_any (Err e) P p = tt
 
 -- the same log, with more room
 abbrev pub with_room : BookView → History → Places → ℕ → Option Hold → BookView
-with_room b h places capacity held = record { log = b.log; history = h; places = places; capacity = capacity; settled = b.settled; held = held }
+with_room b h places capacity step_on_hold = record { log = b.log; history = h; places = places; capacity = capacity; settled = b.settled; held = step_on_hold }
 
-pub tied_room : (b : BookView) (h : History) (places : Places) (capacity : ℕ) (held : Option Hold) → BookInvariant b → KeepsHold b.held held → world_view (history_world h) ≡ world_view (history_world b.history)
+pub tied_room : (b : BookView) (h : History) (places : Places) (capacity : ℕ) (step_on_hold : Option Hold) → BookInvariant b → KeepsHold b.held step_on_hold → world_view (history_world h) ≡ world_view (history_world b.history)
     → ((s : Setting) (base : World) (ts : List TakenStep) → IsHistory s base ts b.history → IsHistory s base ts h)
-    → ((name : List ℕ) → placed (place_in places name) ≡ placed (place_in b.places name)) → b.capacity ≤ capacity → BookInvariant (with_room b h places capacity held)
-tied_room b h places capacity held tied holds world kept same grown =
+    → ((name : List ℕ) → placed_machine (machine_place places name) ≡ placed_machine (machine_place b.places name)) → b.capacity ≤ capacity → BookInvariant (with_room b h places capacity step_on_hold)
+tied_room b h places capacity step_on_hold tied holds world kept same grown =
     let is = kept (setting_of b.log) (base_of b.log) (past_of b.log) tied.history in
     let now = as_many (history_items h) (history_records h) (past_of b.log) is.records in
     let before = as_many (history_items b.history) (history_records b.history) (past_of b.log) tied.history.records in
@@ -77,8 +77,8 @@ tied_room b h places capacity held tied holds world kept same grown =
       run = tied.run ∙ ap (λ (w : World). Some (w, past_of b.log)) (sym world);
       machines = λ name. same name ∙ tied.machines name;
       names = tied.names;
-      held = hold_alike b.log b.log (history_records b.history) (history_records h) held refl refl refl
-          (facts_are b tied ∙ sym (facts_alike (history_items h) (history_records h) (past_of b.log) is.records)) (hold_kept b.log (history_records b.history) b.held held holds tied.held);
+      held = hold_alike b.log b.log (history_records b.history) (history_records h) step_on_hold refl refl refl
+          (facts_are b tied ∙ sym (facts_alike (history_items h) (history_records h) (past_of b.log) is.records)) (hold_kept b.log (history_records b.history) b.held step_on_hold holds tied.held);
       room = omega (arith, room, now, before, grown);
       few = omega (arith, few, now, before);
       bounded = omega (arith, bounded, now, before);
@@ -94,7 +94,7 @@ module _ (b : BookView) (tied : BookInvariant b) (capacity : ℕ) (log_room : Ha
   -- ---- a definition
 
   pub tied_defined : (entry : Entry) (name : List ℕ) (machine : Definition) (places : Places) → IsAccepted b.log entry → CanEnterChange b entry (made.Define name machine)
-      → ((n : List ℕ) → placed (place_in places n) ≡ cond (is_text name n) (Some machine) (placed (place_in b.places n)))
+      → ((n : List ℕ) → placed_machine (machine_place places n) ≡ cond (is_text name n) (Some machine) (placed_machine (machine_place b.places n)))
       → BookInvariant (record { log = appended b.log entry; history = b.history; places = places; capacity = capacity; settled = b.settled; held = b.held })
   tied_defined (Define n m) name machine places a fits filled =
       let s = setting_of b.log in
@@ -104,7 +104,7 @@ module _ (b : BookView) (tied : BookInvariant b) (capacity : ℕ) (log_room : Ha
       let count = many b tied in
       let logged = length-append b.log.entries (entry ∷ []) in
       let few = tied.few in
-      let own : (x : List ℕ) → placed (place_in places x) ≡ more.machines x = λ x.
+      let own : (x : List ℕ) → placed_machine (machine_place places x) ≡ more.machines x = λ x.
       filled x ∙ ap (cond (is_text name x) (Some machine)) (tied.machines x)
       ∙ ap₂ (λ (y : List ℕ) (z : Definition). cond (is_text y x) (Some z) (s.machines x)) fits.0 fits.1 in
       tied_by (record { log = appended b.log entry; history = b.history; places = places; capacity = capacity; settled = b.settled; held = b.held }) more (base_of b.log) (world_view (history_world b.history)) (past_of b.log)
@@ -136,7 +136,7 @@ module _ (b : BookView) (tied : BookInvariant b) (capacity : ℕ) (log_room : Ha
       (s : Setting) (base : World) (ts : List TakenStep) (step : Step) (d : Effect) → IsHistory s base ts b.history → effects.effect_of s (world_view (history_world b.history)) step ≡ Some d → IsMadeFor m d
       → IsHistory s base (ts ++ taken_in (world_view (history_world b.history)) step d.fact ∷ []) h
 
-  entered : (entry : Entry) (m : MadeStep) (h : History) (held_now : Option Hold) (step : Step) (f : IsStepFor b step m) → IsAccepted b.log entry → is_full_for_step b.log ≡ false → base_of (appended b.log entry) ≡ base_of b.log → b.settled.items ≡ map name_of (settled (appended b.log entry)) → held (appended b.log entry) ≡ held b.log → left_of (appended b.log entry) ≡ left_of b.log → AddsUnheld b.held held_now → Grows h m
+  entered : (entry : Entry) (m : MadeStep) (h : History) (held_now : Option Hold) (step : Step) (f : IsStepFor b step m) → IsAccepted b.log entry → is_full_for_step b.log ≡ false → base_of (appended b.log entry) ≡ base_of b.log → b.settled.items ≡ map name_of (settled (appended b.log entry)) → step_on_hold (appended b.log entry) ≡ step_on_hold b.log → left_of (appended b.log entry) ≡ left_of b.log → AddsUnheld b.held held_now → Grows h m
       → StandsAt (appended b.log entry) (setting_of b.log) (after_effect (world_view (history_world b.history)) f.effect) (past_of b.log ++ taken_in (world_view (history_world b.history)) step f.effect.fact ∷ [])
       → BookInvariant (with_entry b entry h capacity held_now)
   entered entry m h held_now step f a room same names held_same left_same adds grows there =
@@ -210,8 +210,8 @@ can_apply b Settle m fits = absurd fits
 can_apply b (HoldEntry n count) m fits = absurd fits
 
 -- a machine that fits has its place
-pub has_place : (b : BookView) (entry : Entry) (name : List ℕ) (machine : Definition) → CanEnterChange b entry (made.Define name machine) → place_in b.places name ≡ Some None
-has_place b (Define n d) name machine fits = ap (place_in b.places) fits.0 ∙ fits.2
+pub has_place : (b : BookView) (entry : Entry) (name : List ℕ) (machine : Definition) → CanEnterChange b entry (made.Define name machine) → machine_place b.places name ≡ Some None
+has_place b (Define n d) name machine fits = ap (machine_place b.places) fits.0 ∙ fits.2
 has_place b (Start exec known input) name machine fits = absurd fits
 has_place b (Stepped n kind) name machine fits = absurd fits
 has_place b (Undo n) name machine fits = absurd fits
@@ -241,7 +241,7 @@ start_ready before after exec machine input f name told m same start named step 
 
 -- a definition for which everything is made
 pub define_ready : (before after : BookView) (name : List ℕ) (machine : Definition) (r : Made) → r ≡ record { entry = Define name machine; answer = Defined; change = made.Define name machine } → after.log ≡ before.log
-    → machine_of before.log name ≡ None → is_full_for_define before.log ≡ false → IsWellFormedThroughout machine → place_in after.places name ≡ Some None → HasLogRoom after → CanEnter after r
+    → machine_of before.log name ≡ None → is_full_for_define before.log ≡ false → IsWellFormedThroughout machine → machine_place after.places name ≡ Some None → HasLogRoom after → CanEnter after r
 define_ready before after name machine r is same free full whole place room =
     let made_it : CanEnter after (record { entry = Define name machine; answer = Defined; change = made.Define name machine }) = record {
       is_accepted = (ap (λ (x : Log). machine_of x name) same ∙ free, ap is_full_for_define same ∙ full, whole);

@@ -22,7 +22,7 @@ use Rattle.book_log.specs.Answers.{absent, undo_answer, found_answer, free_answe
 use Rattle.book_log.specs.Log.{setting_of, base_of, past_of, consequences_of}
 use Rattle.book_log.specs.declared.refusal.Refusal.TheVariants.{HasDependents}
 use Rattle.book_log.proofs.Standing.{fact_named, consequences_there, after_same}
-use Rattle.rollback_book.specs.Book.{BookView, BookInvariant, IsAt, IsMaximalPlace}
+use Rattle.rollback_book.specs.Book.{BookView, BookInvariant, IsStepAt, IsMaximalPlace}
 use Rattle.rollback_book.proofs.Searching.{step_at, no_step, dependent_at, no_dependent_at, behind}
 use Rattle.rollback_book.proofs.Tied.{stands, facts_are, as_many_records}
 
@@ -58,7 +58,7 @@ module _ (b : BookView) (tied : BookInvariant b) (name : StepName) where
       let own = fact_named b.log (setting_of b.log) (world_view (history_world b.history)) (past_of b.log) (stands b tied) t.0 (in_list (past_of b.log) at t.0 t.1) in
       record { step = t.0; within = n; there = t.1; fact = fact; named = sym own ∙ fact }
 
-  module _ (at : ℕ) (is_at : IsAt b name at) where
+  module _ (at : ℕ) (is_at : IsStepAt b name at) where
     abbrev fact_here : Fact
     fact_here = (step_at name (history_records b.history) at is_at).fact
 

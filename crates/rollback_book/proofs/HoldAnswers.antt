@@ -8,12 +8,12 @@ use Rattle.saved_steps.specs.declared.record.StepRecord.{StepRecord}
 use Rattle.depends.specs.Plans.{plan}
 use Rattle.depends.proofs.Searching.{facts}
 use Rattle.book_log.specs.Answers.{HoldLacks, SettleLacks, absent, from_step, hold_answer, is_full_for_define, remains, settle_answer}
-use Rattle.book_log.specs.Log.{Log, consequences_of, held}
+use Rattle.book_log.specs.Log.{Log, consequences_of, step_on_hold}
 use Rattle.book_log.specs.declared.entry.Entry.{Entry}
 use Rattle.book_log.specs.declared.entry.Entry.TheVariants.{Hold as HoldEntry}
 use Rattle.book_log.specs.declared.refusal.Refusal.{Refusal}
 use Rattle.book_log.specs.declared.refusal.Refusal.TheVariants.{Full, Held, Memory}
-use Rattle.rollback_book.specs.Book.{BookView, BookInvariant, IsAt}
+use Rattle.rollback_book.specs.Book.{BookView, BookInvariant, IsStepAt}
 use Rattle.rollback_book.specs.Holding.{IsHoldFor, IsHoldRefusal}
 use Rattle.rollback_book.specs.Making.{AnswersHold, CanEnter, HasLogRoom, IsMadeHold, MakesHold}
 use Rattle.book_events.specs.Planned.{OrMemory}
@@ -44,21 +44,21 @@ hold_absent b tied name none =
     let gone : remains b.log name ≡ false = ap (λ (fs : List Fact). is_some (from_step name fs)) (sym (facts_are b tied)) ∙ ap is_some (no_step name (history_records b.history) none) in
     rw gone refl
 
-module _ (b : BookView) (tied : BookInvariant b) (name : StepName) (at : ℕ) (is_at : IsAt b name at) where
-  hold_held : (other : StepName) → held b.log ≡ Some other → hold_answer b.log name ≡ Err (Held other)
+module _ (b : BookView) (tied : BookInvariant b) (name : StepName) (at : ℕ) (is_at : IsStepAt b name at) where
+  hold_held : (other : StepName) → step_on_hold b.log ≡ Some other → hold_answer b.log name ≡ Err (Held other)
   unfolding hold_answer
   hold_held other e = let there = remains_there b tied name at is_at in rw (there, e) refl
 
-  pub hold_full : held b.log ≡ None → is_full_for_define b.log ≡ true → hold_answer b.log name ≡ Err Full
+  pub hold_full : step_on_hold b.log ≡ None → is_full_for_define b.log ≡ true → hold_answer b.log name ≡ Err Full
   unfolding hold_answer
   hold_full e full = let there = remains_there b tied name at is_at in rw (there, e, full) refl
 
-  pub hold_free : held b.log ≡ None → is_full_for_define b.log ≡ false → hold_answer b.log name ≡ Ok (length (consequences_of b.log name))
+  pub hold_free : step_on_hold b.log ≡ None → is_full_for_define b.log ≡ false → hold_answer b.log name ≡ Ok (length (consequences_of b.log name))
   unfolding hold_answer
   hold_free e free = let there = remains_there b tied name at is_at in rw (there, e, free) refl
 
   -- the same of a book that is this one
-  pub free_answer : held b.log ≡ None → is_full_for_define b.log ≡ false → (d : BookView) → b ≡ d → hold_answer d.log name ≡ Ok (length (consequences_of d.log name))
+  pub free_answer : step_on_hold b.log ≡ None → is_full_for_define b.log ≡ false → (d : BookView) → b ≡ d → hold_answer d.log name ≡ Ok (length (consequences_of d.log name))
   free_answer e free d same = subst (λ (x : BookView). hold_answer x.log name ≡ Ok (length (consequences_of x.log name))) same (hold_free e free)
 
   pub hold_refusal : (e : Refusal) → IsHoldRefusal b.log e → OrMemory (hold_answer b.log name) e ⊎ ((e ≡ Memory) × HoldLacks b.log name)

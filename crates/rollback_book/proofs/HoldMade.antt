@@ -24,12 +24,12 @@ use Rattle.step_history.proofs.Left.{step_there}
 use Rattle.step_history.proofs.Planned.{in_list}
 use Rattle.step_index.specs.Held.{Held, AreLeft, count_left}
 use Rattle.book_log.specs.Legal.{IsLegal}
-use Rattle.book_log.specs.Log.{Log, base_of, held, left_by, left_of, past_of, setting_of, world_of, consequences_of}
+use Rattle.book_log.specs.Log.{Log, base_of, step_on_hold, left_by, left_of, past_of, setting_of, world_of, consequences_of}
 use Rattle.book_log.proofs.HoldSaid.{nothing_left}
 use Rattle.book_log.proofs.Holding.{left_there}
 use Rattle.book_log.proofs.LegalRuns.{legal_stands}
 use Rattle.book_log.proofs.Standing.{after_same, consequences_there, from_start, is_run, step_itself}
-use Rattle.rollback_book.specs.Book.{BookView, BookInvariant, IsAt}
+use Rattle.rollback_book.specs.Book.{BookView, BookInvariant, IsStepAt}
 use Rattle.rollback_book.specs.Holding.{marks_by}
 use Rattle.rollback_book.proofs.Free.{Stood, stood, places_are}
 use Rattle.rollback_book.proofs.Marks.{is_marked, counted_steps, nothing_counted}
@@ -82,9 +82,9 @@ module _ (s : Setting) (base : World) (names : HasNames (steps s) base) where
       (λ k. subst (λ (l : List TakenStep). filter (is_marked l) (t ∷ ts) ≡ l) (sym (after_there t ts name k)) (marked_less t ts (consequences (steps s) ts (moved name)) once (consequences-in (steps s) base names ts (moved name)) (marked_after ts name (λ x y b. once x y (inr b)))))
 
 pub left_counted : (log : Log) → IsLegal log → count_left (marks_by (left_of log) (past_of log)) ≡ length (left_of log)
-left_counted log legal = by_held (held log) refl
+left_counted log legal = by_held (step_on_hold log) refl
   where
-    by_held : (o : Option StepName) → held log ≡ o → count_left (marks_by (left_of log) (past_of log)) ≡ length (left_of log)
+    by_held : (o : Option StepName) → step_on_hold log ≡ o → count_left (marks_by (left_of log) (past_of log)) ≡ length (left_of log)
     by_held None e = nothing_counted (left_of log) (past_of log) (nothing_left log e) ∙ sym (ap length (nothing_left log e))
     by_held (Some name) e =
         let s = setting_of log in
@@ -162,7 +162,7 @@ module _ (s : Setting) (base : World) (names : HasNames (steps s) base) where
       cc)
       (λ m. a ∙ sym m))
 
-module _ (b : BookView) (tied : BookInvariant b) (name : StepName) (at : ℕ) (is_at : IsAt b name at) (places : List ℕ) (planned : places ≡ plan (facts (history_records b.history)) at) where
+module _ (b : BookView) (tied : BookInvariant b) (name : StepName) (at : ℕ) (is_at : IsStepAt b name at) (places : List ℕ) (planned : places ≡ plan (facts (history_records b.history)) at) where
   all_of : consequences_of b.log name ≡ consequences (steps (setting_of b.log)) (past_of b.log) (stood b tied name at is_at).step.step
   all_of =
       let t = stood b tied name at is_at in

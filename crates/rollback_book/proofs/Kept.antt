@@ -22,7 +22,7 @@ use Rattle.step_history.specs.History.{TakenStep}
 use Rattle.step_history.proofs.Planned.{Undoes}
 use Rattle.step_index.specs.Held.{Held, AreLeft, count_left}
 use Rattle.book_log.specs.Legal.{IsAccepted, IsLegal}
-use Rattle.book_log.specs.Log.{Log, appended, base_of, remainder, remaining, held, held_after, while_in, left_by, left_of, past_of, setting_of, world_of, consequences_of}
+use Rattle.book_log.specs.Log.{Log, appended, base_of, remainder, remaining, step_on_hold, held_after, while_in, left_by, left_of, past_of, setting_of, world_of, consequences_of}
 use Rattle.book_log.specs.declared.entry.Entry.{Entry}
 use Rattle.book_log.specs.declared.entry.Entry.TheVariants.{Define, Start, Step as Stepped, Undo, Rollback, Settle, Hold as HoldEntry}
 use Rattle.book_log.proofs.HoldSaid.{held_next, nothing_left}
@@ -35,7 +35,7 @@ use Rattle.rollback_book.proofs.Marks.{left_facts, removed_map, undone_out, undo
 
 -- ---- nothing about a hold changes
 
-pub hold_alike : (a b : Log) (rs us : List StepRecord) (o : Option Hold) → held b ≡ held a → left_of b ≡ left_of a → past_of b ≡ past_of a → facts rs ≡ facts us → IsHoldOf a rs o → IsHoldOf b us o
+pub hold_alike : (a b : Log) (rs us : List StepRecord) (o : Option Hold) → step_on_hold b ≡ step_on_hold a → left_of b ≡ left_of a → past_of b ≡ past_of a → facts rs ≡ facts us → IsHoldOf a rs o → IsHoldOf b us o
 hold_alike a b rs us None same left past e h = same ∙ h
 hold_alike a b rs us (Some h) same left past e k = (same ∙ k.0, left_facts rs us h.left e k.1, k.2 ∙ ap₂ marks_by (sym left) (sym past))
 
@@ -47,11 +47,11 @@ hold_kept log rs (Some h) None k i = absurd k
 hold_kept log rs (Some h) (Some g) k i = (i.0 ∙ ap Some (sym k.0), k.2 rs i.1, k.1 ∙ i.2)
 
 -- what nothing is held for says that nothing is held
-pub full_said : (log : Log) (rs : List StepRecord) (o : Option Hold) (full : Bool) → IsHoldOf log rs o → full_unheld o full ≡ true → (held log ≡ None) × (full ≡ true)
+pub full_said : (log : Log) (rs : List StepRecord) (o : Option Hold) (full : Bool) → IsHoldOf log rs o → full_unheld o full ≡ true → (step_on_hold log ≡ None) × (full ≡ true)
 full_said log rs None full h e = (h, e)
 full_said log rs (Some g) full h e = cc
 
-pub room_said : (log : Log) (rs : List StepRecord) (o : Option Hold) (full : Bool) → IsHoldOf log rs o → full_unheld o full ≡ false → held log ≡ None → full ≡ false
+pub room_said : (log : Log) (rs : List StepRecord) (o : Option Hold) (full : Bool) → IsHoldOf log rs o → full_unheld o full ≡ false → step_on_hold log ≡ None → full ≡ false
 room_said log rs None full h e none = e
 room_said log rs (Some g) full h e none = let k : None ≡ Some g.step = sym none ∙ h.0 in cc
 
@@ -71,13 +71,13 @@ last_unmarked log s w ts t left h inside =
 
 -- what is left remains
 left_remains : (log : Log) → IsLegal log → (x : TakenStep) → In x (left_of log) → In x (past_of log)
-left_remains log legal x i = by_held (held log) refl
+left_remains log legal x i = by_held (step_on_hold log) refl
   where
-    by_held : (o : Option StepName) → held log ≡ o → In x (past_of log)
+    by_held : (o : Option StepName) → step_on_hold log ≡ o → In x (past_of log)
     by_held None e = absurd (subst (In x) (nothing_left log e) i)
     by_held (Some name) e = (holds_stand log name legal e).inside x i
 
-pub hold_grown : (log next : Log) (s : Setting) (w : World) (t : TakenStep) (rs us : List StepRecord) (o p : Option Hold) → IsLegal log → held next ≡ held log → left_of next ≡ left_of log → StandsAt next s w (past_of log ++ t ∷ [])
+pub hold_grown : (log next : Log) (s : Setting) (w : World) (t : TakenStep) (rs us : List StepRecord) (o p : Option Hold) → IsLegal log → step_on_hold next ≡ step_on_hold log → left_of next ≡ left_of log → StandsAt next s w (past_of log ++ t ∷ [])
     → facts rs ≡ facts_of (past_of log) → facts us ≡ facts_of (past_of log ++ t ∷ []) → AddsUnheld o p → IsHoldOf log rs o → IsHoldOf next us p
 hold_grown log next s w t rs us None None legal same left there old new adds h = same ∙ h
 hold_grown log next s w t rs us None (Some g) legal same left there old new adds h = absurd adds
@@ -97,7 +97,7 @@ hold_grown log next s w t rs us (Some h) (Some g) legal same left there old new 
 -- ---- steps taken back
 
 -- the held step is marked, so something is counted
-held_counted : (log : Log) (name : StepName) → IsLegal log → held log ≡ Some name → 1 ≤ count_left (marks_by (left_of log) (past_of log))
+held_counted : (log : Log) (name : StepName) → IsLegal log → step_on_hold log ≡ Some name → 1 ≤ count_left (marks_by (left_of log) (past_of log))
 held_counted log name legal e =
     let k = holds_stand log name legal e in
     let first : In k.step (left_of log) = subst (In k.step) (sym k.left) (inl refl) in
@@ -107,30 +107,30 @@ held_counted log name legal e =
 pub record IsOut (log next : Log) (places : List ℕ) : Type 0 where
   pub past : past_of next ≡ removed_each (past_of log) places
   pub marks : marks_by (left_of next) (past_of next) ≡ removed_each (marks_by (left_of log) (past_of log)) places
-  pub kept : (name : StepName) → held next ≡ Some name → held log ≡ Some name
+  pub kept : (name : StepName) → step_on_hold next ≡ Some name → step_on_hold log ≡ Some name
 
 module _ (log next : Log) (places : List ℕ) (legal : IsLegal next) (out : IsOut log next places) where
-  out_none : held log ≡ None → held next ≡ None
-  out_none none = by_held (held next) refl
+  out_none : step_on_hold log ≡ None → step_on_hold next ≡ None
+  out_none none = by_held (step_on_hold next) refl
     where
-      by_held : (o : Option StepName) → held next ≡ o → held next ≡ None
+      by_held : (o : Option StepName) → step_on_hold next ≡ o → step_on_hold next ≡ None
       by_held None e = e
       by_held (Some name) e = let k : None ≡ Some name = sym none ∙ out.kept name e in cc
 
-  over : count_left (removed_each (marks_by (left_of log) (past_of log)) places) ≡ 0 → held next ≡ None
-  over zero_left = by_held (held next) refl
+  over : count_left (removed_each (marks_by (left_of log) (past_of log)) places) ≡ 0 → step_on_hold next ≡ None
+  over zero_left = by_held (step_on_hold next) refl
     where
-      by_held : (o : Option StepName) → held next ≡ o → held next ≡ None
+      by_held : (o : Option StepName) → step_on_hold next ≡ o → step_on_hold next ≡ None
       by_held None e = e
       by_held (Some name) e =
           let k = held_counted next name legal e in
           let n = ap count_left out.marks ∙ zero_left in
           absurd (omega (arith, k, n))
 
-  goes_on : (name : StepName) → held log ≡ Some name → 1 ≤ count_left (removed_each (marks_by (left_of log) (past_of log)) places) → held next ≡ Some name
-  goes_on name was some = by_held (held next) refl
+  goes_on : (name : StepName) → step_on_hold log ≡ Some name → 1 ≤ count_left (removed_each (marks_by (left_of log) (past_of log)) places) → step_on_hold next ≡ Some name
+  goes_on name was some = by_held (step_on_hold next) refl
     where
-      by_held : (o : Option StepName) → held next ≡ o → held next ≡ Some name
+      by_held : (o : Option StepName) → step_on_hold next ≡ o → step_on_hold next ≡ Some name
       by_held None e =
           let none = nothing_counted (left_of next) (past_of next) (nothing_left next e) in
           let n = ap count_left out.marks in
@@ -154,7 +154,7 @@ module _ (log next : Log) (places : List ℕ) (legal : IsLegal next) (out : IsOu
 
 -- where all of these go of what remains and of what is left, they go at their places
 pub all_out : (log next : Log) (s : Setting) (w : World) (all rest : List TakenStep) (places : List ℕ) → StandsAt log s w (past_of log) → past_of next ≡ without (steps s) all (past_of log) → left_of next ≡ without (steps s) all (left_of log)
-    → ((name : StepName) → held next ≡ Some name → held log ≡ Some name) → Undoes s (past_of log) places (without (steps s) all (past_of log)) → IsOut log next places
+    → ((name : StepName) → step_on_hold next ≡ Some name → step_on_hold log ≡ Some name) → Undoes s (past_of log) places (without (steps s) all (past_of log)) → IsOut log next places
 all_out log next s w all rest places h past left kept undoes =
     let base = base_of log in
     let ts = past_of log in
@@ -178,17 +178,17 @@ can_take_out log s w rest places rs (Some g) h undoes k many =
     subst (λ (n : ℕ). AreWithin n places) (sym (k.1.many ∙ many)) (undone_within s base have places ts rest (λ x y b. have.once ts w x y (is_run log s w ts h) b) undoes)
 
 -- what is held was held
-pub held_before : (log : Log) (e : Entry) (ss : List Step) → held_after log.begin (remainder log) e ≡ while_in ss (held log) → (name : StepName) → held (appended log e) ≡ Some name → held log ≡ Some name
-held_before log e ss while name h = (while_said ss (held log) name (sym while ∙ sym (held_next log e) ∙ h)).0
+pub held_before : (log : Log) (e : Entry) (ss : List Step) → held_after log.begin (remainder log) e ≡ while_in ss (step_on_hold log) → (name : StepName) → step_on_hold (appended log e) ≡ Some name → step_on_hold log ≡ Some name
+held_before log e ss while name h = (while_said ss (step_on_hold log) name (sym while ∙ sym (held_next log e) ∙ h)).0
 
 -- ---- a hold begins
 
-pub hold_begun : (log next : Log) (rs us : List StepRecord) (name : StepName) (h : Hold) → held next ≡ Some name → left_of next ≡ consequences_of log name → past_of next ≡ past_of log → facts rs ≡ facts us → IsHoldFor log rs name h → IsHoldOf next us (Some h)
+pub hold_begun : (log next : Log) (rs us : List StepRecord) (name : StepName) (h : Hold) → step_on_hold next ≡ Some name → left_of next ≡ consequences_of log name → past_of next ≡ past_of log → facts rs ≡ facts us → IsHoldFor log rs name h → IsHoldOf next us (Some h)
 hold_begun log next rs us name h now left past e for =
     (now ∙ ap Some (sym for.0), left_facts rs us h.left e for.1, for.2 ∙ ap₂ marks_by (sym left) (sym past))
 
 -- nothing is held where a hold would be refused
-pub none_kept : (log : Log) (rs : List StepRecord) (o : Option Hold) → held log ≡ None → IsHoldOf log rs o → o ≡ None
+pub none_kept : (log : Log) (rs : List StepRecord) (o : Option Hold) → step_on_hold log ≡ None → IsHoldOf log rs o → o ≡ None
 none_kept log rs None none h = refl
 none_kept log rs (Some h) none k = let e : None ≡ Some h.step = sym none ∙ k.0 in cc
 

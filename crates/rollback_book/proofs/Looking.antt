@@ -16,7 +16,7 @@ use Rattle.depends.proofs.Searching as searching
 use Rattle.book_log.specs.Answers.{from_step, found_answer, free_answer}
 use Rattle.book_log.specs.declared.refusal.Refusal.{Refusal}
 use Rattle.book_log.specs.declared.refusal.Refusal.TheVariants.{HasDependents}
-use Rattle.rollback_book.specs.Ordering.{left_by}
+use Rattle.rollback_book.specs.Ordering.{facts_without}
 use Rattle.rollback_book.proofs.Searching.{step_at, no_step, dependent_at, no_dependent_at, behind, same_either}
 
 -- ---- the facts are copied
@@ -40,20 +40,20 @@ no_earlier p (x ∷ xs) from at h =
 abbrev is_of : StepName → StepRecord → Bool
 is_of name r = is_same_step r.fact.name name
 
-out_from : (name : StepName) (rs : List StepRecord) (from at : ℕ) → position_from (is_of name) from rs ≡ Some at → facts (remove rs (at - from)) ≡ left_by name (facts rs)
+out_from : (name : StepName) (rs : List StepRecord) (from at : ℕ) → position_from (is_of name) from rs ≡ Some at → facts (remove rs (at - from)) ≡ facts_without name (facts rs)
 out_from name [] from at h = cc
 out_from name (r ∷ rs) from at h =
     by_bool (is_of name r) _
     (λ k. let e = same_Some from at (rw k at h) in
     let z : at - from ≡ 0 = omega (arith, e) in
-    ap (λ (i : ℕ). facts (remove (r ∷ rs) i)) z ∙ sym (ap (λ (b : Bool). cond b (facts rs) (r.fact ∷ left_by name (facts rs))) (sym (same_either r.fact.name name) ∙ k)))
+    ap (λ (i : ℕ). facts (remove (r ∷ rs) i)) z ∙ sym (ap (λ (b : Bool). cond b (facts rs) (r.fact ∷ facts_without name (facts rs))) (sym (same_either r.fact.name name) ∙ k)))
     (λ k. let rest : position_from (is_of name) (from + 1) rs ≡ Some at = rw k at h in
     let l = no_earlier (is_of name) rs (from + 1) at rest in
     let n : at - from ≡ suc (at - (from + 1)) = omega (arith, l) in
     ap (λ (i : ℕ). facts (remove (r ∷ rs) i)) n ∙ ap (λ (fs : List Fact). r.fact ∷ fs) (out_from name rs (from + 1) at rest)
-    ∙ sym (ap (λ (b : Bool). cond b (facts rs) (r.fact ∷ left_by name (facts rs))) (sym (same_either r.fact.name name) ∙ k)))
+    ∙ sym (ap (λ (b : Bool). cond b (facts rs) (r.fact ∷ facts_without name (facts rs))) (sym (same_either r.fact.name name) ∙ k)))
 
-pub taken_out : (name : StepName) (rs new : List StepRecord) (at : ℕ) → position (λ (r : StepRecord). is_same_step r.fact.name name) rs ≡ Some at → new ≡ remove rs at → facts new ≡ left_by name (facts rs)
+pub taken_out : (name : StepName) (rs new : List StepRecord) (at : ℕ) → position (λ (r : StepRecord). is_same_step r.fact.name name) rs ≡ Some at → new ≡ remove rs at → facts new ≡ facts_without name (facts rs)
 taken_out name rs new at h e =
     let z : at ≡ at - 0 = omega arith in
     ap facts e ∙ ap (λ (i : ℕ). facts (remove rs i)) z ∙ out_from name rs 0 at (sym (position_from-zero (is_of name) rs) ∙ h)

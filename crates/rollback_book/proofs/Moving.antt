@@ -5,7 +5,7 @@ use Rattle.std.proofs.lemmas.Option.{same_Some}
 use Rattle.step_history.specs.Frame.{Frame}
 use Rattle.step_history.specs.Phase.TheVariants.{Ready}
 use Rattle.asl_tree.specs.Definition.{Definition}
-use Rattle.branch_tree.specs.First.{is_enabled}
+use Rattle.branch_tree.specs.First.{is_free_to_move}
 use Rattle.branch_tree.specs.Ready.{readiness_at}
 use Rattle.branch_tree.specs.declared.readiness.Readiness.{Readiness}
 use Rattle.step_names.specs.Thread.{Thread}
@@ -31,7 +31,7 @@ use Rattle.depends.specs.Instance.{steps}
 use Rattle.trace_theory.proofs.Records.{run_is, run_names}
 use Rattle.std.proofs.lemmas.List.{length-map}
 use Rattle.book_log.specs.Answers.{effect_answer, is_enabled as can_move, step_answer, thread_answer, moved_answer, needed_left, unless_needed, is_full_for_step}
-use Rattle.book_log.specs.Log.{Log, base_of, first_world, past_of, remaining, settled, held, setting_of, world_of}
+use Rattle.book_log.specs.Log.{Log, base_of, first_world, past_of, remaining, settled, step_on_hold, setting_of, world_of}
 use Rattle.book_log.specs.declared.entry.Entry.{Entry}
 use Rattle.book_log.specs.declared.entry.Entry.TheVariants.{Step as Stepped}
 use Rattle.book_log.specs.declared.moved.Moved.{Moved}
@@ -39,7 +39,7 @@ use Rattle.book_log.specs.declared.refusal.Refusal.{Refusal}
 use Rattle.book_log.specs.declared.refusal.Refusal.TheVariants as refusal
 use Rattle.book_log.specs.declared.refusal.Refusal.TheVariants.{NoThread, NotReady, Full}
 use Rattle.book_log.proofs.HoldSaid.{needs_none}
-use Rattle.rollback_book.specs.Book.{BookView, BookInvariant, place_in, placed}
+use Rattle.rollback_book.specs.Book.{BookView, BookInvariant, machine_place, placed_machine}
 use Rattle.rollback_book.specs.Making.{CanEnter, HasLogRoom}
 use Rattle.book_events.specs.Planned.{IsMoveRefusal, OrMemory}
 use Rattle.rollback_book.specs.Ready.{HasRoomUnlessHeld, IsHeldBack, IsMadeIn, IsNextOf, IsReadyTo, MayEnter}
@@ -77,7 +77,7 @@ module _ (b : BookView) (tied : BookInvariant b) (t : Thread) where
   moves_there : move_effect (setting_of b.log) (world_of b.log) t ≡ move_effect (setting_of b.log) (world_view (history_world b.history)) t
   moves_there = ap (λ (w : World). move_effect (setting_of b.log) w t) (world_is b tied)
 
-  pub moves_where : is_some (move_effect (setting_of b.log) (world_of b.log) t) ≡ is_enabled readiness_there
+  pub moves_where : is_some (move_effect (setting_of b.log) (world_of b.log) t) ≡ is_free_to_move readiness_there
   moves_where =
       ap is_some moves_there
       ∙ threads_move (setting_of b.log) (base_of b.log) (past_of b.log) b.history t (legal_whole b.log tied.legal) tied.history
@@ -96,16 +96,16 @@ module _ (b : BookView) (tied : BookInvariant b) (t : Thread) where
     by_move : (o : Option Effect) → move_effect (setting_of b.log) (world_of b.log) t ≡ o → step_answer b.log t ≡ moved_answer b.log readiness_there o
     by_move o h = answer_by (Some f) there ∙ ap₂ (λ (r : Readiness) (x : Option Effect). moved_answer b.log r x) told_there h
 
-    pub step_stuck : is_enabled readiness_there ≡ false → step_answer b.log t ≡ Err (NotReady readiness_there)
+    pub step_stuck : is_free_to_move readiness_there ≡ false → step_answer b.log t ≡ Err (NotReady readiness_there)
     step_stuck h = by_move None (none_there (move_effect (setting_of b.log) (world_of b.log) t) (moves_where ∙ h))
 
-    moving : is_enabled readiness_there ≡ true → (d : Effect) × (move_effect (setting_of b.log) (world_of b.log) t ≡ Some d)
+    moving : is_free_to_move readiness_there ≡ true → (d : Effect) × (move_effect (setting_of b.log) (world_of b.log) t ≡ Some d)
     moving h = some_there (move_effect (setting_of b.log) (world_of b.log) t) (moves_where ∙ h)
 
     abbrev or_full : Moved → Bool → Result Moved Refusal
     or_full m full = cond full (Err Full) (Ok m)
 
-    pub step_full : held b.log ≡ None → is_enabled readiness_there ≡ true → is_full_for_step b.log ≡ true → step_answer b.log t ≡ Err Full
+    pub step_full : step_on_hold b.log ≡ None → is_free_to_move readiness_there ≡ true → is_full_for_step b.log ≡ true → step_answer b.log t ≡ Err Full
     step_full unheld h full =
         let d = moving h in
         let m : Moved = record { name = d.0.fact.name; kind = d.0.fact.kind } in
@@ -125,7 +125,7 @@ module _ (b : BookView) (tied : BookInvariant b) (t : Thread) where
         let p = frames_stand (setting_of b.log) (base_of b.log) (past_of b.log) b.history t f (legal_whole b.log tied.legal) tied.history there in
         p.below
 
-    begins : is_enabled readiness_there ≡ true → f.phase ≡ Ready → waits (frames_of (history_world b.history)) t f ≡ false
+    begins : is_free_to_move readiness_there ≡ true → f.phase ≡ Ready → waits (frames_of (history_world b.history)) t f ≡ false
     begins h e =
         let s = setting_of b.log in
         let w = world_view (history_world b.history) in
@@ -133,7 +133,7 @@ module _ (b : BookView) (tied : BookInvariant b) (t : Thread) where
         let by_frame : frame_effect s w t f ≡ Some d.0 = sym (ap (option_and_then (frame_effect s w t)) there) ∙ (sym moves_there ∙ d.1) in
         frame_begins s w t f d.0 by_frame e
 
-    pub ready_to : (machine : Definition) → is_enabled readiness_there ≡ true → HasRoomUnlessHeld b.log → placed (place_in b.places f.level.machine) ≡ Some machine → IsReadyTo b t machine f
+    pub ready_to : (machine : Definition) → is_free_to_move readiness_there ≡ true → HasRoomUnlessHeld b.log → placed_machine (machine_place b.places f.level.machine) ≡ Some machine → IsReadyTo b t machine f
     ready_to machine h free known =
         let d = moving h in
         record {
@@ -148,7 +148,7 @@ module _ (b : BookView) (tied : BookInvariant b) (t : Thread) where
           room = free;
         }
 
-    pub machine_known : placed (place_in b.places f.level.machine) ≡ None → ⊥
+    pub machine_known : placed_machine (machine_place b.places f.level.machine) ≡ None → ⊥
     machine_known h =
         let p = frames_stand (setting_of b.log) (base_of b.log) (past_of b.log) b.history t f (legal_whole b.log tied.legal) tied.history there in
         let known : is_some ((setting_of b.log).machines f.level.machine) ≡ true = p.known in
@@ -265,9 +265,9 @@ step_held_back before after t name next m e is step h =
 
 -- memory may be wanting for a move for which there is room, or while something is held
 lacks_memory : (log : Log) (t : Thread) (d : Effect) → step_answer log t ≡ effect_answer log d → can_move log t ≡ true → HasRoomUnlessHeld log → IsMoveRefusal log t refusal.Memory
-lacks_memory log t d answer moves room = by_held (held log) refl
+lacks_memory log t d answer moves room = by_held (step_on_hold log) refl
   where
-    by_held : (o : Option StepName) → held log ≡ o → IsMoveRefusal log t refusal.Memory
+    by_held : (o : Option StepName) → step_on_hold log ≡ o → IsMoveRefusal log t refusal.Memory
     by_held None e =
         let none = needs_none log e d.fact in
         let free = room e in

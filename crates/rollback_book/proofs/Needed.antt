@@ -18,7 +18,7 @@ use Rattle.step_history.proofs.Left.{step_there}
 use Rattle.step_index.specs.Held.{IsLastLeft}
 use Rattle.book_log.specs.Answers.{needed_left}
 use Rattle.book_log.specs.Legal.{IsLegal}
-use Rattle.book_log.specs.Log.{Log, base_of, held, left_by, left_of, past_of, setting_of, world_of}
+use Rattle.book_log.specs.Log.{Log, base_of, step_on_hold, left_by, left_of, past_of, setting_of, world_of}
 use Rattle.book_log.proofs.HoldSaid.{needs_none}
 use Rattle.book_log.proofs.Holding.{left_there}
 use Rattle.book_log.proofs.LegalRuns.{legal_stands}
@@ -66,7 +66,7 @@ module _ (p : Fact → Bool) (q : TakenStep → Bool) where
       (λ k. rw k rest)
 
 -- what is left is what is marked of the past
-left_marked : (log : Log) (name : StepName) → IsLegal log → held log ≡ Some name → filter (is_marked (left_of log)) (past_of log) ≡ left_of log
+left_marked : (log : Log) (name : StepName) → IsLegal log → step_on_hold log ≡ Some name → filter (is_marked (left_of log)) (past_of log) ≡ left_of log
 left_marked log name legal e =
     let s = setting_of log in
     let w = world_of log in
@@ -102,7 +102,7 @@ module _ (b : BookView) (tied : BookInvariant b) (h : Hold) (f : Fact) (is : IsH
 -- where nothing is held, a step for which there is room may be entered
 pub unheld_may : (b : BookView) (tied : BookInvariant b) (f : Fact) → b.held ≡ None → HasRoomUnlessHeld b.log → MayEnter b.log f
 unheld_may b tied f none room =
-    let unheld : held b.log ≡ None = subst (λ (o : Option Hold). IsHoldOf b.log (history_records b.history) o) none tied.held in
+    let unheld : step_on_hold b.log ≡ None = subst (λ (o : Option Hold). IsHoldOf b.log (history_records b.history) o) none tied.held in
     (needs_none b.log unheld f, room unheld)
 
 -- ---- the latest that is left

@@ -25,8 +25,8 @@ use Rattle.book_log.specs.declared.refusal.Refusal.TheVariants.{NoStep, Settled}
 use Rattle.book_log.proofs.Answered.{once, undo_said}
 use Rattle.book_log.proofs.Orders.{order_split}
 use Rattle.book_log.proofs.Standing.{StandsAt, from_start, past_there, fact_named, settled_next, stands_undone, step_same}
-use Rattle.rollback_book.specs.Book.{BookView, IsAt, IsMaximalPlace, BookInvariant}
-use Rattle.rollback_book.specs.Ordering.{left_by, order_refusal, refused_or}
+use Rattle.rollback_book.specs.Book.{BookView, IsStepAt, IsMaximalPlace, BookInvariant}
+use Rattle.rollback_book.specs.Ordering.{facts_without, order_refusal, refused_or}
 use Rattle.rollback_book.proofs.Free.{dependent_answer, dependent_within, free_place}
 use Rattle.rollback_book.specs.Settling.{absent_in}
 use Rattle.rollback_book.proofs.Settled.{absent_is}
@@ -42,7 +42,7 @@ others s x (t ∷ ts) h =
 
 -- the facts without a step are those without its name's
 left_facts : (s : Setting) (base : World) (from : IsFrom s base) (ts : List TakenStep) (x : TakenStep) → Once (steps s) base (steps_have_names s base from) ts → ((t : TakenStep) → In t ts → t.fact.name ≡ name_of t.step)
-    → facts_of (without (steps s) (x ∷ []) ts) ≡ left_by (name_of x.step) (facts_of ts)
+    → facts_of (without (steps s) (x ∷ []) ts) ≡ facts_without (name_of x.step) (facts_of ts)
 left_facts s base from [] x once named = refl
 left_facts s base from (t ∷ ts) x once named =
     let own : is_same_step (name_of x.step) t.fact.name ≡ is_same_step (name_of x.step) (name_of t.step) = ap (is_same_step (name_of x.step)) (named t (inl refl)) in
@@ -70,13 +70,13 @@ one_more log name n names (Some e) a k = ap (λ (r : Result StepName Refusal). o
 
 told_by : (gone : StepName → Refusal) (log : Log) (s : Setting) (w : World) (ts : List TakenStep) (h : StandsAt log s w ts) (name : StepName) (names : List StepName) (r : Result StepName Refusal)
     → ((v : World) (us : List TakenStep) → StandsAt (appended log (Undo name)) s v us → IsAnswered (appended log (Undo name)) names (order_refusal gone (facts_of us) names))
-    → undo_answer log name ≡ r → IsAnswered log (name ∷ names) (refused_or r (order_refusal gone (left_by name (facts_of ts)) names))
+    → undo_answer log name ≡ r → IsAnswered log (name ∷ names) (refused_or r (order_refusal gone (facts_without name (facts_of ts)) names))
 told_by gone log s w ts h name names (Ok n) rest a =
     let x = (undo_said log s w ts h name n a).0 in
     let left = without (steps s) (x.step ∷ []) ts in
     let told = rest (undone (steps s) w x.step) left (stands_undone log s w ts name x.step h x.free x.named) in
-    let same : facts_of left ≡ left_by name (facts_of ts) = left_facts s (base_of log) (from_start log s w ts h) ts x.step (once log s w ts h) (fact_named log s w ts h) ∙ ap (λ (m : StepName). left_by m (facts_of ts)) x.named in
-    one_more log name n names (order_refusal gone (left_by name (facts_of ts)) names) a
+    let same : facts_of left ≡ facts_without name (facts_of ts) = left_facts s (base_of log) (from_start log s w ts h) ts x.step (once log s w ts h) (fact_named log s w ts h) ∙ ap (λ (m : StepName). facts_without m (facts_of ts)) x.named in
+    one_more log name n names (order_refusal gone (facts_without name (facts_of ts)) names) a
     (subst (λ (fs : List Fact). IsAnswered (appended log (Undo name)) names (order_refusal gone fs names)) same told)
 told_by gone log s w ts h name names (Err e) rest a = ap (λ (r : Result StepName Refusal). once_undone r (order_answer (appended log (Undo name)) names)) a
 
@@ -110,7 +110,7 @@ module _ (b : BookView) (tied : BookInvariant b) where
   element_there (x ∷ xs) (suc i) h = element_there xs i (omega (arith, h))
 
   module _ (name n : StepName) (a : undo_answer b.log name ≡ Ok n) where
-    free_by : (at : ℕ) → IsAt b name at → (o : Option ℕ) → first_dependent (facts (history_records b.history)) at ≡ o → IsMaximalPlace b name at
+    free_by : (at : ℕ) → IsStepAt b name at → (o : Option ℕ) → first_dependent (facts (history_records b.history)) at ≡ o → IsMaximalPlace b name at
     free_by at is_at None h = free_place b tied name at is_at h
     free_by at is_at (Some dependent) h =
         let r = element_there (history_records b.history) dependent (dependent_within b tied name at is_at dependent h) in
@@ -119,7 +119,7 @@ module _ (b : BookView) (tied : BookInvariant b) where
         cc
 
     -- and it is free
-    pub undone_free : (at : ℕ) → IsAt b name at → IsMaximalPlace b name at
+    pub undone_free : (at : ℕ) → IsStepAt b name at → IsMaximalPlace b name at
     undone_free at is_at = free_by at is_at (first_dependent (facts (history_records b.history)) at) refl
 
 -- ---- one after another

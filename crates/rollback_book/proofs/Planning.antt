@@ -17,7 +17,7 @@ use Rattle.step_history.specs.Near.{near_behind}
 use Rattle.book_log.specs.Answers.{plan_answer, names_of_facts}
 use Rattle.book_log.specs.Log.{Log, past_of, setting_of}
 use Rattle.book_log.specs.declared.entry.Entry.{Entry}
-use Rattle.rollback_book.specs.Book.{BookView, BookInvariant, IsAt}
+use Rattle.rollback_book.specs.Book.{BookView, BookInvariant, IsStepAt}
 use Rattle.book_events.specs.Planned.{IsPlanned, WasPlanned}
 use Rattle.book_events.specs.declared.room.PlanRoom.{PlanRoom}
 use Rattle.rollback_book.proofs.Commuted.{plan_allowed}
@@ -63,7 +63,7 @@ some_names (n ∷ ns) (m ∷ ms) h =
 
 -- ---- a plan of a book
 
-module _ (b : BookView) (tied : BookInvariant b) (name : StepName) (at : ℕ) (is_at : IsAt b name at) where
+module _ (b : BookView) (tied : BookInvariant b) (name : StepName) (at : ℕ) (is_at : IsStepAt b name at) where
   planned_steps : (places : List ℕ) → places ≡ plan (facts (history_records b.history)) at
       → map (slice_get (past_of b.log)) places ≡ map Some (reverse (consequences (steps (setting_of b.log)) (past_of b.log) (stood b tied name at is_at).step.step))
   planned_steps places e = ap (map (slice_get (past_of b.log))) (e ∙ ap (λ (fs : List Fact). plan fs at) (facts_are b tied)) ∙ places_are b tied name at is_at

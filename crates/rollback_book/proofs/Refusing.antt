@@ -3,7 +3,7 @@ use Rattle.std.proofs.Common.{◌≡◌, ◌⊎◌, Bool, true, false, cond, Lis
 use Rattle.std.specs.Prelude.{ℕ, is_some, IsTrue}
 use Rattle.serde_json.specs.Data.{Data}
 use Rattle.json_tree.specs.declared.tree.Json.{Json}
-use Rattle.asl_fields.specs.Refusal.{Refuses}
+use Rattle.asl_fields.specs.Refusal.{RefusesForFault}
 use Rattle.asl_fields.specs.declared.fault.MachineFault.{MachineFault}
 use Rattle.asl_fields.specs.declared.fault.MachineFault.TheVariants.{Missing, UnknownField, Unsupported, BadField, NoTarget, NextAndEnd, StatesAllPlace, TooDeep, Memory as NoMemory}
 use Rattle.step_history.specs.Turn.{first_frame}
@@ -39,7 +39,7 @@ none_there (Some x) h = cc
 
 -- ---- definitions
 
-pub read_refused : (d : Data) (fault : MachineFault) → (fault ≡ NoMemory → ⊥) → Refuses fault (DefinesNone d) → Refuses fault (DefinitionFault d fault) → IsReadRefusal d (BadMachine fault)
+pub read_refused : (d : Data) (fault : MachineFault) → (fault ≡ NoMemory → ⊥) → RefusesForFault fault (DefinesNone d) → RefusesForFault fault (DefinitionFault d fault) → IsReadRefusal d (BadMachine fault)
 read_refused d (Missing field) n h k = (h, k)
 read_refused d (UnknownField field) n h k = (h, k)
 read_refused d (Unsupported field) n h k = (h, k)

@@ -7,7 +7,7 @@ use Rattle.std.proofs.lemmas.List.{map-append}
 use Rattle.step_names.specs.Order.{step_cmp}
 use Rattle.step_names.specs.declared.step.StepName.{StepName}
 use Rattle.step_names.proofs.OrderLaws as order
-use Rattle.step_history.specs.SettledNames.{HasRoomFor, Names, is_among}
+use Rattle.step_history.specs.SettledNames.{HasRoomFor, SettledNamesView, is_name_among}
 use Rattle.trace_theory.proofs.Lists.{by_bool}
 use Rattle.saved_steps.specs.Held.{world_view}
 use Rattle.saved_steps.specs.Steps.{Step, name_of}
@@ -17,7 +17,7 @@ use Rattle.step_history.specs.History.{TakenStep, IsHistory, history_records, hi
 use Rattle.step_history.specs.declared.history.History.{History}
 use Rattle.book_log.specs.Answers.{Gives, GivesOr, absent, is_full_for_define, is_settled, settle_answer}
 use Rattle.book_log.specs.Legal.{IsAccepted}
-use Rattle.book_log.specs.Log.{Log, appended, base_of, settled, remaining, held, setting_of, past_of}
+use Rattle.book_log.specs.Log.{Log, appended, base_of, settled, remaining, step_on_hold, setting_of, past_of}
 use Rattle.book_log.specs.declared.entry.Entry.{Entry}
 use Rattle.book_log.specs.declared.entry.Entry.TheVariants.{Define, Start, Step as Stepped, Undo, Rollback, Settle, Hold as HoldEntry}
 use Rattle.book_log.specs.declared.refusal.Refusal.{Refusal}
@@ -48,17 +48,17 @@ same_either n name =
     (λ j. let e = order.step_same n name j in let f = ap (is_same_step name) e ∙ step_itself name in let clash = sym k ∙ f in absurd (cc))
     (λ j. j ∙ sym k))
 
-among_is : (ss : List Step) (name : StepName) → is_among name (map name_of ss) ≡ list_any (λ (s : Step). is_same_step name (name_of s)) ss
+among_is : (ss : List Step) (name : StepName) → is_name_among name (map name_of ss) ≡ list_any (λ (s : Step). is_same_step name (name_of s)) ss
 among_is [] name = refl
 among_is (s ∷ ss) name = ap₂ (λ (a b : Bool). a || b) (same_either (name_of s) name) (among_is ss name)
 
 module _ (b : BookView) (tied : BookInvariant b) where
   pub absent_is : (name : StepName) → absent_in b.settled.items name ≡ absent b.log name
   unfolding absent_in is_settled
-  absent_is name = ap (λ (x : Bool). cond x Settled NoStep) (ap (is_among name) tied.names ∙ among_is (settled b.log) name)
+  absent_is name = ap (λ (x : Bool). cond x Settled NoStep) (ap (is_name_among name) tied.names ∙ among_is (settled b.log) name)
 
   -- the same names, with more room
-  pub tied_names : (names : Names) → names.items ≡ b.settled.items → BookInvariant (record { log = b.log; history = b.history; places = b.places; capacity = b.capacity; settled = names; held = b.held })
+  pub tied_names : (names : SettledNamesView) → names.items ≡ b.settled.items → BookInvariant (record { log = b.log; history = b.history; places = b.places; capacity = b.capacity; settled = names; held = b.held })
   tied_names names same = record {
     legal = tied.legal;
     history = tied.history;
@@ -73,7 +73,7 @@ module _ (b : BookView) (tied : BookInvariant b) where
 
   -- ---- a settlement
 
-  pub tied_settled : (h : History) (names : Names) (capacity : ℕ) → IsAccepted b.log Settle → HasLogRoom b → b.capacity ≤ capacity
+  pub tied_settled : (h : History) (names : SettledNamesView) (capacity : ℕ) → IsAccepted b.log Settle → HasLogRoom b → b.capacity ≤ capacity
       → (history_records h) ≡ [] → ((s : Setting) (base : World) (ts : List TakenStep) → IsHistory s base ts b.history → IsHistory s (world_view (history_world b.history)) [] h)
       → names.items ≡ b.settled.items ++ map (λ (r : StepRecord). r.fact.name) (history_records b.history)
       → BookInvariant (record { log = appended b.log Settle; history = h; places = b.places; capacity = capacity; settled = names; held = b.held })
@@ -94,7 +94,7 @@ module _ (b : BookView) (tied : BookInvariant b) where
       (stands_settled b.log s w ts there) (base_settled b.log s w ts there) (settles s (base_of b.log) ts tied.history) tied.machines all holds
       (omega (arith, log_room, grown, logged, empty)) (omega (arith, empty)) (omega (arith, free, count, logged, empty))
 
-  pub tied_after : (entry : Entry) (h : History) (names : Names) (capacity : ℕ) → IsAccepted b.log entry → CanEnterChange b entry made.Settle → HasLogRoom b → b.capacity ≤ capacity
+  pub tied_after : (entry : Entry) (h : History) (names : SettledNamesView) (capacity : ℕ) → IsAccepted b.log entry → CanEnterChange b entry made.Settle → HasLogRoom b → b.capacity ≤ capacity
       → (history_records h) ≡ [] → ((s : Setting) (base : World) (ts : List TakenStep) → IsHistory s base ts b.history → IsHistory s (world_view (history_world b.history)) [] h)
       → names.items ≡ b.settled.items ++ map (λ (r : StepRecord). r.fact.name) (history_records b.history)
       → BookInvariant (record { log = appended b.log entry; history = h; places = b.places; capacity = capacity; settled = names; held = b.held })
@@ -118,17 +118,17 @@ names_fit b Settle fits = fits
 
 -- ---- what is answered
 
-pub settle_full : (log : Log) → held log ≡ None → is_full_for_define log ≡ true → settle_answer log ≡ Err Full
+pub settle_full : (log : Log) → step_on_hold log ≡ None → is_full_for_define log ≡ true → settle_answer log ≡ Err Full
 unfolding settle_answer
 settle_full log free h = rw (free, h) refl
 
 -- while something is held, nothing is settled
-pub settle_held : (log : Log) (name : StepName) → held log ≡ Some name → settle_answer log ≡ Err (Held name)
+pub settle_held : (log : Log) (name : StepName) → step_on_hold log ≡ Some name → settle_answer log ≡ Err (Held name)
 unfolding settle_answer
 settle_held log name h = rw h refl
 
 -- a settlement for which everything is made
-pub settle_ready : (before after : BookView) → after.log ≡ before.log → held before.log ≡ None → is_full_for_define before.log ≡ false → HasRoomFor after.settled (length (history_records after.history)) → HasLogRoom after
+pub settle_ready : (before after : BookView) → after.log ≡ before.log → step_on_hold before.log ≡ None → is_full_for_define before.log ≡ false → HasRoomFor after.settled (length (history_records after.history)) → HasLogRoom after
     → CanEnter after (record { entry = Settle; answer = told.Settled; change = made.Settle })
 settle_ready before after same unheld free names room = record { is_accepted = ap settle_answer same ∙ room_settles before.log unheld free; fits = names; room = room }
 

@@ -21,15 +21,15 @@ use Rattle.saved_steps.specs.World.{World}
 use Rattle.saved_steps.specs.declared.next.Next.TheVariants.{Work}
 use Rattle.saved_steps.proofs.Moves.{work_is_effect}
 use Rattle.book_log.specs.Answers.{is_enabled, is_full_for_step, step_answer}
-use Rattle.book_log.specs.Log.{Log, base_of, held, machine_of, past_of, setting_of, world_of}
+use Rattle.book_log.specs.Log.{Log, base_of, step_on_hold, machine_of, past_of, setting_of, world_of}
 use Rattle.book_log.specs.declared.refusal.Refusal.{Refusal}
 use Rattle.book_log.specs.declared.refusal.Refusal.TheVariants.{NoMachine, MachineTaken, BadMachine, ExecTaken, NoThread, NotReady, NoStep, HasDependents, Stale, Full, Memory, Settled, Held}
-use Rattle.rollback_book.specs.Book.{BookView, BookInvariant, place_in, placed}
+use Rattle.rollback_book.specs.Book.{BookView, BookInvariant, machine_place, placed_machine}
 use Rattle.book_events.specs.Commits.{AnswersCommit, IsFresh, IsSource, tells_hold, turn_refused}
 use Rattle.book_events.specs.declared.commits.CommitRefusal.TheVariants.{Refused}
 use Rattle.book_events.specs.Planned.{IsMoveRefusal}
 use Rattle.rollback_book.specs.Ready.{HasRoomUnlessHeld, IsNextOf}
-use Rattle.book_events.specs.Tickets.{IsTicketed, IsTicketRefusal, readiness_in}
+use Rattle.book_events.specs.Tickets.{IsTicketed, IsTicketRefusal, log_readiness}
 use Rattle.rollback_book.proofs.Moving.{few_steps, moves_where, next_is, ready_to, step_full, told_there}
 use Rattle.rollback_book.proofs.Tied.{world_is}
 use Rattle.rollback_book.proofs.Whole.{legal_whole}
@@ -39,27 +39,27 @@ module _ (b : BookView) (tied : BookInvariant b) (t : Thread) where
   pub frame_there : (o : Option Frame) → o ≡ frames_of (history_world b.history) t → (world_of b.log).frames t ≡ o
   frame_there o h = ap (λ (w : World). w.frames t) (world_is b tied) ∙ sym h
 
-  pub readiness_told : (readiness : Readiness) → readiness ≡ readiness_at (paths_of (frames_of (history_world b.history)) t.exec) t.path → readiness ≡ readiness_in b.log t
+  pub readiness_told : (readiness : Readiness) → readiness ≡ readiness_at (paths_of (frames_of (history_world b.history)) t.exec) t.path → readiness ≡ log_readiness b.log t
   readiness_told readiness h = h ∙ sym (told_there b tied t)
 
   module _ (f : Frame) (there : Some f ≡ frames_of (history_world b.history) t) where
-    pub no_ticket : (readiness : Readiness) → readiness ≡ readiness_at (paths_of (frames_of (history_world b.history)) t.exec) t.path → first.is_enabled readiness ≡ false
+    pub no_ticket : (readiness : Readiness) → readiness ≡ readiness_at (paths_of (frames_of (history_world b.history)) t.exec) t.path → first.is_free_to_move readiness ≡ false
         → IsTicketRefusal b.log t (NotReady readiness)
     no_ticket readiness h stuck =
-        (subst IsSome (sym (frame_there (Some f) there)) refl, moves_where b tied t ∙ sym (ap first.is_enabled h) ∙ stuck, readiness_told readiness h)
+        (subst IsSome (sym (frame_there (Some f) there)) refl, moves_where b tied t ∙ sym (ap first.is_free_to_move h) ∙ stuck, readiness_told readiness h)
 
-    pub ticketed : (machine : Definition) (readiness : Readiness) → readiness ≡ readiness_at (paths_of (frames_of (history_world b.history)) t.exec) t.path → first.is_enabled readiness ≡ true
-        → Some machine ≡ placed (place_in b.places f.level.machine) → IsTicketed b.log t machine f
+    pub ticketed : (machine : Definition) (readiness : Readiness) → readiness ≡ readiness_at (paths_of (frames_of (history_world b.history)) t.exec) t.path → first.is_free_to_move readiness ≡ true
+        → Some machine ≡ placed_machine (machine_place b.places f.level.machine) → IsTicketed b.log t machine f
     ticketed machine readiness h moves known =
         let p = frames_stand (setting_of b.log) (base_of b.log) (past_of b.log) b.history t f (legal_whole b.log tied.legal) tied.history (sym there) in
         let own : machine_of b.log f.level.machine ≡ Some machine = sym (tied.machines f.level.machine) ∙ sym known in
         record {
-          moving = record { frame = frame_there (Some f) there; known = own; moves = moves_where b tied t ∙ sym (ap first.is_enabled h) ∙ moves };
+          moving = record { frame = frame_there (Some f) there; known = own; moves = moves_where b tied t ∙ sym (ap first.is_free_to_move h) ∙ moves };
           stands = subst IsSome (ap (option_and_then (λ (d : Definition). located d f)) own) p.stands;
           few = few_steps b tied t f (sym there);
         }
 
-pub fresh_by : (log : Log) (t : Thread) (p : Prepared) (f : Frame) → (world_of log).frames t ≡ Some f → IsSource log p f → first.is_enabled (readiness_in log t) ≡ true → IsFresh log t p
+pub fresh_by : (log : Log) (t : Thread) (p : Prepared) (f : Frame) → (world_of log).frames t ≡ Some f → IsSource log p f → first.is_free_to_move (log_readiness log t) ≡ true → IsFresh log t p
 fresh_by log t p f there source begins =
     record { begins = begins; frame = there ∙ ap Some source.0; machine = subst (λ (g : Frame). machine_of log g.level.machine ≡ Some p.machine) source.0 source.1 }
 
@@ -69,15 +69,15 @@ pub commit_next : (b : BookView) (tied : BookInvariant b) (t : Thread) (p : Prep
 commit_next b tied t p name fresh free named =
     let f = p.frame in
     let there : frames_of (history_world b.history) t ≡ Some f = sym (ap (λ (w : World). w.frames t) (world_is b tied)) ∙ fresh.frame in
-    let ready = ready_to b tied t f there p.machine (sym (ap first.is_enabled (told_there b tied t)) ∙ fresh.begins) free (tied.machines f.level.machine ∙ fresh.machine) in
+    let ready = ready_to b tied t f there p.machine (sym (ap first.is_free_to_move (told_there b tied t)) ∙ fresh.begins) free (tied.machines f.level.machine ∙ fresh.machine) in
     next_is b tied t f there p.machine name (Work p) ready named
     (λ s base ts is own. work_move s (history_world b.history) t f p.machine (is_over s base ts b.history is) there own p work_is_effect p.ready (ready.begins p.ready) refl refl)
 
 -- and it is refused where there is no room and nothing is held
-pub commit_full : (b : BookView) (tied : BookInvariant b) (t : Thread) (p : Prepared) → IsFresh b.log t p → held b.log ≡ None → is_full_for_step b.log ≡ true → step_answer b.log t ≡ Err Full
+pub commit_full : (b : BookView) (tied : BookInvariant b) (t : Thread) (p : Prepared) → IsFresh b.log t p → step_on_hold b.log ≡ None → is_full_for_step b.log ≡ true → step_answer b.log t ≡ Err Full
 commit_full b tied t p fresh unheld full =
     let there : frames_of (history_world b.history) t ≡ Some p.frame = sym (ap (λ (w : World). w.frames t) (world_is b tied)) ∙ fresh.frame in
-    step_full b tied t p.frame there unheld (sym (ap first.is_enabled (told_there b tied t)) ∙ fresh.begins) full
+    step_full b tied t p.frame there unheld (sym (ap first.is_free_to_move (told_there b tied t)) ∙ fresh.begins) full
 
 -- a turn that is its thread's next is answered as it is refused
 pub turn_answer : (log : Log) (t : Thread) (p : Prepared) (e : Refusal) → IsFresh log t p → IsMoveRefusal log t e → AnswersCommit log t p (Err (turn_refused e p))
@@ -100,7 +100,7 @@ not_true true h = absurd (h refl)
 not_true false h = refl
 
 -- while nothing is held none is held back
-pub unheld_answer : (log : Log) (t : Thread) (p : Prepared) (e : Refusal) → IsFresh log t p → IsMoveRefusal log t e → (tells_hold e ≡ true → IsSome (held log)) → is_some (held log) ≡ false
+pub unheld_answer : (log : Log) (t : Thread) (p : Prepared) (e : Refusal) → IsFresh log t p → IsMoveRefusal log t e → (tells_hold e ≡ true → IsSome (step_on_hold log)) → is_some (step_on_hold log) ≡ false
     → AnswersCommit log t p (Err (Refused e))
 unheld_answer log t p e fresh refused only none = (fresh, refused, not_true (tells_hold e) (λ h. let clash : true ≡ false = sym (only h) ∙ none in cc))
 
@@ -119,7 +119,7 @@ unlike f g ne is h e =
     cc
 
 -- the book's machine of a frame's level is the one of which a turn was prepared, just where these two are compared equal
-module _ (b : BookView) (tied : BookInvariant b) (p : Prepared) (f : Frame) (machine : Definition) (known : Some machine ≡ placed (place_in b.places f.level.machine)) where
+module _ (b : BookView) (tied : BookInvariant b) (p : Prepared) (f : Frame) (machine : Definition) (known : Some machine ≡ placed_machine (machine_place b.places f.level.machine)) where
   found : machine_of b.log f.level.machine ≡ Some machine
   found = sym (tied.machines f.level.machine) ∙ sym known
 

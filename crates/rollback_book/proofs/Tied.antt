@@ -22,7 +22,7 @@ use Rattle.book_log.specs.Log.{Log, appended, base_of, settled, settled_after, r
 use Rattle.book_log.specs.declared.entry.Entry.{Entry}
 use Rattle.book_log.proofs.LegalRuns.{legal_stands}
 use Rattle.book_log.proofs.Standing.{StandsAt, stands_in, settled_next, world_there, past_there, steps_run, names_there, fact_named}
-use Rattle.rollback_book.specs.Book.{BookView, BookInvariant, place_in, placed}
+use Rattle.rollback_book.specs.Book.{BookView, BookInvariant, machine_place, placed_machine}
 use Rattle.rollback_book.specs.Holding.{IsHoldOf}
 
 -- ---- a log that stands somewhere
@@ -38,7 +38,7 @@ stands_as log s w v ts h runs =
 
 -- what is held belongs to a log that stands in the same world
 pub tied_by : (b : BookView) (s : Setting) (base w : World) (ts : List TakenStep) → IsLegal b.log → StandsAt b.log s w ts → base_of b.log ≡ base → IsHistory s base ts b.history
-    → ((name : List ℕ) → placed (place_in b.places name) ≡ s.machines name) → b.settled.items ≡ map name_of (settled b.log) → IsHoldOf b.log (history_records b.history) b.held
+    → ((name : List ℕ) → placed_machine (machine_place b.places name) ≡ s.machines name) → b.settled.items ≡ map name_of (settled b.log) → IsHoldOf b.log (history_records b.history) b.held
     → length b.log.entries + length (history_records b.history) ≤ b.capacity → length (history_records b.history) ≤ 65536 → length b.log.entries + length (history_records b.history) ≤ 1000000 → BookInvariant b
 tied_by b s base w ts legal h same was machines names holds room few bounded =
     let is = subst (λ (x : World). IsHistory s x ts b.history) (sym same) was in

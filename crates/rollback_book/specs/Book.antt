@@ -10,7 +10,7 @@ use Rattle.depends.specs.Plans.{first_dependent}
 use Rattle.saved_steps.specs.Held.{world_view}
 use Rattle.saved_steps.specs.Steps.{name_of}
 use Rattle.saved_steps.specs.World.{is_same_step}
-use Rattle.step_history.specs.SettledNames.{Names}
+use Rattle.step_history.specs.SettledNames.{SettledNamesView}
 use Rattle.step_names.specs.declared.step.StepName.{StepName}
 use Rattle.step_history.specs.History.{IsHistory, history_records, history_world}
 use Rattle.step_history.specs.declared.history.History.{History}
@@ -26,13 +26,13 @@ use Rattle.book_log.specs.Log.{Log, base_of, settled, machine_of, past_of, run_o
 abbrev pub Places : Type 0
 Places = List (List ℕ × Option Definition)
 
-abbrev pub place_in : Places → List ℕ → Option (Option Definition)
-place_in places name = lookup (is_at (slice_cmp nat_cmp name)) places
+abbrev pub machine_place : Places → List ℕ → Option (Option Definition)
+machine_place places name = lookup (is_at (slice_cmp nat_cmp name)) places
 
 -- the machine in a place, if it is not empty
-abbrev pub placed : Option (Option Definition) → Option Definition
-placed None = None
-placed (Some place) = place
+abbrev pub placed_machine : Option (Option Definition) → Option Definition
+placed_machine None = None
+placed_machine (Some place) = place
 
 -- The log is what a book is; it holds the history of its remaining steps, places for machines, room for so many entries, the
 -- names of the steps that were settled, and what is left of a hold.
@@ -41,11 +41,11 @@ pub record BookView : Type 0 where
   pub history : History
   pub places : Places
   pub capacity : ℕ
-  pub settled : Names
+  pub settled : SettledNamesView
   pub held : Option Hold
 
 -- a book of these fields
-abbrev pub book_view : Begin → BTreeMap (List ℕ) (Option Definition) → History → Vec Entry → Names → Option Hold → BookView
+abbrev pub book_view : Begin → BTreeMap (List ℕ) (Option Definition) → History → Vec Entry → SettledNamesView → Option Hold → BookView
 book_view begin machines history entries settled held = record { log = record { begin = begin; entries = entries.items }; history = history; places = machines.entries; capacity = vec_capacity entries; settled = settled; held = held }
 
 -- what a book holds belongs to its log
@@ -54,7 +54,7 @@ pub record BookInvariant (b : BookView) : Type 0 where
   -- the history is the run of the remaining steps from their base
   pub history : IsHistory (setting_of b.log) (base_of b.log) (past_of b.log) b.history
   pub run : run_of b.log ≡ Some (world_view (history_world b.history), past_of b.log)
-  pub machines : (name : List ℕ) → placed (place_in b.places name) ≡ machine_of b.log name
+  pub machines : (name : List ℕ) → placed_machine (machine_place b.places name) ≡ machine_of b.log name
   pub names : b.settled.items ≡ map name_of (settled b.log)
   pub held : IsHoldOf b.log (history_records b.history) b.held
   -- there is room for the entry of each remaining step's undoing
@@ -63,11 +63,11 @@ pub record BookInvariant (b : BookView) : Type 0 where
   pub bounded : length b.log.entries + length (history_records b.history) ≤ most_places
 
 -- the step of this name stands at a place
-abbrev pub IsAt : BookView → StepName → ℕ → Type 0
-IsAt b name at = position (λ r. is_same_step r.fact.name name) (history_records b.history) ≡ Some at
+abbrev pub IsStepAt : BookView → StepName → ℕ → Type 0
+IsStepAt b name at = position (λ r. is_same_step r.fact.name name) (history_records b.history) ≡ Some at
 
 -- it may be undone there
 pub record IsMaximalPlace (b : BookView) (name : StepName) (at : ℕ) : Type 0 where
-  pub there : IsAt b name at
+  pub there : IsStepAt b name at
   pub free : first_dependent (map (λ r. r.fact) (history_records b.history)) at ≡ None
   pub answer : undo_answer b.log name ≡ Ok name

@@ -9,7 +9,7 @@ use Rattle.step_index.specs.Held.{Held, AreLeft, IsLeftAt, count_left}
 use Rattle.step_index.specs.Walks.{IsFirstFrom, needed_by}
 use Rattle.step_history.specs.History.{TakenStep}
 use Rattle.step_names.specs.declared.step.StepName.{StepName}
-use Rattle.book_log.specs.Log.{Log, held, left_of, past_of, consequences_of}
+use Rattle.book_log.specs.Log.{Log, step_on_hold, left_of, past_of, consequences_of}
 use Rattle.book_log.specs.declared.refusal.Refusal.{Refusal}
 use Rattle.book_log.specs.declared.refusal.Refusal.TheVariants as refusal
 use Rattle.rollback_book.specs.declared.hold.Hold.{Hold}
@@ -20,8 +20,8 @@ marks_by left past = map (λ t. list_any (λ x. is_same_step (name_of x.step) (n
 
 -- nothing is held; or this step is, and what is left is marked
 abbrev pub IsHoldOf : Log → List StepRecord → Option Hold → Type 0
-IsHoldOf log rs None = held log ≡ None
-IsHoldOf log rs (Some h) = (held log ≡ Some h.step) × AreLeft rs h.left × (h.left.marks ≡ marks_by (left_of log) (past_of log))
+IsHoldOf log rs None = step_on_hold log ≡ None
+IsHoldOf log rs (Some h) = (step_on_hold log ≡ Some h.step) × AreLeft rs h.left × (h.left.marks ≡ marks_by (left_of log) (past_of log))
 
 -- it would be so of a step and its consequences
 abbrev pub IsHoldFor : Log → List StepRecord → StepName → Hold → Type 0
@@ -29,7 +29,7 @@ IsHoldFor log rs name h = (h.step ≡ name) × AreLeft rs h.left × (h.left.mark
 
 -- why nothing more can be held, and nothing settled: this step is held, or memory is wanting to tell it
 abbrev pub IsHoldRefusal : Log → Refusal → Type 0
-IsHoldRefusal log e = (name : StepName) × (held log ≡ Some name) × ((e ≡ refusal.Held name) ⊎ (e ≡ refusal.Memory))
+IsHoldRefusal log e = (name : StepName) × (step_on_hold log ≡ Some name) × ((e ≡ refusal.Held name) ⊎ (e ≡ refusal.Memory))
 
 -- the earliest place that is left and on whose step a later one of this fact would depend directly
 abbrev pub IsFirstNeeded : List StepRecord → Held → Fact → Option ℕ → Type 0

@@ -17,14 +17,14 @@ use Rattle.step_names.specs.Thread.{Thread}
 use Rattle.step_names.specs.declared.step.StepName.{StepName}
 use Rattle.book_log.specs.Answers.{IsDefineRefusal, HoldLacks, SettleLacks, StepLacks, hold_answer, settle_answer, start_answer, step_answer, plan_answer}
 use Rattle.book_log.specs.Legal.{IsAccepted}
-use Rattle.book_log.specs.Log.{Log, consequences_of, facts_of, setting_of, world_of}
+use Rattle.book_log.specs.Log.{Log, consequences_of, log_facts, setting_of, world_of}
 use Rattle.book_log.specs.declared.entry.Entry.{Entry}
 use Rattle.book_log.specs.declared.entry.Entry.TheVariants.{Define, Start, Step as Stepped, Settle, Hold}
 use Rattle.book_log.specs.declared.moved.Moved.{Moved}
 use Rattle.book_log.specs.declared.refusal.Refusal.{Refusal}
 use Rattle.book_log.specs.declared.refusal.Refusal.TheVariants.{Memory}
 use Rattle.book_events.specs.Planned.{IsMoveRefusal, OrMemory}
-use Rattle.rollback_book.specs.Book.{BookView, place_in}
+use Rattle.rollback_book.specs.Book.{BookView, machine_place}
 use Rattle.book_events.specs.Rest.{IsBackwardOrderOf}
 use Rattle.std.specs.List.{list_any}
 use Rattle.step_index.specs.Held.{AreLeft}
@@ -66,21 +66,21 @@ AnswersHold log name (Ok m) = (count : ℕ) × (hold_answer log name ≡ Ok coun
 AnswersHold log name (Err e) = OrMemory (hold_answer log name) e ⊎ ((e ≡ Memory) × HoldLacks log name)
 
 -- the command that a change is, with its answer, or why it is refused
-abbrev pub Answers : Log → Change → Result Made Refusal → Type 0
-Answers log (change.Define name d) (Ok m) = (machine : Definition) × Defines (view d.now) machine × EntersWith m (Define name.now machine) entered.Defined
-Answers log (change.Define name d) (Err e) = IsDefineRefusal log name.now (view d.now) e
-Answers log (change.Start exec machine input) result = AnswersStart (start_answer log exec.now machine.now) (Start exec.now machine.now input) result
-Answers log (change.Step thread) result = AnswersMove log thread.now result
-Answers log change.Settle result = AnswersSettle log result
-Answers log (change.Hold step) result = AnswersHold log step.now result
+abbrev pub AnswersMade : Log → Change → Result Made Refusal → Type 0
+AnswersMade log (change.Define name d) (Ok m) = (machine : Definition) × Defines (view d.now) machine × EntersWith m (Define name.now machine) entered.Defined
+AnswersMade log (change.Define name d) (Err e) = IsDefineRefusal log name.now (view d.now) e
+AnswersMade log (change.Start exec machine input) result = AnswersStart (start_answer log exec.now machine.now) (Start exec.now machine.now input) result
+AnswersMade log (change.Step thread) result = AnswersMove log thread.now result
+AnswersMade log change.Settle result = AnswersSettle log result
+AnswersMade log (change.Hold step) result = AnswersHold log step.now result
 
 -- a start's execution has no branches, and its input nests at most 127 deep
-abbrev pub IsProper : Change → Type 0
-IsProper (change.Define name d) = Unit {0}
-IsProper (change.Start exec machine input) = (exec.now.path ≡ []) × (depth (data_of input) ≤ most_levels)
-IsProper (change.Step thread) = Unit {0}
-IsProper change.Settle = Unit {0}
-IsProper (change.Hold step) = Unit {0}
+abbrev pub IsProperChange : Change → Type 0
+IsProperChange (change.Define name d) = Unit {0}
+IsProperChange (change.Start exec machine input) = (exec.now.path ≡ []) × (depth (data_of input) ≤ most_levels)
+IsProperChange (change.Step thread) = Unit {0}
+IsProperChange change.Settle = Unit {0}
+IsProperChange (change.Hold step) = Unit {0}
 
 -- ---- what can be entered
 
@@ -96,7 +96,7 @@ pub record IsStepFor (b : BookView) (step : Step) (m : MadeStep) : Type 0 where
 -- a definition has an empty place, a step can be applied, there is room for the names of what is settled, and what is held is
 -- marked
 abbrev pub CanEnterChange : BookView → Entry → MadeChange → Type 0
-CanEnterChange b (Define name machine) (made.Define place shared) = (place ≡ name) × (shared ≡ machine) × (place_in b.places name ≡ Some None)
+CanEnterChange b (Define name machine) (made.Define place shared) = (place ≡ name) × (shared ≡ machine) × (machine_place b.places name ≡ Some None)
 CanEnterChange b (Start exec machine input) (made.Step m) = IsStepFor b (started exec.exec machine input) m
 CanEnterChange b (Stepped name kind) (made.Step m) = IsStepFor b (moved name) m
 CanEnterChange b Settle made.Settle = HasRoomFor b.settled (length (history_records b.history))

@@ -13,9 +13,9 @@ FirstRemains log [] = Unit {0}
 FirstRemains log (name ∷ names) = remains log name ≡ true
 
 -- the facts but that of the step of a name
-abbrev pub left_by : StepName → List Fact → List Fact
-left_by name [] = []
-left_by name (f ∷ fs) = if is_same_step name f.name then fs else f ∷ left_by name fs
+abbrev pub facts_without : StepName → List Fact → List Fact
+facts_without name [] = []
+facts_without name (f ∷ fs) = if is_same_step name f.name then fs else f ∷ facts_without name fs
 
 abbrev pub refused_or : Result StepName Refusal → Option Refusal → Option Refusal
 refused_or (Ok name) rest = rest
@@ -24,4 +24,4 @@ refused_or (Err e) rest = Some e
 -- why the first name that can't be undone at its turn can't be; the first argument says why, where its step doesn't remain
 abbrev pub order_refusal : (StepName → Refusal) → List Fact → List StepName → Option Refusal
 order_refusal gone fs [] = None
-order_refusal gone fs (name ∷ names) = refused_or (found_answer (gone name) name (from_step name fs)) (order_refusal gone (left_by name fs) names)
+order_refusal gone fs (name ∷ names) = refused_or (found_answer (gone name) name (from_step name fs)) (order_refusal gone (facts_without name fs) names)

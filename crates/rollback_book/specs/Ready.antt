@@ -19,7 +19,7 @@ use Rattle.step_names.specs.Order.{thread_cmp}
 use Rattle.step_names.specs.Thread.{Thread, IsThread}
 use Rattle.step_names.specs.declared.step.StepName.{StepName}
 use Rattle.book_log.specs.Answers.{effect_answer, is_enabled, is_full_for_step, needed_left, start_answer, step_answer}
-use Rattle.book_log.specs.Log.{Log, held, setting_of, world_of}
+use Rattle.book_log.specs.Log.{Log, step_on_hold, setting_of, world_of}
 use Rattle.book_log.specs.declared.refusal.Refusal.{Refusal}
 use Rattle.book_log.specs.declared.refusal.Refusal.TheVariants as refusal
 use Rattle.saved_steps.specs.declared.fact.Fact.{Fact}
@@ -28,7 +28,7 @@ use Rattle.rollback_book.specs.Holding.{HasHeldRoom}
 
 -- where nothing is held there is room for a step
 abbrev pub HasRoomUnlessHeld : Log → Type 0
-HasRoomUnlessHeld log = held log ≡ None → is_full_for_step log ≡ false
+HasRoomUnlessHeld log = step_on_hold log ≡ None → is_full_for_step log ≡ false
 
 -- a step of this fact depends directly on nothing that is left, and there is room for it
 abbrev pub MayEnter : Log → Fact → Type 0
@@ -38,7 +38,7 @@ MayEnter log fact = (needed_left log fact ≡ None) × (is_full_for_step log ≡
 abbrev pub IsHeldBack : Log → Fact → Refusal → Type 0
 IsHeldBack log fact (refusal.Held name) = (x : Fact) × (needed_left log fact ≡ Some x) × (name ≡ x.name)
 IsHeldBack log fact refusal.Full = (needed_left log fact ≡ None) × (is_full_for_step log ≡ true)
-IsHeldBack log fact refusal.Memory = IsSome (held log)
+IsHeldBack log fact refusal.Memory = IsSome (step_on_hold log)
 IsHeldBack log fact _ = ⊥
 
 -- the execution begins with this frame, and the start is accepted

@@ -6,10 +6,10 @@ ghost use Rattle.item_store.specs.Store.{slot_key};
 ghost use Rattle.saved_steps.specs.Steps.{name_of};
 ghost use Rattle.step_history.specs.History.{AreRecordsOf, history_items};
 ghost use Rattle.book_log.specs.Answers.{absent, remains, undo_answer};
-ghost use Rattle.book_log.specs.Beginning.{table_of};
+ghost use Rattle.book_log.specs.Beginning.{begun_table};
 ghost use Rattle.book_log.specs.Legal.{IsLegal};
 ghost use Rattle.book_log.specs.Log.{appended, past_of, remaining, world_of};
-ghost use Rattle.rollback_book.specs.Book.{IsAt, IsMaximalPlace};
+ghost use Rattle.rollback_book.specs.Book.{IsStepAt, IsMaximalPlace};
 ghost use Rattle.book_events.specs.Calls.{IsLogOf, MakesRoom, MakesUndoRoom, PlansRollback, RollsBack, Shows, Undoes};
 ghost use Rattle.book_events.specs.Planned.{IsPlanned, WasPlanned};
 
@@ -72,8 +72,8 @@ impl Book {
     /// The fault of the first item that is none, and `Memory`.
     pub fn open(alloc: Global, begin: Begin) -> Result<Book, ItemFault>
         ensures { MatchResult result
-            (λ book. (book.log ≡ record { begin = begin; entries = [] }) × IsOk (table_of begin))
-            (λ e. (e ≡ ItemFault.Memory) ⊎ (table_of begin ≡ Err e)) }
+            (λ book. (book.log ≡ record { begin = begin; entries = [] }) × IsOk (begun_table begin))
+            (λ e. (e ≡ ItemFault.Memory) ⊎ (begun_table begin ≡ Err e)) }
     {
         match first_store(alloc, &begin) {
             Ok(items) => Ok(Book {
@@ -270,7 +270,7 @@ impl Book {
 
     /// The plan of the step at a place.
     fn plan_at(&self, alloc: Global, step: &StepName, at: usize) -> Result<PlanRoom, AllocError>
-        requires { IsAt self.now step.now at }
+        requires { IsStepAt self.now step.now at }
         ensures { IfOk result (λ r. (r.step ≡ step.now) × IsPlanned self.now.log r) }
     {
         let mut looks = Looks::new();

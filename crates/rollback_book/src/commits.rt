@@ -1,7 +1,7 @@
 // Turns that were prepared apart from the book, and are taken where they are still their threads'.
 ghost use Rattle.std.specs.Prelude.{◌≡◌, true, false, IfOk, IfErr, IsSome, MatchResult};
-ghost use Rattle.book_events.specs.Commits.{AnswersCommit, Commits, IsFresh, IsSource, IsStaleness, is_ready, tells_hold, turn_refused};
-ghost use Rattle.book_log.specs.Log.{held};
+ghost use Rattle.book_events.specs.Commits.{AnswersCommit, Commits, IsFresh, IsSource, IsStaleness, is_phase_ready, tells_hold, turn_refused};
+ghost use Rattle.book_log.specs.Log.{step_on_hold};
 ghost use Rattle.rollback_book.specs.Making.{AnswersMove, CanEnter};
 
 use crate::book::Book;
@@ -19,7 +19,7 @@ use step_names::ThreadName;
 
 /// Whether a thread stands before its state.
 fn is_ready(phase: &Phase) -> bool
-    ensures { result ≡ is_ready phase.now }
+    ensures { result ≡ is_phase_ready phase.now }
 {
     matches!(phase, Phase::Ready)
 }
@@ -144,7 +144,7 @@ impl Book {
         requires { IsFresh self.old.log thread.now prepared }
         ensures answer { AnswersMove self.old.log thread.now result }
         ensures ready { IfOk result (λ m. CanEnter self.new m) }
-        ensures held { IfErr result (λ e. tells_hold e ≡ true → IsSome (held self.old.log)) }
+        ensures step_on_hold { IfErr result (λ e. tells_hold e ≡ true → IsSome (step_on_hold self.old.log)) }
         ensures log { self.new.log ≡ self.old.log }
     {
         if is_full_unheld(&self.held, self.entries.len(), self.history.len()) {

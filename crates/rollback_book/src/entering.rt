@@ -12,9 +12,9 @@ ghost use Rattle.saved_steps.specs.Steps.{start_name};
 ghost use Rattle.book_log.specs.Answers.{IsDefineRefusal, is_full_for_define, start_answer};
 ghost use Rattle.book_log.specs.Legal.{IsAccepted};
 ghost use Rattle.book_log.specs.Log.{appended, machine_of, world_of};
-ghost use Rattle.rollback_book.specs.Book.{place_in};
+ghost use Rattle.rollback_book.specs.Book.{machine_place};
 ghost use Rattle.book_events.specs.Calls.{Starts};
-ghost use Rattle.rollback_book.specs.Making.{Answers, AnswersStart, CanEnter, CanEnterChange, HasLogRoom, IsProper, EntersWith};
+ghost use Rattle.rollback_book.specs.Making.{AnswersMade, AnswersStart, CanEnter, CanEnterChange, HasLogRoom, IsProperChange, EntersWith};
 ghost use Rattle.book_events.specs.Planned.{OrMemory};
 ghost use Rattle.rollback_book.specs.Ready.{IsMadeIn, IsStartOf};
 ghost use Rattle.step_history.specs.History.{history_world};
@@ -78,8 +78,8 @@ impl Book {
     /// Makes everything that a command needs, so that to enter it takes no memory and is not refused. The log is the same
     /// then.
     pub fn ready_entry(&mut self, alloc: Global, change: Change<'_>) -> Result<Made, Refusal>
-        requires { IsProper change }
-        ensures answer { Answers self.old.log change.entry result }
+        requires { IsProperChange change }
+        ensures answer { AnswersMade self.old.log change.entry result }
         ensures ready { IfOk result (λ m. CanEnter self.new m) }
         ensures log { self.new.log ≡ self.old.log }
     {
@@ -195,7 +195,7 @@ impl Book {
     /// Makes a place for a machine, and room for its entry and that of its undoing.
     pub(crate) fn make_place(&mut self, name: &Text) -> Result<(), AllocError>
         requires { machine_of self.old.log name.now ≡ None }
-        ensures place { OnOk result (place_in self.new.places name.now ≡ Some None) }
+        ensures place { OnOk result (machine_place self.new.places name.now ≡ Some None) }
         ensures room { OnOk result (HasLogRoom self.new) }
         ensures log { self.new.log ≡ self.old.log }
     {

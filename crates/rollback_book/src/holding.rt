@@ -3,8 +3,8 @@ ghost use Rattle.std.specs.List.{All};
 ghost use Rattle.std.specs.Prelude.{◌≡◌, ◌<◌, IfOk, MatchResult, None, OnOk, length, option_copied};
 ghost use Rattle.book_log.specs.Answers.{is_full_for_step};
 ghost use Rattle.book_log.specs.Legal.{IsAccepted};
-ghost use Rattle.book_log.specs.Log.{appended, held, left_of};
-ghost use Rattle.rollback_book.specs.Book.{IsAt};
+ghost use Rattle.book_log.specs.Log.{appended, step_on_hold, left_of};
+ghost use Rattle.rollback_book.specs.Book.{IsStepAt};
 ghost use Rattle.book_events.specs.Calls.{Holds, IsLatestLeft};
 ghost use Rattle.rollback_book.specs.Holding.{IsHoldRefusal};
 ghost use Rattle.rollback_book.specs.Making.{AnswersHold, CanEnter, CanEnterChange, HasLogRoom, IsMadeHold, MakesHold};
@@ -43,7 +43,7 @@ impl Book {
 
     /// The step of the hold that stands, if one does. Takes no memory.
     pub fn held(&self) -> Option<&StepName>
-        ensures { option_copied result ≡ held self.now.log }
+        ensures { option_copied result ≡ step_on_hold self.now.log }
     {
         match &self.held {
             Some(hold) => Some(&hold.step),
@@ -83,7 +83,7 @@ impl Book {
 
     /// Refuses where something is held.
     pub(crate) fn check_unheld(&self) -> Result<(), Refusal>
-        ensures { MatchResult result (λ _. held self.now.log ≡ None) (IsHoldRefusal self.now.log) }
+        ensures { MatchResult result (λ _. step_on_hold self.now.log ≡ None) (IsHoldRefusal self.now.log) }
     {
         match self.held() {
             Some(name) => Err(Refusal::Held(name.copy()?)),
@@ -114,7 +114,7 @@ impl Book {
 
     /// Makes what the hold of the step at a place needs, and room for its entry and that of an undoing.
     fn make_hold(&mut self, alloc: Global, step: &StepName, at: usize) -> Result<Made, AllocError>
-        requires { IsAt self.old step.now at }
+        requires { IsStepAt self.old step.now at }
         ensures made { IfOk result (MakesHold self.old.log (history_records self.new.history) step.now) }
         ensures room { OnOk result (HasLogRoom self.new) }
         ensures log { self.new.log ≡ self.old.log }

@@ -4,7 +4,7 @@ ghost use Rattle.book_log.specs.Answers.{from_step, found_answer, order_answer, 
 ghost use Rattle.book_log.specs.Legal.{IsLegal};
 ghost use Rattle.book_log.specs.Log.{Log, appended};
 ghost use Rattle.rollback_book.specs.Commuting.{HasConsequences, IsOnlyResult, UndoesBackward};
-ghost use Rattle.rollback_book.specs.Ordering.{FirstRemains, left_by, order_refusal};
+ghost use Rattle.rollback_book.specs.Ordering.{FirstRemains, facts_without, order_refusal};
 ghost use Rattle.rollback_book.specs.Settling.{absent_in};
 
 use crate::book::Book;
@@ -210,7 +210,7 @@ fn copy_of_access(access: &Option<Access>) -> Result<Option<Access>, AllocError>
 fn take_out(settled: &SettledNames, left: &mut StepRecords, name: &StepName) -> Result<(), Refusal>
     ensures { MatchResult result
         (λ _. (found_answer (absent_in settled.now.items name.now) name.now (from_step name.now (map (λ r. r.fact) left.old.items)) ≡ Ok name.now)
-        × (map (λ r. r.fact) left.new.items ≡ left_by name.now (map (λ r. r.fact) left.old.items)))
+        × (map (λ r. r.fact) left.new.items ≡ facts_without name.now (map (λ r. r.fact) left.old.items)))
         (λ e. (e ≡ Refusal.Memory) ⊎ (found_answer (absent_in settled.now.items name.now) name.now (from_step name.now (map (λ r. r.fact) left.old.items)) ≡ Err e)) }
 {
     let Some(at) = left.find(name) else {

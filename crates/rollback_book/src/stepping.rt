@@ -2,13 +2,13 @@
 ghost use Rattle.std.specs.Prelude.{◌≡◌, ◌+◌, ◌<◌, ◌^◌, true, IfOk, IfErr, IsSome, MatchResult, Err};
 ghost use Rattle.std.specs.BTreeSet.{contains};
 ghost use Rattle.std.specs.String.{string_bytes};
-ghost use Rattle.branch_tree.specs.First.{is_enabled};
+ghost use Rattle.branch_tree.specs.First.{is_free_to_move};
 ghost use Rattle.step_names.specs.Order.{thread_cmp};
 ghost use Rattle.saved_steps.specs.Effects.{next_step};
 ghost use Rattle.saved_steps.specs.First.{NoneBeforeThread};
 ghost use Rattle.saved_steps.specs.Made.{fact_made};
 ghost use Rattle.book_log.specs.Answers.{step_answer};
-ghost use Rattle.book_log.specs.Log.{held, world_of};
+ghost use Rattle.book_log.specs.Log.{step_on_hold, world_of};
 ghost use Rattle.book_events.specs.Calls.{FindsFirst, Steps};
 ghost use Rattle.book_events.specs.Commits.{tells_hold};
 ghost use Rattle.rollback_book.specs.Making.{AnswersMove, CanEnter};
@@ -30,7 +30,7 @@ use step_names::{StepName, ThreadName};
 
 /// Whether a thread has a move.
 pub(crate) fn is_enabled(readiness: Readiness) -> bool
-    ensures { result ≡ is_enabled readiness }
+    ensures { result ≡ is_free_to_move readiness }
 {
     matches!(
         readiness,
@@ -106,7 +106,7 @@ impl Book {
         requires { IsNextOf self.old name.thread name next }
         ensures answer { AnswersMove self.old.log name.thread result }
         ensures ready { IfOk result (λ m. CanEnter self.new m) }
-        ensures held { IfErr result (λ e. tells_hold e ≡ true → IsSome (held self.old.log)) }
+        ensures step_on_hold { IfErr result (λ e. tells_hold e ≡ true → IsSome (step_on_hold self.old.log)) }
         ensures log { self.new.log ≡ self.old.log }
     {
         let Ok(step) = self.make_step(alloc, &name, next) else {
@@ -132,7 +132,7 @@ impl Book {
         ensures answer { MatchResult result
             (λ _. MayEnter self.now.log (fact_made step.now))
             (IsHeldBack self.now.log (fact_made step.now)) }
-        ensures held { IfErr result (λ _. IsSome (held self.now.log)) }
+        ensures step_on_hold { IfErr result (λ _. IsSome (step_on_hold self.now.log)) }
     {
         let Some(hold) = &self.held else {
             return Ok(());

@@ -13,7 +13,7 @@ use Rattle.clap.specs.declared.error.kind.ErrorKind.TheVariants as kind
 use Rattle.rollback_run.specs.declared.mode.Mode.{Mode}
 use Rattle.rollback_run.specs.declared.mode.ModeRefusal.{ModeRefusal}
 use Rattle.rollback_run.specs.declared.mode.ModeRefusal.TheVariants.{Shown, Usage, Memory}
-use Rattle.rollback_run.specs.Words.{program, value_in, IsRefusedBy, Names, NamesFile, Refuses, RefusesNamed}
+use Rattle.rollback_run.specs.Words.{program, value_in, IsModeRefusedBy, NamesMode, NamesFile, RefusesMode, RefusesNamed}
 
 first_text : (vs : List (Bor Text)) → option_map (λ s. s.now) (slice_get vs 0) ≡ slice_get (map (λ s. s.now) vs) 0
 first_text [] = refl
@@ -39,7 +39,7 @@ value_is a m words name app has =
     first_in name (found_of m).entries.items ∙ ap (first_of name) ((has (ap is_simple app)).0 ∙ ap (λ x. matches_of x words) app)
 
 pub refuses : (words : List Text) (k : ErrorKind) (r : ModeRefusal) → (k ≡ kind.OutOfMemory) ⊎ IsAmong k (fault_of program words)
-    → IsRefusedBy k r → Refuses words r
+    → IsModeRefusedBy k r → RefusesMode words r
 refuses words k Memory h told = tt
 refuses words k (Shown text) (inl e) (inl help) = cc
 refuses words k (Shown text) (inl e) (inr version) = cc
@@ -48,7 +48,7 @@ refuses words k (Shown text) (inr among) told = inr (record { kind = k; among = 
 refuses words k Usage (inr among) told = inr (record { kind = k; among = among; told = told })
 
 pub refuses_named : (words : List Text) (r : ModeRefusal) → RefusesNamed (value_in words (codes "journal")) (value_in words (codes "check")) r
-    → Refuses words r
+    → RefusesMode words r
 refuses_named words Memory h = tt
 refuses_named words (Shown text) h = inl h
 refuses_named words Usage h = inl h
@@ -59,7 +59,7 @@ pub among_faults : (a : App) (words : List Text) (e : Error) → a ≡ program �
 among_faults a words e app h = subst (λ x. HasKind (fault_of x words) e) app h
 
 pub names_by : (words : List Text) (journal check : Option Text) (mode : Mode) → journal ≡ value_in words (codes "journal")
-    → check ≡ value_in words (codes "check") → fault_of program words ≡ [] → NamesFile journal check mode → Names words mode
+    → check ≡ value_in words (codes "check") → fault_of program words ≡ [] → NamesFile journal check mode → NamesMode words mode
 names_by words journal check mode e f taken h =
     (taken, subst (λ x. NamesFile x (value_in words (codes "check")) mode) e (subst (λ x. NamesFile journal x mode) f h))
 
@@ -68,6 +68,6 @@ pub taken_by : (a : App) (words : List Text) → a ≡ program → fault_of a wo
 taken_by a words app h = subst (λ x. fault_of x words ≡ []) app h
 
 pub refuses_by : (words : List Text) (journal check : Option Text) (refusal : ModeRefusal) → journal ≡ value_in words (codes "journal")
-    → check ≡ value_in words (codes "check") → RefusesNamed journal check refusal → Refuses words refusal
+    → check ≡ value_in words (codes "check") → RefusesNamed journal check refusal → RefusesMode words refusal
 refuses_by words journal check refusal e f h = refuses_named words refusal
     (subst (λ x. RefusesNamed x (value_in words (codes "check")) refusal) e (subst (λ x. RefusesNamed journal x refusal) f h))

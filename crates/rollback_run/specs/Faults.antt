@@ -35,13 +35,13 @@ served (Err fault) = Err (of_serve fault)
 
 -- ---- how it is told
 
-abbrev pub fault_text : ExitCause → List ℕ
-fault_text (Damaged line) = codes "rollback: damaged " ++ (decimal line ++ 10 ∷ [])
-fault_text (Gap position) = codes "rollback: gap " ++ (decimal position ++ 10 ∷ [])
-fault_text Store = codes "rollback: store\n"
-fault_text Input = codes "rollback: input\n"
-fault_text Output = codes "rollback: output\n"
-fault_text Memory = codes "rollback: memory\n"
+abbrev pub exit_text : ExitCause → List ℕ
+exit_text (Damaged line) = codes "rollback: damaged " ++ (decimal line ++ 10 ∷ [])
+exit_text (Gap position) = codes "rollback: gap " ++ (decimal position ++ 10 ∷ [])
+exit_text Store = codes "rollback: store\n"
+exit_text Input = codes "rollback: input\n"
+exit_text Output = codes "rollback: output\n"
+exit_text Memory = codes "rollback: memory\n"
 
 -- the text is written, or a beginning of it
 pub record IsBegun (text : List ℕ) (old new : Option (List ℕ)) : Type 0 where
@@ -51,9 +51,9 @@ pub record IsBegun (text : List ℕ) (old new : Option (List ℕ)) : Type 0 wher
   pub appended : Appends old new written
 
 -- an outcome that is a fault is told, perhaps not to its end, and nothing else is
-abbrev pub IsTold : Result Unit ExitCause → Option (List ℕ) → Option (List ℕ) → Type 0
-IsTold (Ok done) old new = Keeps old new
-IsTold (Err fault) old new = IsBegun (fault_text fault) old new
+abbrev pub IsExitCauseSaid : Result Unit ExitCause → Option (List ℕ) → Option (List ℕ) → Type 0
+IsExitCauseSaid (Ok done) old new = Keeps old new
+IsExitCauseSaid (Err fault) old new = IsBegun (exit_text fault) old new
 
 abbrev pub usage_text : List ℕ
 usage_text = codes "usage: rollback [--journal FILE | --check FILE]\n"

@@ -5,7 +5,7 @@ use Rattle.std.specs.Io.KnownBytes.{Appends, Keeps}
 use Rattle.sqlite.specs.State.{State, HasCleanDisk}
 use Rattle.sqlite.specs.declared.error.Error.{Error}
 use Rattle.operator_line.specs.Log.{Log, remaining}
-use Rattle.book_journal.specs.Faults.{fault_of}
+use Rattle.book_journal.specs.Faults.{journal_fault_of}
 use Rattle.book_journal.specs.Kept.{lines_in, IsOpened, IsSame}
 use Rattle.journaled_book.specs.Changes.{IsRead}
 use Rattle.journaled_book.specs.Journaled.{IsJournalOf}
@@ -16,7 +16,7 @@ use Rattle.operator_line.specs.Serving.{Serves}
 use Rattle.operator_line.specs.Sessions.{KeepsOne}
 use Rattle.operator_line.specs.Texts.{lines_of}
 use Rattle.operator_line.specs.declared.serving.ServeFault.{ServeFault}
-use Rattle.rollback_run.specs.Faults.{of_journal, of_open, outcome_status, served, usage_text, IsBegun, IsTold}
+use Rattle.rollback_run.specs.Faults.{of_journal, of_open, outcome_status, served, usage_text, IsBegun, IsExitCauseSaid}
 use Rattle.rollback_run.specs.declared.fault.ExitCause.{ExitCause}
 use Rattle.rollback_run.specs.declared.fault.ExitCause.TheVariants as fault
 use Rattle.rollback_run.specs.declared.fault.ExitCause.TheVariants.{Output}
@@ -39,38 +39,38 @@ sizes_text sizes = codes "ok " ++ (decimal sizes.0 ++ 32 ∷ (decimal sizes.1 ++
 
 module _ {Held : Type 0} (show : Held → State) where
   -- The connection's journal was opened and read, which left it as it was, and its lines give this book. Of a disk that failed nothing is said.
-  pub record Gives (connection loaded : Held) (book : Option Log) : Type 0 where
+  pub record GivesJournal (connection loaded : Held) (book : Option Log) : Type 0 where
     pub journal : Held
     pub is_opened : HasCleanDisk (show journal) → IsOpened (show connection) (show journal)
     pub is_read : IsRead (show journal) (show loaded)
     pub gives : HasCleanDisk (show loaded) → OpensTo (lines_in (show journal)) book
 
   -- the connection's journal was opened and read, which left it as it was, and gives no book for this reason
-  pub record Refuses (connection left : Held) (reason : OpenFault) : Type 0 where
+  pub record RefusesOpening (connection left : Held) (reason : OpenFault) : Type 0 where
     pub journal : Held
     pub is_opened : HasCleanDisk (show journal) → IsOpened (show connection) (show journal)
     pub is_read : IsRead (show journal) (show left)
     pub refuses : HasCleanDisk (show left) → RefusesOpen (show journal) (show left) reason
 
   -- the database refuses to open a journal, for this cause
-  pub record RefusesJournal (connection left : Held) (fault : ExitCause) : Type 0 where
+  pub record ExitsForJournal (connection left : Held) (fault : ExitCause) : Type 0 where
     pub cause : Error
-    pub told : fault ≡ of_journal (fault_of cause)
+    pub told : fault ≡ of_journal (journal_fault_of cause)
     pub same : HasCleanDisk (show left) → IsSame (show connection) (show left)
 
   -- the database refuses to open a journal, or the journal gives no book
-  abbrev pub GivesNone : Held → Held → ExitCause → Type 0
-  GivesNone connection left fault =
-      RefusesJournal connection left fault ⊎ ((reason : OpenFault) × (fault ≡ of_open reason) × Refuses connection left reason)
+  abbrev pub GivesNoJournal : Held → Held → ExitCause → Type 0
+  GivesNoJournal connection left fault =
+      ExitsForJournal connection left fault ⊎ ((reason : OpenFault) × (fault ≡ of_open reason) × RefusesOpening connection left reason)
 
-  abbrev pub Opens : Result Held Error → Held → Option Log → Type 0
-  Opens (Ok connection) loaded book = Gives connection loaded book
-  Opens (Err cause) loaded book = ⊥
+  abbrev pub OpensJournal : Result Held Error → Held → Option Log → Type 0
+  OpensJournal (Ok connection) loaded book = GivesJournal connection loaded book
+  OpensJournal (Err cause) loaded book = ⊥
 
   -- a connection that gives no book is handed out too
-  abbrev pub OpensNone : Result Held Error → Option Held → ExitCause → Type 0
-  OpensNone (Ok connection) left fault = MatchOption left ⊥ (λ held. GivesNone connection held fault)
-  OpensNone (Err cause) left fault = (left ≡ None) × (fault ≡ of_journal (fault_of cause))
+  abbrev pub OpensNoJournal : Result Held Error → Option Held → ExitCause → Type 0
+  OpensNoJournal (Ok connection) left fault = MatchOption left ⊥ (λ held. GivesNoJournal connection held fault)
+  OpensNoJournal (Err cause) left fault = (left ≡ None) × (fault ≡ of_journal (journal_fault_of cause))
 
 -- ---- what is done with the book
 
@@ -109,16 +109,16 @@ has_to_close mode outcome = false
 module _ {Held : Type 0} (show : Held → State) where
   -- The journal was handed the lines of the input and no others: all of them if serving ended well, else the first ones. A check changes
   -- nothing. Either way the journal's lines are those of the book then.
-  pub record Leaves (mode : Mode) (outcome : Result Unit ExitCause) (input : Option (List ℕ)) (after : Option Log) (loaded left : Held) : Type 0 where
+  pub record LeavesJournal (mode : Mode) (outcome : Result Unit ExitCause) (input : Option (List ℕ)) (after : Option Log) (loaded left : Held) : Type 0 where
     pub handed : is_check mode ≡ false → IfSome input (λ text. Hands (KeepsOne show) outcome (lines_of text) loaded left)
     pub unchanged : is_check mode ≡ true → left ≡ loaded
     pub holds : IsJournalOf (show left) after
 
   -- the mode is done of this book and of its journal
-  pub record IsRun (mode : Mode) (outcome : Result Unit ExitCause) (book : Option Log) (loaded left : Held) (input rest old new : Option (List ℕ)) : Type 0 where
+  pub record IsProgramRun (mode : Mode) (outcome : Result Unit ExitCause) (book : Option Log) (loaded left : Held) (input rest old new : Option (List ℕ)) : Type 0 where
     pub after : Option Log
     pub is_done : IsDone mode outcome book after input rest old new
-    pub leaves : Leaves mode outcome input after loaded left
+    pub leaves : LeavesJournal mode outcome input after loaded left
 
   -- ---- the whole run
 
@@ -126,14 +126,14 @@ module _ {Held : Type 0} (show : Held → State) where
   pub record HasBook (mode : Mode) (connection : Result Held Error) (outcome : Result Unit ExitCause) (left : Held) (input rest old new : Option (List ℕ)) : Type 0 where
     pub book : Option Log
     pub loaded : Held
-    pub opens : Opens show connection loaded book
-    pub is_run : IsRun mode outcome book loaded left input rest old new
+    pub opens : OpensJournal show connection loaded book
+    pub is_run : IsProgramRun mode outcome book loaded left input rest old new
 
   -- there is none for this fault, and nothing is read or written
   pub record HasNone (connection : Result Held Error) (outcome : Result Unit ExitCause) (left : Option Held) (input rest old new : Option (List ℕ)) : Type 0 where
     pub fault : ExitCause
     pub is_fault : outcome ≡ Err fault
-    pub opens_none : OpensNone show connection left fault
+    pub opens_none : OpensNoJournal show connection left fault
     pub unread : rest ≡ input
     pub unwritten : Keeps old new
 
@@ -145,24 +145,24 @@ module _ {Held : Type 0} (show : Held → State) where
 abbrev pub after_closing : Result Unit ExitCause → Result Unit Error → Result Unit ExitCause
 after_closing (Err fault) closed = Err fault
 after_closing (Ok done) (Ok closed) = Ok done
-after_closing (Ok done) (Err cause) = Err (of_journal (fault_of cause))
+after_closing (Ok done) (Err cause) = Err (of_journal (journal_fault_of cause))
 
 -- the status and the words on standard error tell how a run ended, and how its file was closed
 pub record IsStatus (outcome : Result Unit ExitCause) (closed : Result Unit Error) (status : ℕ) (quiet said : Option (List ℕ)) : Type 0 where
   pub status_is : status ≡ outcome_status (after_closing outcome closed)
-  pub told : IsTold (after_closing outcome closed) quiet said
+  pub told : IsExitCauseSaid (after_closing outcome closed) quiet said
 
 -- ---- words that name no mode
 
 -- a beginning of a text is shown, and then it is told that the output can't be written
 pub record IsCutShort (text : List ℕ) (old new quiet said : Option (List ℕ)) : Type 0 where
   pub begun : IsBegun text old new
-  pub told : IsTold (Err Output) quiet said
+  pub told : IsExitCauseSaid (Err Output) quiet said
 
-abbrev pub IsShown : ℕ → List ℕ → Option (List ℕ) → Option (List ℕ) → Option (List ℕ) → Option (List ℕ) → Type 0
-IsShown status text old new quiet said = ((status ≡ 0) × Appends old new text × Keeps quiet said) ⊎ ((status ≡ 4) × IsCutShort text old new quiet said)
+abbrev pub IsTextShown : ℕ → List ℕ → Option (List ℕ) → Option (List ℕ) → Option (List ℕ) → Option (List ℕ) → Type 0
+IsTextShown status text old new quiet said = ((status ≡ 0) × Appends old new text × Keeps quiet said) ⊎ ((status ≡ 4) × IsCutShort text old new quiet said)
 
-abbrev pub IsRefusal : ModeRefusal → ℕ → Option (List ℕ) → Option (List ℕ) → Option (List ℕ) → Option (List ℕ) → Type 0
-IsRefusal (Shown text) status old new quiet said = IsShown status (string_bytes text) old new quiet said
-IsRefusal Usage status old new quiet said = (status ≡ 2) × Keeps old new × IsBegun usage_text quiet said
-IsRefusal Memory status old new quiet said = (status ≡ 4) × Keeps old new × IsTold (Err fault.Memory) quiet said
+abbrev pub IsModeRefusal : ModeRefusal → ℕ → Option (List ℕ) → Option (List ℕ) → Option (List ℕ) → Option (List ℕ) → Type 0
+IsModeRefusal (Shown text) status old new quiet said = IsTextShown status (string_bytes text) old new quiet said
+IsModeRefusal Usage status old new quiet said = (status ≡ 2) × Keeps old new × IsBegun usage_text quiet said
+IsModeRefusal Memory status old new quiet said = (status ≡ 4) × Keeps old new × IsExitCauseSaid (Err fault.Memory) quiet said

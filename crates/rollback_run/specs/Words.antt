@@ -44,22 +44,22 @@ RefusesNamed journal check Usage = IsSome journal × IsSome check
 RefusesNamed journal check Memory = Unit {0}
 
 -- how an error of this kind is told: a text that was asked for is shown
-abbrev pub IsRefusedBy : ErrorKind → ModeRefusal → Type 0
-IsRefusedBy k (Shown text) = (k ≡ kind.DisplayHelp) ⊎ (k ≡ kind.DisplayVersion)
-IsRefusedBy k Usage = (k ≢ kind.DisplayHelp) × (k ≢ kind.DisplayVersion) × (k ≢ kind.OutOfMemory)
-IsRefusedBy k Memory = Unit {0}
+abbrev pub IsModeRefusedBy : ErrorKind → ModeRefusal → Type 0
+IsModeRefusedBy k (Shown text) = (k ≡ kind.DisplayHelp) ⊎ (k ≡ kind.DisplayVersion)
+IsModeRefusedBy k Usage = (k ≢ kind.DisplayHelp) × (k ≢ kind.DisplayVersion) × (k ≢ kind.OutOfMemory)
+IsModeRefusedBy k Memory = Unit {0}
 
 -- clap takes the words, and the mode is the one that their matches name
-abbrev pub Names : List Text → Mode → Type 0
-Names words mode = (fault_of program words ≡ []) × NamesFile (value_in words (codes "journal")) (value_in words (codes "check")) mode
+abbrev pub NamesMode : List Text → Mode → Type 0
+NamesMode words mode = (fault_of program words ≡ []) × NamesFile (value_in words (codes "journal")) (value_in words (codes "check")) mode
 
 -- the words are refused with an error that is told so
-pub record IsRefused (words : List Text) (refusal : ModeRefusal) : Type 0 where
+pub record IsModeRefused (words : List Text) (refusal : ModeRefusal) : Type 0 where
   pub kind : ErrorKind
   pub among : IsAmong kind (fault_of program words)
-  pub told : IsRefusedBy kind refusal
+  pub told : IsModeRefusedBy kind refusal
 
 -- Both options are there, or the words are refused for another cause than memory. Want of memory says nothing of them.
-abbrev pub Refuses : List Text → ModeRefusal → Type 0
-Refuses words Memory = Unit {0}
-Refuses words refusal = RefusesNamed (value_in words (codes "journal")) (value_in words (codes "check")) refusal ⊎ IsRefused words refusal
+abbrev pub RefusesMode : List Text → ModeRefusal → Type 0
+RefusesMode words Memory = Unit {0}
+RefusesMode words refusal = RefusesNamed (value_in words (codes "journal")) (value_in words (codes "check")) refusal ⊎ IsModeRefused words refusal

@@ -1,8 +1,8 @@
 // Why a run fails, and how that is told.
 ghost use Rattle.std.specs.Prelude.{◌≡◌};
-ghost use Rattle.book_journal.specs.Faults.{fault_of};
+ghost use Rattle.book_journal.specs.Faults.{journal_fault_of};
 ghost use Rattle.operator_line.specs.Serving.{WritesReply};
-ghost use Rattle.rollback_run.specs.Faults.{fault_text, fault_status, outcome_status, of_journal, of_open, of_serve, IsTold};
+ghost use Rattle.rollback_run.specs.Faults.{exit_text, fault_status, outcome_status, of_journal, of_open, of_serve, IsExitCauseSaid};
 
 use crate::writing::write_number;
 use book_journal::JournalFault;
@@ -54,7 +54,7 @@ impl ExitCause {
 
     /// How a refusal to connect is told.
     pub(crate) fn of_connection(cause: Error) -> ExitCause
-        ensures { result ≡ of_journal (fault_of cause) }
+        ensures { result ≡ of_journal (journal_fault_of cause) }
     {
         ExitCause::of_journal(JournalFault::from(cause))
     }
@@ -93,7 +93,7 @@ impl ExitCause {
 
     /// Writes what is told of it.
     fn tell<W: Write>(self, faults: &mut W) -> Result<(), ServeFault>
-        ensures { WritesReply result (fault_text self) (W.contents faults.old) (W.contents faults.new) }
+        ensures { WritesReply result (exit_text self) (W.contents faults.old) (W.contents faults.new) }
     {
         match self {
             ExitCause::Damaged(line) => write_number(faults, b"rollback: damaged ", line, b"\n"),
@@ -109,7 +109,7 @@ impl ExitCause {
 /// The status of a run's outcome, which is told where it is a fault. Where even that can't be written, the status alone tells it.
 pub(crate) fn end<W: Write>(outcome: Result<(), ExitCause>, faults: &mut W) -> u8
     ensures status { result ≡ outcome_status outcome }
-    ensures told { IsTold outcome (W.contents faults.old) (W.contents faults.new) }
+    ensures told { IsExitCauseSaid outcome (W.contents faults.old) (W.contents faults.new) }
 {
     match outcome {
         Ok(()) => ENDED,

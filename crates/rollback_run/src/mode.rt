@@ -2,7 +2,7 @@
 ghost use Rattle.std.specs.Prelude.{◌≡◌, map, false, IfOk, IfErr, option_map, string_bytes};
 ghost use Rattle.clap.specs.Words.{app_of, rule_of, kind_of};
 ghost use Rattle.std.specs.IoError.{error_kind};
-ghost use Rattle.rollback_run.specs.Words.{program, option_rule, unread_refusal, IsRefusedBy, Names, NamesFile, Refuses, RefusesNamed};
+ghost use Rattle.rollback_run.specs.Words.{program, option_rule, unread_refusal, IsModeRefusedBy, NamesMode, NamesFile, RefusesMode, RefusesNamed};
 
 use clap::error::ErrorKind;
 use clap::{Arg, Command, Error};
@@ -84,8 +84,8 @@ pub fn unread_words(error: &io::Error) -> ModeRefusal
 /// `Shown` where help or the version is asked for, `Usage` where both options are there or the words are refused for another cause, and
 /// `Memory`.
 pub fn mode_of(alloc: Global, words: &[String]) -> Result<Mode, ModeRefusal>
-    ensures ok { IfOk result (Names (map string_bytes words.now)) }
-    ensures err { IfErr result (Refuses (map string_bytes words.now)) }
+    ensures ok { IfOk result (NamesMode (map string_bytes words.now)) }
+    ensures err { IfErr result (RefusesMode (map string_bytes words.now)) }
 {
     match command(alloc) {
         Ok(command) => match command.try_get_matches_from(words) {
@@ -116,7 +116,7 @@ fn named(alloc: Global, journal: Option<&str>, check: Option<&str>) -> Result<Mo
 }
 
 fn refusal(alloc: Global, error: &Error) -> ModeRefusal
-    ensures { IsRefusedBy (kind_of error.now) result }
+    ensures { IsModeRefusedBy (kind_of error.now) result }
 {
     match error.kind() {
         ErrorKind::DisplayHelp | ErrorKind::DisplayVersion => match format!(in alloc; "{error}") {

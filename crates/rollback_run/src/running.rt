@@ -2,14 +2,14 @@
 ghost use Rattle.std.specs.Prelude.{◌≡◌, true, false, Err, option_map, IfOk, IfErr, IfSome};
 ghost use Rattle.sqlite.specs.Held.{state};
 ghost use Rattle.sqlite.specs.State.{HasCleanDisk};
-ghost use Rattle.book_journal.specs.Faults.{fault_of};
+ghost use Rattle.book_journal.specs.Faults.{journal_fault_of};
 ghost use Rattle.journaled_book.specs.Journaled.{IsJournalOf};
 ghost use Rattle.operator_line.specs.Handing.{Hands};
 ghost use Rattle.operator_line.specs.Serving.{WritesReply};
 ghost use Rattle.operator_line.specs.Sessions.{KeepsOne, session_log};
 ghost use Rattle.operator_line.specs.Texts.{lines_of};
 ghost use Rattle.rollback_run.specs.Faults.{of_journal};
-ghost use Rattle.rollback_run.specs.Status.{GivesNone, Gives, HasOutcome, IsDone, IsPrinted, IsRefusal, IsRun, IsServed, IsStatus, Opens, OpensNone, after_closing, has_to_close, is_check, sizes_of, sizes_text};
+ghost use Rattle.rollback_run.specs.Status.{GivesNoJournal, GivesJournal, HasOutcome, IsDone, IsPrinted, IsModeRefusal, IsProgramRun, IsServed, IsStatus, OpensJournal, OpensNoJournal, after_closing, has_to_close, is_check, sizes_of, sizes_text};
 
 use crate::fault::{ENDED, ExitCause, FAILED, USAGE, end};
 use crate::mode::{Mode, ModeRefusal};
@@ -79,7 +79,7 @@ fn after_closing(outcome: Result<(), ExitCause>, closed: Result<(), Error>) -> R
 
 /// Tells why the words name no mode, and answers the program's status.
 pub fn refuse<W: Write, E: Write>(refusal: ModeRefusal, writer: &mut W, faults: &mut E) -> u8
-    ensures { IsRefusal refusal result (W.contents writer.old) (W.contents writer.new) (E.contents faults.old) (E.contents faults.new) }
+    ensures { IsModeRefusal refusal result (W.contents writer.old) (W.contents writer.new) (E.contents faults.old) (E.contents faults.new) }
 {
     match refusal {
         ModeRefusal::Shown(text) => match show(writer, text.as_bytes()) {
@@ -109,8 +109,8 @@ fn open<S: Alter + Drop>(
     connection: Result<Connection<S>, Error>,
 ) -> Result<Session<S>, (ExitCause, Option<Connection<S>>)>
     ensures here { IfOk result (λ s. s.is_failed ≡ false) }
-    ensures ok { IfOk result (λ s. Opens (λ held. state S.Store held) connection s.journal (session_log s)) }
-    ensures err { IfErr result (λ e. OpensNone (λ held. state S.Store held) connection e.1 e.0) }
+    ensures ok { IfOk result (λ s. OpensJournal (λ held. state S.Store held) connection s.journal (session_log s)) }
+    ensures err { IfErr result (λ e. OpensNoJournal (λ held. state S.Store held) connection e.1 e.0) }
 {
     match connection {
         Ok(connection) => match open_connected(alloc, connection) {
@@ -127,8 +127,8 @@ fn open_connected<S: Alter + Drop>(
     connection: Connection<S>,
 ) -> Result<Session<S>, (ExitCause, Connection<S>)>
     ensures here { IfOk result (λ s. s.is_failed ≡ false) }
-    ensures ok { IfOk result (λ s. Gives (λ held. state S.Store held) connection s.journal (session_log s)) }
-    ensures err { IfErr result (λ e. GivesNone (λ held. state S.Store held) connection e.1 e.0) }
+    ensures ok { IfOk result (λ s. GivesJournal (λ held. state S.Store held) connection s.journal (session_log s)) }
+    ensures err { IfErr result (λ e. GivesNoJournal (λ held. state S.Store held) connection e.1 e.0) }
 {
     match Journal::open(connection) {
         Ok(journal) => match Session::open(alloc, journal) {
@@ -151,7 +151,7 @@ fn run_owned<T: Threads + Wait + Sync, S: Alter + Drop, R: Read, W: Write>(
     writer: &mut W,
 ) -> (Result<(), ExitCause>, Connection<S>)
     requires here { session.is_failed ≡ false }
-    ensures { IsRun (λ held. state S.Store held) mode.now result.0 (session_log session) session.journal result.1 (R.remaining reader.old) (R.remaining reader.new) (W.contents writer.old) (W.contents writer.new) }
+    ensures { IsProgramRun (λ held. state S.Store held) mode.now result.0 (session_log session) session.journal result.1 (R.remaining reader.old) (R.remaining reader.new) (W.contents writer.old) (W.contents writer.new) }
 {
     let mut session = session;
     let outcome = run_session(rt, alloc, mode, &mut session, reader, writer);

@@ -9,7 +9,7 @@ use Rattle.std.proofs.lemmas.List.{append-nil}
 use Rattle.std.proofs.lemmas.Slice.Eq.{bytes_eq-Decides}
 use Rattle.std.proofs.Math.Path.{fun_ext}
 use Rattle.attr_values.specs.declared.key.Key.{Key}
-use Rattle.item_store.specs.Store.{Store, items_of, slot_key}
+use Rattle.item_store.specs.Store.{Store, stored_items, slot_key}
 use Rattle.item_store.specs.Deciding.{Attributes}
 use Rattle.item_store.specs.Table.{is_same_key}
 use Rattle.item_store.specs.declared.slot.SlotNo.{SlotNo}
@@ -22,10 +22,10 @@ use Rattle.step_names.specs.Under.{is_under}
 use Rattle.step_names.specs.declared.step.StepName.{StepName}
 use Rattle.step_names.proofs.OrderLaws.{thread_itself}
 use Rattle.step_names.proofs.UnderLaws.{under_Decides}
-use Rattle.saved_steps.specs.Effects.{Effect, own_effect, fork_effect, bounded}
+use Rattle.saved_steps.specs.Effects.{Effect, own_effect, fork_effect, effect_with_bound}
 use Rattle.saved_steps.specs.Held.{placed, tree_in, rows_at, frames_of, paths_of, put_at, with_thread, world_view}
 use Rattle.saved_steps.specs.Saving.{SavedState, kept, item_written, undo}
-use Rattle.saved_steps.specs.Made.{is_open, IsOpen, IsParkedSince, plain_fact, fact_made, Makes, IsMadeFor, CanApplyChange, KeepsStore}
+use Rattle.saved_steps.specs.Made.{is_unparked, IsThreadOpen, IsParkedSince, plain_fact, fact_made, Makes, IsMadeFor, CanApplyChange, KeepsStore}
 use Rattle.saved_steps.specs.Records.{keeps, saved_by, was_below}
 use Rattle.saved_steps.specs.Run.{after_effect, begun_at}
 use Rattle.saved_steps.specs.Steps.{makes, closes, is_fork, is_close, is_write, is_write_of}
@@ -84,14 +84,14 @@ pub plain : (w v : World) (name : StepName) (bound : ℕ) (f g : Frame) → v.it
 plain w v name bound f g items stands was now =
     applied w v (record { name = name; bound = bound; change = change.Plain f }) (record { fact = plain_fact name bound kind.Plain; saved = Framed g }) refl
     (λ d x. subst (λ (e : Effect). world_view v ≡ after_effect (world_view w) e) (effect_is d (plain_fact name bound kind.Plain) f x.fact x.change)
-    (same_world (world_view v) (after_effect (world_view w) (record { fact = plain_fact name bound kind.Plain; frame = f; branches = d.branches; item = d.item })) now (λ key. ap (λ (s : Store). items_of s key) items)))
+    (same_world (world_view v) (after_effect (world_view w) (record { fact = plain_fact name bound kind.Plain; frame = f; branches = d.branches; item = d.item })) now (λ key. ap (λ (s : Store). stored_items s key) items)))
     (ap (λ (o : Option Frame). keeps o None) (sym was))
     (record {
-      record_fits = (refl, refl, subst (λ (o : Option Frame). IsSomeAnd o is_open) was stands.0);
+      record_fits = (refl, refl, subst (λ (o : Option Frame). IsSomeAnd o is_unparked) was stands.0);
       slot = tt;
-      thread = subst (λ (o : Option Frame). IsSomeAnd o is_open) (sym (now name.thread ∙ with_here (frames_of w) name.thread f)) stands.1;
+      thread = subst (λ (o : Option Frame). IsSomeAnd o is_unparked) (sym (now name.thread ∙ with_here (frames_of w) name.thread f)) stands.1;
     })
-    (same_store w.items v.items items) (bounded bound (own_effect kind.Plain name f)) (record { fact = refl; change = refl }) (λ t h. cc)
+    (same_store w.items v.items items) (effect_with_bound bound (own_effect kind.Plain name f)) (record { fact = refl; change = refl }) (λ t h. cc)
 
 -- ---- a call
 
@@ -101,7 +101,7 @@ item_is false k item x now h = refl
 
 pub call : (w v : World) (name : StepName) (bound : ℕ) (f g : Frame) (a : Access) (slot : SlotNo) (new old : Option Attributes) → CanApplyChange w name (change.Call f a slot new) → frames_of w name.thread ≡ Some g
     → ((t : Thread) → frames_of v t ≡ with_thread (frames_of w) name.thread f t)
-    → old ≡ item_written (items_of w.items) (Some a) → ((key : Key) → items_of v.items key ≡ cond (is_write_of (Some a) key) new (items_of w.items key)) → KeepsStore w.items v.items
+    → old ≡ item_written (stored_items w.items) (Some a) → ((key : Key) → stored_items v.items key ≡ cond (is_write_of (Some a) key) new (stored_items w.items key)) → KeepsStore w.items v.items
     → IsApplied w (record { name = name; bound = bound; change = change.Call f a slot new }) v (record { fact = record { name = name; kind = kind.Call; access = Some a; bound = bound }; saved = Called g slot old })
 call w v name bound f g a slot new old stands was now was_item items store =
     let s : Fact = record { name = name; kind = kind.Call; access = Some a; bound = bound } in
@@ -109,12 +109,12 @@ call w v name bound f g a slot new old stands was now was_item items store =
     applied w v (record { name = name; bound = bound; change = change.Call f a slot new }) (record { fact = s; saved = Called g slot old }) refl
     (λ d x. subst (λ (e : Effect). world_view v ≡ after_effect (world_view w) e) (effect_is d s f x.fact x.change.0)
     (same_world (world_view v) (after_effect (world_view w) (record { fact = s; frame = f; branches = d.branches; item = d.item })) now
-    (λ key. items key ∙ item_is (is_write a.mode) (is_same_key a.key key) d.item new (items_of w.items key) x.change.1)))
+    (λ key. items key ∙ item_is (is_write a.mode) (is_same_key a.key key) d.item new (stored_items w.items key) x.change.1)))
     (ap₂ (λ (o : Option Frame) (i : Option Attributes). keeps o i) (sym was) was_item)
     (record {
-      record_fits = (refl, subst (λ (o : Option Frame). IsSomeAnd o is_open) was stands.0);
+      record_fits = (refl, subst (λ (o : Option Frame). IsSomeAnd o is_unparked) was stands.0);
       slot = (a, refl, store.slots slot a.key stands.2);
-      thread = subst (λ (o : Option Frame). IsSomeAnd o is_open) (sym (now name.thread ∙ with_here (frames_of w) name.thread f)) stands.1;
+      thread = subst (λ (o : Option Frame). IsSomeAnd o is_unparked) (sym (now name.thread ∙ with_here (frames_of w) name.thread f)) stands.1;
     })
     store d0 (record { fact = refl; change = (refl, λ e. refl) }) (λ t h. cc)
 
@@ -143,14 +143,14 @@ begin w v name bound f rows items stands trees tree =
     ∙ ap (λ (s : Bool). cond s (Some f) (frames_of w t)) (sym (same_by_parts a t)) in
     applied w v (record { name = name; bound = bound; change = change.Begin f }) (record { fact = plain_fact name bound kind.Start; saved = Started }) refl
     (λ d x. subst (λ (e : Effect). world_view v ≡ after_effect (world_view w) e) (effect_is d (plain_fact name bound kind.Start) f x.fact x.change)
-    (same_world (world_view v) (after_effect (world_view w) (record { fact = plain_fact name bound kind.Start; frame = f; branches = d.branches; item = d.item })) now (λ key. ap (λ (s : Store). items_of s key) items)))
+    (same_world (world_view v) (after_effect (world_view w) (record { fact = plain_fact name bound kind.Start; frame = f; branches = d.branches; item = d.item })) now (λ key. ap (λ (s : Store). stored_items s key) items)))
     (ap (λ (o : Option Frame). keeps o None) (sym (ap (λ (o : Option Rows). rows_at o a.path) none)))
     (record {
       record_fits = (refl, refl, stands.1);
       slot = tt;
-      thread = subst (λ (o : Option Frame). IsSomeAnd o is_open) (sym (now a ∙ with_here (frames_of w) a f)) stands.2;
+      thread = subst (λ (o : Option Frame). IsSomeAnd o is_unparked) (sym (now a ∙ with_here (frames_of w) a f)) stands.2;
     })
-    (same_store w.items v.items items) (bounded bound (own_effect kind.Start name f)) (record { fact = refl; change = refl }) (λ t h. cc)
+    (same_store w.items v.items items) (effect_with_bound bound (own_effect kind.Start name f)) (record { fact = refl; change = refl }) (λ t h. cc)
 
 -- ---- what is put at a thread and under it
 
@@ -193,16 +193,16 @@ first_under a t n h = (and_parts (bytes_eq a.exec t.exec) (first_is n (rest_afte
 -- ---- a fork
 
 module _ (w v : World) (m : Made) (r : StepRecord) (name : StepName) (bound : ℕ) (f g : Frame) (kids : List Rows) (branches : List Frame) (items : v.items ≡ w.items) where
-  pub fork : IsOpen (frames_of w) name.thread → IsNode f kids → is_parked f.phase ≡ true → f.count ≡ name.no → kids ≡ map leaf branches
+  pub fork : IsThreadOpen (frames_of w) name.thread → IsNode f kids → is_parked f.phase ≡ true → f.count ≡ name.no → kids ≡ map leaf branches
       → frames_of w name.thread ≡ Some g → IsTree (paths_of (frames_of w) name.thread.exec)
       → ((t : Thread) → frames_of v t ≡ put_at (frames_of w) name.thread (node_at f kids) t)
-      → fact_made m ≡ plain_fact name bound kind.Fork → ((d : Effect) → IsMadeFor m d → (f ≡ d.frame) × (kids ≡ map leaf d.branches)) → Makes m.change (bounded bound (fork_effect name f branches))
+      → fact_made m ≡ plain_fact name bound kind.Fork → ((d : Effect) → IsMadeFor m d → (f ≡ d.frame) × (kids ≡ map leaf d.branches)) → Makes m.change (effect_with_bound bound (fork_effect name f branches))
       → r ≡ record { fact = plain_fact name bound kind.Fork; saved = Forked g }
       → IsApplied w m v r
   fork free node parked count leaves was tree now is_fact is_made makes_it is_record =
       let a = name.thread in
       let s : Fact = plain_fact name bound kind.Fork in
-      let free_g : is_open g = subst (λ (o : Option Frame). IsSomeAnd o is_open) was free in
+      let free_g : is_unparked g = subst (λ (o : Option Frame). IsSomeAnd o is_unparked) was free in
       let nothing : (b : ℕ × ℕ) (q : Path) → paths_of (frames_of w) a.exec (a.path ++ b ∷ q) ≡ None = nothing_at_open (paths_of (frames_of w) a.exec) tree a.path g was free_g in
       let all : (t : Thread) → frames_of v t ≡ cond (is_same_thread a t) (Some f) (cond (is_under t a name.no) (option_and_then (node_at f kids) (rest_after a.path t.path)) (frames_of w t)) =
       λ t. now t ∙ told (frames_of w) a (node_at f kids) f name.no refl (no_other_branch f kids name.no count) (λ b q apart. nothing b q) t in
@@ -212,14 +212,14 @@ module _ (w v : World) (m : Made) (r : StepRecord) (name : StepName) (bound : �
       (same_world (world_view v) (after_effect (world_view w) (record { fact = s; frame = f; branches = d.branches; item = d.item }))
       (λ t. all t ∙ ap (cond (is_same_thread a t) (Some f)) (cond_under (is_under t a name.no) (option_and_then (node_at f kids) (rest_after a.path t.path)) (begun_at d.branches (rest_after a.path t.path)) (frames_of w t)
       (λ u. begun_is f kids d.branches name.no count y.1 (rest_after a.path t.path) (first_under a t name.no u))))
-      (λ key. ap (λ (x : Store). items_of x key) items)))
+      (λ key. ap (λ (x : Store). stored_items x key) items)))
       (rw is_record (ap (λ (o : Option Frame). keeps o None) (sym was)))
       (rw is_record (record {
         record_fits = (refl, refl, free_g);
         slot = tt;
         thread = subst (λ (o : Option Frame). IsSomeAnd o (λ x. (is_parked x.phase ≡ true) × (x.count ≡ name.no))) (sym (now a ∙ put_here (frames_of w) a (node_at f kids))) (parked, count);
       }))
-      (same_store w.items v.items items) (bounded bound (fork_effect name f branches)) (record { fact = is_fact; change = makes_it })
+      (same_store w.items v.items items) (effect_with_bound bound (fork_effect name f branches)) (record { fact = is_fact; change = makes_it })
       (λ t h. let k = below_at (frames_of w) a t name.no h in k.3 ∙ nothing k.0 k.1)
 
 -- ---- a join, and a terminate
@@ -230,10 +230,10 @@ alone_below f n (Some []) h = cc
 alone_below f n (Some (b ∷ q)) h = refl
 
 module _ (w v : World) (m : Made) (r : StepRecord) (name : StepName) (bound : ℕ) (k : Kind) (f g : Frame) (kids : Vec Rows Global) (items : v.items ≡ w.items) where
-  pub close : is_fork k ≡ false → is_close k ≡ true → IsParkedSince (frames_of w) name.thread (name.no - 1) → is_open f
+  pub close : is_fork k ≡ false → is_close k ≡ true → IsParkedSince (frames_of w) name.thread (name.no - 1) → is_unparked f
       → ((q : Path) → paths_of (frames_of w) name.thread.exec (name.thread.path ++ q) ≡ node_at g kids.items q) → IsNode g kids.items → IsTree (paths_of (frames_of w) name.thread.exec)
       → ((t : Thread) → frames_of v t ≡ put_at (frames_of w) name.thread (alone f) t)
-      → fact_made m ≡ plain_fact name bound k → ((d : Effect) → IsMadeFor m d → f ≡ d.frame) → Makes m.change (bounded bound (own_effect k name f))
+      → fact_made m ≡ plain_fact name bound k → ((d : Effect) → IsMadeFor m d → f ≡ d.frame) → Makes m.change (effect_with_bound bound (own_effect k name f))
       → r ≡ record { fact = plain_fact name bound k; saved = Closed g kids }
       → IsApplied w m v r
   close unforked closing since free was node tree now is_fact is_made makes_it is_record =
@@ -251,13 +251,13 @@ module _ (w v : World) (m : Made) (r : StepRecord) (name : StepName) (bound : �
       (λ h. let x = below_at (frames_of w) a t n (and_parts (is_close k) (is_under t a n) h).1 in ap (option_and_then (node_at g kids.items)) x.2 ∙ sym (x.3 ∙ was (x.0 ∷ x.1))) in
       let kept_is : record { frame = Some g; item = None; below = was_below s g kids.items } ≡ kept (world_view w) s =
       ap₂ (λ (o : Option Frame) (b : Thread → Option Frame). let x : SavedState = record { frame = o; item = None; below = b } in x) (sym was_g) (fun_ext below) in
-      let thread : IsOpen (frames_of v) a = subst (λ (o : Option Frame). IsSomeAnd o is_open) (sym (now a ∙ put_here (frames_of w) a (alone f))) free in
+      let thread : IsThreadOpen (frames_of v) a = subst (λ (o : Option Frame). IsSomeAnd o is_unparked) (sym (now a ∙ put_here (frames_of w) a (alone f))) free in
       applied w v m r (ap (λ (x : StepRecord). x.fact) is_record ∙ sym is_fact)
       (λ d x. subst (λ (e : Effect). world_view v ≡ after_effect (world_view w) e) (effect_is d s f (sym is_fact ∙ x.fact) (is_made d x))
       (same_world (world_view v) (after_effect (world_view w) (record { fact = s; frame = f; branches = d.branches; item = d.item }))
       (λ t. rw (unforked, closing) (all t ∙ ap (cond (is_same_thread a t) (Some f)) (cond_under (is_under t a n) (option_and_then (alone f) (rest_after a.path t.path)) None (frames_of w t) (λ u. alone_is (rest_after a.path t.path) (first_under a t n u)))))
-      (λ key. ap (λ (x : Store). items_of x key) items)))
+      (λ key. ap (λ (x : Store). stored_items x key) items)))
       (subst (λ (x : StepRecord). saved_by x ≡ kept (world_view w) x.fact) (sym is_record) kept_is)
       (subst (λ (x : StepRecord). CanUndo v x) (sym is_record) (record { record_fits = (closing, refl, node, g_is.0, g_is.1); slot = tt; thread = thread }))
-      (same_store w.items v.items items) (bounded bound (own_effect k name f)) (record { fact = is_fact; change = makes_it })
+      (same_store w.items v.items items) (effect_with_bound bound (own_effect k name f)) (record { fact = is_fact; change = makes_it })
       (λ t h. let e : (is_fork k && is_under t a name.no) ≡ true = h in let yes = (and_parts (is_fork k) (is_under t a name.no) e).0 in cc)

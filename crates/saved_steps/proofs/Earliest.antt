@@ -19,7 +19,7 @@ use Rattle.json_tree.specs.declared.tree.Json.{Json}
 use Rattle.branch_tree.specs.Fault.{Fault}
 use Rattle.branch_tree.specs.Frame.{Frame}
 use Rattle.branch_tree.specs.Phase.TheVariants.{Done, Failed}
-use Rattle.branch_tree.specs.First.{IsFirst, NoneBeforePath, is_free, thread_under, path_cmp, is_enabled}
+use Rattle.branch_tree.specs.First.{IsFirstFree, NoneBeforePath, is_free, thread_under, path_cmp, is_free_to_move}
 use Rattle.branch_tree.specs.FlatMap.{FrameMap, IsTree, branch_count}
 use Rattle.branch_tree.specs.Laws.{BelowIsParked}
 use Rattle.branch_tree.specs.Paths.{Path}
@@ -43,12 +43,12 @@ when_so false P Q f h = h
 -- ---- executions that have ended
 
 -- where nothing stands under a root that has no move, no thread is free
-pub none_free : (frames : FrameMap) (f : Frame) (base : Thread) (passed : Thread → Bool) → BelowIsParked → IsTree frames → frames [] ≡ Some f → is_enabled (readiness_of true frames (Some f)) ≡ false
-    → branch_count f.phase ≡ 0 → IsFirst true frames base passed None
+pub none_free : (frames : FrameMap) (f : Frame) (base : Thread) (passed : Thread → Bool) → BelowIsParked → IsTree frames → frames [] ≡ Some f → is_free_to_move (readiness_of true frames (Some f)) ≡ false
+    → branch_count f.phase ≡ 0 → IsFirstFree true frames base passed None
 none_free frames f base passed parked tree root still alone [] named = rw (root, still) refl
 none_free frames f base passed parked tree root still alone (b ∷ p) named = by (frames ((b ∷ p) ++ [])) refl
   where
-    by : (o : Option Frame) → frames ((b ∷ p) ++ []) ≡ o → (is_enabled (readiness_of (begins_under true frames (place_of (b ∷ p))) (λ q. frames ((b ∷ p) ++ q)) o) && not (passed (thread_under base (b ∷ p)))) ≡ false
+    by : (o : Option Frame) → frames ((b ∷ p) ++ []) ≡ o → (is_free_to_move (readiness_of (begins_under true frames (place_of (b ∷ p))) (λ q. frames ((b ∷ p) ++ q)) o) && not (passed (thread_under base (b ∷ p)))) ≡ false
     by None e = refl
     by (Some g) e =
         let k = parked frames [] (p ++ []) b g tree e in
@@ -58,20 +58,20 @@ none_free frames f base passed parked tree root still alone (b ∷ p) named = by
         absurd (omega (arith, many, ap (λ (x : Frame). branch_count x.phase) it ∙ alone))
 
 pub ended_free : (frames : FrameMap) (f : Frame) (base : Thread) (passed : Thread → Bool) → BelowIsParked → IsTree frames → frames [] ≡ Some f
-    → ((output : Json) × (f.phase ≡ Done output)) ⊎ ((fault : Fault) × (f.phase ≡ Failed fault)) → IsFirst true frames base passed None
+    → ((output : Json) × (f.phase ≡ Done output)) ⊎ ((fault : Fault) × (f.phase ≡ Failed fault)) → IsFirstFree true frames base passed None
 ended_free frames f base passed parked tree root (inl d) = let e = d.1 in none_free frames f base passed parked tree root (rw e refl) (ap branch_count e)
 ended_free frames f base passed parked tree root (inr d) = let e = d.1 in none_free frames f base passed parked tree root (rw e refl) (ap branch_count e)
 
-pub nameless : (frames : FrameMap) (exec : List ℕ) (passed : Thread → Bool) → (IsTrue (is_name exec) → ⊥) → IsFirst true frames (execution exec) passed None
+pub nameless : (frames : FrameMap) (exec : List ℕ) (passed : Thread → Bool) → (IsTrue (is_name exec) → ⊥) → IsFirstFree true frames (execution exec) passed None
 nameless frames exec passed none p named = absurd (none named.named)
 
-pub treeless : (base : Thread) (passed : Thread → Bool) → IsFirst true (rows_at None) base passed None
+pub treeless : (base : Thread) (passed : Thread → Bool) → IsFirstFree true (rows_at None) base passed None
 treeless base passed p named = refl
 
 pub in_place : {E : Type 0} (r : Result (Option Thread) E) (place : Option Rows) (rows : Rows) (name base : Thread) (passed : Thread → Bool) → place ≡ Some rows → name ≡ base
-    → IfOk r (IsFirst true (frame_at rows) name passed) → IfOk r (IsFirst true (rows_at place) base passed)
+    → IfOk r (IsFirstFree true (frame_at rows) name passed) → IfOk r (IsFirstFree true (rows_at place) base passed)
 in_place r place rows name base passed there same h =
-    subst (λ (o : Option Rows). IfOk r (IsFirst true (rows_at o) base passed)) (sym there) (subst (λ (t : Thread). IfOk r (IsFirst true (frame_at rows) t passed)) same h)
+    subst (λ (o : Option Rows). IfOk r (IsFirstFree true (rows_at o) base passed)) (sym there) (subst (λ (t : Thread). IfOk r (IsFirstFree true (frame_at rows) t passed)) same h)
 
 -- ---- before a thread
 
@@ -102,7 +102,7 @@ pub none_under : (m : BTreeMap (String Global) (Option Rows)) (passed : Thread �
 none_under m passed exec v tree from path left none (inl at) q named less =
     let same : slice_cmp nat_cmp exec from ≡ Equal = equal_names exec from at.0 in
     let before : path_cmp q path ≡ Less = subst (λ (p : Path). path_cmp q p ≡ Less) at.1 less in
-    sym (ap (λ (o : Option Rows). is_enabled (readiness_at (rows_at o) q) && not (passed (record { exec = exec; path = q }))) tree)
+    sym (ap (λ (o : Option Rows). is_free_to_move (readiness_at (rows_at o) q) && not (passed (record { exec = exec; path = q }))) tree)
     ∙ none (record { exec = exec; path = q }) named (rw same before)
 none_under m passed exec v tree from path left none (inr all) q named less = absurd (none_before_root q (subst (λ (p : Path). path_cmp q p ≡ Less) all less))
 
@@ -248,13 +248,13 @@ module _ (m : BTreeMap (String Global) (Option Rows)) (passed : Thread → Bool)
     free_here t h =
         let same = same_exec t.exec (string_bytes k) h in
         let tree = tree_here t.exec h in
-        ap (λ (o : Option Rows). is_enabled (readiness_at (rows_at o) t.path) && not (passed t)) tree
-        ∙ ap (λ (exec : List ℕ). is_enabled (readiness_at (rows_at v) t.path) && not (passed (record { exec = exec; path = t.path }))) same
+        ap (λ (o : Option Rows). is_free_to_move (readiness_at (rows_at o) t.path) && not (passed t)) tree
+        ∙ ap (λ (exec : List ℕ). is_free_to_move (readiness_at (rows_at v) t.path) && not (passed (record { exec = exec; path = t.path }))) same
 
     named_here : (t : Thread) → is_eq (slice_cmp nat_cmp t.exec (string_bytes k)) ≡ true → IsThread t → IsThread (thread_under (execution (string_bytes k)) t.path)
     named_here t h named = subst (λ (exec : List ℕ). IsThread (record { exec = exec; path = t.path })) (same_exec t.exec (string_bytes k) h) named
 
-    pub goes_by : IsFirst true (rows_at v) (execution (string_bytes k)) passed None → IsGone rest
+    pub goes_by : IsFirstFree true (rows_at v) (execution (string_bytes k)) passed None → IsGone rest
     goes_by none = record {
       ordered = after_it.1;
       held = λ exec place h.
@@ -267,7 +267,7 @@ module _ (m : BTreeMap (String Global) (Option Rows)) (passed : Thread → Bool)
           (λ e. i.gone t named (rw e h));
     }
 
-    pub is_found : (t : Thread) → IsThread t → IsFirst true (rows_at v) (execution (string_bytes k)) passed (Some t) → IsFirstReady (frames_in m) passed (Some t)
+    pub is_found : (t : Thread) → IsThread t → IsFirstFree true (rows_at v) (execution (string_bytes k)) passed (Some t) → IsFirstReady (frames_in m) passed (Some t)
     is_found t named found = (named, free_here t at_it ∙ ap (is_free true (rows_at v) (execution (string_bytes k)) passed) path ∙ found.2, before)
       where
         exec : t.exec ≡ string_bytes k
@@ -337,13 +337,13 @@ module _ (m : BTreeMap (String Global) (Option Rows)) (name awake : List ℕ) wh
   free_there : (passed : Thread → Bool) (v : Option Rows) → tree_in m awake ≡ v → (t : Thread) → t.exec ≡ awake
       → free (frames_in m) passed t ≡ is_free true (rows_at v) (execution awake) passed t.path
   free_there passed v tree t same =
-      ap (λ (o : Option Rows). is_enabled (readiness_at (rows_at o) t.path) && not (passed t)) (ap (tree_in m) same ∙ tree)
-      ∙ ap (λ (exec : List ℕ). is_enabled (readiness_at (rows_at v) t.path) && not (passed (record { exec = exec; path = t.path }))) same
+      ap (λ (o : Option Rows). is_free_to_move (readiness_at (rows_at o) t.path) && not (passed t)) (ap (tree_in m) same ∙ tree)
+      ∙ ap (λ (exec : List ℕ). is_free_to_move (readiness_at (rows_at v) t.path) && not (passed (record { exec = exec; path = t.path }))) same
 
   named_there : (t : Thread) → t.exec ≡ awake → IsThread t → IsThread (thread_under (execution awake) t.path)
   named_there t same named = subst (λ (exec : List ℕ). IsThread (record { exec = exec; path = t.path })) same named
 
-  pub none_there : (passed : Thread → Bool) → AreQuiet m name awake → (v : Option Rows) → tree_in m awake ≡ v → IsFirst true (rows_at v) (execution awake) passed None → NoneFreeBefore (frames_in m) passed name
+  pub none_there : (passed : Thread → Bool) → AreQuiet m name awake → (v : Option Rows) → tree_in m awake ≡ v → IsFirstFree true (rows_at v) (execution awake) passed None → NoneFreeBefore (frames_in m) passed name
   none_there passed quiet v tree none =
       none_before passed quiet (λ t named less same. free_there passed v tree t same ∙ none t.path (named_there t same named))
 
@@ -351,7 +351,7 @@ module _ (m : BTreeMap (String Global) (Option Rows)) (name awake : List ℕ) wh
   none_placed passed quiet none = none_there passed quiet None (ap placed none) (treeless (execution awake) passed)
 
   pub awake_found : (passed : Thread → Bool) → AreQuiet m name awake → slice_cmp nat_cmp awake name ≡ Less → (v : Option Rows) → tree_in m awake ≡ v
-      → (t : Thread) → IsThread t → IsFirst true (rows_at v) (execution awake) passed (Some t) → IsFirstReady (frames_in m) passed (Some t)
+      → (t : Thread) → IsThread t → IsFirstFree true (rows_at v) (execution awake) passed (Some t) → IsFirstReady (frames_in m) passed (Some t)
   awake_found passed quiet below v tree t named found = (named, free_there passed v tree t exec ∙ ap (is_free true (rows_at v) (execution awake) passed) path ∙ found.2, before)
     where
       exec : t.exec ≡ awake
@@ -388,7 +388,7 @@ of awake t = bytes_eq awake t.exec
 
 -- a thread of another that is not free where these are passed by has no move
 still : (m : BTreeMap (String Global) (Option Rows)) (awake : List ℕ) (passed : Thread → Bool) (t : Thread) → of awake t ≡ false → free (frames_in m) (of awake) t ≡ false → free (frames_in m) passed t ≡ false
-still m awake passed t sleeps h = by (is_enabled (readiness_at (λ p. frames_in m (record { exec = t.exec; path = p })) t.path)) (rw sleeps at h)
+still m awake passed t sleeps h = by (is_free_to_move (readiness_at (λ p. frames_in m (record { exec = t.exec; path = p })) t.path)) (rw sleeps at h)
   where
     by : (b : Bool) → (b && true) ≡ false → (b && not (passed t)) ≡ false
     by true e = cc
@@ -398,7 +398,7 @@ pub none_but : (m : BTreeMap (String Global) (Option Rows)) (name awake : List �
 none_but m name awake quiet = none_before m name awake (of awake) quiet there
   where
     there : (t : Thread) → IsThread t → slice_cmp nat_cmp t.exec name ≡ Less → t.exec ≡ awake → free (frames_in m) (of awake) t ≡ false
-    there t named less same = passed_by (is_enabled (readiness_at (λ p. frames_in m (record { exec = t.exec; path = p })) t.path)) (of awake t) ((bytes_eq-Decides awake t.exec).1 (sym same))
+    there t named less same = passed_by (is_free_to_move (readiness_at (λ p. frames_in m (record { exec = t.exec; path = p })) t.path)) (of awake t) ((bytes_eq-Decides awake t.exec).1 (sym same))
       where
         passed_by : (b c : Bool) → c ≡ true → (b && not c) ≡ false
         passed_by true true e = refl
@@ -423,7 +423,7 @@ pub kept_quiet : (m n : BTreeMap (String Global) (Option Rows)) (was was_awake i
     → ((e : List ℕ) → bytes_eq [] e ≡ false → IsGoneBy is is_awake e → IsGoneBy was was_awake e × (tree_in n e ≡ tree_in m e)) → AreQuiet n is is_awake
 kept_quiet m n was was_awake is is_awake quiet h passed t named gone =
     let same = h t.exec (named_so t.exec named.named) gone in
-    ap (λ (o : Option Rows). is_enabled (readiness_at (rows_at o) t.path) && not (passed t)) same.1 ∙ quiet passed t named same.0
+    ap (λ (o : Option Rows). is_free_to_move (readiness_at (rows_at o) t.path) && not (passed t)) same.1 ∙ quiet passed t named same.0
 
 pub nothing_before : (e : List ℕ) → slice_cmp nat_cmp e [] ≡ Less → ⊥
 nothing_before [] h = cc

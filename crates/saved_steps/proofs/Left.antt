@@ -9,7 +9,7 @@ use Rattle.item_store.specs.Table.{Table}
 use Rattle.item_store.specs.declared.access.AccessMode.{AccessMode}
 use Rattle.branch_tree.specs.Definition.{Definition}
 use Rattle.asl_forward.specs.Outcomes.{turn}
-use Rattle.asl_forward.specs.Results.{work_of, after_answer}
+use Rattle.asl_forward.specs.Results.{state_work, after_answer}
 use Rattle.branch_tree.specs.Turn.{Location}
 use Rattle.branch_tree.specs.Fault.{Fault}
 use Rattle.branch_tree.specs.Frame.{Frame}
@@ -24,7 +24,7 @@ use Rattle.step_names.proofs.OrderLaws.{thread_itself}
 use Rattle.saved_steps.specs.Effects.{Effect, effect_of_turn, effect_in, close_effect, join_effect, if_numbered, called, stands, frame_effect, move_effect, next_step, kids, first_fault, outputs}
 use Rattle.saved_steps.specs.Held.{frames_of, world_view}
 use Rattle.saved_steps.specs.Laws.{Leaves, EffectsLeave, LeftToUndo}
-use Rattle.saved_steps.specs.Made.{is_open}
+use Rattle.saved_steps.specs.Made.{is_unparked}
 use Rattle.saved_steps.specs.Run.{after_effect}
 use Rattle.saved_steps.specs.Steps.{started, moved, is_close}
 use Rattle.saved_steps.specs.Undoing.{IsSavedOf, StandsAfter}
@@ -51,7 +51,7 @@ mapped : {A : Type 0} (o : Option A) (make : A → Effect) (d : Effect) → opti
 mapped None make d h k = cc
 mapped (Some x) make d h k = subst LeftBy (same_Some (make x) d h) (k x refl)
 
-called_left : (name : StepName) (g : Frame) (items : Table) (access : Option (Key × AccessMode)) → is_open g → LeftBy (called name g items access)
+called_left : (name : StepName) (g : Frame) (items : Table) (access : Option (Key × AccessMode)) → is_unparked g → LeftBy (called name g items access)
 called_left name g items None h = h
 called_left name g items (Some x) h = h
 
@@ -60,11 +60,11 @@ turn_left s w t at f (outcome.Next g) d y h = subst LeftBy (same_Some _ d h) y
 turn_left s w t at f (outcome.Fork g branches) d y h = subst LeftBy (same_Some _ d h) (ap is_parked y.1, y.2)
 turn_left s w t at f (outcome.Call c) d y h =
     let o = table.in_form s.table s.schema w.items c in
-    mapped (work_of at.1) (λ work. called (next_step t f) (after_answer at.0 work f o.answer) o.items o.access) d h
+    mapped (state_work at.1) (λ work. called (next_step t f) (after_answer at.0 work f o.answer) o.items o.access) d h
     (λ work e. called_left (next_step t f) (after_answer at.0 work f o.answer) o.items o.access (answer_open at.0 work f o.answer))
 
 join_left : (name : StepName) (at : Location) (f : Frame) (ds : List Data) (d : Effect) → join_effect name at f ds ≡ Some d → LeftBy d
-join_left name at f ds d h = mapped (work_of at.1) _ d h (λ work e. join_open at.0 work f ds)
+join_left name at f ds d h = mapped (state_work at.1) _ d h (λ work e. join_open at.0 work f ds)
 
 close_left : (name : StepName) (at : Location) (f : Frame) (fault : Option Fault) (ds : Option (List Data)) (d : Effect) → close_effect name at f fault ds ≡ Some d → LeftBy d
 close_left name at f (Some fault) ds d h = subst LeftBy (same_Some _ d h) (branch_open at f fault)
@@ -102,7 +102,7 @@ frame_there w x d s h e =
     here : (after_effect x d).frames d.fact.name.thread ≡ Some d.frame
     here = rw (thread_itself d.fact.name.thread) refl
 
-closes_open : (k : Kind) (name : StepName) (f : Frame) → is_close k ≡ true → Leaves k name f → is_open f
+closes_open : (k : Kind) (name : StepName) (f : Frame) → is_close k ≡ true → Leaves k name f → is_unparked f
 closes_open kind.Start name f h l = l
 closes_open kind.Plain name f h l = l
 closes_open kind.Call name f h l = l
@@ -111,11 +111,11 @@ closes_open kind.Join name f h l = l
 closes_open kind.Terminate name f h l = l
 
 left_by : (w : held.World) (f : Frame) (s : Fact) (saved : Saved) → frames_of w s.name.thread ≡ Some f → Leaves s.kind s.name f → IsSavedOf s saved → StandsAfter w s saved
-left_by w f s Started h l fits = subst (λ (o : Option Frame). IsSomeAnd o is_open) (sym h) (subst (λ (k : Kind). Leaves k s.name f) fits.0 l)
-left_by w f s (Framed g) h l fits = subst (λ (o : Option Frame). IsSomeAnd o is_open) (sym h) (subst (λ (k : Kind). Leaves k s.name f) fits.0 l)
-left_by w f s (Called g slot old) h l fits = subst (λ (o : Option Frame). IsSomeAnd o is_open) (sym h) (subst (λ (k : Kind). Leaves k s.name f) fits.0 l)
+left_by w f s Started h l fits = subst (λ (o : Option Frame). IsSomeAnd o is_unparked) (sym h) (subst (λ (k : Kind). Leaves k s.name f) fits.0 l)
+left_by w f s (Framed g) h l fits = subst (λ (o : Option Frame). IsSomeAnd o is_unparked) (sym h) (subst (λ (k : Kind). Leaves k s.name f) fits.0 l)
+left_by w f s (Called g slot old) h l fits = subst (λ (o : Option Frame). IsSomeAnd o is_unparked) (sym h) (subst (λ (k : Kind). Leaves k s.name f) fits.0 l)
 left_by w f s (Forked g) h l fits = subst (λ (o : Option Frame). IsSomeAnd o (λ x. (is_parked x.phase ≡ true) × (x.count ≡ s.name.no))) (sym h) (subst (λ (k : Kind). Leaves k s.name f) fits.0 l)
-left_by w f s (Closed g kids) h l fits = subst (λ (o : Option Frame). IsSomeAnd o is_open) (sym h) (closes_open s.kind s.name f fits.0 l)
+left_by w f s (Closed g kids) h l fits = subst (λ (o : Option Frame). IsSomeAnd o is_unparked) (sym h) (closes_open s.kind s.name f fits.0 l)
 
 pub left_to_undo : LeftToUndo
 left_to_undo w x d r h e l fits = left_by w d.frame r.fact r.saved (frame_there w x d r.fact h e) (subst (λ (s : Fact). Leaves s.kind s.name d.frame) (sym e) l) fits

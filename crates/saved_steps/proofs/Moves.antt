@@ -5,13 +5,13 @@ use Rattle.std.proofs.lemmas.Bool.{eq-eqb}
 use Rattle.std.proofs.lemmas.Option.{same_Some}
 use Rattle.attr_values.specs.declared.key.Key.{Key}
 use Rattle.item_store.specs.Deciding.{Attributes}
-use Rattle.item_store.specs.Store.{items_of}
+use Rattle.item_store.specs.Store.{stored_items}
 use Rattle.item_store.specs.Table as table
 use Rattle.item_store.specs.Table.{Table, is_same_key}
 use Rattle.item_store.specs.declared.access.AccessMode.{AccessMode}
 use Rattle.item_store.proofs.Slots.{same_key}
 use Rattle.asl_forward.specs.Outcomes.{turn}
-use Rattle.asl_forward.specs.Results.{Work, work_of, after_answer}
+use Rattle.asl_forward.specs.Results.{Work, state_work, after_answer}
 use Rattle.branch_tree.specs.Turn.{Location, located}
 use Rattle.branch_tree.specs.Frame.{Frame}
 use Rattle.branch_tree.specs.Phase.TheVariants.{Ready}
@@ -21,12 +21,12 @@ use Rattle.asl_forward.specs.declared.prepared.Prepared.{Prepared}
 use Rattle.step_names.specs.Thread.{Thread}
 use Rattle.step_names.specs.declared.step.StepName.{StepName}
 use Rattle.step_names.proofs.OrderLaws.{thread_same}
-use Rattle.saved_steps.specs.Effects.{Effect, effect_of, effect_of_turn, turn_effect, first_bound, bounded, if_numbered, called, stands, next_step}
+use Rattle.saved_steps.specs.Effects.{Effect, effect_of, effect_of_turn, turn_effect, first_bound, effect_with_bound, if_numbered, called, stands, next_step}
 use Rattle.saved_steps.specs.Held.{frames_of, world_view}
 use Rattle.saved_steps.specs.Saving.{kept, undo, item_written}
 use Rattle.saved_steps.specs.Laws.{changes, with_places, UndoneAtOnce, UndoneLater, TakenAgain, IsOver, StartIsEffect, WorkIsEffect, JoinIsEffect, TerminateIsEffect}
 use Rattle.saved_steps.specs.Made.{effect_of_work}
-use Rattle.saved_steps.specs.Run.{after_effect, begun}
+use Rattle.saved_steps.specs.Run.{after_effect, begun_frame}
 use Rattle.saved_steps.specs.Steps.{makes, closes, moved, is_write, is_write_of}
 use Rattle.saved_steps.specs.World.{Setting, is_same_thread}
 use Rattle.saved_steps.specs.declared.fact.Access.{Access}
@@ -74,7 +74,7 @@ item_again false new own was now h = refl
 pub taken_again : TakenAgain
 taken_again w x d agree = same_world (after_effect (undo x d.fact (kept w d.fact)) d) x
     (λ t. let s = d.fact in
-    frame_again (is_same_thread s.name.thread t) (makes s t) (closes s t) (Some d.frame) (begun d t) (w.frames s.name.thread) (w.frames t) (x.frames t) (again t))
+    frame_again (is_same_thread s.name.thread t) (makes s t) (closes s t) (Some d.frame) (begun_frame d t) (w.frames s.name.thread) (w.frames t) (x.frames t) (again t))
     (λ key. item_again (is_write_of d.fact.access key) d.item (item_written w.items d.fact.access) (w.items key) (x.items key) (agree.items key))
   where
     again : (t : Thread) → (changes d.fact t) ≡ true → x.frames t ≡ (after_effect w d).frames t
@@ -97,13 +97,13 @@ turned_as : (s : Setting) (w : held.World) (name : StepName) (p : Prepared) (at 
     → option_and_then (if_numbered name.no) (effect_of_turn s (world_view w) name at p.frame o) ≡ effect_of_work w.items name p o
 turned_as s w name p at (outcome.Next g) over h = numbered name.no _ refl
 turned_as s w name p at (outcome.Fork g branches) over h = numbered name.no _ refl
-turned_as s w name p at (outcome.Call c) over h = rw (h, ← over.table, ← over.schema) (by (work_of at.1))
+turned_as s w name p at (outcome.Call c) over h = rw (h, ← over.table, ← over.schema) (by (state_work at.1))
   where
-    by : (work : Option Work) → option_and_then (if_numbered name.no) (option_map (λ x. let o = table.in_form w.items.table w.items.schema (items_of w.items) c in called name (after_answer at.0 x p.frame o.answer) o.items o.access) work)
-        ≡ option_map (λ x. let o = table.in_form w.items.table w.items.schema (items_of w.items) c in called name (after_answer at.0 x p.frame o.answer) o.items o.access) work
+    by : (work : Option Work) → option_and_then (if_numbered name.no) (option_map (λ x. let o = table.in_form w.items.table w.items.schema (stored_items w.items) c in called name (after_answer at.0 x p.frame o.answer) o.items o.access) work)
+        ≡ option_map (λ x. let o = table.in_form w.items.table w.items.schema (stored_items w.items) c in called name (after_answer at.0 x p.frame o.answer) o.items o.access) work
     by None = refl
     by (Some x) =
-        let o = table.in_form w.items.table w.items.schema (items_of w.items) c in
+        let o = table.in_form w.items.table w.items.schema (stored_items w.items) c in
         numbered name.no (called name (after_answer at.0 x p.frame o.answer) o.items o.access) (ap (λ (n : StepName). n.no) (called_name name (after_answer at.0 x p.frame o.answer) o.items o.access))
 
 there : (d : Option Location) (f : Frame) (o : Outcome) → option_map (λ at. turn at f) d ≡ Some o → (at : Location) × (d ≡ Some at) × (turn at f ≡ o)
@@ -114,11 +114,11 @@ named : (name : StepName) (f : Frame) → name.no ≡ f.count + 1 → next_step 
 named name f e = ap (λ (n : ℕ). let x : StepName = record { thread = name.thread; no = n } in x) (sym e)
 
 -- the turn of a thread that may begin, told with a bound and by its number
-bounded_as : (n number : ℕ) (o p : Option Effect) → option_and_then (if_numbered number) o ≡ p → option_and_then (if_numbered number) (option_map (bounded n) o) ≡ option_map (bounded n) p
-bounded_as n number None p h = ap (option_map (bounded n)) h
-bounded_as n number (Some d) p h = by (d.fact.name.no == number) ∙ ap (option_map (bounded n)) h
+bounded_as : (n number : ℕ) (o p : Option Effect) → option_and_then (if_numbered number) o ≡ p → option_and_then (if_numbered number) (option_map (effect_with_bound n) o) ≡ option_map (effect_with_bound n) p
+bounded_as n number None p h = ap (option_map (effect_with_bound n)) h
+bounded_as n number (Some d) p h = by (d.fact.name.no == number) ∙ ap (option_map (effect_with_bound n)) h
   where
-    by : (b : Bool) → cond b (Some (bounded n d)) None ≡ option_map (bounded n) (cond b (Some d) None)
+    by : (b : Bool) → cond b (Some (effect_with_bound n d)) None ≡ option_map (effect_with_bound n) (cond b (Some d) None)
     by true = refl
     by false = refl
 
@@ -133,7 +133,7 @@ work_is_effect s w name p over frame known number begins =
     let n = first_bound (frames_of w) name.thread p.frame in
     ready_effect s w name p.frame at.0 frame stands_there p.ready number
     ∙ ap (option_and_then (if_numbered name.no)) (turn_goes (frames_of w) name.thread p.frame (effect_of_turn s (world_view w) name at.0 p.frame (turn at.0 p.frame)) begins)
-    ∙ ap (λ (o : Outcome). option_and_then (if_numbered name.no) (option_map (bounded n) (effect_of_turn s (world_view w) name at.0 p.frame o))) at.2
+    ∙ ap (λ (o : Outcome). option_and_then (if_numbered name.no) (option_map (effect_with_bound n) (effect_of_turn s (world_view w) name at.0 p.frame o))) at.2
     ∙ bounded_as n name.no (effect_of_turn s (world_view w) name at.0 p.frame p.outcome) (effect_of_work w.items name p p.outcome) (turned_as s w name p at.0 p.outcome over at.1)
 
 pub join_is_effect : JoinIsEffect

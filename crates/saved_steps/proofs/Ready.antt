@@ -7,11 +7,11 @@ use Rattle.std.specs.List.{All}
 use Rattle.std.proofs.lemmas.List.{length-map}
 use Rattle.attr_values.specs.declared.key.Key.{Key}
 use Rattle.item_store.specs.Deciding.{reply_of}
-use Rattle.item_store.specs.Store.{items_of}
+use Rattle.item_store.specs.Store.{stored_items}
 use Rattle.item_store.specs.Table as table
 use Rattle.item_store.specs.declared.access.AccessMode.{AccessMode}
 use Rattle.item_store.specs.declared.call.Call as calls
-use Rattle.asl_forward.specs.Results.{Work, work_of, after_answer}
+use Rattle.asl_forward.specs.Results.{Work, state_work, after_answer}
 use Rattle.branch_tree.specs.Turn.{Location, located}
 use Rattle.branch_tree.specs.Frame.{Frame}
 use Rattle.asl_forward.specs.declared.prepared.Outcome.{Outcome}
@@ -21,9 +21,9 @@ use Rattle.branch_tree.specs.FlatMap.{IsTree, is_parked, branch_count}
 use Rattle.branch_tree.specs.Tree.{Rows, leaf, frame_at, IsNode}
 use Rattle.step_names.specs.declared.step.StepName.{StepName}
 use Rattle.saved_steps.specs.Answering.{IsTouch, IsAnswered, change_from}
-use Rattle.saved_steps.specs.Effects.{Effect, own_effect, fork_effect, called, call_effect, bounded}
+use Rattle.saved_steps.specs.Effects.{Effect, own_effect, fork_effect, called, call_effect, effect_with_bound}
 use Rattle.saved_steps.specs.Held.{frames_of}
-use Rattle.saved_steps.specs.Made.{is_open, IsOpen, CanMake, CanApply, IsMadeFor, IsMadeBy, IsMadeOf, effect_of_work}
+use Rattle.saved_steps.specs.Made.{is_unparked, IsThreadOpen, CanMake, CanApply, IsMadeFor, IsMadeBy, IsMadeOf, effect_of_work}
 use Rattle.saved_steps.specs.declared.answering.Answered.{Answered}
 use Rattle.saved_steps.specs.declared.answering.Touch.{Touch}
 use Rattle.saved_steps.specs.declared.fact.Kind.TheVariants as kind
@@ -67,14 +67,14 @@ turned p o e = subst (Yields p.frame) e (yields p.machine p.frame p.outcome p.tu
 
 -- what a turn does, told with a bound
 abbrev pub does : World → StepName → ℕ → Prepared → Option Effect
-does w name bound p = option_map (bounded bound) (effect_of_work w.items name p p.outcome)
+does w name bound p = option_map (effect_with_bound bound) (effect_of_work w.items name p p.outcome)
 
 pub plain : (w : World) (name : StepName) (bound : ℕ) (p : Prepared) (g : Frame) → p.outcome ≡ outcome.Next g → CanMake w name (next.Work p) → IsMadeBy w name (does w name bound p) (record { name = name; bound = bound; change = change.Plain g })
 plain w name bound p g e s = record {
   named = refl;
   ready = (s.0, turned p (outcome.Next g) e);
-  effect_of = bounded bound (own_effect kind.Plain name g);
-  is = ap (λ (o : Outcome). option_map (bounded bound) (effect_of_work w.items name p o)) e;
+  effect_of = effect_with_bound bound (own_effect kind.Plain name g);
+  is = ap (λ (o : Outcome). option_map (effect_with_bound bound) (effect_of_work w.items name p o)) e;
   made = record { fact = refl; change = refl };
 }
 
@@ -86,30 +86,30 @@ fork w name bound p g branches kids e rows trees s =
     record {
       named = refl;
       ready = (s.0, node, ap is_parked y.1, y.2 ∙ sym s.1, (branches, rows));
-      effect_of = bounded bound (fork_effect name g branches);
-      is = ap (λ (o : Outcome). option_map (bounded bound) (effect_of_work w.items name p o)) e;
+      effect_of = effect_with_bound bound (fork_effect name g branches);
+      is = ap (λ (o : Outcome). option_map (effect_with_bound bound) (effect_of_work w.items name p o)) e;
       made = record { fact = refl; change = (refl, rows) };
     }
 
-made_touch : (v : World) (name : StepName) (bound : ℕ) (g h : Frame) (o : table.Outcome) (t : Option Touch) → g ≡ h → IsTouch v.items o t → IsMadeFor (record { name = name; bound = bound; change = change_from g t }) (bounded bound (called name h o.items o.access))
-made_touch v name bound g h o None e k = subst (λ (x : Option (Key × AccessMode)). IsMadeFor (record { name = name; bound = bound; change = change_from g None }) (bounded bound (called name h o.items x))) (sym k) (record { fact = refl; change = e })
-made_touch v name bound g h o (Some t) e k = subst (λ (x : Option (Key × AccessMode)). IsMadeFor (record { name = name; bound = bound; change = change_from g (Some t) }) (bounded bound (called name h o.items x))) (sym k.0) (record { fact = refl; change = (e, k.2) })
+made_touch : (v : World) (name : StepName) (bound : ℕ) (g h : Frame) (o : table.Outcome) (t : Option Touch) → g ≡ h → IsTouch v.items o t → IsMadeFor (record { name = name; bound = bound; change = change_from g t }) (effect_with_bound bound (called name h o.items o.access))
+made_touch v name bound g h o None e k = subst (λ (x : Option (Key × AccessMode)). IsMadeFor (record { name = name; bound = bound; change = change_from g None }) (effect_with_bound bound (called name h o.items x))) (sym k) (record { fact = refl; change = e })
+made_touch v name bound g h o (Some t) e k = subst (λ (x : Option (Key × AccessMode)). IsMadeFor (record { name = name; bound = bound; change = change_from g (Some t) }) (effect_with_bound bound (called name h o.items x))) (sym k.0) (record { fact = refl; change = (e, k.2) })
 
-ready_touch : (v : World) (name : StepName) (bound : ℕ) (g : Frame) (o : table.Outcome) (t : Option Touch) → IsOpen (frames_of v) name.thread → is_open g → IsTouch v.items o t → CanApply v (record { name = name; bound = bound; change = change_from g t })
+ready_touch : (v : World) (name : StepName) (bound : ℕ) (g : Frame) (o : table.Outcome) (t : Option Touch) → IsThreadOpen (frames_of v) name.thread → is_unparked g → IsTouch v.items o t → CanApply v (record { name = name; bound = bound; change = change_from g t })
 ready_touch v name bound g o None free f k = (free, f)
 ready_touch v name bound g o (Some t) free f k = (free, f, k.1)
 
 pub call : (w v : World) (name : StepName) (bound : ℕ) (p : Prepared) (c : calls.Call) (a : Answered) (g : Frame) (at : Location) (work : Work) → p.outcome ≡ outcome.Call c
-    → located p.machine p.frame ≡ Some at → work_of at.1 ≡ Some work → g ≡ after_answer at.0 work p.frame (reply_of a.answer)
-    → IsAnswered v.items (table.in_form w.items.table w.items.schema (items_of w.items) c) a → IsOpen (frames_of v) name.thread
+    → located p.machine p.frame ≡ Some at → state_work at.1 ≡ Some work → g ≡ after_answer at.0 work p.frame (reply_of a.answer)
+    → IsAnswered v.items (table.in_form w.items.table w.items.schema (stored_items w.items) c) a → IsThreadOpen (frames_of v) name.thread
     → IsMadeBy v name (does w name bound p) (record { name = name; bound = bound; change = change_from g a.touch })
 call w v name bound p c a g at work e stands works gives answered free =
-    let o = table.in_form w.items.table w.items.schema (items_of w.items) c in
+    let o = table.in_form w.items.table w.items.schema (stored_items w.items) c in
     let is : g ≡ after_answer at.0 work p.frame o.answer = gives ∙ ap (after_answer at.0 work p.frame) answered.answer in
     record {
       named = refl;
-      ready = ready_touch v name bound g o a.touch free (subst (λ (x : Frame). is_open x) (sym is) (answer_open at.0 work p.frame o.answer)) answered.touch;
-      effect_of = bounded bound (call_effect name at.0 work p.frame o);
-      is = ap (λ (x : Outcome). option_map (bounded bound) (effect_of_work w.items name p x)) e ∙ rw (stands, works) refl;
+      ready = ready_touch v name bound g o a.touch free (subst (λ (x : Frame). is_unparked x) (sym is) (answer_open at.0 work p.frame o.answer)) answered.touch;
+      effect_of = effect_with_bound bound (call_effect name at.0 work p.frame o);
+      is = ap (λ (x : Outcome). option_map (effect_with_bound bound) (effect_of_work w.items name p x)) e ∙ rw (stands, works) refl;
       made = made_touch v name bound g (after_answer at.0 work p.frame o.answer) o a.touch is answered.touch;
     }

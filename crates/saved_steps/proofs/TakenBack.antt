@@ -9,7 +9,7 @@ use Rattle.std.specs.Prelude.{is_some, IfSome}
 use Rattle.std.proofs.lemmas.Slice.Eq.{bytes_eq-Decides}
 use Rattle.attr_values.specs.declared.key.Key.{Key}
 use Rattle.item_store.specs.Deciding.{Attributes}
-use Rattle.item_store.specs.Store.{Store, items_of}
+use Rattle.item_store.specs.Store.{Store, stored_items}
 use Rattle.item_store.specs.Table.{Table, with_item}
 use Rattle.item_store.specs.declared.access.AccessMode.TheVariants.{Write}
 use Rattle.item_store.specs.declared.slot.SlotNo.{SlotNo}
@@ -21,7 +21,7 @@ use Rattle.step_names.specs.Thread.{Thread}
 use Rattle.step_names.specs.Under.{is_under}
 use Rattle.saved_steps.specs.Held.{tree_in, rows_at, frames_of, paths_of, put_at, with_thread, world_view}
 use Rattle.saved_steps.specs.Saving.{undo}
-use Rattle.saved_steps.specs.Made.{is_open, KeepsStore}
+use Rattle.saved_steps.specs.Made.{is_unparked, KeepsStore}
 use Rattle.saved_steps.specs.Records.{saved_by}
 use Rattle.saved_steps.specs.Steps.{is_fork, is_close, is_write_of}
 use Rattle.saved_steps.specs.Undoing.{CanUndo, IsUndone}
@@ -69,13 +69,13 @@ pub plain : (w v : World) (s : Fact) (f : Frame) → v.items ≡ w.items → Can
 plain w v s f items can now = record {
   world = same_world (world_view v) (undo (world_view w) s (saved_by (record { fact = s; saved = Framed f })))
       (λ t. now t ∙ framed_back s kind.Plain (Some f) None None (frames_of w t) (is_same_thread s.name.thread t) (is_under t s.name.thread s.name.no) (is_under t s.name.thread (s.name.no - 1)) can.record_fits.0 refl refl)
-      (λ key. ap (λ (x : Store). items_of x key) items ∙ unwritten s.access can.record_fits.1 key None (items_of w.items key));
+      (λ key. ap (λ (x : Store). stored_items x key) items ∙ unwritten s.access can.record_fits.1 key None (stored_items w.items key));
   store = same_store w.items v.items items;
 }
 
 pub call : (w v : World) (s : Fact) (f : Frame) (slot : SlotNo) (old : Option Attributes) → CanUndo w (record { fact = s; saved = Called f slot old })
     → ((t : Thread) → frames_of v t ≡ with_thread (frames_of w) s.name.thread f t)
-    → ((key : Key) → items_of v.items key ≡ cond (is_write_of s.access key) old (items_of w.items key))
+    → ((key : Key) → stored_items v.items key ≡ cond (is_write_of s.access key) old (stored_items w.items key))
     → KeepsStore w.items v.items
     → IsUndone w (record { fact = s; saved = Called f slot old }) v
 call w v s f slot old can now items store = record {
@@ -99,7 +99,7 @@ pub start : (w v : World) (s : Fact) → v.items ≡ w.items → CanUndo w (reco
     → IsUndone w (record { fact = s; saved = Started }) v
 start w v s items can tree trees =
     let a = s.name.thread in
-    let below : (g : Frame) → frames_of w a ≡ Some g → is_open g → (b : ℕ × ℕ) (r : Path) → paths_of (frames_of w) a.exec (b ∷ r) ≡ None =
+    let below : (g : Frame) → frames_of w a ≡ Some g → is_unparked g → (b : ℕ × ℕ) (r : Path) → paths_of (frames_of w) a.exec (b ∷ r) ≡ None =
     λ g was free b r. subst (λ (p : Path). paths_of (frames_of w) a.exec (p ++ b ∷ r) ≡ None) can.record_fits.2 (nothing_at_open (paths_of (frames_of w) a.exec) tree a.path g was free b r) in
     let nothing : (b : ℕ × ℕ) (r : Path) → paths_of (frames_of w) a.exec (b ∷ r) ≡ None = opened (frames_of w a) (λ g was free. below g was free) can.thread in
     record {
@@ -109,11 +109,11 @@ start w v s items can tree trees =
           (λ e b r. ap (λ (x : List ℕ). rows_at (tree_in w.executions.trees x) (b ∷ r)) (sym ((bytes_eq-Decides a.exec t.exec).0 e)) ∙ nothing b r)
           ∙ ap (λ (x : Bool). cond x None (frames_of w t)) (sym (same_by_parts a t))
           ∙ framed_back s kind.Start None None None (frames_of w t) (is_same_thread a t) (is_under t a s.name.no) (is_under t a (s.name.no - 1)) can.record_fits.0 refl refl)
-          (λ key. ap (λ (x : Store). items_of x key) items ∙ unwritten s.access can.record_fits.1 key None (items_of w.items key));
+          (λ key. ap (λ (x : Store). stored_items x key) items ∙ unwritten s.access can.record_fits.1 key None (stored_items w.items key));
       store = same_store w.items v.items items;
     }
   where
-    opened : {P : Type 0} (o : Option Frame) → ((g : Frame) → o ≡ Some g → is_open g → P) → IsSomeAnd o is_open → P
+    opened : {P : Type 0} (o : Option Frame) → ((g : Frame) → o ≡ Some g → is_unparked g → P) → IsSomeAnd o is_unparked → P
     opened None k h = absurd h
     opened (Some g) k h = k g refl h
 
@@ -139,7 +139,7 @@ fork w v s f g kids items can was tree now =
           (λ t. now t ∙ told (frames_of w) a (alone f) f n refl (λ b q apart. refl) nothing t
           ∙ ap (cond (is_same_thread a t) (Some f)) (cond_under (is_under t a n) (option_and_then (alone f) (rest_after a.path t.path)) None (frames_of w t) (λ u. alone_below f n (rest_after a.path t.path) (first_under a t n u)))
           ∙ fork_back s (Some f) None (frames_of w t) (is_same_thread a t) (is_under t a n) (is_under t a (n - 1)) can.record_fits.0)
-          (λ key. ap (λ (x : Store). items_of x key) items ∙ unwritten s.access can.record_fits.1 key None (items_of w.items key));
+          (λ key. ap (λ (x : Store). stored_items x key) items ∙ unwritten s.access can.record_fits.1 key None (stored_items w.items key));
       store = same_store w.items v.items items;
     }
 
@@ -166,12 +166,12 @@ pub close : (w v : World) (s : Fact) (f g : Frame) (kids : Vec Rows Global) → 
 close w v s f g kids items can was tree now =
     let a = s.name.thread in
     let n : ℕ = s.name.no - 1 in
-    let free : is_open g = subst (λ (o : Option Frame). IsSomeAnd o is_open) was can.thread in
+    let free : is_unparked g = subst (λ (o : Option Frame). IsSomeAnd o is_unparked) was can.thread in
     let nothing : (b : ℕ × ℕ) (q : Path) → paths_of (frames_of w) a.exec (a.path ++ b ∷ q) ≡ None = nothing_at_open (paths_of (frames_of w) a.exec) tree a.path g was free in
     record {
       world = same_world (world_view v) (undo (world_view w) s (saved_by (record { fact = s; saved = Closed f kids })))
           (λ t. now t ∙ told (frames_of w) a (node_at f kids.items) f n refl (no_other_branch f kids.items n can.record_fits.4) (λ b q apart. nothing b q) t
           ∙ close_back (is_fork s.kind) (is_close s.kind) (Some f) (option_and_then (node_at f kids.items) (rest_after a.path t.path)) (frames_of w t) (is_same_thread a t) (is_under t a s.name.no) (is_under t a n) (no_fork s.kind can.record_fits.0) can.record_fits.0)
-          (λ key. ap (λ (x : Store). items_of x key) items ∙ unwritten s.access can.record_fits.1 key None (items_of w.items key));
+          (λ key. ap (λ (x : Store). stored_items x key) items ∙ unwritten s.access can.record_fits.1 key None (stored_items w.items key));
       store = same_store w.items v.items items;
     }

@@ -10,7 +10,7 @@ use Rattle.step_names.specs.Thread.{Thread}
 use Rattle.step_names.proofs.OrderLaws.{thread_same}
 use Rattle.saved_steps.specs.Effects.{Effect}
 use Rattle.saved_steps.specs.Saving.{kept, item_written, undo}
-use Rattle.saved_steps.specs.Run.{begun, after_effect}
+use Rattle.saved_steps.specs.Run.{begun_frame, after_effect}
 use Rattle.saved_steps.specs.Steps.{makes, closes, is_write, is_write_of}
 use Rattle.saved_steps.specs.World.{World, is_same_thread}
 use Rattle.saved_steps.specs.declared.fact.Access.{Access}
@@ -38,6 +38,6 @@ item_undone items (Some a) new key = item_back (is_write a.mode) (is_same_key a.
 -- where nothing stood under the fork that the step makes, its undoing gives the world before it
 pub undone : (w : World) (d : Effect) → ((t : Thread) → makes d.fact t ≡ true → w.frames t ≡ None) → undo (after_effect w d) d.fact (kept w d.fact) ≡ w
 undone w d nothing = same_world (undo (after_effect w d) d.fact (kept w d.fact)) w
-    (λ t. frame_back (is_same_thread d.fact.name.thread t) (makes d.fact t) (closes d.fact t) (w.frames d.fact.name.thread) (Some d.frame) (begun d t) (w.frames t)
+    (λ t. frame_back (is_same_thread d.fact.name.thread t) (makes d.fact t) (closes d.fact t) (w.frames d.fact.name.thread) (Some d.frame) (begun_frame d t) (w.frames t)
     (λ e. ap w.frames (thread_same d.fact.name.thread t e)) (nothing t))
     (λ key. item_undone w.items d.fact.access d.item key)

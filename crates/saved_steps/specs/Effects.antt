@@ -10,7 +10,7 @@ use Rattle.item_store.specs.Table as table
 use Rattle.item_store.specs.declared.access.AccessMode.{AccessMode}
 use Rattle.branch_tree.specs.Definition.{Definition}
 use Rattle.asl_forward.specs.Outcomes.{turn}
-use Rattle.asl_forward.specs.Results.{Work, work_of, after_answer, after_branch, after_join}
+use Rattle.asl_forward.specs.Results.{Work, state_work, after_answer, after_branch, after_join}
 use Rattle.branch_tree.specs.Turn.{Location, located, first_frame}
 use Rattle.branch_tree.specs.Fault.{Fault}
 use Rattle.branch_tree.specs.Frame.{Frame}
@@ -63,7 +63,7 @@ call_effect name level work f o = called name (after_answer level work f o.answe
 abbrev pub effect_of_turn : Setting → World → StepName → Location → Frame → Outcome → Option Effect
 effect_of_turn s w name at f (outcome.Next g) = Some (own_effect Plain name g)
 effect_of_turn s w name at f (outcome.Fork g branches) = Some (fork_effect name g branches)
-effect_of_turn s w name at f (outcome.Call c) = option_map (λ work. call_effect name at.0 work f (table.in_form s.table s.schema w.items c)) (work_of at.1)
+effect_of_turn s w name at f (outcome.Call c) = option_map (λ work. call_effect name at.0 work f (table.in_form s.table s.schema w.items c)) (state_work at.1)
 
 -- ---- a thread that waits for its branches
 
@@ -98,7 +98,7 @@ outputs [] = Some []
 outputs (f ∷ fs) = option_and_then (λ d. option_map (λ ds. d ∷ ds) (outputs fs)) (option_and_then (λ g. output_of g.phase) f)
 
 abbrev pub join_effect : StepName → Location → Frame → List Data → Option Effect
-join_effect name at f ds = option_map (λ work. own_effect Join name (after_join at.0 work f ds)) (work_of at.1)
+join_effect name at f ds = option_map (λ work. own_effect Join name (after_join at.0 work f ds)) (state_work at.1)
 
 -- it terminates where a branch has failed, whatever the others do, and joins where all are done
 abbrev pub close_effect : StepName → Location → Frame → Option Fault → Option (List Data) → Option Effect
@@ -119,11 +119,11 @@ abbrev pub first_bound : (Thread → Option Frame) → Thread → Frame → ℕ
 first_bound frames t f = if f.count == 0 then bound_over (paths_of frames t.exec) (place_of t.path) else 0
 
 -- an effect, told with a bound
-abbrev pub bounded : ℕ → Effect → Effect
-bounded n d = record { fact = record { name = d.fact.name; kind = d.fact.kind; access = d.fact.access; bound = n }; frame = d.frame; branches = d.branches; item = d.item }
+abbrev pub effect_with_bound : ℕ → Effect → Effect
+effect_with_bound n d = record { fact = record { name = d.fact.name; kind = d.fact.kind; access = d.fact.access; bound = n }; frame = d.frame; branches = d.branches; item = d.item }
 
 abbrev pub turn_effect : (Thread → Option Frame) → Thread → Frame → Option Effect → Option Effect
-turn_effect frames t f o = if waits frames t f then None else option_map (bounded (first_bound frames t f)) o
+turn_effect frames t f o = if waits frames t f then None else option_map (effect_with_bound (first_bound frames t f)) o
 
 -- ---- moves
 

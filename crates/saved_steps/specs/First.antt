@@ -7,7 +7,7 @@ use Rattle.std.specs.Str.{bytes_eq}
 use Rattle.std.specs.declared.string.String.{String}
 use Rattle.std.specs.declared.cmp.Ordering.TheVariants.{Less}
 use Rattle.branch_tree.specs.Frame.{Frame}
-use Rattle.branch_tree.specs.First.{is_enabled}
+use Rattle.branch_tree.specs.First.{is_free_to_move}
 use Rattle.branch_tree.specs.Paths.{Path}
 use Rattle.branch_tree.specs.Ready.{readiness_at}
 use Rattle.step_names.specs.Order.{thread_cmp}
@@ -16,7 +16,7 @@ use Rattle.branch_tree.specs.Tree.{Rows}
 use Rattle.saved_steps.specs.Places.{frames_in, paths_of}
 
 abbrev pub free : (Thread → Option Frame) → (Thread → Bool) → Thread → Bool
-free frames passed t = is_enabled (readiness_at (paths_of frames t.exec) t.path) && not (passed t)
+free frames passed t = is_free_to_move (readiness_at (paths_of frames t.exec) t.path) && not (passed t)
 
 -- Nothing, where no thread is free; or the name of one that is, with none before it.
 abbrev pub IsFirstReady : (Thread → Option Frame) → (Thread → Bool) → Option Thread → Type 0

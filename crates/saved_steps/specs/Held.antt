@@ -1,7 +1,7 @@
 -- The world as it is held, in trees and slots, and as the model sees it.
 use Rattle.std.specs.Prelude.{Option}
 use Rattle.branch_tree.specs.Frame.{Frame}
-use Rattle.item_store.specs.Store.{Store, items_of}
+use Rattle.item_store.specs.Store.{Store, stored_items}
 use Rattle.step_names.specs.Thread.{Thread}
 use Rattle.saved_steps.specs.World as model
 use Rattle.saved_steps.specs.declared.world.World.{World}
@@ -17,4 +17,4 @@ store_of w = w.items
 
 -- the world as the model sees it
 abbrev pub world_view : World → model.World
-world_view w = record { frames = frames_of w; items = items_of w.items }
+world_view w = record { frames = frames_of w; items = stored_items w.items }

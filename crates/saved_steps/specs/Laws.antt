@@ -4,7 +4,7 @@ use Rattle.attr_values.specs.declared.key.Key.{Key}
 use Rattle.json_tree.specs.Data.{Data}
 use Rattle.json_tree.specs.declared.tree.Json.{Json}
 use Rattle.branch_tree.specs.Definition.{Definition}
-use Rattle.asl_forward.specs.Results.{Work, work_of, after_branch, after_join}
+use Rattle.asl_forward.specs.Results.{Work, state_work, after_branch, after_join}
 use Rattle.branch_tree.specs.Turn.{Location, first_frame}
 use Rattle.branch_tree.specs.Fault.{Fault}
 use Rattle.branch_tree.specs.Frame.{Frame}
@@ -16,7 +16,7 @@ use Rattle.saved_steps.specs.Effects.{Effect, effect_of, stands, waits, kids, fi
 use Rattle.saved_steps.specs.Held.{frames_of, world_view}
 use Rattle.saved_steps.specs.Saving.{kept, undo}
 use Rattle.branch_tree.specs.FlatMap.{is_parked}
-use Rattle.saved_steps.specs.Made.{is_open, effect_of_next}
+use Rattle.saved_steps.specs.Made.{is_unparked, effect_of_next}
 use Rattle.saved_steps.specs.Run.{after_effect}
 use Rattle.saved_steps.specs.Steps.{Step, started, moved, start_name, makes, closes, writes_key}
 use Rattle.saved_steps.specs.Undoing.{IsRecord, StandsAfter}
@@ -79,7 +79,7 @@ WorkIsEffect = (s : Setting) (w : World) (name : StepName) (p : Prepared) → Is
 -- a frame after its branches' outputs, where none has failed
 abbrev pub JoinIsEffect : Type 0
 JoinIsEffect = (s : Setting) (w : World) (name : StepName) (f : Frame) (n bound : ℕ) (at : Location) (work : Work) (ds : List Data)
-    → frames_of w name.thread ≡ Some f → f.phase ≡ Parked n bound → stands s f ≡ Some at → work_of at.1 ≡ Some work
+    → frames_of w name.thread ≡ Some f → f.phase ≡ Parked n bound → stands s f ≡ Some at → state_work at.1 ≡ Some work
     → first_fault (kids (world_view w) name.thread f n) ≡ None → outputs (kids (world_view w) name.thread f n) ≡ Some ds → name.no ≡ f.count + 1
     → effect_of s (world_view w) (moved name) ≡ effect_of_next w name (next.Join (after_join at.0 work f ds))
 
@@ -93,12 +93,12 @@ TerminateIsEffect = (s : Setting) (w : World) (name : StepName) (f : Frame) (n b
 
 -- parked since a fork, and not parked after any other step
 abbrev pub Leaves : Kind → StepName → Frame → Type 0
-Leaves kind.Start name f = is_open f
-Leaves kind.Plain name f = is_open f
-Leaves kind.Call name f = is_open f
+Leaves kind.Start name f = is_unparked f
+Leaves kind.Plain name f = is_unparked f
+Leaves kind.Call name f = is_unparked f
 Leaves kind.Fork name f = (is_parked f.phase ≡ true) × (f.count ≡ name.no)
-Leaves kind.Join name f = is_open f
-Leaves kind.Terminate name f = is_open f
+Leaves kind.Join name f = is_unparked f
+Leaves kind.Terminate name f = is_unparked f
 
 abbrev pub EffectsLeave : Type 0
 EffectsLeave = (s : Setting) (w : model.World) (step : Step) (d : Effect) → effect_of s w step ≡ Some d → Leaves d.fact.kind d.fact.name d.frame

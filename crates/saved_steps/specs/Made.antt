@@ -2,11 +2,11 @@
 use Rattle.std.specs.Prelude.{◌≡◌, ℕ, ◌+◌, ◌-◌, true, false, List, [], map, Option, Some, None, IsSomeAnd, option_map, option_and_then}
 use Rattle.std.specs.BTreeMap.{get_by_text}
 use Rattle.attr_values.specs.declared.key.Key.{Key}
-use Rattle.item_store.specs.Store.{Store, items_of, slot_key}
+use Rattle.item_store.specs.Store.{Store, stored_items, slot_key}
 use Rattle.item_store.specs.Table.{in_form}
 use Rattle.item_store.specs.declared.slot.SlotNo.{SlotNo}
 use Rattle.branch_tree.specs.Frame.{Frame}
-use Rattle.asl_forward.specs.Results.{work_of}
+use Rattle.asl_forward.specs.Results.{state_work}
 use Rattle.branch_tree.specs.Turn.{located}
 use Rattle.asl_forward.specs.declared.prepared.Outcome.{Outcome}
 use Rattle.asl_forward.specs.declared.prepared.Outcome.TheVariants as outcome
@@ -15,7 +15,7 @@ use Rattle.branch_tree.specs.FlatMap.{is_parked}
 use Rattle.branch_tree.specs.Tree.{leaf, IsNode}
 use Rattle.step_names.specs.Thread.{Thread}
 use Rattle.step_names.specs.declared.step.StepName.{StepName}
-use Rattle.saved_steps.specs.Effects.{Effect, own_effect, fork_effect, call_effect, bounded, first_bound}
+use Rattle.saved_steps.specs.Effects.{Effect, own_effect, fork_effect, call_effect, effect_with_bound, first_bound}
 use Rattle.saved_steps.specs.Held.{frames_of}
 use Rattle.saved_steps.specs.Steps.{is_write}
 use Rattle.saved_steps.specs.declared.fact.Fact.{Fact}
@@ -35,23 +35,23 @@ abbrev pub effect_of_work : Store → StepName → Prepared → Outcome → Opti
 effect_of_work items name p (outcome.Next g) = Some (own_effect kind.Plain name g)
 effect_of_work items name p (outcome.Fork g branches) = Some (fork_effect name g branches)
 effect_of_work items name p (outcome.Call c) =
-    option_and_then (λ at. option_map (λ work. call_effect name at.0 work p.frame (in_form items.table items.schema (items_of items) c)) (work_of at.1)) (located p.machine p.frame)
+    option_and_then (λ at. option_map (λ work. call_effect name at.0 work p.frame (in_form items.table items.schema (stored_items items) c)) (state_work at.1)) (located p.machine p.frame)
 
 -- what the step of this name does, with this next
 abbrev pub effect_of_next : World → StepName → Next → Option Effect
 effect_of_next w name (Begin f) = Some (own_effect kind.Start name f)
-effect_of_next w name (Work p) = option_map (bounded (first_bound (frames_of w) name.thread p.frame)) (effect_of_work w.items name p p.outcome)
+effect_of_next w name (Work p) = option_map (effect_with_bound (first_bound (frames_of w) name.thread p.frame)) (effect_of_work w.items name p p.outcome)
 effect_of_next w name (Join f) = Some (own_effect kind.Join name f)
 effect_of_next w name (Terminate f) = Some (own_effect kind.Terminate name f)
 
 -- ---- where a thread is
 
-abbrev pub is_open : Frame → Type 0
-is_open f = is_parked f.phase ≡ false
+abbrev pub is_unparked : Frame → Type 0
+is_unparked f = is_parked f.phase ≡ false
 
 -- the thread has a frame that isn't parked
-abbrev pub IsOpen : (Thread → Option Frame) → Thread → Type 0
-IsOpen frames t = IsSomeAnd (frames t) is_open
+abbrev pub IsThreadOpen : (Thread → Option Frame) → Thread → Type 0
+IsThreadOpen frames t = IsSomeAnd (frames t) is_unparked
 
 -- the thread is parked, since its step of this number
 abbrev pub IsParkedSince : (Thread → Option Frame) → Thread → ℕ → Type 0
@@ -62,10 +62,10 @@ IsParkedSince frames t step = IsSomeAnd (frames t) (λ f. (is_parked f.phase ≡
 -- The execution isn't there, or the thread stands as the step finds it: open before its work, or parked since its step before
 -- this one. A step's number is one more than its thread's count.
 abbrev pub CanMake : World → StepName → Next → Type 0
-CanMake w name (Begin f) = (frames_of w name.thread ≡ None) × (name.thread.path ≡ []) × is_open f
-CanMake w name (Work p) = IsOpen (frames_of w) name.thread × (name.no ≡ p.frame.count + 1)
-CanMake w name (Join f) = IsParkedSince (frames_of w) name.thread (name.no - 1) × is_open f
-CanMake w name (Terminate f) = IsParkedSince (frames_of w) name.thread (name.no - 1) × is_open f
+CanMake w name (Begin f) = (frames_of w name.thread ≡ None) × (name.thread.path ≡ []) × is_unparked f
+CanMake w name (Work p) = IsThreadOpen (frames_of w) name.thread × (name.no ≡ p.frame.count + 1)
+CanMake w name (Join f) = IsParkedSince (frames_of w) name.thread (name.no - 1) × is_unparked f
+CanMake w name (Terminate f) = IsParkedSince (frames_of w) name.thread (name.no - 1) × is_unparked f
 
 -- ---- a step that is made
 
@@ -97,13 +97,13 @@ pub record IsMadeFor (m : Made) (d : Effect) : Type 0 where
   pub change : Makes m.change d
 
 abbrev pub CanApplyChange : World → StepName → Change → Type 0
-CanApplyChange w name (change.Begin f) = (get_by_text w.executions.trees name.thread.exec ≡ Some None) × (name.thread.path ≡ []) × is_open f
-CanApplyChange w name (change.Plain f) = IsOpen (frames_of w) name.thread × is_open f
-CanApplyChange w name (change.Call f access slot new) = IsOpen (frames_of w) name.thread × is_open f × (slot_key w.items slot ≡ Some access.key)
+CanApplyChange w name (change.Begin f) = (get_by_text w.executions.trees name.thread.exec ≡ Some None) × (name.thread.path ≡ []) × is_unparked f
+CanApplyChange w name (change.Plain f) = IsThreadOpen (frames_of w) name.thread × is_unparked f
+CanApplyChange w name (change.Call f access slot new) = IsThreadOpen (frames_of w) name.thread × is_unparked f × (slot_key w.items slot ≡ Some access.key)
 CanApplyChange w name (change.Fork f kids) =
-    IsOpen (frames_of w) name.thread × IsNode f kids.items × (is_parked f.phase ≡ true) × (f.count ≡ name.no) × ((branches : List Frame) × (kids.items ≡ map leaf branches))
-CanApplyChange w name (change.Join f) = IsParkedSince (frames_of w) name.thread (name.no - 1) × is_open f
-CanApplyChange w name (change.Terminate f) = IsParkedSince (frames_of w) name.thread (name.no - 1) × is_open f
+    IsThreadOpen (frames_of w) name.thread × IsNode f kids.items × (is_parked f.phase ≡ true) × (f.count ≡ name.no) × ((branches : List Frame) × (kids.items ≡ map leaf branches))
+CanApplyChange w name (change.Join f) = IsParkedSince (frames_of w) name.thread (name.no - 1) × is_unparked f
+CanApplyChange w name (change.Terminate f) = IsParkedSince (frames_of w) name.thread (name.no - 1) × is_unparked f
 
 -- the world has the places of a step that is made, as it was when they were made
 abbrev pub CanApply : World → Made → Type 0

@@ -17,14 +17,14 @@ begun_at branches (Some []) = None
 begun_at branches None = None
 
 -- the frame with which a thread under a fork begins: that of its branch; nothing stands under a branch yet
-abbrev pub begun : Effect → Thread → Option Frame
-begun d t = begun_at d.branches (rest_after d.fact.name.thread.path t.path)
+abbrev pub begun_frame : Effect → Thread → Option Frame
+begun_frame d t = begun_at d.branches (rest_after d.fact.name.thread.path t.path)
 
 -- the frames, with the effect's in place of those of its thread and of the threads under the fork that it makes or closes
 abbrev pub frames_after : (Thread → Option Frame) → Effect → Thread → Option Frame
 frames_after frames d t =
     if is_same_thread d.fact.name.thread t then Some d.frame else
-    if makes d.fact t then begun d t else
+    if makes d.fact t then begun_frame d t else
     if closes d.fact t then None else frames t
 
 abbrev pub items_after : (Key → Option Attributes) → Effect → Key → Option Attributes
@@ -38,6 +38,6 @@ abbrev pub take_step : Setting → World → Step → Option (World × Fact)
 take_step s w step = option_map (λ d. (after_effect w d, d.fact)) (effect_of s w step)
 
 -- the steps taken one after another: the world after them, and the fact of each; none where one of them can't be taken
-abbrev pub run : Setting → World → List Step → Option (World × List Fact)
-run s w [] = Some (w, [])
-run s w (step ∷ steps) = option_and_then (λ p. option_map (λ q. (q.0, p.1 ∷ q.1)) (run s p.0 steps)) (take_step s w step)
+abbrev pub run_steps : Setting → World → List Step → Option (World × List Fact)
+run_steps s w [] = Some (w, [])
+run_steps s w (step ∷ steps) = option_and_then (λ p. option_map (λ q. (q.0, p.1 ∷ q.1)) (run_steps s p.0 steps)) (take_step s w step)

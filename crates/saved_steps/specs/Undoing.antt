@@ -7,7 +7,7 @@ use Rattle.branch_tree.specs.Tree.{IsNode}
 use Rattle.saved_steps.specs.Effects.{Effect}
 use Rattle.saved_steps.specs.Held.{frames_of, world_view}
 use Rattle.saved_steps.specs.Saving.{kept, undo}
-use Rattle.saved_steps.specs.Made.{is_open, IsOpen, IsParkedSince, fact_made, IsMadeFor, KeepsStore}
+use Rattle.saved_steps.specs.Made.{is_unparked, IsThreadOpen, IsParkedSince, fact_made, IsMadeFor, KeepsStore}
 use Rattle.saved_steps.specs.Records.{saved_by}
 use Rattle.saved_steps.specs.Run.{after_effect}
 use Rattle.saved_steps.specs.Steps.{is_close}
@@ -23,9 +23,9 @@ use Rattle.saved_steps.specs.declared.world.World.{World}
 -- what is saved fits the step: of its kind, and a frame that stood there before such a step
 abbrev pub IsSavedOf : Fact → Saved → Type 0
 IsSavedOf s Started = (s.kind ≡ kind.Start) × (s.access ≡ None) × (s.name.thread.path ≡ [])
-IsSavedOf s (Framed f) = (s.kind ≡ kind.Plain) × (s.access ≡ None) × is_open f
-IsSavedOf s (Called f slot old) = (s.kind ≡ kind.Call) × is_open f
-IsSavedOf s (Forked f) = (s.kind ≡ kind.Fork) × (s.access ≡ None) × is_open f
+IsSavedOf s (Framed f) = (s.kind ≡ kind.Plain) × (s.access ≡ None) × is_unparked f
+IsSavedOf s (Called f slot old) = (s.kind ≡ kind.Call) × is_unparked f
+IsSavedOf s (Forked f) = (s.kind ≡ kind.Fork) × (s.access ≡ None) × is_unparked f
 IsSavedOf s (Closed f kids) = (is_close s.kind ≡ true) × (s.access ≡ None) × IsNode f kids.items × (is_parked f.phase ≡ true) × (f.count ≡ s.name.no - 1)
 
 -- a record as a step leaves it
@@ -46,11 +46,11 @@ HasSlot items s (Closed f kids) = Unit {0}
 
 -- the thread stands where the step left it: a fork's is parked since then, and any other's isn't parked
 abbrev pub StandsAfter : World → Fact → Saved → Type 0
-StandsAfter w s Started = IsOpen (frames_of w) s.name.thread
-StandsAfter w s (Framed f) = IsOpen (frames_of w) s.name.thread
-StandsAfter w s (Called f slot old) = IsOpen (frames_of w) s.name.thread
+StandsAfter w s Started = IsThreadOpen (frames_of w) s.name.thread
+StandsAfter w s (Framed f) = IsThreadOpen (frames_of w) s.name.thread
+StandsAfter w s (Called f slot old) = IsThreadOpen (frames_of w) s.name.thread
 StandsAfter w s (Forked f) = IsParkedSince (frames_of w) s.name.thread s.name.no
-StandsAfter w s (Closed f kids) = IsOpen (frames_of w) s.name.thread
+StandsAfter w s (Closed f kids) = IsThreadOpen (frames_of w) s.name.thread
 
 -- the record can be undone in this world
 pub record CanUndo (w : World) (r : StepRecord) : Type 0 where

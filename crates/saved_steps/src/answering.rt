@@ -1,7 +1,7 @@
 // What the table answers a call, and what of it is to be put where.
 ghost use Rattle.std.specs.Prelude.{◌≡◌, Some, None, IfOk};
 ghost use Rattle.item_store.specs.Deciding.{decision, reply_of, refused};
-ghost use Rattle.item_store.specs.Store.{items_of, slot_key};
+ghost use Rattle.item_store.specs.Store.{stored_items, slot_key};
 ghost use Rattle.item_store.specs.Table.{at_key, in_form, told};
 ghost use Rattle.saved_steps.specs.Answering.{IsAnswerAt, IsAnswered};
 ghost use Rattle.saved_steps.specs.Made.{KeepsStore};
@@ -50,7 +50,7 @@ fn answer_at(
     slot: SlotNo,
 ) -> Result<Answered, AllocError>
     requires { slot_key items.now slot ≡ Some key }
-    ensures { IfOk result (λ a. IsAnswerAt (decision call.request (items_of items.now key)) key slot a) }
+    ensures { IfOk result (λ a. IsAnswerAt (decision call.request (stored_items items.now key)) key slot a) }
 {
     let Ok(decided) = decide(alloc, call, items.look(slot)) else {
         drop(key);
@@ -77,8 +77,8 @@ fn answer_key(
     call: Call,
     key: Key,
 ) -> Result<Answered, AllocError>
-    ensures answer { IfOk result (λ a. IsAnswered items.new (at_key (items_of items.old) key (decision call.request (items_of items.old key))) a) }
-    ensures items { items_of items.new ≡ items_of items.old }
+    ensures answer { IfOk result (λ a. IsAnswered items.new (at_key (stored_items items.old) key (decision call.request (stored_items items.old key))) a) }
+    ensures items { stored_items items.new ≡ stored_items items.old }
     ensures store { KeepsStore items.old items.new }
 {
     let Ok(kept) = key.copy() else {
@@ -100,8 +100,8 @@ pub(crate) fn answer(
     alloc: Global,
     call: Call,
 ) -> Result<Answered, AllocError>
-    ensures answer { IfOk result (λ a. IsAnswered items.new (in_form items.old.table items.old.schema (items_of items.old) call) a) }
-    ensures items { items_of items.new ≡ items_of items.old }
+    ensures answer { IfOk result (λ a. IsAnswered items.new (in_form items.old.table items.old.schema (stored_items items.old) call) a) }
+    ensures items { stored_items items.new ≡ stored_items items.old }
     ensures store { KeepsStore items.old items.new }
 {
     match items.key(&call) {

@@ -1,7 +1,7 @@
 // What a step does to the world.
 ghost use Rattle.std.specs.Prelude.{◌≡◌, None, Some, if◌then◌else◌};
 ghost use Rattle.attr_values.specs.declared.key.Key as keys;
-ghost use Rattle.item_store.specs.Store.{items_of, slot_key};
+ghost use Rattle.item_store.specs.Store.{stored_items, slot_key};
 ghost use Rattle.saved_steps.specs.Saving.{item_written};
 ghost use Rattle.saved_steps.specs.Made.{CanApply, KeepsStore, plain_fact};
 ghost use Rattle.saved_steps.specs.Steps.{is_write_of};
@@ -35,8 +35,8 @@ fn record(name: StepName, bound: u32, kind: Kind, saved: Saved) -> StepRecord
 /// Puts what a write leaves into the slot of its key, and hands out what a write found.
 fn put_item(items: &mut ItemStore, access: &Access, slot: SlotNo, new: Option<Item>) -> Option<Item>
     requires { slot_key items.old slot ≡ Some access.now.key }
-    ensures was { result ≡ item_written (items_of items.old) (Some access.now) }
-    ensures items { (key : keys.Key) → items_of items.new key ≡ (if is_write_of (Some access.now) key then new else items_of items.old key) }
+    ensures was { result ≡ item_written (stored_items items.old) (Some access.now) }
+    ensures items { (key : keys.Key) → stored_items items.new key ≡ (if is_write_of (Some access.now) key then new else stored_items items.old key) }
     ensures store { KeepsStore items.old items.new }
 {
     match access.mode {

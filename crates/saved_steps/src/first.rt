@@ -4,7 +4,7 @@ ghost use Rattle.std.specs.Bool.{OnTrue};
 ghost use Rattle.std.specs.BTreeSet.{contains};
 ghost use Rattle.std.specs.Str.{bytes_eq};
 ghost use Rattle.std.specs.String.{string_bytes};
-ghost use Rattle.branch_tree.specs.First.{IsFirst, NoneBeforePath};
+ghost use Rattle.branch_tree.specs.First.{IsFirstFree, NoneBeforePath};
 ghost use Rattle.branch_tree.specs.Tree.{frame_at};
 ghost use Rattle.step_names.specs.Order.{thread_cmp};
 ghost use Rattle.step_names.specs.Thread.{Thread, execution};
@@ -23,7 +23,7 @@ use step_names::ThreadName;
 
 /// Whether an execution is done or has failed, so that no thread of it has a move.
 fn has_ended(tree: &Tree) -> bool
-    ensures { OnTrue result ((base : Thread) (passed : Thread → Bool) → IsFirst true (frame_at tree.now) base passed None) }
+    ensures { OnTrue result ((base : Thread) (passed : Thread → Bool) → IsFirstFree true (frame_at tree.now) base passed None) }
 {
     below_is_parked();
     match tree.find(&[]) {
@@ -34,7 +34,7 @@ fn has_ended(tree: &Tree) -> bool
 
 /// Whether there is no execution in a place, or one that has ended.
 fn is_quiet(place: &Option<Tree>) -> bool
-    ensures { OnTrue result ((base : Thread) (passed : Thread → Bool) → IsFirst true (rows_at place.now) base passed None) }
+    ensures { OnTrue result ((base : Thread) (passed : Thread → Bool) → IsFirstFree true (rows_at place.now) base passed None) }
 {
     match place {
         Some(tree) => has_ended(tree),
@@ -52,7 +52,7 @@ fn first_in(
     passed: &BTreeSet<ThreadName>,
 ) -> Result<Option<ThreadName>, AllocError>
     requires { NoneBeforePath true (rows_at place.now) (execution exec.now) (contains thread_cmp passed.now) path.now }
-    ensures { IfOk result (λ found. IsFirst true (rows_at place.now) (execution exec.now) (contains thread_cmp passed.now) found) }
+    ensures { IfOk result (λ found. IsFirstFree true (rows_at place.now) (execution exec.now) (contains thread_cmp passed.now) found) }
 {
     let Some(tree) = place else {
         return Ok(None);

@@ -1,11 +1,11 @@
 // Everything that a step needs, made before it is taken.
 ghost use Rattle.std.specs.Prelude.{◌≡◌, IfOk, IsTrue, is_some, [], option_map};
-ghost use Rattle.item_store.specs.Store.{items_of};
+ghost use Rattle.item_store.specs.Store.{stored_items};
 ghost use Rattle.step_names.specs.Thread.{Thread};
 ghost use Rattle.asl_forward.specs.Planned.{asks_table};
 ghost use Rattle.saved_steps.specs.Answering.{change_from};
 ghost use Rattle.saved_steps.specs.Held.{frames_of};
-ghost use Rattle.saved_steps.specs.Effects.{bounded, first_bound};
+ghost use Rattle.saved_steps.specs.Effects.{effect_with_bound, first_bound};
 ghost use Rattle.saved_steps.specs.Made.{CanMake, IsMadeOf, IsMadeBy, KeepsStore, effect_of_work};
 
 use crate::answering::{Answered, Touch, answer};
@@ -48,7 +48,7 @@ impl World {
         requires { CanMake self.old name.now next }
         ensures made { IfOk result (λ m. IsMadeOf self.old self.new name.now next m) }
         ensures frames { (t : Thread) → frames_of self.new t ≡ frames_of self.old t }
-        ensures items { items_of self.new.items ≡ items_of self.old.items }
+        ensures items { stored_items self.new.items ≡ stored_items self.old.items }
         ensures store { KeepsStore self.old.items self.new.items }
     {
         self.executions.go_by();
@@ -122,9 +122,9 @@ impl World {
         prepared: Prepared,
     ) -> Result<Made, AllocError>
         requires { CanMake self.old name (Next.Work prepared) }
-        ensures made { IfOk result (λ m. IsMadeBy self.new name (option_map (bounded bound) (effect_of_work self.old.items name prepared prepared.outcome)) m) }
+        ensures made { IfOk result (λ m. IsMadeBy self.new name (option_map (effect_with_bound bound) (effect_of_work self.old.items name prepared prepared.outcome)) m) }
         ensures frames { (t : Thread) → frames_of self.new t ≡ frames_of self.old t }
-        ensures items { items_of self.new.items ≡ items_of self.old.items }
+        ensures items { stored_items self.new.items ≡ stored_items self.old.items }
         ensures store { KeepsStore self.old.items self.new.items }
     {
         if asks(prepared.outcome()) {
@@ -162,9 +162,9 @@ impl World {
     ) -> Result<Made, AllocError>
         requires suits { CanMake self.old name (Next.Work prepared) }
         requires asks { IsTrue (asks_table prepared.outcome) }
-        ensures made { IfOk result (λ m. IsMadeBy self.new name (option_map (bounded bound) (effect_of_work self.old.items name prepared prepared.outcome)) m) }
+        ensures made { IfOk result (λ m. IsMadeBy self.new name (option_map (effect_with_bound bound) (effect_of_work self.old.items name prepared prepared.outcome)) m) }
         ensures frames { (t : Thread) → frames_of self.new t ≡ frames_of self.old t }
-        ensures items { items_of self.new.items ≡ items_of self.old.items }
+        ensures items { stored_items self.new.items ≡ stored_items self.old.items }
         ensures store { KeepsStore self.old.items self.new.items }
     {
         let (frame, machine, outcome) = prepared.into_parts();

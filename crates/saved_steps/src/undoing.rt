@@ -1,7 +1,7 @@
 // The world as it was before a step.
 ghost use Rattle.std.specs.Prelude.{◌≡◌, if◌then◌else◌};
 ghost use Rattle.attr_values.specs.declared.key.Key.{Key};
-ghost use Rattle.item_store.specs.Store.{items_of};
+ghost use Rattle.item_store.specs.Store.{stored_items};
 ghost use Rattle.saved_steps.specs.Made.{KeepsStore};
 ghost use Rattle.saved_steps.specs.Steps.{is_write_of};
 ghost use Rattle.saved_steps.specs.Undoing.{CanUndo, IsSlotOf, IsUndone};
@@ -17,7 +17,7 @@ use item_store::{AccessMode, ItemStore, SlotNo};
 /// Puts the item back that a write found.
 fn give_item_back(items: &mut ItemStore, access: &Option<Access>, slot: SlotNo, old: Option<Item>)
     requires { IsSlotOf items.old access.now slot }
-    ensures items { (key : Key) → items_of items.new key ≡ (if is_write_of access.now key then old else items_of items.old key) }
+    ensures items { (key : Key) → stored_items items.new key ≡ (if is_write_of access.now key then old else stored_items items.old key) }
     ensures store { KeepsStore items.old items.new }
 {
     match access {

@@ -9,7 +9,7 @@ use Rattle.step_names.specs.declared.step.StepName.{StepName}
 use Rattle.book_events.specs.Fact.{Fact}
 use Rattle.book_log.specs.Answers.{Gives, GivesOr, HoldLacks, StepLacks, absent, found_answer, free_answer, from_step, is_enabled, hold_answer, start_answer, step_answer, undo_answer}
 use Rattle.book_log.specs.Legal.{IsAccepted, IsLegal}
-use Rattle.book_log.specs.Log.{Log, appended, facts_of}
+use Rattle.book_log.specs.Log.{Log, appended, log_facts}
 use Rattle.book_log.specs.declared.entry.Entry.{Entry}
 use Rattle.book_log.specs.declared.entry.Entry.TheVariants.{Start, Step as Stepped, Undo, Hold}
 use Rattle.book_log.specs.declared.moved.Moved.{Moved}
@@ -27,8 +27,8 @@ use Rattle.book_events.specs.declared.room.PlanRoom.{PlanRoom}
 use Rattle.book_events.specs.declared.ticket.Ticket.{Ticket}
 use Rattle.book_events.proofs.Answered.{given_ok, memory_alone, ok_gives, start_named, step_is_next}
 use Rattle.shared_book.specs.Numbers.{IsForeign, IsKnown, last_of}
-use Rattle.shared_book.specs.Away.{Away, is_among}
-use Rattle.shared_book.specs.Views.{PassView, Extends, IsCounted}
+use Rattle.shared_book.specs.Away.{Away, is_thread_among}
+use Rattle.shared_book.specs.Views.{PassView, ExtendsLog, IsCounted}
 use Rattle.shared_book.specs.Calls.{GivesAfter, GivesReceipt, IsCause, IsNotAdmitted, IsRefusedFor, MaySee}
 use Rattle.shared_book.specs.Claims.{IsClaim, IsClaimable, thread_of}
 use Rattle.shared_book.specs.Commits.{GivesTurn, IsNotTaken, IsNotTakenAt, shared_refusal}
@@ -40,7 +40,7 @@ use Rattle.shared_book.specs.declared.refusal.SharedRefusal.TheVariants.{Refused
 
 -- a receipt of an entry that is accepted after this log: one that the pass keeps, and one that its caller is given
 pub given : (begun before : Log) (entries : List Entry) (had : PassView) (e kept told : Entry) (n : ℕ) (items : List Receipt)
-    → Extends begun before → entries ≡ before.entries → IsLegal before → IsAccepted before e
+    → ExtendsLog begun before → entries ≡ before.entries → IsLegal before → IsAccepted before e
     → IsKnown entries had.seen (last_of had.receipts) → n ≡ length entries + 1
     → kept ≡ e → told ≡ e → items ≡ had.receipts ++ record { number = n; entry = kept } ∷ []
     → GivesReceipt begun had (record { seen = n; receipts = items; parts = had.parts }) (record { number = n; entry = told })
@@ -56,7 +56,7 @@ given begun before entries had e kept told n items goes is legal may known numbe
 
 -- and the log before it is this one
 pub given_after : (begun before : Log) (entries : List Entry) (had : PassView) (e kept told : Entry) (n : ℕ) (items : List Receipt)
-    → Extends begun before → entries ≡ before.entries → IsLegal before → IsAccepted before e
+    → ExtendsLog begun before → entries ≡ before.entries → IsLegal before → IsAccepted before e
     → IsKnown entries had.seen (last_of had.receipts) → n ≡ length entries + 1
     → kept ≡ e → told ≡ e → items ≡ had.receipts ++ record { number = n; entry = kept } ∷ []
     → GivesAfter begun before had (record { seen = n; receipts = items; parts = had.parts }) (record { number = n; entry = told })
@@ -66,7 +66,7 @@ given_after begun before entries had e kept told n items goes is legal may known
 
 -- the same of a turn that was still its thread's
 pub given_turn : (begun before : Log) (entries : List Entry) (had : PassView) (e kept told : Entry) (n : ℕ) (items : List Receipt) (t : Thread) (p : Prepared)
-    → Extends begun before → entries ≡ before.entries → IsLegal before → IsAccepted before e
+    → ExtendsLog begun before → entries ≡ before.entries → IsLegal before → IsAccepted before e
     → IsKnown entries had.seen (last_of had.receipts) → n ≡ length entries + 1
     → kept ≡ e → told ≡ e → items ≡ had.receipts ++ record { number = n; entry = kept } ∷ [] → IsFresh before t p
     → GivesTurn begun t p had (record { seen = n; receipts = items; parts = had.parts }) (record { number = n; entry = told })
@@ -102,7 +102,7 @@ found_is gone name n (Some p) h = free_is name n _ h
 
 undo_is : (log : Log) (name n : StepName) → undo_answer log name ≡ Ok n → n ≡ name
 unfolding undo_answer
-undo_is log name n h = found_is (absent log name) name n (from_step name (facts_of log)) h
+undo_is log name n h = found_is (absent log name) name n (from_step name (log_facts log)) h
 
 pub undo_accepted : (log : Log) (name n : StepName) → Ok n ≡ undo_answer log name → IsAccepted log (Undo name)
 undo_accepted log name n h = sym h ∙ ap Ok (undo_is log name n (sym h))
@@ -135,7 +135,7 @@ pub lacking_cause : {T : Type 0} (lacks : Type 0) (begun : Log) (answer : Log �
 lacking_cause lacks begun answer had at e result may is (inl h) = cause begun answer had at e result may is h
 lacking_cause lacks begun answer had at e result may is (inr h) = inl cc
 
-pub not_admitted : (begun at : Log) (entries : List Entry) (had : PassView) (Cause : Refusal → Type 0) (e : SharedRefusal) → Extends begun at → entries ≡ at.entries → IsLegal at → IsNotAdmitted entries had.seen (last_of had.receipts) e → Cause Memory → IsRefusedFor begun had Cause e
+pub not_admitted : (begun at : Log) (entries : List Entry) (had : PassView) (Cause : Refusal → Type 0) (e : SharedRefusal) → ExtendsLog begun at → entries ≡ at.entries → IsLegal at → IsNotAdmitted entries had.seen (last_of had.receipts) e → Cause Memory → IsRefusedFor begun had Cause e
 not_admitted begun at entries had Cause (Refused e) goes is legal not memory = subst Cause (sym not) memory
 not_admitted begun at entries had Cause (ForeignPass number there) goes is legal not memory =
     (at, goes, legal, subst (λ (l : List Entry). IsForeign l had.seen (last_of had.receipts) number there) is not)
@@ -158,16 +158,16 @@ and_first true c h = refl
 and_first false c h = h
 
 -- the least thread's ticket, and that it is refused for memory alone
-module _ (at : Log) (away : Away) (t : Thread) (first : IsFirstToMove at (is_among away.outside) (Some t)) where
+module _ (at : Log) (away : Away) (t : Thread) (first : IsFirstToMove at (is_thread_among away.outside) (Some t)) where
   pub claimed : (k : Ticket) → AnswersTicket at t (Ok k) → IsClaim at away (Some k)
   claimed k answer =
       record {
-        least = subst (λ (u : Thread). IsFirstToMove at (is_among away.outside) (Some u)) (sym answer.0) first;
+        least = subst (λ (u : Thread). IsFirstToMove at (is_thread_among away.outside) (Some u)) (sym answer.0) first;
         ticket = subst (λ (u : Thread). IsMoving at u k.machine k.frame) (sym answer.0) answer.1;
       }
 
   pub not_claimed : (e : Refusal) → AnswersTicket at t (Err e) → e ≡ Memory
-  not_claimed e answer = memory_alone at t e (and_first (is_enabled at t) (not (is_among away.outside t)) first.1) answer
+  not_claimed e answer = memory_alone at t e (and_first (is_enabled at t) (not (is_thread_among away.outside t)) first.1) answer
 
 and_not : (b c : Bool) → (b && not c) ≡ true → c ≡ false
 and_not true true h = cc
@@ -177,7 +177,7 @@ and_not false c h = cc
 -- it can be claimed
 pub free_to_claim : (at : Log) (away : Away) (found : Option Ticket) → IsClaim at away found → IsClaimable away (thread_of found)
 free_to_claim at away None claim = tt
-free_to_claim at away (Some k) claim = and_not (is_enabled at k.thread) (is_among away.outside k.thread) claim.least.1
+free_to_claim at away (Some k) claim = and_not (is_enabled at k.thread) (is_thread_among away.outside k.thread) claim.least.1
 
 -- ---- rollback
 

@@ -6,7 +6,7 @@ use Rattle.std.proofs.lemmas.List.{take_more}
 use borrow.Author.Tests.{ltb-true}
 use Rattle.book_log.specs.Log.{Log}
 use Rattle.book_log.specs.declared.entry.Entry.{Entry}
-use Rattle.shared_book.specs.Closed.{all_receipts, times, AllAreLogged, once_within, IsClosed, IsSettled}
+use Rattle.shared_book.specs.Closed.{all_receipts, receipt_times, AllAreLogged, once_within, IsClosed, IsSettled}
 use Rattle.shared_book.specs.Numbers.{IsLogged}
 use Rattle.shared_book.specs.Views.{PassView, IsCounted}
 use Rattle.shared_book.specs.declared.receipt.Receipt.{Receipt}
@@ -21,7 +21,7 @@ within a m (r ∷ rs) = once_within a (a + m) r.number + within a m rs
 once_more : (a m x : ℕ) → once_within a (a + (m + 1)) x ≡ once_within a (a + m) x + (if x == a + m then 1 else 0)
 once_more a m x = grind (arith, nat_tests)
 
-within_more : (a m : ℕ) (rs : List Receipt) → within a (m + 1) rs ≡ within a m rs + times (a + m) rs
+within_more : (a m : ℕ) (rs : List Receipt) → within a (m + 1) rs ≡ within a m rs + receipt_times (a + m) rs
 unfolding within
 within_more a m [] = refl
 within_more a m (r ∷ rs) = let h = within_more a m rs in let e = once_more a m r.number in omega (arith, h, e)
@@ -32,7 +32,7 @@ within_few a m [] = omega arith
 within_few a m (r ∷ rs) = let h = within_few a m rs in let e : once_within a (a + m) r.number ≤ 1 = grind (arith, nat_tests) in omega (arith, h, e)
 
 -- where each number of the row has a receipt, there are as many at least
-row_counts : (a m : ℕ) (rs : List Receipt) → ((k : ℕ) → a ≤ k → k < a + m → 0 < times k rs) → m ≤ within a m rs
+row_counts : (a m : ℕ) (rs : List Receipt) → ((k : ℕ) → a ≤ k → k < a + m → 0 < receipt_times k rs) → m ≤ within a m rs
 row_counts a zero rs all = omega arith
 row_counts a (suc m) rs all =
     let h = row_counts a m rs (λ k low high. all k low (omega arith)) in
@@ -42,19 +42,19 @@ row_counts a (suc m) rs all =
     rw next (omega (arith, h, one, e))
 
 -- and one of the numbers counts as often as it has a receipt
-one_more : (a m : ℕ) (rs : List Receipt) (k : ℕ) (b : Bool) → nat_lt k (a + m) ≡ b → k < a + (m + 1) → (k < a + m → m + times k rs ≤ within a m rs + 1)
-    → m ≤ within a m rs → 0 < times (a + m) rs → (m + 1) + times k rs ≤ within a (m + 1) rs + 1
+one_more : (a m : ℕ) (rs : List Receipt) (k : ℕ) (b : Bool) → nat_lt k (a + m) ≡ b → k < a + (m + 1) → (k < a + m → m + receipt_times k rs ≤ within a m rs + 1)
+    → m ≤ within a m rs → 0 < receipt_times (a + m) rs → (m + 1) + receipt_times k rs ≤ within a (m + 1) rs + 1
 one_more a m rs k true is high here many one = let h = here (ltb-true k (a + m) is) in let e = within_more a m rs in omega (arith, h, one, e)
 one_more a m rs k false is high here many one =
     let last : k ≡ a + m = grind (arith, nat_tests) in
-    let same = ap (λ (j : ℕ). times j rs) last in
+    let same = ap (λ (j : ℕ). receipt_times j rs) last in
     let e = within_more a m rs in
     omega (arith, many, same, e)
 
-row_counts_one : (a m : ℕ) (rs : List Receipt) (k : ℕ) → ((j : ℕ) → a ≤ j → j < a + m → 0 < times j rs) → a ≤ k → k < a + m → m + times k rs ≤ within a m rs + 1
+row_counts_one : (a m : ℕ) (rs : List Receipt) (k : ℕ) → ((j : ℕ) → a ≤ j → j < a + m → 0 < receipt_times j rs) → a ≤ k → k < a + m → m + receipt_times k rs ≤ within a m rs + 1
 row_counts_one a zero rs k all low high = absurd (omega arith)
 row_counts_one a (suc m) rs k all low high =
-    let less : (j : ℕ) → a ≤ j → j < a + m → 0 < times j rs = λ j lo hi. all j lo (omega arith) in
+    let less : (j : ℕ) → a ≤ j → j < a + m → 0 < receipt_times j rs = λ j lo hi. all j lo (omega arith) in
     let next : suc m ≡ m + 1 = omega arith in
     rw next (one_more a m rs k (nat_lt k (a + m)) refl (omega arith) (λ near. row_counts_one a m rs k less low near) (row_counts a m rs less) (all (a + m) (omega arith) (omega arith)))
 
@@ -62,7 +62,7 @@ row_counts_one a (suc m) rs k all low high =
 apart : (a m k x : ℕ) → once_within a (a + m) k ≡ 0 → once_within a (a + m) x + (if x == k then 1 else 0) ≤ 1
 apart a m k x out = grind (arith, nat_tests)
 
-outside : (a m : ℕ) (rs : List Receipt) (k : ℕ) → once_within a (a + m) k ≡ 0 → within a m rs + times k rs ≤ length rs
+outside : (a m : ℕ) (rs : List Receipt) (k : ℕ) → once_within a (a + m) k ≡ 0 → within a m rs + receipt_times k rs ≤ length rs
 unfolding within
 outside a m [] k out = omega arith
 outside a m (r ∷ rs) k out = let h = outside a m rs k out in let e = apart a m k r.number out in omega (arith, h, e)
@@ -71,8 +71,8 @@ once_or_not : (a b k : ℕ) (t : Bool) → (nat_le a k && nat_lt k b) ≡ t → 
 once_or_not a b k true is = inl (rw is refl, grind (arith, nat_tests), grind (arith, nat_tests))
 once_or_not a b k false is = inr (rw is refl)
 
-at_number : (a m : ℕ) (rs : List Receipt) (k : ℕ) → ((j : ℕ) → a ≤ j → j < a + m → 0 < times j rs) → length rs ≤ m
-    → ((once_within a (a + m) k ≡ 1) × (a ≤ k) × (k < a + m)) ⊎ (once_within a (a + m) k ≡ 0) → times k rs ≡ once_within a (a + m) k
+at_number : (a m : ℕ) (rs : List Receipt) (k : ℕ) → ((j : ℕ) → a ≤ j → j < a + m → 0 < receipt_times j rs) → length rs ≤ m
+    → ((once_within a (a + m) k ≡ 1) × (a ≤ k) × (k < a + m)) ⊎ (once_within a (a + m) k ≡ 0) → receipt_times k rs ≡ once_within a (a + m) k
 at_number a m rs k all few (inl (is, low, high)) =
     let h = row_counts_one a m rs k all low high in let f = within_few a m rs in let one = all k low high in omega (arith, h, f, one, is, few)
 at_number a m rs k all few (inr out) =
@@ -82,11 +82,11 @@ at_number a m rs k all few (inr out) =
 pub closed : (begun now : Log) (first total : ℕ) (ps : List PassView) → IsSettled now.entries first ps → IsCounted begun now first total → length (all_receipts ps) ≤ total → IsClosed begun now (all_receipts ps)
 closed begun now first total ps settled counted few =
     let rs = all_receipts ps in
-    let all : (j : ℕ) → first ≤ j → j < first + total → 0 < times j rs = λ j low high. settled.all j low (omega (arith, high, counted.counted)) in
+    let all : (j : ℕ) → first ≤ j → j < first + total → 0 < receipt_times j rs = λ j low high. settled.all j low (omega (arith, high, counted.counted)) in
     let many = row_counts first total rs all in
     let some = within_few first total rs in
     let as_many : length rs ≡ total = omega (arith, many, some, few) in
-    let once : (k : ℕ) → times k rs ≡ once_within first (first + total) k = λ k. at_number first total rs k all few (once_or_not first (first + total) k _ refl) in
+    let once : (k : ℕ) → receipt_times k rs ≡ once_within first (first + total) k = λ k. at_number first total rs k all few (once_or_not first (first + total) k _ refl) in
     record {
       goes = counted.goes;
       stand = settled.stand;

@@ -5,7 +5,7 @@ use Rattle.step_names.specs.declared.step.StepName.{StepName}
 use Rattle.book_events.specs.Calls.{IsLatestLeft}
 use Rattle.book_log.specs.Answers.{undo_answer}
 use Rattle.book_log.specs.Legal.{IsLegal}
-use Rattle.book_log.specs.Log.{Log, held, left_of}
+use Rattle.book_log.specs.Log.{Log, step_on_hold, left_of}
 use Rattle.book_log.specs.declared.entry.Entry.TheVariants.{Undo}
 use Rattle.book_log.specs.declared.refusal.Refusal.{Refusal}
 use Rattle.book_log.proofs.HoldSaid.{nothing_left}
@@ -20,13 +20,13 @@ none_is_last : {T : Type 0} (front : List T) (x : T) → [] ≡ front ++ x ∷ [
 none_is_last [] x h = cc
 none_is_last (y ∷ front) x h = cc
 
-undone_where : (log : Log) (name : StepName) (o : Option StepName) → IsLegal log → IsLatestLeft log (Some name) → held log ≡ o → undo_answer log name ≡ Ok name
+undone_where : (log : Log) (name : StepName) (o : Option StepName) → IsLegal log → IsLatestLeft log (Some name) → step_on_hold log ≡ o → undo_answer log name ≡ Ok name
 undone_where log name None legal (front, x, is, named) none = absurd (none_is_last front x (sym (nothing_left log none) ∙ is))
 undone_where log name (Some step) legal (front, x, is, named) stands =
     subst (λ (n : StepName). undo_answer log n ≡ Ok n) named ((holds_stand log step legal stands).latest front x is)
 
 pub latest_undone : (log : Log) (name : StepName) → IsLegal log → IsLatestLeft log (Some name) → undo_answer log name ≡ Ok name
-latest_undone log name legal latest = undone_where log name (held log) legal latest refl
+latest_undone log name legal latest = undone_where log name (step_on_hold log) legal latest refl
 
 not_both : (log : Log) (name : StepName) (e : Refusal) → undo_answer log name ≡ Ok name → undo_answer log name ≡ Err e → ⊥
 not_both log name e ok err = cc
@@ -54,15 +54,15 @@ module _ (log : Log) (had : PassView) (name : StepName) (ok : undo_answer log na
   is_refused_latest_at (Err e) h = refused_latest_at log had name e ok h
 
 -- where nothing is left nothing is held
-held_where : (log : Log) (o : Option StepName) → IsLegal log → left_of log ≡ [] → held log ≡ o → held log ≡ None
+held_where : (log : Log) (o : Option StepName) → IsLegal log → left_of log ≡ [] → step_on_hold log ≡ o → step_on_hold log ≡ None
 held_where log None legal none is = is
 held_where log (Some step) legal none is =
     let h = holds_stand log step legal is in
     let clash : [] ≡ h.step ∷ h.later = sym none ∙ h.left in
     cc
 
-pub nothing_held : (log : Log) → IsLegal log → left_of log ≡ [] → held log ≡ None
-nothing_held log legal none = held_where log (held log) legal none refl
+pub nothing_held : (log : Log) → IsLegal log → left_of log ≡ [] → step_on_hold log ≡ None
+nothing_held log legal none = held_where log (step_on_hold log) legal none refl
 
 -- ---- the receipt
 

@@ -6,7 +6,7 @@ use Rattle.std.proofs.lemmas.Bool.{cases_eq, eq-eqb, ne_eqb}
 use Rattle.std.proofs.lemmas.List.{take_more, get_or-set_other, get_or-replicate, length-replicate}
 use Rattle.std.proofs.lemmas.Grind.{get_or-set_at}
 use borrow.Author.Tests.{ltb-true}
-use Rattle.shared_book.specs.Closed.{all_receipts, times, is_marked}
+use Rattle.shared_book.specs.Closed.{all_receipts, receipt_times, is_marked}
 use Rattle.shared_book.specs.Views.{PassView}
 use Rattle.shared_book.specs.declared.receipt.Receipt.{Receipt}
 use Rattle.shared_book.proofs.Counts.{all_receipts_more}
@@ -39,18 +39,18 @@ mark_past marks first n j low past inside = or_false (get_or marks j false) (n =
 
 -- ---- those of receipts
 
-times_more : (k : ℕ) (xs ys : List Receipt) → times k (xs ++ ys) ≡ times k xs + times k ys
+times_more : (k : ℕ) (xs ys : List Receipt) → receipt_times k (xs ++ ys) ≡ receipt_times k xs + receipt_times k ys
 times_more k [] ys = omega arith
 times_more k (x ∷ xs) ys = let h = times_more k xs ys in omega (arith, h)
 
-times_take : (k : ℕ) (rs : List Receipt) (i : ℕ) (d : Receipt) → i < length rs → times k (take (i + 1) rs) ≡ times k (take i rs) + (if (get_or rs i d).number == k then 1 else 0)
-times_take k rs i d inside = ap (times k) (take_more rs i d inside) ∙ (let e = times_more k (take i rs) (get_or rs i d ∷ []) in omega (arith, e))
+times_take : (k : ℕ) (rs : List Receipt) (i : ℕ) (d : Receipt) → i < length rs → receipt_times k (take (i + 1) rs) ≡ receipt_times k (take i rs) + (if (get_or rs i d).number == k then 1 else 0)
+times_take k rs i d inside = ap (receipt_times k) (take_more rs i d inside) ∙ (let e = times_more k (take i rs) (get_or rs i d ∷ []) in omega (arith, e))
 
 mark_or : (was b : Bool) (n : ℕ) → (was || nat_lt 0 (n + (if b then 1 else 0))) ≡ ((was || nat_lt 0 n) || b)
 mark_or was b n = grind (arith, nat_tests)
 
 is_marked_more : (was : Bool) (k : ℕ) (rs : List Receipt) (i : ℕ) (d : Receipt) → i < length rs → is_marked was k (take (i + 1) rs) ≡ (is_marked was k (take i rs) || ((get_or rs i d).number == k))
-is_marked_more was k rs i d inside = ap (λ (n : ℕ). was || nat_lt 0 n) (times_take k rs i d inside) ∙ mark_or was ((get_or rs i d).number == k) (times k (take i rs))
+is_marked_more was k rs i d inside = ap (λ (n : ℕ). was || nat_lt 0 n) (times_take k rs i d inside) ∙ mark_or was ((get_or rs i d).number == k) (receipt_times k (take i rs))
 
 pub mark_more : (b now was : Bool) (k : ℕ) (rs : List Receipt) (i : ℕ) (d : Receipt) → i < length rs → now ≡ (b || ((get_or rs i d).number == k)) → b ≡ is_marked was k (take i rs)
     → now ≡ is_marked was k (take (i + 1) rs)
@@ -62,9 +62,9 @@ or_or was m n = grind (arith, nat_tests)
 pub mark_all_more : (b now was : Bool) (k : ℕ) (ps : List PassView) (i : ℕ) (d : PassView) → i < length ps → now ≡ is_marked b k (get_or ps i d).receipts → b ≡ is_marked was k (all_receipts (take i ps))
     → now ≡ is_marked was k (all_receipts (take (i + 1) ps))
 mark_all_more b now was k ps i d inside step so_far =
-    step ∙ ap (λ (x : Bool). is_marked x k (get_or ps i d).receipts) so_far ∙ or_or was (times k (all_receipts (take i ps))) (times k (get_or ps i d).receipts)
+    step ∙ ap (λ (x : Bool). is_marked x k (get_or ps i d).receipts) so_far ∙ or_or was (receipt_times k (all_receipts (take i ps))) (receipt_times k (get_or ps i d).receipts)
     ∙ ap (λ (n : ℕ). was || nat_lt 0 n)
-    (sym (ap (times k) (ap all_receipts (take_more ps i d inside) ∙ all_receipts_more (take i ps) (get_or ps i d)) ∙ times_more k (all_receipts (take i ps)) (get_or ps i d).receipts))
+    (sym (ap (receipt_times k) (ap all_receipts (take_more ps i d inside) ∙ all_receipts_more (take i ps) (get_or ps i d)) ∙ times_more k (all_receipts (take i ps)) (get_or ps i d).receipts))
 
 -- ---- what the marks tell
 
@@ -72,27 +72,27 @@ none_is : (n : ℕ) → nat_lt 0 n ≡ false → n ≡ 0
 none_is n e = grind (arith, nat_tests)
 
 found_none : (first end : ℕ) (marks : List Bool) (rs : List Receipt) → first ≤ end → length marks ≡ end - first
-    → ((j : ℕ) → j < length marks → get_or marks j false ≡ nat_lt 0 (times (first + j) rs))
-    → ((j : ℕ) → j < length marks → get_or marks j false ≡ true) → (k : ℕ) → first ≤ k → k < end → 0 < times k rs
+    → ((j : ℕ) → j < length marks → get_or marks j false ≡ nat_lt 0 (receipt_times (first + j) rs))
+    → ((j : ℕ) → j < length marks → get_or marks j false ≡ true) → (k : ℕ) → first ≤ k → k < end → 0 < receipt_times k rs
 found_none first end marks rs fit long marked all k low high =
     let here : k - first < length marks = omega (arith, long) in
-    let some = ltb-true 0 (times (first + (k - first)) rs) (sym (marked (k - first) here) ∙ all (k - first) here) in
+    let some = ltb-true 0 (receipt_times (first + (k - first)) rs) (sym (marked (k - first) here) ∙ all (k - first) here) in
     let same : first + (k - first) ≡ k = omega arith in
-    subst (λ (n : ℕ). 0 < times n rs) same some
+    subst (λ (n : ℕ). 0 < receipt_times n rs) same some
 
 found : (o : Option ℕ) (first end : ℕ) (marks : List Bool) (rs : List Receipt) → first ≤ end → length marks ≡ end - first
-    → ((j : ℕ) → j < length marks → get_or marks j false ≡ nat_lt 0 (times (first + j) rs))
+    → ((j : ℕ) → j < length marks → get_or marks j false ≡ nat_lt 0 (receipt_times (first + j) rs))
     → MatchOption o ((j : ℕ) → j < length marks → get_or marks j false ≡ true) (λ n. (j : ℕ) × (j < length marks) × (n ≡ first + j) × (get_or marks j false ≡ false))
-    → MatchOption o ((k : ℕ) → first ≤ k → k < end → 0 < times k rs) (λ n. (first ≤ n) × (n < end) × (times n rs ≡ 0))
+    → MatchOption o ((k : ℕ) → first ≤ k → k < end → 0 < receipt_times k rs) (λ n. (first ≤ n) × (n < end) × (receipt_times n rs ≡ 0))
 found None first end marks rs fit long marked all = λ k low high. found_none first end marks rs fit long marked all k low high
 found (Some n) first end marks rs fit long marked there =
-    let unmarked = none_is (times (first + there.0) rs) (sym (marked there.0 there.1) ∙ there.3) in
-    (omega (arith, there.2), omega (arith, there.1, there.2, long), ap (λ (m : ℕ). times m rs) there.2 ∙ unmarked)
+    let unmarked = none_is (receipt_times (first + there.0) rs) (sym (marked there.0 there.1) ∙ there.3) in
+    (omega (arith, there.2), omega (arith, there.1, there.2, long), ap (λ (m : ℕ). receipt_times m rs) there.2 ∙ unmarked)
 
 pub found_new : (o : Option ℕ) (first end : ℕ) (marks now : List Bool) (rs : List Receipt) → first ≤ end → marks ≡ replicate (end - first) false → length now ≡ length marks
     → ((j : ℕ) → j < length marks → get_or now j false ≡ is_marked (get_or marks j false) (first + j) rs)
     → MatchOption o ((j : ℕ) → j < length now → get_or now j false ≡ true) (λ n. (j : ℕ) × (j < length now) × (n ≡ first + j) × (get_or now j false ≡ false))
-    → MatchOption o ((k : ℕ) → first ≤ k → k < end → 0 < times k rs) (λ n. (first ≤ n) × (n < end) × (times n rs ≡ 0))
+    → MatchOption o ((k : ℕ) → first ≤ k → k < end → 0 < receipt_times k rs) (λ n. (first ≤ n) × (n < end) × (receipt_times n rs ≡ 0))
 found_new o first end marks now rs fit is same marked there =
     let long : length marks ≡ end - first = ap length is ∙ length-replicate (end - first) false in
     found o first end now rs fit (same ∙ long)

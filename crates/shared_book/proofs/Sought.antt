@@ -18,13 +18,13 @@ use Rattle.book_events.proofs.Cursors.{none_at_first, none_left_out, none_up_to}
 use Rattle.step_names.specs.Order.{thread_cmp}
 use Rattle.step_names.specs.Thread.{Thread, IsThread}
 use Rattle.step_names.proofs.OrderLaws.{thread_same}
-use Rattle.shared_book.specs.Away.{Away, is_among}
+use Rattle.shared_book.specs.Away.{Away, is_thread_among}
 use Rattle.shared_book.specs.Seeking.{IsSought, NoneBefore}
 
 -- ---- before the first thread there is nothing
 
 pub none_before_first : (log : Log) (away : Away) (place : Thread) → place ≡ first_of_all → NoneBefore log away place
-none_before_first log away place first = subst (NoneBefore log away) (sym first) (none_at_first log (is_among away.outside))
+none_before_first log away place first = subst (NoneBefore log away) (sym first) (none_at_first log (is_thread_among away.outside))
 
 -- ---- other threads are left out
 
@@ -35,23 +35,23 @@ fewer false was now more h = refl
 
 module _ (log : Log) (was now : Away) where
   -- one is found, and left out then; or all are
-  pub sought : (found : Option Thread) (to : Thread) → ((t : Thread) → is_among was.outside t ≡ true → is_among now.outside t ≡ true)
-      → IsFirstReady (world_of log).frames (is_among was.outside) found → IsSought found to → NoneBefore log now to
-  sought None to more first is = λ t named less. fewer _ (is_among was.outside t) (is_among now.outside t) (more t) (first t named)
-  sought (Some t) to more first is = none_up_to log (is_among was.outside) (is_among now.outside) t to more first is
+  pub sought : (found : Option Thread) (to : Thread) → ((t : Thread) → is_thread_among was.outside t ≡ true → is_thread_among now.outside t ≡ true)
+      → IsFirstReady (world_of log).frames (is_thread_among was.outside) found → IsSought found to → NoneBefore log now to
+  sought None to more first is = λ t named less. fewer _ (is_thread_among was.outside t) (is_thread_among now.outside t) (more t) (first t named)
+  sought (Some t) to more first is = none_up_to log (is_thread_among was.outside) (is_thread_among now.outside) t to more first is
 
   -- a thread of an execution isn't left out any more
-  pub given_back : (exec : List ℕ) (from to : Thread) → ((t : Thread) → bytes_eq exec t.exec ≡ false → is_among now.outside t ≡ is_among was.outside t)
+  pub given_back : (exec : List ℕ) (from to : Thread) → ((t : Thread) → bytes_eq exec t.exec ≡ false → is_thread_among now.outside t ≡ is_thread_among was.outside t)
       → GoesBack exec from to → NoneBefore log was from → NoneBefore log now to
   given_back exec from to others back none t named less =
       let k = back t less in
-      fewer _ (is_among was.outside t) (is_among now.outside t) (λ h. others t k.1 ∙ h) (none t named k.0)
+      fewer _ (is_thread_among was.outside t) (is_thread_among now.outside t) (λ h. others t k.1 ∙ h) (none t named k.0)
 
 -- ---- an execution has changed
 
 pub none_elsewhere : (before after now : Log) (away : Away) (exec : List ℕ) (from to : Thread) → LeavesOthers exec before after → now ≡ after → GoesBack exec from to → NoneBefore before away from → NoneBefore now away to
 none_elsewhere before after now away exec from to leaves is back none =
-    subst (λ (s : Log). NoneBefore s away to) (sym is) (none_left_out before after (is_among away.outside) exec from to leaves back none)
+    subst (λ (s : Log). NoneBefore s away to) (sym is) (none_left_out before after (is_thread_among away.outside) exec from to leaves back none)
 
 -- the same log
 pub none_there_still : (log now : Log) (away : Away) (place : Thread) → now ≡ log → NoneBefore log away place → NoneBefore now away place

@@ -20,16 +20,16 @@ pub record Away : Type 0 where
   pub claimed : List Thread
   pub outside : List Thread
 
-abbrev pub is_among : List Thread → Thread → Bool
-is_among threads t = contains thread_cmp (record { keys = threads }) t
+abbrev pub is_thread_among : List Thread → Thread → Bool
+is_thread_among threads t = contains thread_cmp (record { keys = threads }) t
 
 abbrev pub is_passed : Away → Thread → Bool
-is_passed a t = is_among a.outside t && not (is_among a.claimed t)
+is_passed a t = is_thread_among a.outside t && not (is_thread_among a.claimed t)
 
 -- ---- changes
 
-abbrev pub with_thread : List Thread → Thread → List Thread
-with_thread threads t = insert_key thread_cmp threads t
+abbrev pub with_thread_name : List Thread → Thread → List Thread
+with_thread_name threads t = insert_key thread_cmp threads t
 
 abbrev pub without_thread : List Thread → Thread → List Thread
 without_thread threads t = remove_key (is_at (thread_cmp t)) threads
@@ -37,11 +37,11 @@ without_thread threads t = remove_key (is_at (thread_cmp t)) threads
 -- a thread more is claimed, if there is one
 abbrev pub claimed_with : Away → Option Thread → Away
 claimed_with a None = a
-claimed_with a (Some t) = record { claimed = with_thread a.claimed t; outside = with_thread a.outside t }
+claimed_with a (Some t) = record { claimed = with_thread_name a.claimed t; outside = with_thread_name a.outside t }
 
 -- the claim of a thread has ended, if there was one
 abbrev pub claim_ended : Away → Thread → Away
-claim_ended a t = if is_among a.claimed t then record { claimed = without_thread a.claimed t; outside = without_thread a.outside t } else a
+claim_ended a t = if is_thread_among a.claimed t then record { claimed = without_thread a.claimed t; outside = without_thread a.outside t } else a
 
 -- a thread that was claimed is passed by
 abbrev pub passed_by : Away → Thread → Away
@@ -49,13 +49,13 @@ passed_by a t = record { claimed = without_thread a.claimed t; outside = a.outsi
 
 -- none is passed by
 abbrev pub claimed_alone : Away → Away
-claimed_alone a = record { claimed = a.claimed; outside = filter (is_among a.claimed) a.outside }
+claimed_alone a = record { claimed = a.claimed; outside = filter (is_thread_among a.claimed) a.outside }
 
 -- ---- who is passed by
 
 -- each that is claimed is outside
 abbrev pub AreOutside : Away → Type 0
-AreOutside a = (t : Thread) → is_among a.claimed t ≡ true → is_among a.outside t ≡ true
+AreOutside a = (t : Thread) → is_thread_among a.claimed t ≡ true → is_thread_among a.outside t ≡ true
 
 -- no other is passed by
 abbrev pub PassesNoOther : Away → Away → Type 0
@@ -63,11 +63,11 @@ PassesNoOther before after = (t : Thread) → is_passed after t ≡ true → is_
 
 -- each that was outside still is
 abbrev pub LeavesOutMore : Away → Away → Type 0
-LeavesOutMore before after = (t : Thread) → is_among before.outside t ≡ true → is_among after.outside t ≡ true
+LeavesOutMore before after = (t : Thread) → is_thread_among before.outside t ≡ true → is_thread_among after.outside t ≡ true
 
 -- of other executions the same are outside
 abbrev pub LeavesOutOthers : List ℕ → Away → Away → Type 0
-LeavesOutOthers exec before after = (t : Thread) → bytes_eq exec t.exec ≡ false → is_among after.outside t ≡ is_among before.outside t
+LeavesOutOthers exec before after = (t : Thread) → bytes_eq exec t.exec ≡ false → is_thread_among after.outside t ≡ is_thread_among before.outside t
 
 -- starts and steps alone
 abbrev pub IsMove : Entry → Type 0

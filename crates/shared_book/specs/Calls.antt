@@ -7,14 +7,14 @@ use Rattle.book_events.specs.Frame.{Frame}
 use Rattle.book_log.specs.Legal.{IsLegal}
 use Rattle.book_events.specs.Calls.{IsLatestLeft}
 use Rattle.book_events.specs.Commits.{tells_hold}
-use Rattle.book_log.specs.Log.{Log, appended, held, left_of, world_of}
+use Rattle.book_log.specs.Log.{Log, appended, step_on_hold, left_of, world_of}
 use Rattle.book_log.specs.declared.entry.Entry.{Entry}
 use Rattle.book_log.specs.declared.entry.Entry.TheVariants.{Step as Stepped, Undo, Rollback, Hold}
 use Rattle.book_log.specs.declared.refusal.Refusal.{Refusal}
 use Rattle.book_log.specs.declared.refusal.Refusal.TheVariants.{Memory, NoStep, NoThread}
 use Rattle.shared_book.specs.Numbers.{IsForeign, IsKnown, last_of}
 use Rattle.shared_book.specs.Away.{passed_by}
-use Rattle.shared_book.specs.Views.{DeskView, PassView, Extends, with_claims}
+use Rattle.shared_book.specs.Views.{DeskView, PassView, ExtendsLog, with_claims}
 use Rattle.shared_book.specs.declared.receipt.Receipt.{Receipt}
 use Rattle.shared_book.specs.declared.refusal.SharedRefusal.{SharedRefusal}
 use Rattle.shared_book.specs.declared.refusal.SharedRefusal.TheVariants.{Refused, ForeignPass}
@@ -23,7 +23,7 @@ use Rattle.shared_book.specs.declared.refusal.SharedRefusal.TheVariants.{Refused
 -- after those that it held.
 pub record GivesReceipt (begun : Log) (had has : PassView) (r : Receipt) : Type 0 where
   pub before : Log
-  pub goes : Extends begun before
+  pub goes : ExtendsLog begun before
   pub legal : IsLegal (appended before r.entry)
   pub known : IsKnown before.entries had.seen (last_of had.receipts)
   pub number : r.number ≡ length before.entries + 1
@@ -35,7 +35,7 @@ GivesAfter begun at had has r = (given : GivesReceipt begun had has r) × (given
 
 -- a legal log that the pass can have seen
 pub record MaySee (begun : Log) (had : PassView) (at : Log) : Type 0 where
-  pub goes : Extends begun at
+  pub goes : ExtendsLog begun at
   pub legal : IsLegal at
   pub known : IsKnown at.entries had.seen (last_of had.receipts)
 
@@ -52,7 +52,7 @@ IsShown begun had has P = (at : Log) × Sees begun had has at × P at
 
 -- the log is none that the pass can have seen
 abbrev pub IsForeignTo : Log → PassView → ℕ → Option Entry → Type 0
-IsForeignTo begun had number there = (at : Log) × Extends begun at × IsLegal at × IsForeign at.entries had.seen (last_of had.receipts) number there
+IsForeignTo begun had number there = (at : Log) × ExtendsLog begun at × IsLegal at × IsForeign at.entries had.seen (last_of had.receipts) number there
 
 -- refused as foreign, or by the book for a cause of which this holds
 abbrev pub IsRefusedFor : Log → PassView → (Refusal → Type 0) → SharedRefusal → Type 0
@@ -102,9 +102,9 @@ abbrev pub IsStepOf : Thread → Entry → Type 0
 IsStepOf thread (Stepped name kind) = name.thread ≡ thread
 IsStepOf thread _ = ⊥
 
-abbrev pub IsHoldOf : StepName → Entry → Type 0
-IsHoldOf step (Hold name count) = name ≡ step
-IsHoldOf step _ = ⊥
+abbrev pub IsHoldEntryOf : StepName → Entry → Type 0
+IsHoldEntryOf step (Hold name count) = name ≡ step
+IsHoldEntryOf step _ = ⊥
 
 abbrev pub IsRollbackOf : StepName → Entry → Type 0
 IsRollbackOf step (Rollback name undone) = name ≡ step
@@ -127,7 +127,7 @@ GivesLatestAt begun at had has r = GivesAfter begun at had has r × IsLatestUndo
 
 -- for memory, or since nothing is held at this log
 abbrev pub IsLatestCauseAt : Log → Refusal → Type 0
-IsLatestCauseAt at e = (e ≡ Memory) ⊎ ((e ≡ NoStep) × (held at ≡ None))
+IsLatestCauseAt at e = (e ≡ Memory) ⊎ ((e ≡ NoStep) × (step_on_hold at ≡ None))
 
 -- for memory, or since nothing is left at a log that the pass can have seen
 abbrev pub IsLatestCause : Log → PassView → Refusal → Type 0

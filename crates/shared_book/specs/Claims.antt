@@ -5,7 +5,7 @@ use Rattle.book_log.specs.Log.{Log}
 use Rattle.book_events.specs.FirstMove.{IsFirstToMove}
 use Rattle.book_events.specs.Tickets.{IsMoving}
 use Rattle.book_events.specs.declared.ticket.Ticket.{Ticket}
-use Rattle.shared_book.specs.Away.{Away, is_among}
+use Rattle.shared_book.specs.Away.{Away, is_thread_among}
 use Rattle.shared_book.specs.declared.claiming.Offer.{Offer}
 use Rattle.shared_book.specs.declared.claiming.Offer.TheVariants as offer
 
@@ -20,7 +20,7 @@ IsTicketAt at (Some k) = IsMoving at k.thread k.machine k.frame
 
 -- the ticket of the least thread that has a move, and is neither claimed nor passed by; none, where there is no such thread
 pub record IsClaim (at : Log) (away : Away) (found : Option Ticket) : Type 0 where
-  pub least : IsFirstToMove at (is_among away.outside) (thread_of found)
+  pub least : IsFirstToMove at (is_thread_among away.outside) (thread_of found)
   pub ticket : IsTicketAt at found
 
 -- ---- offers
@@ -44,4 +44,4 @@ IsOffer at away offer.Idle = IsClaim at away None × (length away.claimed ≡ 0)
 -- a thread that can be claimed, if there is one
 abbrev pub IsClaimable : Away → Option Thread → Type 0
 IsClaimable away None = Unit {0}
-IsClaimable away (Some t) = is_among away.outside t ≡ false
+IsClaimable away (Some t) = is_thread_among away.outside t ≡ false

@@ -3,7 +3,7 @@ use Rattle.std.specs.Prelude.{◌≡◌, ◌⊎◌, ℕ, ◌+◌, ◌<◌, ◌�
 use Rattle.book_log.specs.Log.{Log}
 use Rattle.book_log.specs.declared.entry.Entry.{Entry}
 use Rattle.shared_book.specs.Numbers.{IsForeign, IsKnown, IsLogged, last_of}
-use Rattle.shared_book.specs.Views.{PassView, Extends}
+use Rattle.shared_book.specs.Views.{PassView, ExtendsLog}
 use Rattle.shared_book.specs.declared.receipt.Receipt.{Receipt}
 use Rattle.shared_book.specs.declared.refusal.CloseReason.{CloseReason}
 use Rattle.shared_book.specs.declared.refusal.CloseReason.TheVariants.{Missing, ForeignPass, Memory}
@@ -14,13 +14,13 @@ all_receipts [] = []
 all_receipts (p ∷ ps) = p.receipts ++ all_receipts ps
 
 -- how many of the receipts have this number
-abbrev pub times : ℕ → List Receipt → ℕ
-times k [] = 0
-times k (r ∷ rs) = (if r.number == k then 1 else 0) + times k rs
+abbrev pub receipt_times : ℕ → List Receipt → ℕ
+receipt_times k [] = 0
+receipt_times k (r ∷ rs) = (if r.number == k then 1 else 0) + receipt_times k rs
 
 -- a mark that was set, or that one of the receipts sets
 abbrev pub is_marked : Bool → ℕ → List Receipt → Bool
-is_marked was k rs = was || nat_lt 0 (times k rs)
+is_marked was k rs = was || nat_lt 0 (receipt_times k rs)
 
 abbrev pub AllAreLogged : List Entry → List Receipt → Type 0
 AllAreLogged entries [] = Unit {0}
@@ -33,10 +33,10 @@ once_within a b k = if nat_le a k && nat_lt k b then 1 else 0
 -- The book went on from where it was shared, so its earlier entries stayed. Each receipt's entry stands in the log at its number, and
 -- each number since then has one receipt.
 pub record IsClosed (begun now : Log) (rs : List Receipt) : Type 0 where
-  pub goes : Extends begun now
+  pub goes : ExtendsLog begun now
   pub stand : AllAreLogged now.entries rs
   pub as_many : length begun.entries + length rs ≡ length now.entries
-  pub once : (k : ℕ) → times k rs ≡ once_within (length begun.entries + 1) (length now.entries + 1) k
+  pub once : (k : ℕ) → receipt_times k rs ≡ once_within (length begun.entries + 1) (length now.entries + 1) k
 
 -- one of the receipts, or how many entries were seen, isn't of this log
 abbrev pub IsForeignAmong : List Entry → ℕ → List Receipt → ℕ → Option Entry → Type 0
@@ -53,7 +53,7 @@ SomeForeign entries ps number there = (i : ℕ) × (p : PassView) × (slice_get 
 
 -- a pass is of another book, or an entry from this number on has no receipt
 abbrev pub IsUnsettled : ℕ → List Entry → List PassView → CloseReason → Type 0
-IsUnsettled first entries ps (Missing number) = (first ≤ number) × (number ≤ length entries) × (times number (all_receipts ps) ≡ 0)
+IsUnsettled first entries ps (Missing number) = (first ≤ number) × (number ≤ length entries) × (receipt_times number (all_receipts ps) ≡ 0)
 IsUnsettled first entries ps (ForeignPass number there) = SomeForeign entries ps number there
 IsUnsettled first entries ps Memory = Unit {0}
 
@@ -66,4 +66,4 @@ IsForeignReason n entry (Missing number) = ⊥
 -- the passes are of this log, and each number from first on has a receipt
 pub record IsSettled (entries : List Entry) (first : ℕ) (ps : List PassView) : Type 0 where
   pub stand : AllAreLogged entries (all_receipts ps)
-  pub all : (k : ℕ) → first ≤ k → k < length entries + 1 → 0 < times k (all_receipts ps)
+  pub all : (k : ℕ) → first ≤ k → k < length entries + 1 → 0 < receipt_times k (all_receipts ps)

@@ -25,23 +25,23 @@ pub record DeskView : Type 0 where
   pub claims : Away
 
 -- a log that began so, and went on
-pub record Extends (begun now : Log) : Type 0 where
+pub record ExtendsLog (begun now : Log) : Type 0 where
   pub begin : now.begin ≡ begun.begin
   pub more : List Entry
   pub entries : now.entries ≡ begun.entries ++ more
 
 -- the log goes on from where the book was shared, by as many entries as receipts were handed out
 pub record IsCounted (begun log : Log) (first total : ℕ) : Type 0 where
-  pub goes : Extends begun log
+  pub goes : ExtendsLog begun log
   pub is_first : first ≡ length begun.entries + 1
   pub counted : first + total ≡ length log.entries + 1
 
 abbrev pub with_claims : DeskView → Away → DeskView
 with_claims d claims = record { log = d.log; first = d.first; claims = claims }
 
-abbrev pub with_entry : DeskView → Entry → DeskView
-with_entry d e = record { log = appended d.log e; first = d.first; claims = d.claims }
+abbrev pub desk_with_entry : DeskView → Entry → DeskView
+desk_with_entry d e = record { log = appended d.log e; first = d.first; claims = d.claims }
 
 -- an entry that takes steps back, after which none is passed by
 abbrev pub with_undoing : DeskView → Entry → DeskView
-with_undoing d e = with_claims (with_entry d e) (claimed_alone d.claims)
+with_undoing d e = with_claims (desk_with_entry d e) (claimed_alone d.claims)

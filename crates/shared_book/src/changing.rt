@@ -5,8 +5,8 @@ ghost use Rattle.json_tree.specs.Data.{depth, most_levels};
 ghost use Rattle.json_tree.specs.View.{data_of};
 ghost use Rattle.book_log.specs.Answers.{hold_answer, plan_answer, start_answer, step_answer, undo_answer};
 ghost use Rattle.shared_book.specs.Away.{WasRefused};
-ghost use Rattle.shared_book.specs.Calls.{GivesAfter, GivesLatest, GivesLatestAt, GivesReceipt, IsCauseAt, IsHoldOf, IsLatestCause, IsLatestCauseAt, IsRefused, IsRefusedAt, IsRefusedFor, IsRollbackOf, IsStepOf, after_refusal, is_held};
-ghost use Rattle.shared_book.specs.Views.{with_entry, with_undoing};
+ghost use Rattle.shared_book.specs.Calls.{GivesAfter, GivesLatest, GivesLatestAt, GivesReceipt, IsCauseAt, IsHoldEntryOf, IsLatestCause, IsLatestCauseAt, IsRefused, IsRefusedAt, IsRefusedFor, IsRollbackOf, IsStepOf, after_refusal, is_held};
+ghost use Rattle.shared_book.specs.Views.{desk_with_entry, with_undoing};
 
 use crate::admitting::{admit, known, turned_away};
 use crate::copies::copy_names;
@@ -36,7 +36,7 @@ impl<B: Events, L: Sharing> Desk<B, L> {
         ensures receipt { IfOk result (GivesReceipt L.begun pass.old pass.new) }
         ensures after { IfOk result (GivesAfter L.begun self.old.log pass.old pass.new) }
         ensures entry { IfOk result (λ r. r.entry ≡ Entry.Start exec.now machine.now input) }
-        ensures entries { IfOk result (λ r. self.new ≡ with_entry self.old r.entry) }
+        ensures entries { IfOk result (λ r. self.new ≡ desk_with_entry self.old r.entry) }
         ensures err { IfErr result (λ e. IsRefused L.begun (λ at. start_answer at exec.now machine.now) pass.old e × (pass.new ≡ pass.old) × (self.new ≡ self.old)) }
         ensures cause { IfErr result (IsRefusedAt self.old.log pass.old (IsCauseAt (start_answer self.old.log exec.now machine.now))) }
     {
@@ -79,7 +79,7 @@ impl<B: Events, L: Sharing> Desk<B, L> {
         ensures receipt { IfOk result (GivesReceipt L.begun pass.old pass.new) }
         ensures after { IfOk result (GivesAfter L.begun self.old.log pass.old pass.new) }
         ensures entry { IfOk result (λ r. IsStepOf thread.now r.entry) }
-        ensures entries { IfOk result (λ r. self.new ≡ with_entry self.old r.entry) }
+        ensures entries { IfOk result (λ r. self.new ≡ desk_with_entry self.old r.entry) }
         ensures err { IfErr result (λ e. IsRefused L.begun (λ at. step_answer at thread.now) pass.old e × (pass.new ≡ pass.old) × (self.new ≡ after_refusal self.old thread.now e)) }
         ensures cause { IfErr result (IsRefusedAt self.old.log pass.old (IsCauseAt (step_answer self.old.log thread.now))) }
     {
@@ -101,7 +101,7 @@ impl<B: Events, L: Sharing> Desk<B, L> {
         ensures receipt { IfOk result (GivesReceipt L.begun pass.old pass.new) }
         ensures after { IfOk result (GivesAfter L.begun self.old.log pass.old pass.new) }
         ensures entry { IfOk result (λ r. IsStepOf thread.now r.entry) }
-        ensures entries { IfOk result (λ r. self.new ≡ with_entry self.old r.entry) }
+        ensures entries { IfOk result (λ r. self.new ≡ desk_with_entry self.old r.entry) }
         ensures err { IfErr result (λ e. IsRefused L.begun (λ at. step_answer at thread.now) pass.old e × (pass.new ≡ pass.old) × (self.new ≡ self.old)) }
         ensures cause { IfErr result (IsRefusedAt self.old.log pass.old (IsCauseAt (step_answer self.old.log thread.now))) }
         ensures held { IfErr result (λ e. is_held e ≡ true → WasRefused self.old.log thread.now) }
@@ -244,7 +244,7 @@ impl<B: Events, L: Sharing> Desk<B, L> {
     ) -> Result<Receipt, SharedRefusal>
         ensures receipt { IfOk result (GivesReceipt L.begun pass.old pass.new) }
         ensures after { IfOk result (GivesAfter L.begun self.old.log pass.old pass.new) }
-        ensures entry { IfOk result (λ r. IsHoldOf step.now r.entry) }
+        ensures entry { IfOk result (λ r. IsHoldEntryOf step.now r.entry) }
         ensures entries { IfOk result (λ r. self.new ≡ with_undoing self.old r.entry) }
         ensures err { IfErr result (λ e. IsRefused L.begun (λ at. hold_answer at step.now) pass.old e × (pass.new ≡ pass.old) × (self.new ≡ self.old)) }
         ensures cause { IfErr result (IsRefusedAt self.old.log pass.old (IsCauseAt (hold_answer self.old.log step.now))) }

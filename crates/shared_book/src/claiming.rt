@@ -2,9 +2,9 @@
 ghost use Rattle.std.specs.Prelude.{◌≡◌, length, IfOk, IfErr, MatchResult, OnErr, OnOk, true};
 ghost use Rattle.book_log.specs.declared.refusal.Refusal.TheVariants.{Memory};
 ghost use Rattle.book_log.specs.Log.{world_of};
-ghost use Rattle.book_events.specs.Cursors.{place_of};
+ghost use Rattle.book_events.specs.Cursors.{cursor_place};
 ghost use Rattle.book_events.specs.First.{IsFirstReady};
-ghost use Rattle.shared_book.specs.Away.{AreAway, AreOutside, LeavesOutMore, PassesNoOther, WasRefused, claim_ended, claimed_with, is_among, passed_by};
+ghost use Rattle.shared_book.specs.Away.{AreAway, AreOutside, LeavesOutMore, PassesNoOther, WasRefused, claim_ended, claimed_with, is_thread_among, passed_by};
 ghost use Rattle.shared_book.specs.Calls.{IsRefusedFor, Sees, after_refusal, is_held};
 ghost use Rattle.shared_book.specs.Claims.{IsClaim, IsClaimable, IsOffer, thread_of, thread_offered};
 ghost use Rattle.shared_book.specs.Commits.{after_turn, is_turn_held};
@@ -135,7 +135,7 @@ impl<B: Events, L: Sharing> Desk<B, L> {
     fn first_ticket(&self, alloc: Global) -> Result<Option<Ticket>, Refusal>
         ensures found { MatchResult result (IsClaim self.now.log self.now.claims) (λ e. e ≡ Memory) }
         ensures claimed { AreOutside self.now.claims }
-        ensures ready { IfOk result (λ found. IsFirstReady (world_of self.now.log).frames (is_among self.now.claims.outside) (thread_of found)) }
+        ensures ready { IfOk result (λ found. IsFirstReady (world_of self.now.log).frames (is_thread_among self.now.claims.outside) (thread_of found)) }
     {
         let outside = self.claims.outside();
         let thread = match self
@@ -162,7 +162,7 @@ impl<B: Events, L: Sharing> Desk<B, L> {
 
 /// Goes on to the thread of a ticket, and by all threads if there is none.
 fn move_on(cursor: &mut Cursor, found: &Option<Ticket>)
-    ensures { IsSought (thread_of found.now) (place_of cursor.new) }
+    ensures { IsSought (thread_of found.now) (cursor_place cursor.new) }
 {
     match found {
         Some(ticket) => cursor.go_on(ticket.thread()),

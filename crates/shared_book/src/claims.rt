@@ -1,7 +1,7 @@
 // Which threads a claim leaves out.
 ghost use Rattle.std.specs.Prelude.{◌≡◌, [], true, false, length, filter, OnErr, OnOk, Some, ◌⊎◌};
 ghost use Rattle.step_names.specs.Thread.{Thread};
-ghost use Rattle.shared_book.specs.Away.{AreOutside, LeavesOutMore, LeavesOutOthers, PassesNoOther, claim_ended, claimed_alone, claimed_with, is_among, is_passed, passed_by};
+ghost use Rattle.shared_book.specs.Away.{AreOutside, LeavesOutMore, LeavesOutOthers, PassesNoOther, claim_ended, claimed_alone, claimed_with, is_thread_among, is_passed, passed_by};
 
 use std::alloc::{AllocError, Global};
 use std::collections::BTreeSet;
@@ -52,7 +52,7 @@ impl Claims {
 
     /// Claims a thread. Takes memory for two copies of its name.
     pub(crate) fn claim(&mut self, thread: &ThreadName) -> Result<(), AllocError>
-        requires { is_among self.old.outside thread.now ≡ false }
+        requires { is_thread_among self.old.outside thread.now ≡ false }
         ensures ok { OnOk result (self.new ≡ claimed_with self.old (Some thread.now)) }
         ensures passed { OnOk result (PassesNoOther self.old self.new) }
         ensures more { OnOk result (LeavesOutMore self.old self.new) }
@@ -101,7 +101,7 @@ impl Claims {
 
 /// Leaves those that are claimed.
 fn keep_claimed(claimed: &BTreeSet<ThreadName>, outside: &mut BTreeSet<ThreadName>)
-    ensures { outside.new.keys ≡ filter (is_among claimed.now.keys) outside.old.keys }
+    ensures { outside.new.keys ≡ filter (is_thread_among claimed.now.keys) outside.old.keys }
 {
     outside.retain(|thread| claimed.contains(thread));
 }

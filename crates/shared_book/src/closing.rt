@@ -4,7 +4,7 @@ ghost use Rattle.std.specs.Option.{option_copied};
 ghost use Rattle.book_log.specs.Legal.{IsLegal};
 ghost use Rattle.book_log.specs.Log.{Log};
 ghost use Rattle.shared_book.specs.Closed.{AllAreLogged, IsClosed, IsForeignAmong, IsForeignPass, IsForeignReason, IsSettled, IsUnsettled, SomeForeign, all_receipts};
-ghost use Rattle.shared_book.specs.Views.{Extends};
+ghost use Rattle.shared_book.specs.Views.{ExtendsLog};
 
 use crate::admitting::{Foreign, known};
 use crate::copies::copied;
@@ -42,7 +42,7 @@ pub fn close<B: Events, L: Sharing>(
     passes: Vec<Pass<L>>,
 ) -> Result<B, CloseRefusal<B, L>>
     ensures closed { IfOk result (λ b. IsLegal (B.log b) × IsClosed L.begun (B.log b) (all_receipts passes.items)) }
-    ensures refused { IfErr result (λ e. (e.passes.items ≡ passes.items) × ((at : Log) × Extends L.begun at × IsLegal at × IsUnsettled (length L.begun.entries + 1) at.entries passes.items e.reason)) }
+    ensures refused { IfErr result (λ e. (e.passes.items ≡ passes.items) × ((at : Log) × ExtendsLog L.begun at × IsLegal at × IsUnsettled (length L.begun.entries + 1) at.entries passes.items e.reason)) }
 {
     let Shared { desk } = shared;
     let desk = desk.into_inner();
@@ -122,7 +122,7 @@ impl<B: Events, L: Sharing> Desk<B, L> {
             (λ _. IsSettled self.now.log.entries self.now.first passes.now)
             (IsUnsettled self.now.first self.now.log.entries passes.now) }
         ensures first { self.now.first ≡ length L.begun.entries + 1 }
-        ensures goes { Extends L.begun self.now.log }
+        ensures goes { ExtendsLog L.begun self.now.log }
         ensures legal { IsLegal self.now.log }
     {
         let (_, entries) = self.book.entries();

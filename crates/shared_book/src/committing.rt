@@ -3,7 +3,7 @@ ghost use Rattle.std.specs.Prelude.{◌≡◌, true, IfOk, IfErr};
 ghost use Rattle.shared_book.specs.Calls.{IsStepOf};
 ghost use Rattle.shared_book.specs.Away.{WasRefused, claim_ended};
 ghost use Rattle.shared_book.specs.Commits.{GivesTurn, GivesTurnAt, IsNotTaken, IsNotTakenAt, after_turn, is_turn_held, shared_refusal};
-ghost use Rattle.shared_book.specs.Views.{with_claims, with_entry};
+ghost use Rattle.shared_book.specs.Views.{with_claims, desk_with_entry};
 
 use crate::admitting::admit;
 use crate::changing::hand_out;
@@ -29,7 +29,7 @@ impl<B: Events, L: Sharing> Desk<B, L> {
         ensures receipt { IfOk result (GivesTurn L.begun ticket.thread prepared pass.old pass.new) }
         ensures after { IfOk result (GivesTurnAt L.begun self.old.log ticket.thread prepared pass.old pass.new) }
         ensures entry { IfOk result (λ r. IsStepOf ticket.thread r.entry) }
-        ensures entries { IfOk result (λ r. self.new ≡ with_claims (with_entry self.old r.entry) (claim_ended self.old.claims ticket.thread)) }
+        ensures entries { IfOk result (λ r. self.new ≡ with_claims (desk_with_entry self.old r.entry) (claim_ended self.old.claims ticket.thread)) }
         ensures err { IfErr result (λ e. IsNotTaken L.begun ticket.thread prepared pass.old e × (pass.new ≡ pass.old) × (self.new ≡ after_turn self.old ticket.thread e)) }
         ensures cause { IfErr result (IsNotTakenAt self.old.log ticket.thread prepared pass.old) }
     {
@@ -55,7 +55,7 @@ impl<B: Events, L: Sharing> Desk<B, L> {
         ensures receipt { IfOk result (GivesTurn L.begun thread.now prepared pass.old pass.new) }
         ensures after { IfOk result (GivesTurnAt L.begun self.old.log thread.now prepared pass.old pass.new) }
         ensures entry { IfOk result (λ r. IsStepOf thread.now r.entry) }
-        ensures entries { IfOk result (λ r. self.new ≡ with_entry self.old r.entry) }
+        ensures entries { IfOk result (λ r. self.new ≡ desk_with_entry self.old r.entry) }
         ensures err { IfErr result (λ e. IsNotTaken L.begun thread.now prepared pass.old e × (pass.new ≡ pass.old) × (self.new ≡ self.old)) }
         ensures cause { IfErr result (IsNotTakenAt self.old.log thread.now prepared pass.old) }
         ensures held { IfErr result (λ e. is_turn_held e ≡ true → WasRefused self.old.log thread.now) }

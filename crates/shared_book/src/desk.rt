@@ -24,7 +24,7 @@ impl<B: Events, L: Sharing> Model for Desk<B, L> {
     ghost use Rattle.book_log.specs.contracts.begin.Begin as begin_row;
     ghost use Rattle.book_log.specs.contracts.entry.Entry as entry_row;
     ghost use Rattle.shared_book.specs.Away.{WereRefused};
-    ghost use Rattle.book_events.specs.Cursors.{place_of};
+    ghost use Rattle.book_events.specs.Cursors.{cursor_place};
     ghost use Rattle.shared_book.specs.Seeking.{NoneBefore};
     ghost use Rattle.shared_book.specs.Views.{DeskView, IsCounted};
 
@@ -35,5 +35,5 @@ impl<B: Events, L: Sharing> Model for Desk<B, L> {
     ghost view = { λ d. record { log = B.log d.book; first = d.first; claims = d.claims } };
 
     ghost invariant = { λ d. IsCounted L.begun (B.log d.book) d.first d.calls.total × (d.spare.amount ≡ 0)
-        × WereRefused (B.log d.book) d.claims × NoneBefore (B.log d.book) d.claims (place_of d.cursor) };
+        × WereRefused (B.log d.book) d.claims × NoneBefore (B.log d.book) d.claims (cursor_place d.cursor) };
 }

@@ -1,6 +1,6 @@
 // Which numbers have a receipt.
 ghost use Rattle.std.specs.Prelude.{◌≡◌, ℕ, ◌+◌, ◌-◌, ◌^◌, ◌<◌, ◌≤◌, ◌==◌, ◌||◌, true, false, length, replicate, slice_index_or, IfOk, MatchOption};
-ghost use Rattle.shared_book.specs.Closed.{all_receipts, is_marked, times};
+ghost use Rattle.shared_book.specs.Closed.{all_receipts, is_marked, receipt_times};
 
 use crate::pass::Pass;
 use crate::receipt::Receipt;
@@ -16,8 +16,8 @@ pub(crate) fn missing<L: Ledger>(
     end: usize,
 ) -> Result<Option<usize>, AllocError>
     requires { first ≤ end }
-    ensures { IfOk result (λ found. MatchOption found ((k : ℕ) → first ≤ k → k < end → 0 < times k (all_receipts passes.now))
-        (λ n. (first ≤ n) × (n < end) × (times n (all_receipts passes.now) ≡ 0))) }
+    ensures { IfOk result (λ found. MatchOption found ((k : ℕ) → first ≤ k → k < end → 0 < receipt_times k (all_receipts passes.now))
+        (λ n. (first ≤ n) × (n < end) × (receipt_times n (all_receipts passes.now) ≡ 0))) }
 {
     let mut marks = Vec::from_elem(alloc, false, end - first)?;
     Ok(missing_by(marks.as_mut_slice(), passes, first, end))
@@ -32,8 +32,8 @@ fn missing_by<L: Ledger>(
 ) -> Option<usize>
     requires fit { (first ≤ end) × (end < 2 ^ 64) }
     requires blank { marks.old ≡ replicate (end - first) false }
-    ensures { MatchOption result ((k : ℕ) → first ≤ k → k < end → 0 < times k (all_receipts passes.now))
-        (λ n. (first ≤ n) × (n < end) × (times n (all_receipts passes.now) ≡ 0)) }
+    ensures { MatchOption result ((k : ℕ) → first ≤ k → k < end → 0 < receipt_times k (all_receipts passes.now))
+        (λ n. (first ≤ n) × (n < end) × (receipt_times n (all_receipts passes.now) ≡ 0)) }
 {
     mark_all(marks, first, passes);
     unmarked(marks, first)

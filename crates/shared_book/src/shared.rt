@@ -6,7 +6,7 @@ ghost use Rattle.book_log.specs.Answers.{hold_answer, plan_answer, start_answer,
 ghost use Rattle.book_log.specs.Log.{left_of};
 ghost use Rattle.book_log.specs.declared.refusal.Refusal.TheVariants.{Memory};
 ghost use Rattle.shared_book.specs.Away.{AreAway, Away};
-ghost use Rattle.shared_book.specs.Calls.{GivesLatest, GivesReceipt, IsHoldOf, IsLatestCause, IsRefused, IsRefusedFor, IsRollbackOf, IsShown, IsStepOf, frame_answer};
+ghost use Rattle.shared_book.specs.Calls.{GivesLatest, GivesReceipt, IsHoldEntryOf, IsLatestCause, IsRefused, IsRefusedFor, IsRollbackOf, IsShown, IsStepOf, frame_answer};
 ghost use Rattle.shared_book.specs.Claims.{IsClaim, IsOffer};
 ghost use Rattle.shared_book.specs.Commits.{GivesTurn, IsNotTaken};
 
@@ -169,7 +169,7 @@ impl<B: Events, L: Sharing> Shared<B, L> {
         step: &StepName,
     ) -> Result<Receipt, SharedRefusal>
         ensures receipt { IfOk result (GivesReceipt L.begun pass.old pass.new) }
-        ensures entry { IfOk result (λ r. IsHoldOf step.now r.entry) }
+        ensures entry { IfOk result (λ r. IsHoldEntryOf step.now r.entry) }
         ensures err { IfErr result (λ e. IsRefused L.begun (λ at. hold_answer at step.now) pass.old e × (pass.new ≡ pass.old)) }
     {
         self.desk.lock(rt).hold(alloc, pass, step)

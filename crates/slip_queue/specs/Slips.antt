@@ -54,8 +54,8 @@ module _ {T : Type 0} where
   abbrev pub taken_of : Giver T → List ℕ
   taken_of g = (view g.pass).taken
 
-  abbrev pub taken_by : Taker T → List ℕ
-  taken_by t = (view t.pass).taken
+  abbrev pub taker_numbers : Taker T → List ℕ
+  taker_numbers t = (view t.pass).taken
 
   abbrev pub is_same : Giver T → Giver T → Type 0
   is_same g h = (given_of h ≡ given_of g) × (parts_of h ≡ parts_of g) × (taken_of h ≡ taken_of g)
@@ -68,4 +68,4 @@ module _ {T : Type 0} where
 
   pub record IsTaker (q : Slips T) (t : Taker T) : Type 0 where
     pub of : IsPassOf q.queue t.pass
-    pub knows : view t.pass ≡ hand 1 [] (taken_by t)
+    pub knows : view t.pass ≡ hand 1 [] (taker_numbers t)

@@ -1,6 +1,6 @@
 // The one who gives slips.
 ghost use Rattle.std.specs.Prelude.{◌≡◌, ℕ, ◌+◌, ◌<◌, ◌≤◌, [], ◌++◌, IfOk, MatchResult};
-ghost use Rattle.slip_queue.specs.Slips.{IsGiver, IsTaker, all_parts, given_of, is_given, is_same, parts_of, taken_by, taken_of, times};
+ghost use Rattle.slip_queue.specs.Slips.{IsGiver, IsTaker, all_parts, given_of, is_given, is_same, parts_of, taker_numbers, taken_of, times};
 
 use crate::hand::{Adds, Cut, Gives, Hand};
 use crate::slips::{Slip, Slips};
@@ -22,7 +22,7 @@ impl<T: Drop> Giver<T> {
         ensures giver { IsGiver slips.now self.new }
         ensures same { (given_of self.new ≡ given_of self.old) × (taken_of self.new ≡ taken_of self.old) }
         ensures parts { parts_of self.new + 1 ≡ parts_of self.old }
-        ensures taker { IsTaker slips.now result × (taken_by result ≡ []) }
+        ensures taker { IsTaker slips.now result × (taker_numbers result ≡ []) }
     {
         Taker {
             pass: slips.queue.another::<Cut>(&mut self.pass),
@@ -65,7 +65,7 @@ impl<T: Drop> Giver<T> {
         ensures giver { IsGiver slips.now self.new }
         ensures given { given_of self.new ≡ given_of self.old }
         ensures parts { parts_of self.new ≡ parts_of self.old + 1 }
-        ensures taken { taken_of self.new ≡ taken_of self.old ++ taken_by taker }
+        ensures taken { taken_of self.new ≡ taken_of self.old ++ taker_numbers taker }
     {
         let Taker { pass } = taker;
         slips.queue.absorb::<Cut>(&mut self.pass, pass);

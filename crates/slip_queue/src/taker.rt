@@ -1,6 +1,6 @@
 // Those who take slips.
 ghost use Rattle.std.specs.Prelude.{◌≡◌, [], ◌∷◌, ◌++◌, MatchOption};
-ghost use Rattle.slip_queue.specs.Slips.{IsTaker, taken_by};
+ghost use Rattle.slip_queue.specs.Slips.{IsTaker, taker_numbers};
 
 use crate::hand::{Hand, Takes};
 use crate::slips::{Slip, Slips};
@@ -17,7 +17,7 @@ impl<T: Drop> Taker<T> {
     pub fn take(&mut self, slips: &Slips<T>) -> Option<Slip<T>>
         requires taker { IsTaker slips.now self.old }
         ensures taker { IsTaker slips.now self.new }
-        ensures taken { MatchOption result (taken_by self.new ≡ taken_by self.old) (λ slip. taken_by self.new ≡ taken_by self.old ++ slip.number ∷ []) }
+        ensures taken { MatchOption result (taker_numbers self.new ≡ taker_numbers self.old) (λ slip. taker_numbers self.new ≡ taker_numbers self.old ++ slip.number ∷ []) }
     {
         slips.queue.try_pop_as::<Takes>(&mut self.pass)
     }

@@ -8,7 +8,7 @@ use Rattle.std.proofs.lemmas.Option.{same_Some}
 use Rattle.std.proofs.lemmas.List.Folds.{list_any-append}
 use Rattle.std.proofs.lemmas.List.Sorted.{IsPermutation-reverse, list_any-IsPermutation}
 use Rattle.saved_steps.specs.declared.fact.Fact.{Fact}
-use Rattle.depends.specs.Plans.{depends_on, depends_on_some, consequences_from, consequences_at, plan}
+use Rattle.depends.specs.Plans.{depends_on, depends_on_some, consequences_behind, consequences_at, plan}
 use Rattle.depends.proofs.Threads.{either, or_left, or_right}
 use Rattle.step_graph.specs.Causes.{is_in, is_in_plan}
 
@@ -74,9 +74,9 @@ module _ (facts : List Fact) where
   AreBelow S ms i = (m : ℕ) → is_in m ms ≡ true → S m × (m < i)
 
   abbrev after : Bool → List ℕ → ℕ → List Fact → List ℕ
-  after c ms i fs = cond c (i ∷ consequences_from facts (ms ++ i ∷ []) (i + 1) fs) (consequences_from facts ms (i + 1) fs)
+  after c ms i fs = cond c (i ∷ consequences_behind facts (ms ++ i ∷ []) (i + 1) fs) (consequences_behind facts ms (i + 1) fs)
 
-  least_from : (S : ℕ → Type 0) → IsClosed S → (ms : List ℕ) (i : ℕ) (fs : List Fact) → fs ≡ drop i facts → AreBelow S ms i → (b : ℕ) → is_in b (consequences_from facts ms i fs) ≡ true → S b
+  least_from : (S : ℕ → Type 0) → IsClosed S → (ms : List ℕ) (i : ℕ) (fs : List Fact) → fs ≡ drop i facts → AreBelow S ms i → (b : ℕ) → is_in b (consequences_behind facts ms i fs) ≡ true → S b
   least_from S closed ms i [] rest below b h = absurd (cc)
   least_from S closed ms i (f ∷ fs) rest below b h =
       by (depends_on_some facts ms f) refl
@@ -101,9 +101,9 @@ module _ (facts : List Fact) where
       same : AreBelow S ms (i + 1)
       same m k = let y = below m k in (y.0, let l = y.1 in omega (arith, l))
 
-      by : (c : Bool) → depends_on_some facts ms f ≡ c → (depends_on_some facts ms f ≡ true → is_in b (consequences_from facts (ms ++ i ∷ []) (i + 1) fs) ≡ true → S b)
-          → (is_in b (consequences_from facts ms (i + 1) fs) ≡ true → S b) → S b
-      by true e some none = elim (either (i == b) (is_in b (consequences_from facts (ms ++ i ∷ []) (i + 1) fs)) (sym (ap (λ c. is_in b (after c ms i fs)) e) ∙ h)) [
+      by : (c : Bool) → depends_on_some facts ms f ≡ c → (depends_on_some facts ms f ≡ true → is_in b (consequences_behind facts (ms ++ i ∷ []) (i + 1) fs) ≡ true → S b)
+          → (is_in b (consequences_behind facts ms (i + 1) fs) ≡ true → S b) → S b
+      by true e some none = elim (either (i == b) (is_in b (consequences_behind facts (ms ++ i ∷ []) (i + 1) fs)) (sym (ap (λ c. is_in b (after c ms i fs)) e) ∙ h)) [
         | inl x ↦ subst S (eqb-true i b x) (marked e)
         | inr x ↦ some e x
       ]
@@ -114,7 +114,7 @@ module _ (facts : List Fact) where
   abbrev AreClosedBelow : List ℕ → ℕ → Type 0
   AreClosedBelow ms i = (x y : ℕ) → is_in x ms ≡ true → x < y → y < i → Links x y → is_in y ms ≡ true
 
-  closed_from : (ms : List ℕ) (i : ℕ) (fs : List Fact) → fs ≡ drop i facts → ((m : ℕ) → is_in m ms ≡ true → m < i) → AreClosedBelow ms i → IsClosed (λ x. is_in x (ms ++ consequences_from facts ms i fs) ≡ true)
+  closed_from : (ms : List ℕ) (i : ℕ) (fs : List Fact) → fs ≡ drop i facts → ((m : ℕ) → is_in m ms ≡ true → m < i) → AreClosedBelow ms i → IsClosed (λ x. is_in x (ms ++ consequences_behind facts ms i fs) ≡ true)
   closed_from ms i [] rest below closed = λ x y h l link.
       in_left y ms [] (closed x y (elim (in_both x ms [] h) [ inl e ↦ e | inr e ↦ absurd (cc) ]) l (none_beyond facts i y link.0 rest link.1) link)
   closed_from ms i (f ∷ fs) rest below closed =
@@ -148,12 +148,12 @@ module _ (facts : List Fact) where
       shifted : (xs ys : List ℕ) (k : ℕ) → (xs ++ k ∷ []) ++ ys ≡ xs ++ k ∷ ys
       shifted xs ys k = append_assoc xs (k ∷ []) ys
 
-      by : (c : Bool) → depends_on_some facts ms f ≡ c → IsClosed (λ x. is_in x ((ms ++ i ∷ []) ++ consequences_from facts (ms ++ i ∷ []) (i + 1) fs) ≡ true)
-          → (depends_on_some facts ms f ≡ false → IsClosed (λ x. is_in x (ms ++ consequences_from facts ms (i + 1) fs) ≡ true))
+      by : (c : Bool) → depends_on_some facts ms f ≡ c → IsClosed (λ x. is_in x ((ms ++ i ∷ []) ++ consequences_behind facts (ms ++ i ∷ []) (i + 1) fs) ≡ true)
+          → (depends_on_some facts ms f ≡ false → IsClosed (λ x. is_in x (ms ++ consequences_behind facts ms (i + 1) fs) ≡ true))
           → IsClosed (λ x. is_in x (ms ++ after (depends_on_some facts ms f) ms i fs) ≡ true)
       by true e some none =
           subst (λ c. IsClosed (λ x. is_in x (ms ++ after c ms i fs) ≡ true)) (sym e)
-          (subst (λ (zs : List ℕ). IsClosed (λ x. is_in x zs ≡ true)) (shifted ms (consequences_from facts (ms ++ i ∷ []) (i + 1) fs) i) some)
+          (subst (λ (zs : List ℕ). IsClosed (λ x. is_in x zs ≡ true)) (shifted ms (consequences_behind facts (ms ++ i ∷ []) (i + 1) fs) i) some)
       by false e some none = subst (λ c. IsClosed (λ x. is_in x (ms ++ after c ms i fs) ≡ true)) (sym e) (none e)
 
   -- ---- plans
@@ -162,7 +162,7 @@ module _ (facts : List Fact) where
   planned of at = sym (list_any-IsPermutation (λ p. p == at) (consequences_at facts of) (reverse (consequences_at facts of)) (IsPermutation-reverse (consequences_at facts of)))
 
   pub in_own : (a : ℕ) → is_in_plan facts a a ≡ true
-  in_own a = planned a a ∙ in_itself a (consequences_from facts (a ∷ []) (a + 1) (drop (a + 1) facts))
+  in_own a = planned a a ∙ in_itself a (consequences_behind facts (a ∷ []) (a + 1) (drop (a + 1) facts))
 
   plan_closed : (a : ℕ) → IsClosed (λ x. is_in_plan facts a x ≡ true)
   plan_closed a x y h l link =
@@ -172,7 +172,7 @@ module _ (facts : List Fact) where
       x y (sym (planned a x) ∙ h) l link
 
   plan_least : (S : ℕ → Type 0) → IsClosed S → (a : ℕ) → S a → (b : ℕ) → is_in_plan facts a b ≡ true → S b
-  plan_least S closed a s b h = elim (either (a == b) (is_in b (consequences_from facts (a ∷ []) (a + 1) (drop (a + 1) facts))) (sym (planned a b) ∙ h)) [
+  plan_least S closed a s b h = elim (either (a == b) (is_in b (consequences_behind facts (a ∷ []) (a + 1) (drop (a + 1) facts))) (sym (planned a b) ∙ h)) [
     | inl e ↦ subst S (eqb-true a b e) s
     | inr e ↦ least_from S closed (a ∷ []) (a + 1) (drop (a + 1) facts) refl (λ m k. let q = in_one m a k in (subst S q s, omega (arith, q))) b e
   ]

@@ -22,7 +22,7 @@ use Rattle.depends.specs.Reasons.{reason_between}
 use Rattle.depends.specs.declared.reason.Reason.{Reason}
 use Rattle.depends.proofs.Reasoned.{reasons_are_dependences}
 use Rattle.depends.proofs.Threads.{either, or_left, or_right}
-use Rattle.step_index.specs.Gathered.{accesses, is_access, is_of, places_from, places_where}
+use Rattle.step_index.specs.Gathered.{accesses, is_access, is_of_execution, places_from, places_where}
 use Rattle.step_index.specs.Walks.{names_need}
 use Rattle.step_index.proofs.Meeting.{awaits_alike, begins_alike, by_name_or_item, closes_alike, thread_alike}
 use Rattle.step_graph.specs.Causes.{is_in}
@@ -171,28 +171,28 @@ module _ (rs : List StepRecord) (opened : ℕ → Bool) (execs keys execs2 keys2
   exec = own.fact.name.thread.exec
 
   abbrev Changed : Type 0
-  Changed = ((has execs place ≡ true) × (execs2 ≡ execs)) ⊎ (execs2 ≡ marked execs (places_where (is_of exec) rs))
+  Changed = ((has execs place ≡ true) × (execs2 ≡ execs)) ⊎ (execs2 ≡ marked execs (places_where (is_of_execution exec) rs))
 
   -- of executions
-  module _ (k : execs2 ≡ marked execs (places_where (is_of exec) rs)) where
-    more_execs : (p q : ℕ) (r s : StepRecord) → slice_get rs p ≡ Some r → slice_get rs q ≡ Some s → r.fact.name.thread.exec ≡ s.fact.name.thread.exec → has (marked execs (places_where (is_of exec) rs)) p ≡ true
-        → has (marked execs (places_where (is_of exec) rs)) q ≡ true
-    more_execs p q r s a b e h = elim (marks_only (is_of exec) rs execs was.execs_fit p r a h) [
-      | inl x ↦ marked_keeps execs (places_where (is_of exec) rs) q (was.by_exec p q r s a b e x)
-      | inr x ↦ marks_them (is_of exec) rs execs was.execs_fit q s b (ap (λ (f : List ℕ). bytes_eq f exec) (sym e) ∙ x)
+  module _ (k : execs2 ≡ marked execs (places_where (is_of_execution exec) rs)) where
+    more_execs : (p q : ℕ) (r s : StepRecord) → slice_get rs p ≡ Some r → slice_get rs q ≡ Some s → r.fact.name.thread.exec ≡ s.fact.name.thread.exec → has (marked execs (places_where (is_of_execution exec) rs)) p ≡ true
+        → has (marked execs (places_where (is_of_execution exec) rs)) q ≡ true
+    more_execs p q r s a b e h = elim (marks_only (is_of_execution exec) rs execs was.execs_fit p r a h) [
+      | inl x ↦ marked_keeps execs (places_where (is_of_execution exec) rs) q (was.by_exec p q r s a b e x)
+      | inr x ↦ marks_them (is_of_execution exec) rs execs was.execs_fit q s b (ap (λ (f : List ℕ). bytes_eq f exec) (sym e) ∙ x)
     ]
 
   execs_fit : Changed → length execs2 ≡ length rs
   execs_fit (inl same) = ap length same.1 ∙ was.execs_fit
-  execs_fit (inr k) = ap length k ∙ marked_fits execs (places_where (is_of exec) rs) ∙ was.execs_fit
+  execs_fit (inr k) = ap length k ∙ marked_fits execs (places_where (is_of_execution exec) rs) ∙ was.execs_fit
 
   execs_keep : Changed → (q : ℕ) → has execs q ≡ true → has execs2 q ≡ true
   execs_keep (inl same) q h = ap (λ (m : List Bool). has m q) same.1 ∙ h
-  execs_keep (inr k) q h = ap (λ (m : List Bool). has m q) k ∙ marked_keeps execs (places_where (is_of exec) rs) q h
+  execs_keep (inr k) q h = ap (λ (m : List Bool). has m q) k ∙ marked_keeps execs (places_where (is_of_execution exec) rs) q h
 
   execs_own : Changed → has execs2 place ≡ true
   execs_own (inl same) = ap (λ (m : List Bool). has m place) same.1 ∙ same.0
-  execs_own (inr k) = ap (λ (m : List Bool). has m place) k ∙ marks_them (is_of exec) rs execs was.execs_fit place own own_is (own_exec exec)
+  execs_own (inr k) = ap (λ (m : List Bool). has m place) k ∙ marks_them (is_of_execution exec) rs execs was.execs_fit place own own_is (own_exec exec)
 
   execs_closed : Changed → (p q : ℕ) (r s : StepRecord) → slice_get rs p ≡ Some r → slice_get rs q ≡ Some s → r.fact.name.thread.exec ≡ s.fact.name.thread.exec → has execs2 p ≡ true → has execs2 q ≡ true
   execs_closed (inl same) p q r s a b e h = ap (λ (m : List Bool). has m q) same.1 ∙ was.by_exec p q r s a b e (sym (ap (λ (m : List Bool). has m p) same.1) ∙ h)

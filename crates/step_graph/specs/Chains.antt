@@ -8,9 +8,9 @@ abbrev pub is_link : List StepRecord → ℕ → ℕ → Bool
 is_link rs a b = nat_lt a b && is_some (reason_at rs a b)
 
 -- each place depends directly on the one before it
-abbrev pub AreLinked : List StepRecord → ℕ → List ℕ → Type 0
-AreLinked rs a [] = Unit {0}
-AreLinked rs a (b ∷ rest) = IsTrue (is_link rs a b) × AreLinked rs b rest
+abbrev pub AreChained : List StepRecord → ℕ → List ℕ → Type 0
+AreChained rs a [] = Unit {0}
+AreChained rs a (b ∷ rest) = IsTrue (is_link rs a b) × AreChained rs b rest
 
 abbrev pub end_of : ℕ → List ℕ → ℕ
 end_of a [] = a
@@ -20,5 +20,5 @@ end_of a (b ∷ rest) = end_of b rest
 pub record IsChain (rs : List StepRecord) (from to : ℕ) (chain : List ℕ) : Type 0 where
   pub rest : List ℕ
   pub begins : chain ≡ from ∷ rest
-  pub linked : AreLinked rs from rest
+  pub linked : AreChained rs from rest
   pub ends : end_of from rest ≡ to

@@ -3,7 +3,7 @@ use Rattle.std.specs.Prelude.{◌≡◌, ◌⊎◌, ℕ, Bool, true, false, ◌=
 use Rattle.item_store.specs.Table.{is_same_key}
 use Rattle.saved_steps.specs.declared.fact.Access.{Access}
 use Rattle.saved_steps.specs.declared.record.StepRecord.{StepRecord}
-use Rattle.step_index.specs.Gathered.{accesses, is_of, places_where}
+use Rattle.step_index.specs.Gathered.{accesses, is_of_execution, places_where}
 
 -- the mark at a place
 abbrev pub has : List Bool → ℕ → Bool
@@ -34,7 +34,7 @@ and_one place opened m = (place == m) || opened m
 abbrev pub OpensExec : List StepRecord → ℕ → List Bool → List Bool → Type 0
 OpensExec rs place old new =
     (r : StepRecord) → slice_get rs place ≡ Some r
-    → ((has old place ≡ true) × (new ≡ old)) ⊎ (new ≡ marked old (places_where (is_of r.fact.name.thread.exec) rs))
+    → ((has old place ≡ true) × (new ≡ old)) ⊎ (new ≡ marked old (places_where (is_of_execution r.fact.name.thread.exec) rs))
 
 -- so are the accesses of its key, if it has one
 abbrev pub OpensKey : List StepRecord → ℕ → List Bool → List Bool → Type 0

@@ -15,9 +15,9 @@ use Rattle.asl_tree.specs.declared.state.Map.{Map}
 use Rattle.asl_tree.specs.declared.state.State.{State}
 use Rattle.asl_tree.specs.declared.state.State.TheVariants as state
 use Rattle.asl_states.specs.declared.state.Task.{Task}
-use Rattle.asl_forward.specs.Forks.{branch_frame, with_others, begins, frames_from, parallel_frames, element_frames, element_input, counted_frames, elements, map_frames}
-use Rattle.asl_forward.specs.Outcomes.{asks, task_turn, forks, fork_of, turn_of, turn, action_of}
-use Rattle.asl_forward.specs.Results.{Work, work_of, after_join, after_answer}
+use Rattle.asl_forward.specs.Forks.{branch_frame, with_others, begins_branch, frames_from, parallel_frames, element_frames, element_input, counted_frames, elements, map_frames}
+use Rattle.asl_forward.specs.Outcomes.{outcome_of_call, task_turn, forks, fork_of, turn_of, turn, action_of}
+use Rattle.asl_forward.specs.Results.{Work, state_work, after_join, after_answer}
 use Rattle.asl_forward.specs.Processing.{effective, held}
 use Rattle.asl_frames.specs.Turn.{Location, first_frame}
 use Rattle.asl_frames.specs.declared.frame.Fault.{Fault}
@@ -65,7 +65,7 @@ more_fresh : (f : Frame) (fs : List Frame) → f.count ≡ 0 → f.phase ≡ Rea
 more_fresh f fs c r h zero g k = let e : f ≡ g = same_Some f g k in (ap (λ (x : Frame). x.count) (sym e) ∙ c, ap (λ (x : Frame). x.phase) (sym e) ∙ r)
 more_fresh f fs c r h (suc i) g k = h i g k
 
-others_fresh : (others : Result (List Frame) (List ℕ)) (f : Frame) (d : Definition) (branch : ℕ) (worked : Result Data (List ℕ)) → AllFresh others → AllFresh (with_others others (begins f d branch worked))
+others_fresh : (others : Result (List Frame) (List ℕ)) (f : Frame) (d : Definition) (branch : ℕ) (worked : Result Data (List ℕ)) → AllFresh others → AllFresh (with_others others (begins_branch f d branch worked))
 others_fresh (Ok fs) f d branch (Ok input) h = more_fresh (branch_frame f d branch input) fs refl refl h
 others_fresh (Err error) f d branch (Ok input) h = tt
 others_fresh (Ok fs) f d branch (Err error) h = tt
@@ -100,7 +100,7 @@ forks_fresh : (level : Definition) (errors : ErrorHandling) (f : Frame) (bound :
 forks_fresh level errors f bound (Ok fs) h = h
 forks_fresh level errors f bound (Err error) h = tt
 
-asks_fresh : (level : Definition) (s : Task) (f : Frame) (c : Option call.Call) → TurnFresh (asks level s f c)
+asks_fresh : (level : Definition) (s : Task) (f : Frame) (c : Option call.Call) → TurnFresh (outcome_of_call level s f c)
 asks_fresh level s f (Some c) = tt
 asks_fresh level s f None = tt
 
@@ -133,7 +133,7 @@ step_turn_fresh : (s : Setting) (w : World) (name : StepName) (at : Location) (f
 step_turn_fresh s w name at f (outcome.Next g) d t h = subst EffectFresh (same_Some _ _ h) none_fresh
 step_turn_fresh s w name at f (outcome.Fork g branches) d t h = subst EffectFresh (same_Some _ _ h) t
 step_turn_fresh s w name at f (outcome.Call c) d t h =
-    let m = map_some (λ (work : Work). call_effect name at.0 work f (table.in_form s.table s.schema w.items c)) (work_of at.1) d h in
+    let m = map_some (λ (work : Work). call_effect name at.0 work f (table.in_form s.table s.schema w.items c)) (state_work at.1) d h in
     let o = table.in_form s.table s.schema w.items c in
     subst EffectFresh m.2 (called_fresh name (after_answer at.0 m.0 f o.answer) o.items o.access)
 
@@ -141,7 +141,7 @@ close_fresh : (name : StepName) (at : Location) (f : Frame) (fault : Option Faul
 close_fresh name at f (Some fault) there d h = subst EffectFresh (same_Some _ _ h) none_fresh
 close_fresh name at f None there d h =
     let j = and_then_some (join_effect name at f) there d h in
-    let m = map_some (λ (work : Work). own_effect Join name (after_join at.0 work f j.0)) (work_of at.1) d j.2 in
+    let m = map_some (λ (work : Work). own_effect Join name (after_join at.0 work f j.0)) (state_work at.1) d j.2 in
     subst EffectFresh m.2 none_fresh
 
 phase_fresh : (s : Setting) (w : World) (t : Thread) (at : Location) (f : Frame) (p : Phase) (d : Effect) → effect_in s w t at f p ≡ Some d → EffectFresh d

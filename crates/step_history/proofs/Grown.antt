@@ -1,7 +1,7 @@
 -- A history with one more step.
 use Rattle.std.proofs.Common.{◌≡◌, List, [], ◌∷◌, ◌++◌, refl, ap, ap₂, sym, subst, ◌∙◌, Option, Some, None}
 use Rattle.std.specs.Prelude.{option_map}
-use Rattle.item_store.specs.Store.{Store, items_of}
+use Rattle.item_store.specs.Store.{Store, stored_items}
 use Rattle.item_store.specs.Table.{Table}
 use Rattle.step_names.specs.Thread.{Thread}
 use Rattle.saved_steps.specs.Effects.{Effect, effect_of}
@@ -26,7 +26,7 @@ use Rattle.step_history.specs.History.{TakenStep, IsRecordOf, AreRecordsOf, IsHi
 use Rattle.step_history.specs.declared.history.History.{History}
 use Rattle.step_history.proofs.Left.{records_kept}
 
-pub same_seen : (w v : World) → ((t : Thread) → frames_of v t ≡ frames_of w t) → items_of v.items ≡ items_of w.items → world_view v ≡ world_view w
+pub same_seen : (w v : World) → ((t : Thread) → frames_of v t ≡ frames_of w t) → stored_items v.items ≡ stored_items w.items → world_view v ≡ world_view w
 same_seen w v frames items = ap₂ (λ (a : Thread → Option Frame) (b : Table). let x : model.World = record { frames = a; items = b } in x) (fun_ext frames) items
 
 -- the same world over a store that keeps all slots
@@ -76,6 +76,6 @@ empty_history s items h frames store none table schema = record {
   from = from_none s (nothing_over items) (λ t. refl);
   runs =
       ap (λ (x : model.World). let y : Option (model.World × List TakenStep) = Some (x, []) in y)
-      (ap₂ (λ (a : Thread → Option Frame) (b : Table). let x : model.World = record { frames = a; items = b } in x) (fun_ext (λ t. sym (frames t))) (ap items_of (sym store)));
+      (ap₂ (λ (a : Thread → Option Frame) (b : Table). let x : model.World = record { frames = a; items = b } in x) (fun_ext (λ t. sym (frames t))) (ap stored_items (sym store)));
   records = subst (λ (l : List StepRecord). AreRecordsOf (store_of h.world) l []) (sym none) tt;
 }

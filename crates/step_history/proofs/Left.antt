@@ -12,7 +12,7 @@ use Rattle.step_names.specs.Thread.{Thread}
 use Rattle.step_names.proofs.OrderLaws.{thread_itself}
 use Rattle.saved_steps.specs.Held.{frames_of, world_view, store_of}
 use Rattle.saved_steps.specs.Saving.{SavedState, undo}
-use Rattle.saved_steps.specs.Made.{is_open, KeepsStore}
+use Rattle.saved_steps.specs.Made.{is_unparked, KeepsStore}
 use Rattle.saved_steps.specs.Run.{after_effect}
 use Rattle.saved_steps.specs.Steps.{is_fork, is_close}
 use Rattle.saved_steps.specs.Undoing.{IsSavedOf, HasSlot, StandsAfter, CanUndo, IsUndone}
@@ -57,7 +57,7 @@ record Left (frames : Thread → Option Frame) (s : Fact) : Type 0 where
   stands : frames s.name.thread ≡ Some frame
   count : frame.count ≡ s.name.no
   parks : is_fork s.kind ≡ true → is_parked frame.phase ≡ true
-  goes_on : is_fork s.kind ≡ false → is_open frame
+  goes_on : is_fork s.kind ≡ false → is_unparked frame
 
 left_by : (s : Setting) (w v : model.World) (t : TakenStep) → Takes (steps s) w t v → Left v.frames t.fact
 left_by s w v t h =
@@ -81,8 +81,8 @@ close_is_no_fork kind.Fork h = cc
 close_is_no_fork kind.Join h = refl
 close_is_no_fork kind.Terminate h = refl
 
-stands_open : (w : World) (s : Fact) → Left (frames_of w) s → is_fork s.kind ≡ false → IsSomeAnd (frames_of w s.name.thread) is_open
-stands_open w s l h = subst (λ (o : Option Frame). IsSomeAnd o is_open) (sym l.stands) (l.goes_on h)
+stands_open : (w : World) (s : Fact) → Left (frames_of w) s → is_fork s.kind ≡ false → IsSomeAnd (frames_of w s.name.thread) is_unparked
+stands_open w s l h = subst (λ (o : Option Frame). IsSomeAnd o is_unparked) (sym l.stands) (l.goes_on h)
 
 stands_after : (w : World) (s : Fact) (x : Saved) → IsSavedOf s x → Left (frames_of w) s → StandsAfter w s x
 stands_after w s Started fits l = stands_open w s l (ap is_fork fits.0)

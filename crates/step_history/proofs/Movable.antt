@@ -6,7 +6,7 @@ use Rattle.std.proofs.lemmas.List.{append-nil}
 use Rattle.json_tree.specs.Data.{Data}
 use Rattle.item_store.specs.Table as table
 use Rattle.asl_forward.specs.Outcomes.{turn}
-use Rattle.asl_forward.specs.Results.{Work, work_of, after_join}
+use Rattle.asl_forward.specs.Results.{Work, state_work, after_join}
 use Rattle.asl_frames.specs.Turn.{Location}
 use Rattle.asl_frames.specs.declared.frame.Fault.{Fault}
 use Rattle.asl_frames.specs.declared.frame.Frame.{Frame}
@@ -22,7 +22,7 @@ use Rattle.saved_steps.specs.Readiness.TheVariants as readiness
 use Rattle.saved_steps.specs.Ready.{readiness_of, readiness_in, begins_under, progress, frame_is, has_failed, is_done}
 use Rattle.step_names.specs.Thread.{Thread, child_of}
 use Rattle.step_names.specs.declared.step.StepName.{StepName}
-use Rattle.saved_steps.specs.Effects.{Effect, next_step, own_effect, turn_effect, bounded, first_bound, call_effect, effect_of_turn, fault_of, output_of, or_else, first_fault, outputs, close_effect, effect_in, frame_effect}
+use Rattle.saved_steps.specs.Effects.{Effect, next_step, own_effect, turn_effect, effect_with_bound, first_bound, call_effect, effect_of_turn, fault_of, output_of, or_else, first_fault, outputs, close_effect, effect_in, frame_effect}
 use Rattle.saved_steps.specs.Held.{paths_of, world_view}
 use Rattle.saved_steps.specs.World.{Setting, World}
 use Rattle.saved_steps.specs.declared.fact.Kind.TheVariants.{Join}
@@ -89,13 +89,13 @@ some_mapped k None h = cc
 turn_moves : (s : Setting) (w : World) (name : StepName) (at : Location) (f : Frame) (o : Outcome) → IsForked at.1 f o → is_some (effect_of_turn s w name at f o) ≡ true
 turn_moves s w name at f (outcome.Next g) so = refl
 turn_moves s w name at f (outcome.Fork g fs) so = refl
-turn_moves s w name at f (outcome.Call c) so = some_mapped (λ (x : Work). call_effect name at.0 x f (table.in_form s.table s.schema w.items c)) (work_of at.1) so
+turn_moves s w name at f (outcome.Call c) so = some_mapped (λ (x : Work). call_effect name at.0 x f (table.in_form s.table s.schema w.items c)) (state_work at.1) so
 
-close_moves : (name : StepName) (at : Location) (f : Frame) (fault : Option Fault) (all : Option (List Data)) → is_some (work_of at.1) ≡ true
+close_moves : (name : StepName) (at : Location) (f : Frame) (fault : Option Fault) (all : Option (List Data)) → is_some (state_work at.1) ≡ true
     → is_some (close_effect name at f fault all) ≡ is_enabled (progress (is_some fault) (is_some all))
 close_moves name at f (Some fault) all works = refl
 close_moves name at f None None works = refl
-close_moves name at f None (Some ds) works = some_mapped (λ (x : Work). own_effect Join name (after_join at.0 x f ds)) (work_of at.1) works
+close_moves name at f None (Some ds) works = some_mapped (λ (x : Work). own_effect Join name (after_join at.0 x f ds)) (state_work at.1) works
 
 module _ (s : Setting) (w : World) (t : Thread) where
   abbrev below : FrameMap
@@ -108,11 +108,11 @@ module _ (s : Setting) (w : World) (t : Thread) where
   first_moves : (f : Frame) (o : Option Effect) → is_some o ≡ true → is_some (turn_effect w.frames t f o) ≡ is_enabled (cond (f.count == 0 && not begins) readiness.Waiting readiness.Ready)
   first_moves f o h = by (f.count == 0 && not begins) o h
     where
-      by : (b : Bool) (o : Option Effect) → is_some o ≡ true → is_some (cond b None (option_map (bounded (first_bound w.frames t f)) o)) ≡ is_enabled (cond b readiness.Waiting readiness.Ready)
+      by : (b : Bool) (o : Option Effect) → is_some o ≡ true → is_some (cond b None (option_map (effect_with_bound (first_bound w.frames t f)) o)) ≡ is_enabled (cond b readiness.Waiting readiness.Ready)
       by true o h = refl
-      by false o h = some_mapped (bounded (first_bound w.frames t f)) o h
+      by false o h = some_mapped (effect_with_bound (first_bound w.frames t f)) o h
 
-  moves_by : (at : Location) (f : Frame) (p : Phase) → (is_parked p ≡ true → is_some (work_of at.1) ≡ true) → is_some (effect_in s w t at f p) ≡ is_enabled (readiness_in begins below f.count p)
+  moves_by : (at : Location) (f : Frame) (p : Phase) → (is_parked p ≡ true → is_some (state_work at.1) ≡ true) → is_some (effect_in s w t at f p) ≡ is_enabled (readiness_in begins below f.count p)
   moves_by at f Ready works = first_moves f (effect_of_turn s w (next_step t f) at f (turn at f)) (turn_moves s w (next_step t f) at f (turn at f) (turn_so at.0 at.1 f))
   moves_by at f (Parked n bound) works =
       let kid : ℕ → Option Frame = λ i. w.frames (child_of t f.count i) in

@@ -12,7 +12,7 @@ use Rattle.item_store.specs.Table as table
 use Rattle.item_store.specs.declared.access.AccessMode.{AccessMode}
 use Rattle.item_store.specs.declared.call.Call as call
 use Rattle.asl_errors.specs.declared.errors.ErrorHandling.{ErrorHandling}
-use Rattle.asl_tree.specs.Complete.{state_of, IsState, StaysInside, IsWellFormed}
+use Rattle.asl_tree.specs.Complete.{state_of, IsStateName, StaysInside, IsWellFormed}
 use Rattle.asl_tree.specs.Definition.{Definition}
 use Rattle.asl_tree.specs.Find.{branch_of, machine_at}
 use Rattle.asl_tree.specs.Levels.{IsWellFormedThroughout}
@@ -22,8 +22,8 @@ use Rattle.asl_tree.specs.declared.state.State.{State}
 use Rattle.asl_tree.specs.declared.state.State.TheVariants as state
 use Rattle.asl_states.specs.declared.state.Task.{Task}
 use Rattle.asl_forward.specs.Forks.{branch_frame, parallel_frames, map_frames}
-use Rattle.asl_forward.specs.Outcomes.{asks, task_turn, parks, forks, fork_of, turn_of, turn, action_of}
-use Rattle.asl_forward.specs.Results.{Work, work_of, after_join, after_answer, after_branch}
+use Rattle.asl_forward.specs.Outcomes.{outcome_of_call, task_turn, parks, forks, fork_of, turn_of, turn, action_of}
+use Rattle.asl_forward.specs.Results.{Work, state_work, after_join, after_answer, after_branch}
 use Rattle.asl_forward.specs.Processing.{effective}
 use Rattle.asl_frames.specs.Turn.{Location, located, first_frame}
 use Rattle.asl_frames.specs.declared.frame.Fault.{Fault}
@@ -42,7 +42,7 @@ use Rattle.step_names.specs.Thread.{Thread, execution}
 use Rattle.step_names.proofs.OrderLaws.{thread_same}
 use Rattle.saved_steps.specs.Effects.{Effect, next_step, own_effect, called, call_effect, effect_of_turn, kids, first_fault, outputs, join_effect, close_effect, effect_in, stands, frame_effect, move_effect, if_numbered, effect_of}
 use Rattle.saved_steps.specs.Held.{world_view}
-use Rattle.saved_steps.specs.Made.{is_open}
+use Rattle.saved_steps.specs.Made.{is_unparked}
 use Rattle.saved_steps.specs.Run.{begun_at, after_effect, take_step}
 use Rattle.saved_steps.specs.Steps.{Step, started, moved, start_name, makes, closes}
 use Rattle.saved_steps.specs.World.{Setting, World, is_same_thread}
@@ -67,7 +67,7 @@ pub record Placed (s : Setting) (depth : ℕ) (f : Frame) : Type 0 where
   pub at : Location
   pub there : located root f ≡ Some at
   pub deep : length f.level.path ≡ depth
-  pub works : is_parked f.phase ≡ true → is_some (work_of at.1) ≡ true
+  pub works : is_parked f.phase ≡ true → is_some (state_work at.1) ≡ true
   pub over : (n bound : ℕ) → f.phase ≡ Parked n bound → 1 ≤ n → depth < 31
 
 some_there : {A : Type 0} (o : Option A) → IsSome o → (a : A) × (o ≡ Some a)
@@ -97,7 +97,7 @@ module _ (s : Setting) (whole : HasWellFormedMachines s) where
     inside : StaysInside p.at.0.states p.at.1
     inside = if_there (StaysInside p.at.0.states) (state_of f.state p.at.0.states) p.at.1 (level_whole.0.stays f.state) state_there
 
-    here : IsState p.at.0.states f.state
+    here : IsStateName p.at.0.states f.state
     here = subst (λ (o : Option State). IsSome o) (sym state_there) refl
 
     pub stands_at : stands s f ≡ Some p.at
@@ -116,7 +116,7 @@ module _ (s : Setting) (whole : HasWellFormedMachines s) where
       deep_again : length g.level.path ≡ depth
       deep_again = ap (λ (l : Level). length l.path) level ∙ p.deep
 
-    goes_on : (g : Frame) → g.level ≡ f.level → IsState p.at.0.states g.state → is_open g → Placed s depth g
+    goes_on : (g : Frame) → g.level ≡ f.level → IsStateName p.at.0.states g.state → is_unparked g → Placed s depth g
     goes_on g level found free =
         let st = some_there (state_of g.state p.at.0.states) found in
         record {
@@ -154,14 +154,14 @@ module _ (s : Setting) (whole : HasWellFormedMachines s) where
 -- a turn that forks parks its frame over as many branches as begin, and its state works
 abbrev pub IsForked : State → Frame → Outcome → Type 0
 IsForked st f (outcome.Next g) = Unit {0}
-IsForked st f (outcome.Call c) = is_some (work_of st) ≡ true
-IsForked st f (outcome.Fork g fs) = (bound : ℕ) × (g ≡ parks f (length fs) bound) × (is_some (work_of st) ≡ true)
+IsForked st f (outcome.Call c) = is_some (state_work st) ≡ true
+IsForked st f (outcome.Fork g fs) = (bound : ℕ) × (g ≡ parks f (length fs) bound) × (is_some (state_work st) ≡ true)
 
-forks_so : (level : Definition) (st : State) (errors : ErrorHandling) (f : Frame) (bound : ℕ) (fs : Result (List Frame) (List ℕ)) → is_some (work_of st) ≡ true → IsForked st f (forks level errors f bound fs)
+forks_so : (level : Definition) (st : State) (errors : ErrorHandling) (f : Frame) (bound : ℕ) (fs : Result (List Frame) (List ℕ)) → is_some (state_work st) ≡ true → IsForked st f (forks level errors f bound fs)
 forks_so level st errors f bound (Ok fs) h = (bound, refl, h)
 forks_so level st errors f bound (Err error) h = tt
 
-asks_so : (level : Definition) (st : Task) (f : Frame) (c : Option call.Call) → IsForked (state.Task st) f (asks level st f c)
+asks_so : (level : Definition) (st : Task) (f : Frame) (c : Option call.Call) → IsForked (state.Task st) f (outcome_of_call level st f c)
 asks_so level st f (Some c) = refl
 asks_so level st f None = tt
 
@@ -199,7 +199,7 @@ module _ (s : Setting) (whole : HasWellFormedMachines s) (w : World) (t : Thread
   some_room [] all h = absurd (omega (arith, h))
   some_room (g ∷ fs) all h = let e = shallow s whole (length t.path + 1) g all.0 in omega (arith, e)
 
-  parked_placed : (fs : List Frame) (bound : ℕ) → AllByRecursion (Placed s (length t.path + 1)) fs → is_some (work_of p.at.1) ≡ true → Placed s (length t.path) (parks f (length fs) bound)
+  parked_placed : (fs : List Frame) (bound : ℕ) → AllByRecursion (Placed s (length t.path + 1)) fs → is_some (state_work p.at.1) ≡ true → Placed s (length t.path) (parks f (length fs) bound)
   parked_placed fs bound all works = record {
     root = p.root;
     known = p.known;
@@ -210,7 +210,7 @@ module _ (s : Setting) (whole : HasWellFormedMachines s) (w : World) (t : Thread
     over = λ n m h k. let e : Parked (length fs) bound ≡ Parked n m = h in let same : length fs ≡ n = cc in some_room fs all (omega (arith, k, same));
   }
 
-  turn_placed : (o : Outcome) (d : Effect) → OnFrame (λ g. g.level ≡ f.level) o → OnFrame (λ g. IsState p.at.0.states g.state) o → OnBranches (Placed s (length t.path + 1)) o → Yields f o → IsForked p.at.1 f o
+  turn_placed : (o : Outcome) (d : Effect) → OnFrame (λ g. g.level ≡ f.level) o → OnFrame (λ g. IsStateName p.at.0.states g.state) o → OnBranches (Placed s (length t.path + 1)) o → Yields f o → IsForked p.at.1 f o
       → effect_of_turn s w (next_step t f) p.at f o ≡ Some d → PlacedAt s t d
   turn_placed (outcome.Next g) d level found branches free so h =
       subst (PlacedAt s t) (same_Some _ _ h) (record { own = refl; frame = goes_on s whole (length t.path) f p g level found free; branches = tt })
@@ -218,7 +218,7 @@ module _ (s : Setting) (whole : HasWellFormedMachines s) (w : World) (t : Thread
       subst (PlacedAt s t) (same_Some _ _ h)
       (record { own = refl; frame = subst (Placed s (length t.path)) (sym so.1) (parked_placed fs so.0 branches so.2); branches = branches })
   turn_placed (outcome.Call c) d level found branches free so h =
-      let m = map_some (λ (work : Work). call_effect (next_step t f) p.at.0 work f (table.in_form s.table s.schema w.items c)) (work_of p.at.1) d h in
+      let m = map_some (λ (work : Work). call_effect (next_step t f) p.at.0 work f (table.in_form s.table s.schema w.items c)) (state_work p.at.1) d h in
       let o = table.in_form s.table s.schema w.items c in
       let stays : WorkStays p.at.0.states m.0 = work_stays p.at.0.states p.at.1 m.0 (inside s whole (length t.path) f p) m.1 in
       subst (PlacedAt s t) m.2
@@ -237,7 +237,7 @@ module _ (s : Setting) (whole : HasWellFormedMachines s) (w : World) (t : Thread
       })
   close_placed None all d h =
       let j = and_then_some (join_effect (next_step t f) p.at f) all d h in
-      let m = map_some (λ (work : Work). own_effect Join (next_step t f) (after_join p.at.0 work f j.0)) (work_of p.at.1) d j.2 in
+      let m = map_some (λ (work : Work). own_effect Join (next_step t f) (after_join p.at.0 work f j.0)) (state_work p.at.1) d j.2 in
       let stays : WorkStays p.at.0.states m.0 = work_stays p.at.0.states p.at.1 m.0 (inside s whole (length t.path) f p) m.1 in
       subst (PlacedAt s t) m.2
       (record {

@@ -43,11 +43,11 @@ descending_reverse : (ps : List ℕ) → Ascending ps → Descending (reverse ps
 descending_reverse [] a = tt
 descending_reverse (p ∷ ps) a = subst Descending (sym (reverse-append (p ∷ []) ps)) (descending_end (reverse ps) p (descending_reverse ps a.1) (λ q i. a.0 q (reverse-In q ps i)))
 
-following_ascends : (fs : List Fact) (marked : List ℕ) (place : ℕ) (rest : List Fact) → ((q : ℕ) → In q (plans.consequences_from fs marked place rest) → place ≤ q) × Ascending (plans.consequences_from fs marked place rest)
+following_ascends : (fs : List Fact) (marked : List ℕ) (place : ℕ) (rest : List Fact) → ((q : ℕ) → In q (plans.consequences_behind fs marked place rest) → place ≤ q) × Ascending (plans.consequences_behind fs marked place rest)
 following_ascends fs marked place [] = (λ q i. absurd i, tt)
 following_ascends fs marked place (f ∷ rest) =
     by_bool (depends_on_some fs marked f) _
-    (λ k. let r = following_ascends fs (marked ++ place ∷ []) (place + 1) rest in rw k (first (plans.consequences_from fs (marked ++ place ∷ []) (place + 1) rest) r.0, (λ q i. let j = r.0 q i in omega (arith, j), r.1)))
+    (λ k. let r = following_ascends fs (marked ++ place ∷ []) (place + 1) rest in rw k (first (plans.consequences_behind fs (marked ++ place ∷ []) (place + 1) rest) r.0, (λ q i. let j = r.0 q i in omega (arith, j), r.1)))
     (λ k. let r = following_ascends fs marked (place + 1) rest in rw k (λ q i. let j = r.0 q i in omega (arith, j), r.1))
   where
     first : (qs : List ℕ) → ((q : ℕ) → In q qs → place + 1 ≤ q) → (q : ℕ) → In q (place ∷ qs) → place ≤ q

@@ -6,7 +6,7 @@ use Rattle.saved_steps.specs.Held.{world_view, store_of}
 use Rattle.saved_steps.specs.World.{Setting, World}
 use Rattle.saved_steps.specs.declared.record.StepRecord.{StepRecord}
 use Rattle.saved_steps.specs.declared.world.World.{World as Held}
-use Rattle.step_history.specs.SettledNames.{HasRoomFor, Names}
+use Rattle.step_history.specs.SettledNames.{HasRoomFor, SettledNamesView}
 use Rattle.depends.specs.Instance.{steps}
 use Rattle.step_history.specs.History.{TakenStep, IsHistory, AreRecordsOf}
 use Rattle.step_history.specs.declared.history.History.{History}
@@ -28,7 +28,7 @@ pub none_left : (rs : List StepRecord) → (length rs == 0) ≡ true → rs ≡ 
 none_left [] e = refl
 none_left (r ∷ rs) e = let none = eqb-true (length (r ∷ rs)) 0 e in absurd (omega (arith, none))
 
-pub room_for_one : (v : Names) (more : ℕ) → 0 < more → HasRoomFor v more → HasRoomFor v 1
+pub room_for_one : (v : SettledNamesView) (more : ℕ) → 0 < more → HasRoomFor v more → HasRoomFor v 1
 room_for_one v more some h =
     let listed = h.listed in
     let numbered = h.numbered in

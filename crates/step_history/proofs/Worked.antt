@@ -3,7 +3,7 @@ use Rattle.std.proofs.Common.{◌≡◌, ◌+◌, ◌-◌, arith, ℕ, true, fal
 use Rattle.std.specs.Prelude.{IfSome, IsSomeAnd, option_map, option_and_then}
 use Rattle.json_tree.specs.Data.{Data}
 use Rattle.asl_tree.specs.Definition.{Definition}
-use Rattle.asl_forward.specs.Results.{Work, work_of, after_join}
+use Rattle.asl_forward.specs.Results.{Work, state_work, after_join}
 use Rattle.asl_frames.specs.Turn.{Location, located}
 use Rattle.asl_frames.specs.declared.frame.Fault.{Fault}
 use Rattle.asl_frames.specs.declared.frame.Frame.{Frame}
@@ -15,7 +15,7 @@ use Rattle.step_names.specs.declared.step.StepName.{StepName}
 use Rattle.saved_steps.specs.Effects.{own_effect, first_fault, outputs, stands, waits, next_step, effect_in, close_effect}
 use Rattle.saved_steps.specs.Held.{frames_of, world_view}
 use Rattle.saved_steps.specs.Laws.{IsOver, WorkIsEffect, JoinIsEffect, TerminateIsEffect}
-use Rattle.saved_steps.specs.Made.{is_open, IsParkedSince}
+use Rattle.saved_steps.specs.Made.{is_unparked, IsParkedSince}
 use Rattle.saved_steps.specs.World.{Setting}
 use Rattle.saved_steps.specs.World as model
 use Rattle.saved_steps.specs.declared.fact.Kind.TheVariants as kind
@@ -47,7 +47,7 @@ module _ (s : Setting) (w : World) (t : Thread) (f : Frame) (m : Definition) (ov
       let machine_there : s.machines p.frame.level.machine ≡ Some p.machine = ap (λ (x : Frame). s.machines x.level.machine) frame ∙ known ∙ ap Some (sym from) in (
         f,
         there,
-        (subst (λ (o : Option Frame). IsSomeAnd o is_open) (sym there) (ap is_parked ready), number),
+        (subst (λ (o : Option Frame). IsSomeAnd o is_unparked) (sym there) (ap is_parked ready), number),
         law s w (next_step t f) p over (there ∙ ap Some (sym frame)) machine_there number (ap (waits (frames_of w) t) frame ∙ begins),
       )
 
@@ -63,7 +63,7 @@ module _ (s : Setting) (w : World) (t : Thread) (f : Frame) (m : Definition) (ov
         let e : f.count ≡ f.count + 1 - 1 = omega arith in
         subst (λ (o : Option Frame). IsSomeAnd o (λ g. (is_parked g.phase ≡ true) × (g.count ≡ f.count + 1 - 1))) (sym there) (ap is_parked phase, e)
 
-    none_over : (o : Option Location) → stands s f ≡ o → first_fault (branches_of w t f.count 0 n) ≡ None → option_and_then (λ (x : Work). outputs (branches_of w t f.count 0 n)) (option_and_then (λ at. work_of at.1) o) ≡ None
+    none_over : (o : Option Location) → stands s f ≡ o → first_fault (branches_of w t f.count 0 n) ≡ None → option_and_then (λ (x : Work). outputs (branches_of w t f.count 0 n)) (option_and_then (λ at. state_work at.1) o) ≡ None
         → option_and_then (λ at. effect_in s (world_view w) t at f f.phase) (stands s f) ≡ None
     none_over None e fault waits = rw e refl
     none_over (Some at) e fault waits =
@@ -71,7 +71,7 @@ module _ (s : Setting) (w : World) (t : Thread) (f : Frame) (m : Definition) (ov
         rw e
         (ap (effect_in s (world_view w) t at f) phase
         ∙ ap (λ (o : Option Fault). close_effect (next_step t f) at f o (outputs over_branches)) fault
-        ∙ no_join (next_step t f) at (outputs over_branches) (work_of at.1) waits)
+        ∙ no_join (next_step t f) at (outputs over_branches) (state_work at.1) waits)
 
     pub close_move : (o : Option Next) → JoinIsEffect → TerminateIsEffect → IsCloseOf m f (branches_of w t f.count 0 n) o → IsMoveOf s w t o
     close_move None join terminate h = rw there (none_over (located m f) stands_so h.0 h.1)

@@ -1,6 +1,6 @@
 -- The steps that remain, with what is kept of each, and the world that they give.
 use Rattle.std.specs.Prelude.{◌≡◌, ◌<◌, ℕ, true, List, [], ◌∷◌, None, length, map}
-use Rattle.item_store.specs.Store.{Store, items_of}
+use Rattle.item_store.specs.Store.{Store, stored_items}
 pub use Rattle.depends.specs.Instance.{TakenStep, taken_in}
 use Rattle.depends.specs.Instance.{steps}
 use Rattle.depends.specs.Laws.{IsFrom}
@@ -16,7 +16,7 @@ use Rattle.step_history.specs.declared.history.History.{History}
 
 -- no executions, over the items of a store
 abbrev pub nothing_over : Store → World
-nothing_over items = record { frames = λ t. None; items = items_of items }
+nothing_over items = record { frames = λ t. None; items = stored_items items }
 
 -- what a history holds, as the contracts above it see it: the world that its steps gave, the items of the table, and the record
 -- of each step, in order

@@ -7,7 +7,7 @@ use Rattle.trace_theory.specs.Traces.{IsRun, IsMaximal, IsBackwardOrder, In, Tak
 use Rattle.saved_steps.specs.Held.{frames_of, world_view}
 use Rattle.saved_steps.specs.World.{Setting, World}
 use Rattle.depends.specs.Instance.{steps}
-pub use Rattle.depends.specs.Laws.{Extends}
+pub use Rattle.depends.specs.Laws.{ExtendsSetting}
 use Rattle.step_history.specs.History.{TakenStep, IsHistory}
 use Rattle.step_history.specs.declared.history.History.{History}
 
@@ -20,7 +20,7 @@ FramesAreCounted =
 
 -- a history stays one where machines are defined
 abbrev pub MoreMachinesKeepHistories : Type 0
-MoreMachinesKeepHistories = (s more : Setting) (base : World) (ts : List TakenStep) (h : History) → Extends s more → IsHistory s base ts h → IsHistory more base ts h
+MoreMachinesKeepHistories = (s more : Setting) (base : World) (ts : List TakenStep) (h : History) → ExtendsSetting s more → IsHistory s base ts h → IsHistory more base ts h
 
 -- Every order in which each step is free at its turn leaves the run of the rest, and takes with each step all its consequences.
 abbrev pub BackwardOrdersUndo : Type 0

@@ -13,7 +13,7 @@ use Rattle.saved_steps.specs.Steps.{moved}
 use Rattle.saved_steps.specs.World.{Setting}
 use Rattle.saved_steps.specs.declared.next.Next.{Next}
 use Rattle.saved_steps.specs.declared.next.Next.TheVariants.{Begin, Work as WorkOn, Join, Terminate}
-use Rattle.asl_forward.specs.Results.{Work, work_of, work_at, after_join, after_branch}
+use Rattle.asl_forward.specs.Results.{Work, state_work, work_at, after_join, after_branch}
 use Rattle.asl_frames.specs.Turn.{Location, located}
 use Rattle.saved_steps.specs.declared.world.World.{World}
 
@@ -45,5 +45,5 @@ IsCloseOf d f branches None = (first_fault branches ≡ None) × (option_and_the
 IsCloseOf d f branches (Some (Begin g)) = ⊥
 IsCloseOf d f branches (Some (WorkOn p)) = ⊥
 IsCloseOf d f branches (Some (Join g)) =
-    (at : Location) × (w : Work) × (ds : List Data) × (located d f ≡ Some at) × (work_of at.1 ≡ Some w) × (first_fault branches ≡ None) × (outputs branches ≡ Some ds) × (g ≡ after_join at.0 w f ds)
+    (at : Location) × (w : Work) × (ds : List Data) × (located d f ≡ Some at) × (state_work at.1 ≡ Some w) × (first_fault branches ≡ None) × (outputs branches ≡ Some ds) × (g ≡ after_join at.0 w f ds)
 IsCloseOf d f branches (Some (Terminate g)) = (at : Location) × (fault : Fault) × (located d f ≡ Some at) × (first_fault branches ≡ Some fault) × (g ≡ after_branch at f fault)

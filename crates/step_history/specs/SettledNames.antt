@@ -15,7 +15,7 @@ bucket name =
 
 -- the names; for how many there is room in their list, for which numbers and for how many more members there is room in the classes,
 -- and how many classes there are
-pub record Names : Type 0 where
+pub record SettledNamesView : Type 0 where
   pub items : List StepName
   pub capacity : ℕ
   pub room : ℕ
@@ -23,7 +23,7 @@ pub record Names : Type 0 where
   pub width : ℕ
 
 -- there is room for so many more
-pub record HasRoomFor (v : Names) (more : ℕ) : Type 0 where
+pub record HasRoomFor (v : SettledNamesView) (more : ℕ) : Type 0 where
   pub listed : length v.items + more ≤ v.capacity
   pub numbered : length v.items + more ≤ v.room
   pub linked : more ≤ v.spare
@@ -31,8 +31,8 @@ pub record HasRoomFor (v : Names) (more : ℕ) : Type 0 where
   pub few : length v.items + more < 2 ^ 32
 
 -- one of some names is this
-abbrev pub is_among : StepName → List StepName → Bool
-is_among name ns = list_any (λ n. eq_by_cmp step_cmp n name) ns
+abbrev pub is_name_among : StepName → List StepName → Bool
+is_name_among name ns = list_any (λ n. eq_by_cmp step_cmp n name) ns
 
 -- each name is in its class, by its number, and no other number is in one
 pub record AreClassed (ns : List StepName) (v : Classes) : Type 0 where

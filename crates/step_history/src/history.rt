@@ -4,7 +4,7 @@ ghost use Rattle.std.specs.BTreeSet.{contains};
 ghost use Rattle.std.specs.String.{string_bytes};
 ghost use Rattle.saved_steps.specs.Ready.{readiness_at};
 ghost use Rattle.depends.specs.Plans as plans;
-ghost use Rattle.item_store.specs.Store.{items_of};
+ghost use Rattle.item_store.specs.Store.{stored_items};
 ghost use Rattle.saved_steps.specs.First.{IsFirstReady, NoneBeforeThread};
 ghost use Rattle.saved_steps.specs.Held.{frames_of, paths_of, store_of};
 ghost use Rattle.saved_steps.specs.World.{Setting, is_same_step};

@@ -1,7 +1,7 @@
 // What a thread's move is to do.
 ghost use Rattle.std.specs.Prelude.{◌≡◌, ◌<◌, ◌≤◌, ◌+◌, ◌^◌, List, length, IfOk, IfSome, IsSome, Some, None, is_some, option_copied, option_map, false};
 ghost use Rattle.json_tree.specs.View.{data_of};
-ghost use Rattle.asl_forward.specs.Results.{work_of, work_at};
+ghost use Rattle.asl_forward.specs.Results.{state_work, work_at};
 ghost use Rattle.asl_frames.specs.Turn.{located};
 ghost use Rattle.step_names.specs.Thread.{child_of};
 ghost use Rattle.saved_steps.specs.Effects.{first_fault, outputs, waits};
@@ -21,7 +21,7 @@ use step_names::{NameFault, ThreadName};
 
 /// Whether a state's work has a result.
 fn has_work(state: &State) -> bool
-    ensures { result ≡ is_some (work_of state.now) }
+    ensures { result ≡ is_some (state_work state.now) }
 {
     matches!(state, State::Task(_) | State::Parallel(_) | State::Map(_))
 }

@@ -1,6 +1,6 @@
 // Names in classes by their hash.
 ghost use Rattle.std.specs.Prelude.{◌≡◌, ◌+◌, ◌∷◌, ◌++◌, ◌==◌, [], ℕ, OnOk, length};
-ghost use Rattle.step_history.specs.SettledNames.{HasRoomFor, is_among};
+ghost use Rattle.step_history.specs.SettledNames.{HasRoomFor, is_name_among};
 
 use crate::name_bucket::{BUCKETS, bucket};
 use linked_classes::LinkedClasses;
@@ -20,9 +20,9 @@ impl Model for SettledNames {
     ghost use Rattle.std.specs.Prelude.{vec_capacity};
     ghost use Rattle.std.specs.Coded.{codes};
     ghost use Rattle.step_names.specs.contracts.step.StepName as name_row;
-    ghost use Rattle.step_history.specs.SettledNames.{Names, AreClassed};
+    ghost use Rattle.step_history.specs.SettledNames.{SettledNamesView, AreClassed};
 
-    ghost Value = { Names };
+    ghost Value = { SettledNamesView };
 
     ghost coded = { Prim.hlevel (codes, name_row.the_row.coded) };
 
@@ -90,7 +90,7 @@ impl SettledNames {
 
     /// Whether a name is among them. Takes no memory; looks at those that have its hash.
     pub fn contains(&self, name: &StepName) -> bool
-        ensures { result ≡ is_among name.now self.now.items }
+        ensures { result ≡ is_name_among name.now self.now.items }
     {
         let mut next = self.classes.first(bucket(name));
         while let Some(number) = next {

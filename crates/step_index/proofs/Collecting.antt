@@ -10,7 +10,7 @@ use Rattle.linked_classes.specs.Cells.{cell_at}
 use Rattle.saved_steps.specs.declared.fact.Access.{Access}
 use Rattle.saved_steps.specs.declared.record.StepRecord.{StepRecord}
 use Rattle.step_index.specs.Buckets.{by_exec, by_key, exec_bucket, key_bucket}
-use Rattle.step_index.specs.Gathered.{accesses, is_access, is_of, places_from, places_where}
+use Rattle.step_index.specs.Gathered.{accesses, is_access, is_of_execution, places_from, places_where}
 use Rattle.step_index.specs.Records.{classes_by}
 use Rattle.step_index.proofs.Listed.{class_there}
 
@@ -118,7 +118,7 @@ module _ (g : ℕ → Option ℕ) (c : ℕ) (p : StepRecord → Bool) (rs : List
 -- ---- the classes in which these are
 
 pub of_in_class : (exec : List ℕ) (execs : List (Option ℕ)) (rs : List StepRecord) (c : ℕ) → execs ≡ classes_by by_exec rs → c ≡ exec_bucket exec
-    → (k : ℕ) (r : StepRecord) → slice_get rs k ≡ Some r → is_of exec r ≡ true → cell_at execs k ≡ Some c
+    → (k : ℕ) (r : StepRecord) → slice_get rs k ≡ Some r → is_of_execution exec r ≡ true → cell_at execs k ≡ Some c
 of_in_class exec execs rs c run e k r is same =
     class_there by_exec execs rs run k r is
     ∙ ap (λ (x : List ℕ). Some (exec_bucket x)) ((bytes_eq-Decides r.fact.name.thread.exec exec).0 same)

@@ -15,7 +15,7 @@ use Rattle.step_index.specs.Buckets.{by_name, by_thread, by_exec, by_gate, by_ke
 use Rattle.step_index.specs.Records.{AreIndexed, classes_in}
 use Rattle.step_index.specs.declared.buckets.Classing.{Classing}
 use Rattle.step_index.specs.declared.buckets.Classing.TheVariants.{Names, Threads, Execs, Gates, Keys, Writes}
-use Rattle.step_index.specs.Walks.{ConflictsAt, IsFirstFrom, NeedsByName, needs, earlier}
+use Rattle.step_index.specs.Walks.{ConflictsAt, IsFirstFrom, NeedsByName, record_needs, earlier}
 use Rattle.step_index.proofs.Firsts.{Everywhere, first_more, first_of_two, first_is, position_is}
 use Rattle.step_index.proofs.Listed.{class_there}
 use Rattle.step_index.proofs.Meeting.{name_alike, by_name_or_item, meet_in_exec, meet_in_thread_or_gate, meet_in_key, meet_in_write}
@@ -39,51 +39,51 @@ module _ (v : Classed StepRecord) (h : AreIndexed v) where
     pub own_thread : cell_at (classes_in v Threads) at ≡ Some (thread_bucket f.fact.name.thread)
     own_thread = class_there by_thread (classes_in v Threads) v.items (h.classed Threads) at f is
 
-    pub first_of_exec : (r : Option ℕ) → IsFirstFrom (InClass v Execs (exec_bucket f.fact.name.thread.exec)) (needs f) v.items (at + 1) r → IsFirstFrom (NeedsByName v.items f) (needs f) v.items (at + 1) r
+    pub first_of_exec : (r : Option ℕ) → IsFirstFrom (InClass v Execs (exec_bucket f.fact.name.thread.exec)) (record_needs f) v.items (at + 1) r → IsFirstFrom (NeedsByName v.items f) (record_needs f) v.items (at + 1) r
     first_of_exec r =
-        first_more (InClass v Execs (exec_bucket f.fact.name.thread.exec)) (NeedsByName v.items f) (needs f) v.items (at + 1) r
+        first_more (InClass v Execs (exec_bucket f.fact.name.thread.exec)) (NeedsByName v.items f) (record_needs f) v.items (at + 1) r
         (λ k g there e n. class_there by_exec (classes_in v Execs) v.items (h.classed Execs) k n.0 n.1 ∙ meet_in_exec f.fact n.0.fact n.2)
 
     pub first_of_thread_or_gate : (c : ℕ) (a b : Option ℕ) → c ≡ exec_bucket f.fact.name.thread.exec → (is_start f.fact.kind || is_fork f.fact.kind) ≡ false
-        → IsFirstFrom (InClass v Threads (thread_bucket f.fact.name.thread)) (needs f) v.items (at + 1) a → IsFirstFrom (InClass v Gates c) (needs f) v.items (at + 1) b → IsFirstFrom (NeedsByName v.items f) (needs f) v.items (at + 1) (earlier a b)
+        → IsFirstFrom (InClass v Threads (thread_bucket f.fact.name.thread)) (record_needs f) v.items (at + 1) a → IsFirstFrom (InClass v Gates c) (record_needs f) v.items (at + 1) b → IsFirstFrom (NeedsByName v.items f) (record_needs f) v.items (at + 1) (earlier a b)
     first_of_thread_or_gate c a b e none own closing =
         let t = thread_bucket f.fact.name.thread in
-        first_more (λ k. InClass v Threads t k ⊎ InClass v Gates c k) (NeedsByName v.items f) (needs f) v.items (at + 1) (earlier a b)
+        first_more (λ k. InClass v Threads t k ⊎ InClass v Gates c k) (NeedsByName v.items f) (record_needs f) v.items (at + 1) (earlier a b)
         (λ k g there need n. elim (meet_in_thread_or_gate f.fact n.0.fact n.2 none) [
           | inl x ↦ inl (class_there by_thread (classes_in v Threads) v.items (h.classed Threads) k n.0 n.1 ∙ x)
           | inr x ↦ inr (class_there by_gate (classes_in v Gates) v.items (h.classed Gates) k n.0 n.1 ∙ x ∙ ap Some (sym e))
         ])
-        (first_of_two (InClass v Threads t) (InClass v Gates c) (needs f) v.items (at + 1) a b own closing)
+        (first_of_two (InClass v Threads t) (InClass v Gates c) (record_needs f) v.items (at + 1) a b own closing)
 
-    pub first_conflict : (r : Option ℕ) → ((c : ℕ) → cell_at (classes_in v Keys) at ≡ Some c → IsFirstFrom (InClass v Keys c) (needs f) v.items (at + 1) r) → (cell_at (classes_in v Keys) at ≡ None → r ≡ None) → IsFirstFrom (ConflictsAt v.items f) (needs f) v.items (at + 1) r
+    pub first_conflict : (r : Option ℕ) → ((c : ℕ) → cell_at (classes_in v Keys) at ≡ Some c → IsFirstFrom (InClass v Keys c) (record_needs f) v.items (at + 1) r) → (cell_at (classes_in v Keys) at ≡ None → r ≡ None) → IsFirstFrom (ConflictsAt v.items f) (record_needs f) v.items (at + 1) r
     first_conflict r some none = by (cell_at (classes_in v Keys) at) refl
       where
         own : cell_at (classes_in v Keys) at ≡ by_key f.fact
         own = class_there by_key (classes_in v Keys) v.items (h.classed Keys) at f is
 
-        by : (o : Option ℕ) → cell_at (classes_in v Keys) at ≡ o → IsFirstFrom (ConflictsAt v.items f) (needs f) v.items (at + 1) r
+        by : (o : Option ℕ) → cell_at (classes_in v Keys) at ≡ o → IsFirstFrom (ConflictsAt v.items f) (record_needs f) v.items (at + 1) r
         by None e =
-            subst (IsFirstFrom (ConflictsAt v.items f) (needs f) v.items (at + 1)) (sym (none e))
+            subst (IsFirstFrom (ConflictsAt v.items f) (record_needs f) v.items (at + 1)) (sym (none e))
             (λ k g there l n. let m = meet_in_key f.fact n.0.fact n.2 in absurd (none-some m.0 (sym e ∙ own ∙ m.1)))
         by (Some c) e =
-            first_more (InClass v Keys c) (ConflictsAt v.items f) (needs f) v.items (at + 1) r
+            first_more (InClass v Keys c) (ConflictsAt v.items f) (record_needs f) v.items (at + 1) r
             (λ k g there need n.
             let m = meet_in_key f.fact n.0.fact n.2 in
             class_there by_key (classes_in v Keys) v.items (h.classed Keys) k n.0 n.1 ∙ m.2 ∙ sym m.1 ∙ sym own ∙ e)
             (some c e)
 
-    pub no_conflict : f.fact.access ≡ None → IsFirstFrom (ConflictsAt v.items f) (needs f) v.items (at + 1) None
+    pub no_conflict : f.fact.access ≡ None → IsFirstFrom (ConflictsAt v.items f) (record_needs f) v.items (at + 1) None
     no_conflict none = λ k g there l n. absurd (let x : false ≡ true = sym (ap (λ o. conflicts o n.0.fact.access) none) ∙ n.2 in cc)
 
-    pub first_write : (a : Access) (c : ℕ) (r : Option ℕ) → f.fact.access ≡ Some a → is_write a.mode ≡ false → c ≡ key_bucket a.key → IsFirstFrom (InClass v Writes c) (needs f) v.items (at + 1) r → IsFirstFrom (ConflictsAt v.items f) (needs f) v.items (at + 1) r
+    pub first_write : (a : Access) (c : ℕ) (r : Option ℕ) → f.fact.access ≡ Some a → is_write a.mode ≡ false → c ≡ key_bucket a.key → IsFirstFrom (InClass v Writes c) (record_needs f) v.items (at + 1) r → IsFirstFrom (ConflictsAt v.items f) (record_needs f) v.items (at + 1) r
     first_write a c r has reads e =
-        first_more (InClass v Writes c) (ConflictsAt v.items f) (needs f) v.items (at + 1) r
+        first_more (InClass v Writes c) (ConflictsAt v.items f) (record_needs f) v.items (at + 1) r
         (λ k g there need n. class_there by_write (classes_in v Writes) v.items (h.classed Writes) k n.0 n.1 ∙ meet_in_write f.fact n.0.fact a has reads n.2 ∙ ap Some (sym e))
 
-pub first_of_all : (rs : List StepRecord) (at : ℕ) (f : StepRecord) → slice_get rs at ≡ Some f → (a b : Option ℕ) → IsFirstFrom (NeedsByName rs f) (needs f) rs (at + 1) a → IsFirstFrom (ConflictsAt rs f) (needs f) rs (at + 1) b
+pub first_of_all : (rs : List StepRecord) (at : ℕ) (f : StepRecord) → slice_get rs at ≡ Some f → (a b : Option ℕ) → IsFirstFrom (NeedsByName rs f) (record_needs f) rs (at + 1) a → IsFirstFrom (ConflictsAt rs f) (record_needs f) rs (at + 1) b
     → earlier a b ≡ plans.first_dependent (map (λ (r : StepRecord). r.fact) rs) at
 first_of_all rs at f is a b named conflicting =
     first_is rs at f (earlier a b) is
-    (first_more (λ k. NeedsByName rs f k ⊎ ConflictsAt rs f k) Everywhere (needs f) rs (at + 1) (earlier a b)
+    (first_more (λ k. NeedsByName rs f k ⊎ ConflictsAt rs f k) Everywhere (record_needs f) rs (at + 1) (earlier a b)
     (λ k g there need any. elim (by_name_or_item f.fact g.fact need) [ inl x ↦ inl (g, there, x) | inr x ↦ inr (g, there, x) ])
-    (first_of_two (NeedsByName rs f) (ConflictsAt rs f) (needs f) rs (at + 1) a b named conflicting))
+    (first_of_two (NeedsByName rs f) (ConflictsAt rs f) (record_needs f) rs (at + 1) a b named conflicting))

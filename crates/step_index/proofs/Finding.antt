@@ -14,8 +14,8 @@ use Rattle.saved_steps.specs.declared.record.StepRecord.{StepRecord}
 use Rattle.depends.specs.Dependence.{depends_directly}
 use Rattle.depends.specs.Plans.{consequences_at, depends_on, depends_on_some}
 use Rattle.depends.specs.Marks.{AreMarksOf}
-use Rattle.step_index.specs.Due.{AreDue, IsFurther, IsOpen, IsTaken, is_due}
-use Rattle.step_index.specs.Finding.{AreFound, IsFree, IsNextDue, IsNextDueAt, pick, picked}
+use Rattle.step_index.specs.Due.{AreDue, IsFurther, HasOpenClasses, IsPlaceTaken, is_due}
+use Rattle.step_index.specs.Finding.{AreFound, IsFree, IsNextDue, IsNextDueAt, pick, records_at}
 use Rattle.step_index.specs.Near.{is_near, shares, shares_at}
 use Rattle.step_index.specs.Walks.{needed_by}
 use Rattle.step_index.specs.declared.found.FoundSteps.{FoundSteps}
@@ -31,9 +31,9 @@ any_in_facts later [] = refl
 any_in_facts later (r ∷ rs) = ap (λ b. depends_directly r.fact later || b) (any_in_facts later rs)
 
 module _ (rs : List StepRecord) where
-  picked_more : (places : List ℕ) (p : ℕ) (r : StepRecord) → slice_get rs p ≡ Some r → picked rs (places ++ p ∷ []) ≡ picked rs places ++ r ∷ []
+  picked_more : (places : List ℕ) (p : ℕ) (r : StepRecord) → slice_get rs p ≡ Some r → records_at rs (places ++ p ∷ []) ≡ records_at rs places ++ r ∷ []
   picked_more [] p r is = ap (λ o. pick o []) is
-  picked_more (q ∷ places) p r is = ap (pick (slice_get rs q)) (picked_more places p r is) ∙ then (slice_get rs q) (picked rs places)
+  picked_more (q ∷ places) p r is = ap (pick (slice_get rs q)) (picked_more places p r is) ∙ then (slice_get rs q) (records_at rs places)
     where
       then : (o : Option StepRecord) (l : List StepRecord) → pick o (l ++ r ∷ []) ≡ pick o l ++ r ∷ []
       then None l = refl
@@ -42,25 +42,25 @@ module _ (rs : List StepRecord) where
   rest : (q : ℕ) (places : List ℕ) → All (λ p. p < length rs) (q ∷ places) → All (λ p. p < length rs) places
   rest q places within = λ i d l. within (suc i) d (omega (arith, l))
 
-  picked_any : (places : List ℕ) (later : Fact) → All (λ p. p < length rs) places → depends_on_some (facts rs) places later ≡ list_any (needed_by later) (picked rs places)
+  picked_any : (places : List ℕ) (later : Fact) → All (λ p. p < length rs) places → depends_on_some (facts rs) places later ≡ list_any (needed_by later) (records_at rs places)
   picked_any [] later within = refl
   picked_any (q ∷ places) later within =
       let r = there rs q (within 0 0 (omega arith)) in
       let fact = slice_get-map (λ (x : StepRecord). x.fact) rs q ∙ ap (option_map (λ (x : StepRecord). x.fact)) r.1 in
-      ap₂ (λ (o : Option Fact) (b : Bool). depends_on o later || b) fact (picked_any places later (rest q places within)) ∙ ap (λ o. list_any (needed_by later) (pick o (picked rs places))) (sym r.1)
+      ap₂ (λ (o : Option Fact) (b : Bool). depends_on o later || b) fact (picked_any places later (rest q places within)) ∙ ap (λ o. list_any (needed_by later) (pick o (records_at rs places))) (sym r.1)
 
   -- what is told of the records at some places is told of the places
-  pub decided : (places : List ℕ) (later : Fact) (b : Bool) → All (λ p. p < length rs) places → b ≡ list_any (λ g. depends_directly g later) (facts (picked rs places)) → b ≡ depends_on_some (facts rs) places later
-  decided places later b within e = e ∙ any_in_facts later (picked rs places) ∙ sym (picked_any places later within)
+  pub decided : (places : List ℕ) (later : Fact) (b : Bool) → All (λ p. p < length rs) places → b ≡ list_any (λ g. depends_directly g later) (facts (records_at rs places)) → b ≡ depends_on_some (facts rs) places later
+  decided places later b within e = e ∙ any_in_facts later (records_at rs places) ∙ sym (picked_any places later within)
 
 -- ---- what was found, and one more
 
 pub none_found : (rs : List StepRecord) (from : ℕ) (s : FoundSteps) → s.places.items ≡ [] → AreMarksOf [] s.marks → AreDue rs from s.due → ((k : ℕ) → is_due s.due k ≡ false) → AreFound rs from s
 none_found rs from s e marked due none = record {
   within = λ i d l. absurd (let x = ap length e in omega (arith, l, x));
-  marked = subst (λ l. AreMarksOf (facts (picked rs l)) s.marks) (sym e) marked;
+  marked = subst (λ l. AreMarksOf (facts (records_at rs l)) s.marks) (sym e) marked;
   due = due;
-  opened = λ k r is. absurd (let x : None ≡ Some r = sym (ap (λ l. slice_get (picked rs l) k) e) ∙ is in cc);
+  opened = λ k r is. absurd (let x : None ≡ Some r = sym (ap (λ l. slice_get (records_at rs l) k) e) ∙ is in cc);
   near = λ k g is h. absurd (let x : false ≡ true = sym (none k) ∙ h in cc);
 }
 
@@ -72,17 +72,17 @@ last_or_before (z ∷ xs) y x zero is = inl is
 last_or_before (z ∷ xs) y x (suc k) is = last_or_before xs y x k is
 
 pub more_found : (rs : List StepRecord) (s t : FoundSteps) (place : ℕ) (r : StepRecord) → slice_get rs place ≡ Some r → t.places.items ≡ s.places.items ++ place ∷ []
-    → (AreMarksOf (facts (picked rs s.places.items)) s.marks → AreMarksOf (facts (picked rs s.places.items) ++ r.fact ∷ []) t.marks)
-    → IsOpen t.due r.fact → IsFurther (shares r.fact) rs place s.due t.due → AreFound rs (place + 1) s → AreFound rs (place + 1) t
+    → (AreMarksOf (facts (records_at rs s.places.items)) s.marks → AreMarksOf (facts (records_at rs s.places.items) ++ r.fact ∷ []) t.marks)
+    → HasOpenClasses t.due r.fact → IsFurther (shares r.fact) rs place s.due t.due → AreFound rs (place + 1) s → AreFound rs (place + 1) t
 more_found rs s t place r at added marks opened further found =
-    let all = ap (picked rs) added ∙ picked_more rs s.places.items place r at in
+    let all = ap (records_at rs) added ∙ picked_more rs s.places.items place r at in
     record {
       within = subst (All (λ p. p < length rs)) (sym added) (All-push (λ p. p < length rs) s.places.items place found.within (slice_get_within rs place r at));
-      marked = subst (λ l. AreMarksOf l t.marks) (sym (ap facts all ∙ map-append (λ (x : StepRecord). x.fact) (picked rs s.places.items) (r ∷ []))) (marks found.marked);
+      marked = subst (λ l. AreMarksOf l t.marks) (sym (ap facts all ∙ map-append (λ (x : StepRecord). x.fact) (records_at rs s.places.items) (r ∷ []))) (marks found.marked);
       due = further.due found.due;
-      opened = λ k x is. elim (last_or_before (picked rs s.places.items) r x k (sym (ap (λ l. slice_get l k) all) ∙ is)) [
+      opened = λ k x is. elim (last_or_before (records_at rs s.places.items) r x k (sym (ap (λ l. slice_get l k) all) ∙ is)) [
         | inl h ↦ open_kept s.due t.due x.fact further.kept (found.opened k x h)
-        | inr e ↦ subst (λ (y : StepRecord). IsOpen t.due y.fact) e opened
+        | inr e ↦ subst (λ (y : StepRecord). HasOpenClasses t.due y.fact) e opened
       ];
       near = λ k g is h. ap (λ l. is_near rs l g) added ∙ list_any-append (λ p. shares_at (slice_get rs p) g) s.places.items (place ∷ []) ∙ elim (further.grown.others k h) [
         | inl x ↦ ap (λ b. b || (shares_at (slice_get rs place) g || false)) (found.near k g is x)
@@ -96,14 +96,14 @@ pub not_due : (rs : List StepRecord) (from : ℕ) (s : FoundSteps) (k : ℕ) →
 not_due rs from s k found late free g is = picked_any rs s.places.items g.fact found.within ∙ any_none (needed_by g.fact) fs (λ i f at. on i f at (needed_by g.fact f) refl)
   where
     fs : List StepRecord
-    fs = picked rs s.places.items
+    fs = records_at rs s.places.items
 
     on : (i : ℕ) (f : StepRecord) → slice_get fs i ≡ Some f → (b : Bool) → needed_by g.fact f ≡ b → needed_by g.fact f ≡ false
     on i f at false e = e
     on i f at true e = absurd (let x : false ≡ true = sym free ∙ due_if_needed rs from s.due found.due k g is late f (found.opened i f at) e in cc)
 
 -- the least due place is the next at which a step may depend directly on one of them
-pub next_due : (rs : List StepRecord) (from : ℕ) (s t : FoundSteps) (r : Option ℕ) → AreFound rs from s → t.places.items ≡ s.places.items → AreMarksOf (facts (picked rs s.places.items)) t.marks → IsTaken rs from s.due t.due r → IsNextDue rs from s t r
+pub next_due : (rs : List StepRecord) (from : ℕ) (s t : FoundSteps) (r : Option ℕ) → AreFound rs from s → t.places.items ≡ s.places.items → AreMarksOf (facts (records_at rs s.places.items)) t.marks → IsPlaceTaken rs from s.due t.due r → IsNextDue rs from s t r
 next_due rs from s t None found same marks taken = λ k late. not_due rs from s k found late (taken k)
 next_due rs from s t (Some place) found same marks taken = record {
   low = taken.low;
@@ -112,9 +112,9 @@ next_due rs from s t (Some place) found same marks taken = record {
   near = λ g is. found.near place g is taken.there;
   found = record {
     within = subst (All (λ p. p < length rs)) (sym same) found.within;
-    marked = subst (λ l. AreMarksOf (facts (picked rs l)) t.marks) (sym same) marks;
+    marked = subst (λ l. AreMarksOf (facts (records_at rs l)) t.marks) (sym same) marks;
     due = taken.due;
-    opened = λ k r is. open_kept s.due t.due r.fact taken.kept (found.opened k r (ap (λ l. slice_get (picked rs l) k) (sym same) ∙ is));
+    opened = λ k r is. open_kept s.due t.due r.fact taken.kept (found.opened k r (ap (λ l. slice_get (records_at rs l) k) (sym same) ∙ is));
     near = λ k g is h. ap (λ l. is_near rs l g) same ∙ found.near k g is (taken.fewer k h);
   };
 }

@@ -9,7 +9,7 @@ use Rattle.saved_steps.specs.declared.fact.Fact.{Fact}
 use Rattle.saved_steps.specs.declared.record.StepRecord.{StepRecord}
 use Rattle.depends.specs.Dependence.{depends_directly}
 use Rattle.depends.specs.Plans as plans
-use Rattle.step_index.specs.Walks.{IsFirstFrom, needs, earlier}
+use Rattle.step_index.specs.Walks.{IsFirstFrom, record_needs, earlier}
 
 -- ---- two of them
 
@@ -115,12 +115,12 @@ through : (f : Fact) (i : ℕ) (rs : List StepRecord) → position_from (depends
 through f i [] = refl
 through f i (r ∷ rs) = ap (cond (depends_directly f r.fact) (Some i)) (through f (i + 1) rs)
 
-pub first_is : (rs : List StepRecord) (at : ℕ) (f : StepRecord) (r : Option ℕ) → slice_get rs at ≡ Some f → IsFirstFrom Everywhere (needs f) rs (at + 1) r → r ≡ plans.first_dependent (map (λ (r : StepRecord). r.fact) rs) at
+pub first_is : (rs : List StepRecord) (at : ℕ) (f : StepRecord) (r : Option ℕ) → slice_get rs at ≡ Some f → IsFirstFrom Everywhere (record_needs f) rs (at + 1) r → r ≡ plans.first_dependent (map (λ (r : StepRecord). r.fact) rs) at
 first_is rs at f r is h =
     let facts = map (λ (r : StepRecord). r.fact) rs in
     sym (
     ap (option_and_then (λ (g : Fact). position_from (depends_directly g) (at + 1) (drop (at + 1) facts))) (slice_get-map (λ (r : StepRecord). r.fact) rs at ∙ ap (option_map (λ (r : StepRecord). r.fact)) is)
     ∙ ap (position_from (depends_directly f.fact) (at + 1)) (facts_drop (at + 1) rs)
     ∙ through f.fact (at + 1) (drop (at + 1) rs)
-    ∙ search_is (needs f) rs (at + 1) r h
+    ∙ search_is (record_needs f) rs (at + 1) r h
     )

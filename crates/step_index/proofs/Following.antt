@@ -7,7 +7,7 @@ use Rattle.std.proofs.lemmas.List.Elements.{All-push}
 use Rattle.std.proofs.lemmas.Option.{get_or_from_slice_get}
 use Rattle.saved_steps.specs.declared.fact.Fact.{Fact}
 use Rattle.saved_steps.specs.declared.record.StepRecord.{StepRecord}
-use Rattle.depends.specs.Plans.{depends_on_some, consequences_from, consequences_at}
+use Rattle.depends.specs.Plans.{depends_on_some, consequences_behind, consequences_at}
 use Rattle.depends.proofs.Searching.{as_many, is_marked_in, is_passed_in, passes}
 use Rattle.step_index.specs.Finding.{IsFree}
 use Rattle.step_index.proofs.Listed.{there}
@@ -22,11 +22,11 @@ any_none p (x ∷ xs) h = ap₂ (λ (a b : Bool). a || b) (h zero x refl) (any_n
 -- ---- the pass forward
 
 pub record IsPassedOn (rs : List StepRecord) (at i : ℕ) (places : List ℕ) : Type 0 where
-  pub all : places ++ consequences_from (facts rs) places (i + 1) (drop (i + 1) (facts rs)) ≡ consequences_at (facts rs) at
+  pub all : places ++ consequences_behind (facts rs) places (i + 1) (drop (i + 1) (facts rs)) ≡ consequences_at (facts rs) at
   pub within : All (λ p. p < length rs) places
 
 pub passed_on : (rs : List StepRecord) (at i : ℕ) (g : StepRecord) (places next : List ℕ) → i < length rs → slice_get rs i ≡ Some g → All (λ p. p < length rs) places
-    → places ++ consequences_from (facts rs) places i (drop i (facts rs)) ≡ consequences_at (facts rs) at → next ≡ cond (depends_on_some (facts rs) places g.fact) (places ++ i ∷ []) places → IsPassedOn rs at i next
+    → places ++ consequences_behind (facts rs) places i (drop i (facts rs)) ≡ consequences_at (facts rs) at → next ≡ cond (depends_on_some (facts rs) places g.fact) (places ++ i ∷ []) places → IsPassedOn rs at i next
 passed_on rs at i g places next low is within all e = by (depends_on_some (facts rs) places g.fact) refl
   where
     same : get_or rs i g ≡ g
@@ -53,7 +53,7 @@ passed_on rs at i g places next low is within all e = by (depends_on_some (facts
 
 -- what the pass finds from a place on
 abbrev pub found_from : List StepRecord → List ℕ → ℕ → List ℕ
-found_from rs places i = consequences_from (facts rs) places i (drop i (facts rs))
+found_from rs places i = consequences_behind (facts rs) places i (drop i (facts rs))
 
 skip : (n i : ℕ) (rs : List StepRecord) (places : List ℕ) → i + n ≤ length rs → ((k : ℕ) → i ≤ k → k < i + n → IsFree rs places k) → found_from rs places i ≡ found_from rs places (i + n)
 skip zero i rs places low free = ap (found_from rs places) (let w : i ≡ i + 0 = omega arith in w)
@@ -75,5 +75,5 @@ pub finished : (rs : List StepRecord) (at i : ℕ) (places : List ℕ) → i ≤
 finished rs at i places low free all =
     let none = drop_all (length rs) (facts rs) (let e = as_many rs in omega (arith, e)) in
     sym (append-nil places)
-    ∙ ap (λ (l : List Fact). places ++ consequences_from (facts rs) places (length rs) l) (sym none)
+    ∙ ap (λ (l : List Fact). places ++ consequences_behind (facts rs) places (length rs) l) (sym none)
     ∙ skipped rs at i (length rs) places low (omega arith) (λ k a b. free k a) all

@@ -18,7 +18,7 @@ use Rattle.saved_steps.specs.declared.fact.Access.{Access}
 use Rattle.saved_steps.specs.declared.fact.Fact.{Fact}
 use Rattle.depends.specs.Dependence.{begins, is_start, conflicts, awaits, depends_directly}
 use Rattle.depends.proofs.Threads.{either}
-use Rattle.step_index.specs.Buckets.{by_thread, by_exec, by_gate, by_key, by_write, written, is_gate, exec_bucket, thread_bucket, key_bucket, name_bucket}
+use Rattle.step_index.specs.Buckets.{by_thread, by_exec, by_gate, by_key, by_write, written_bucket, is_gate, exec_bucket, thread_bucket, key_bucket, name_bucket}
 use Rattle.step_index.specs.Walks.{names_need}
 
 text_same : (s t : List ℕ) → is_text s t ≡ true → s ≡ t
@@ -148,7 +148,7 @@ meet_in_key a b h = met a.access b.access h
 pub meet_in_write : (a b : Fact) (x : Access) → a.access ≡ Some x → is_write x.mode ≡ false → conflicts a.access b.access ≡ true → by_write b ≡ Some (key_bucket x.key)
 meet_in_write a b x has reads h = met b.access (sym (ap (λ o. conflicts o b.access) has) ∙ h)
   where
-    met : (y : Option Access) → conflicts (Some x) y ≡ true → written y ≡ Some (key_bucket x.key)
+    met : (y : Option Access) → conflicts (Some x) y ≡ true → written_bucket y ≡ Some (key_bucket x.key)
     met None k = cc
     met (Some y) k =
         let p = and_parts (is_same_key x.key y.key) (is_write x.mode || is_write y.mode) k in

@@ -21,7 +21,7 @@ use Rattle.saved_steps.specs.declared.fact.Kind.TheVariants.{Start, Plain, Call,
 use Rattle.saved_steps.specs.declared.record.StepRecord.{StepRecord}
 use Rattle.depends.specs.Dependence.{awaits, begins, conflicts, is_start}
 use Rattle.depends.proofs.Threads.{either}
-use Rattle.step_index.specs.Buckets.{above, by_home, by_exec, by_key, by_write, written, is_gate, exec_bucket, key_bucket, thread_bucket}
+use Rattle.step_index.specs.Buckets.{thread_at_depth, by_home, by_exec, by_key, by_write, written_bucket, is_gate, exec_bucket, key_bucket, thread_bucket}
 use Rattle.step_index.specs.Held.{AreLeft, Held, IsLeftAt, LeftFor, classes_left}
 use Rattle.step_index.specs.Walks.{IsFirstFrom, earlier, names_need, needed_by}
 use Rattle.step_index.proofs.Firsts.{first_more, first_of_two}
@@ -36,7 +36,7 @@ written_before a b x has reads h = met a.access (sym (ap (conflicts a.access) ha
     first_part true v k l = refl
     first_part false v k l = absurd (let e : false ≡ true = sym k ∙ l in cc)
 
-    met : (y : Option Access) → conflicts y (Some x) ≡ true → written y ≡ Some (key_bucket x.key)
+    met : (y : Option Access) → conflicts y (Some x) ≡ true → written_bucket y ≡ Some (key_bucket x.key)
     met None k = cc
     met (Some y) k =
         let p = and_parts (is_same_key y.key x.key) (is_write y.mode || is_write x.mode) k in
@@ -63,7 +63,7 @@ no_start Join h = refl
 no_start Terminate h = refl
 
 -- a step that is no gate depends by its name on one at home in its thread or in one above it
-pub meet_above : (a b : Fact) → names_need a b ≡ true → is_gate b ≡ false → (depth : ℕ) × (depth ≤ length b.name.thread.path) × (by_home a ≡ Some (thread_bucket (above b.name.thread depth)))
+pub meet_above : (a b : Fact) → names_need a b ≡ true → is_gate b ≡ false → (depth : ℕ) × (depth ≤ length b.name.thread.path) × (by_home a ≡ Some (thread_bucket (thread_at_depth b.name.thread depth)))
 meet_above a b h free =
     elim (either (is_same_thread a.name.thread b.name.thread) (begins a b.name.thread || (makes a b.name.thread || (closes b a.name.thread || awaits b a.name.thread))) h) [
       | inl x ↦ own (thread_alike a b x) (is_start a.kind) refl
@@ -82,18 +82,18 @@ meet_above a b h free =
     homely : (s : Bool) (t : Thread) → is_start a.kind ≡ s → cond s (execution a.name.thread.exec) a.name.thread ≡ t → by_home a ≡ Some (thread_bucket t)
     homely s t e k = ap (λ (x : Bool). Some (thread_bucket (cond x (execution a.name.thread.exec) a.name.thread))) e ∙ ap (λ (x : Thread). Some (thread_bucket x)) k
 
-    at_start : is_start a.kind ≡ true → a.name.thread.exec ≡ b.name.thread.exec → (depth : ℕ) × (depth ≤ length b.name.thread.path) × (by_home a ≡ Some (thread_bucket (above b.name.thread depth)))
-    at_start e k = (0, omega arith, homely true (above b.name.thread 0) e (ap execution k))
+    at_start : is_start a.kind ≡ true → a.name.thread.exec ≡ b.name.thread.exec → (depth : ℕ) × (depth ≤ length b.name.thread.path) × (by_home a ≡ Some (thread_bucket (thread_at_depth b.name.thread depth)))
+    at_start e k = (0, omega arith, homely true (thread_at_depth b.name.thread 0) e (ap execution k))
 
-    own : a.name.thread ≡ b.name.thread → (s : Bool) → is_start a.kind ≡ s → (depth : ℕ) × (depth ≤ length b.name.thread.path) × (by_home a ≡ Some (thread_bucket (above b.name.thread depth)))
+    own : a.name.thread ≡ b.name.thread → (s : Bool) → is_start a.kind ≡ s → (depth : ℕ) × (depth ≤ length b.name.thread.path) × (by_home a ≡ Some (thread_bucket (thread_at_depth b.name.thread depth)))
     own k true e = at_start e (ap (λ (t : Thread). t.exec) k)
     own k false e = (
       length b.name.thread.path,
       omega arith,
-      homely false (above b.name.thread (length b.name.thread.path)) e (k ∙ ap (λ (path : List (ℕ × ℕ)). let t : Thread = record { exec = b.name.thread.exec; path = path } in t) (sym (take-length b.name.thread.path))),
+      homely false (thread_at_depth b.name.thread (length b.name.thread.path)) e (k ∙ ap (λ (path : List (ℕ × ℕ)). let t : Thread = record { exec = b.name.thread.exec; path = path } in t) (sym (take-length b.name.thread.path))),
     )
 
-    at_fork : (is_fork a.kind ≡ true) × (is_under b.name.thread a.name.thread a.name.no ≡ true) → (depth : ℕ) × (depth ≤ length b.name.thread.path) × (by_home a ≡ Some (thread_bucket (above b.name.thread depth)))
+    at_fork : (is_fork a.kind ≡ true) × (is_under b.name.thread a.name.thread a.name.no ≡ true) → (depth : ℕ) × (depth ≤ length b.name.thread.path) × (by_home a ≡ Some (thread_bucket (thread_at_depth b.name.thread depth)))
     at_fork f =
         let u = (under_Decides b.name.thread a.name.thread a.name.no).0 f.1 in
         let rest = (a.name.no, u.1.0) ∷ u.1.1 in
@@ -102,7 +102,7 @@ meet_above a b h free =
         let front : take (length a.name.thread.path) b.name.thread.path ≡ a.name.thread.path = ap (take (length a.name.thread.path)) path ∙ take-append_seam a.name.thread.path rest in (
           length a.name.thread.path,
           omega (arith, long),
-          homely false (above b.name.thread (length a.name.thread.path)) (no_start a.kind f.0)
+          homely false (thread_at_depth b.name.thread (length a.name.thread.path)) (no_start a.kind f.0)
               (ap₂ (λ (exec : List ℕ) (path : List (ℕ × ℕ)). let t : Thread = record { exec = exec; path = path } in t) (sym u.0) (sym front)),
         )
 
@@ -118,12 +118,12 @@ ByAccess later = LeftFor (λ f. conflicts f.access later.access)
 
 -- the places of the classes of the threads above that of a step, and of its own, up to a depth
 abbrev pub Along : Held → Fact → ℕ → ℕ → Type 0
-Along h later end k = (depth : ℕ) × (depth < end) × (cell_at h.threads k ≡ Some (thread_bucket (above later.name.thread depth)))
+Along h later end k = (depth : ℕ) × (depth < end) × (cell_at h.threads k ≡ Some (thread_bucket (thread_at_depth later.name.thread depth)))
 
 pub none_along : (rs : List StepRecord) (h : Held) (later : Fact) → IsFirstFrom (Along h later 0) (needed_by later) rs 0 None
 none_along rs h later = λ k g there low n. absurd (let x = n.1 in omega (arith, x))
 
-pub more_along : (rs : List StepRecord) (h : Held) (later : Fact) (depth c : ℕ) (a b : Option ℕ) → c ≡ thread_bucket (above later.name.thread depth)
+pub more_along : (rs : List StepRecord) (h : Held) (later : Fact) (depth c : ℕ) (a b : Option ℕ) → c ≡ thread_bucket (thread_at_depth later.name.thread depth)
     → IsFirstFrom (Along h later depth) (needed_by later) rs 0 a → IsFirstFrom (Among h.threads c) (needed_by later) rs 0 b → IsFirstFrom (Along h later (depth + 1)) (needed_by later) rs 0 (earlier a b)
 more_along rs h later depth c a b e before here =
     first_more (λ k. Along h later depth k ⊎ Among h.threads c k) (Along h later (depth + 1)) (needed_by later) rs 0 (earlier a b)
@@ -131,7 +131,7 @@ more_along rs h later depth c a b e before here =
       | inl w ↦ inl (n.0, w, n.2)
       | inr w ↦
           let same : n.0 ≡ depth = (let x = n.1 in omega (arith, w, x)) in
-          inr (n.2 ∙ ap (λ (d : ℕ). Some (thread_bucket (above later.name.thread d))) same ∙ ap Some (sym e))
+          inr (n.2 ∙ ap (λ (d : ℕ). Some (thread_bucket (thread_at_depth later.name.thread d))) same ∙ ap Some (sym e))
     ])
     (first_of_two (Along h later depth) (Among h.threads c) (needed_by later) rs 0 a b before here)
 

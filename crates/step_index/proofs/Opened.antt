@@ -11,10 +11,10 @@ use Rattle.saved_steps.specs.declared.fact.Fact.{Fact}
 use Rattle.saved_steps.specs.declared.record.StepRecord.{StepRecord}
 use Rattle.depends.specs.Dependence.{conflicts}
 use Rattle.step_index.specs.Buckets.{by_thread, by_exec, by_gate, by_key, by_write, exec_bucket, key_bucket}
-use Rattle.step_index.specs.Due.{AllDue, AreDue, AreKept, IsFurther, IsOpen, IsOpenByAccess, IsOpenByName, IsTaken, Keeps, is_due}
-use Rattle.step_index.specs.Queue.{IsLeast}
+use Rattle.step_index.specs.Due.{AllDue, AreDue, AreKept, IsFurther, HasOpenClasses, IsOpenByAccess, IsOpenByName, IsPlaceTaken, Keeps, is_due}
+use Rattle.step_index.specs.Queue.{IsLeastPlace}
 use Rattle.step_index.specs.Records.{classes_by}
-use Rattle.step_index.specs.Walks.{names_need, needs}
+use Rattle.step_index.specs.Walks.{names_need, record_needs}
 use Rattle.step_index.specs.declared.due.DuePlaces.{DuePlaces}
 use Rattle.step_index.proofs.Listed.{class_there}
 use Rattle.step_index.proofs.Meeting.{by_name_or_item, meet_in_exec, meet_in_key, meet_in_thread_or_gate, meet_in_write}
@@ -54,7 +54,7 @@ further_both one other rs at a b c f g = record {
     both g = one g || other g
 
 -- what was open for a step is open
-pub open_kept : (old new : DuePlaces) (f : Fact) → AreKept old new → IsOpen old f → IsOpen new f
+pub open_kept : (old new : DuePlaces) (f : Fact) → AreKept old new → HasOpenClasses old f → HasOpenClasses new f
 open_kept old new f k o = record { named = named; accessed = accessed f.access o.accessed }
   where
     named : IsOpenByName new f
@@ -89,12 +89,12 @@ module _ (rs : List StepRecord) (from : ℕ) (d : DuePlaces) (due : AreDue rs fr
         | inr x ↦ due.wrote k (key_bucket a.key) late (class_of by_write ∙ meet_in_write f g.fact a has x.0 need) x.1
       ]
 
-  pub due_if_needed : (f : StepRecord) → IsOpen d f.fact → needs f g ≡ true → is_due d k ≡ true
+  pub due_if_needed : (f : StepRecord) → HasOpenClasses d f.fact → record_needs f g ≡ true → is_due d k ≡ true
   due_if_needed f o need = elim (by_name_or_item f.fact g.fact need) [ inl x ↦ due_by_name f.fact o.named x | inr x ↦ due_by_access f.fact o.accessed x ]
 
 -- ---- the least due place is taken
 
-pub taken : (rs : List StepRecord) (from : ℕ) (old new : DuePlaces) (r : Option ℕ) → AreDue rs from old → AreKept old new → AreKept new old → IsLeast (heap_items old.places.heap) (heap_items new.places.heap) r → IsTaken rs from old new r
+pub taken : (rs : List StepRecord) (from : ℕ) (old new : DuePlaces) (r : Option ℕ) → AreDue rs from old → AreKept old new → AreKept new old → IsLeastPlace (heap_items old.places.heap) (heap_items new.places.heap) r → IsPlaceTaken rs from old new r
 taken rs from old new None due kept back none = none
 taken rs from old new (Some p) due kept back first = record {
   low = (due.within p first.there).0;

@@ -43,8 +43,8 @@ abbrev pub by_home : Fact → Option ℕ
 by_home f = Some (thread_bucket (home f))
 
 -- the thread whose name begins as that of one, with so many branches
-abbrev pub above : Thread → ℕ → Thread
-above t depth = record { exec = t.exec; path = take depth t.path }
+abbrev pub thread_at_depth : Thread → ℕ → Thread
+thread_at_depth t depth = record { exec = t.exec; path = take depth t.path }
 
 abbrev pub by_exec : Fact → Option ℕ
 by_exec f = Some (exec_bucket f.name.thread.exec)
@@ -60,12 +60,12 @@ abbrev pub by_key : Fact → Option ℕ
 by_key f = option_map (λ (a : Access). key_bucket a.key) f.access
 
 -- of an access that wrote
-abbrev pub written : Option Access → Option ℕ
-written None = None
-written (Some a) = if is_write a.mode then Some (key_bucket a.key) else None
+abbrev pub written_bucket : Option Access → Option ℕ
+written_bucket None = None
+written_bucket (Some a) = if is_write a.mode then Some (key_bucket a.key) else None
 
 abbrev pub by_write : Fact → Option ℕ
-by_write f = written f.access
+by_write f = written_bucket f.access
 
 -- ---- the sets of classes, each of which has a number
 

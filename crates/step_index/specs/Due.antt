@@ -69,7 +69,7 @@ abbrev pub IsOpenByAccess : DuePlaces → Option Access → Type 0
 IsOpenByAccess d None = Unit {0}
 IsOpenByAccess d (Some a) = (has_class nat_eq d.keys (key_bucket a.key) ≡ true) ⊎ ((is_write a.mode ≡ false) × (has_class nat_eq d.writes (key_bucket a.key) ≡ true))
 
-pub record IsOpen (d : DuePlaces) (f : Fact) : Type 0 where
+pub record HasOpenClasses (d : DuePlaces) (f : Fact) : Type 0 where
   pub named : IsOpenByName d f
   pub accessed : IsOpenByAccess d f.access
 
@@ -84,6 +84,6 @@ pub record IsTakenAt (rs : List StepRecord) (from : ℕ) (old new : DuePlaces) (
   pub fewer : Keeps (is_due new) (is_due old)
   pub due : AreDue rs (place + 1) new
 
-abbrev pub IsTaken : List StepRecord → ℕ → DuePlaces → DuePlaces → Option ℕ → Type 0
-IsTaken rs from old new None = (k : ℕ) → is_due old k ≡ false
-IsTaken rs from old new (Some place) = IsTakenAt rs from old new place
+abbrev pub IsPlaceTaken : List StepRecord → ℕ → DuePlaces → DuePlaces → Option ℕ → Type 0
+IsPlaceTaken rs from old new None = (k : ℕ) → is_due old k ≡ false
+IsPlaceTaken rs from old new (Some place) = IsTakenAt rs from old new place

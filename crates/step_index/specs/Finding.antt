@@ -3,7 +3,7 @@ use Rattle.std.specs.Prelude.{◌≡◌, ◌<◌, ◌≤◌, ◌+◌, All, ℕ, 
 use Rattle.saved_steps.specs.declared.record.StepRecord.{StepRecord}
 use Rattle.depends.specs.Plans.{depends_on_some}
 use Rattle.depends.specs.Marks.{AreMarksOf}
-use Rattle.step_index.specs.Due.{AreDue, IsOpen, is_due}
+use Rattle.step_index.specs.Due.{AreDue, HasOpenClasses, is_due}
 use Rattle.step_index.specs.Near.{is_near}
 use Rattle.step_index.specs.declared.found.FoundSteps.{FoundSteps}
 
@@ -12,16 +12,16 @@ pick None rs = rs
 pick (Some r) rs = r ∷ rs
 
 -- the records at some places
-abbrev pub picked : List StepRecord → List ℕ → List StepRecord
-picked rs [] = []
-picked rs (p ∷ ps) = pick (slice_get rs p) (picked rs ps)
+abbrev pub records_at : List StepRecord → List ℕ → List StepRecord
+records_at rs [] = []
+records_at rs (p ∷ ps) = pick (slice_get rs p) (records_at rs ps)
 
 -- the marks are those of the steps that were found; the classes of each are open, and the places there, from one on, are due
 pub record AreFound (rs : List StepRecord) (from : ℕ) (s : FoundSteps) : Type 0 where
   pub within : All (λ p. p < length rs) s.places.items
-  pub marked : AreMarksOf (map (λ r. r.fact) (picked rs s.places.items)) s.marks
+  pub marked : AreMarksOf (map (λ r. r.fact) (records_at rs s.places.items)) s.marks
   pub due : AreDue rs from s.due
-  pub opened : (k : ℕ) (r : StepRecord) → slice_get (picked rs s.places.items) k ≡ Some r → IsOpen s.due r.fact
+  pub opened : (k : ℕ) (r : StepRecord) → slice_get (records_at rs s.places.items) k ≡ Some r → HasOpenClasses s.due r.fact
   pub near : (k : ℕ) (g : StepRecord) → slice_get rs k ≡ Some g → is_due s.due k ≡ true → is_near rs s.places.items g ≡ true
 
 -- the step at a place depends directly on none that was found

@@ -15,8 +15,8 @@ abbrev pub places_where : (StepRecord → Bool) → List StepRecord → List ℕ
 places_where p rs = places_from p 0 rs
 
 -- the step is one of this execution
-abbrev pub is_of : List ℕ → StepRecord → Bool
-is_of exec r = bytes_eq r.fact.name.thread.exec exec
+abbrev pub is_of_execution : List ℕ → StepRecord → Bool
+is_of_execution exec r = bytes_eq r.fact.name.thread.exec exec
 
 -- the step accessed this key
 abbrev pub is_access : Key → Option Access → Bool

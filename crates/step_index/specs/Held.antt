@@ -61,5 +61,5 @@ pub record AreAlongside (v : Classed Bool) (count : ℕ) : Type 0 where
   pub left : map is_mark (set_of v 0) ≡ v.items
 
 -- there is room for one more place, and there is each class
-abbrev pub is_open : Classed Bool → Bool
-is_open v = v.has_room && nat_le 16381 v.width
+abbrev pub has_place_room : Classed Bool → Bool
+has_place_room v = v.has_room && nat_le 16381 v.width

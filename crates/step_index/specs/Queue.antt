@@ -12,6 +12,6 @@ pub record IsLeastAt (old new : List (Reverse ℕ)) (place : ℕ) : Type 0 where
   pub least : (k : ℕ) → has_place old k ≡ true → place ≤ k
   pub taken : (k : ℕ) → has_place new k ≡ (if place == k then false else has_place old k)
 
-abbrev pub IsLeast : List (Reverse ℕ) → List (Reverse ℕ) → Option ℕ → Type 0
-IsLeast old new None = (k : ℕ) → has_place old k ≡ false
-IsLeast old new (Some place) = IsLeastAt old new place
+abbrev pub IsLeastPlace : List (Reverse ℕ) → List (Reverse ℕ) → Option ℕ → Type 0
+IsLeastPlace old new None = (k : ℕ) → has_place old k ≡ false
+IsLeastPlace old new (Some place) = IsLeastAt old new place

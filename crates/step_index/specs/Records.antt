@@ -23,5 +23,5 @@ pub record AreIndexed (v : Classed StepRecord) : Type 0 where
   pub classed : (set : Classing) → classes_in v set ≡ classes_by (by_set set) v.items
 
 -- there is room for one more record, and there is each class
-abbrev pub has_room : Classed StepRecord → Bool
-has_room v = v.has_room && nat_le 16381 v.width
+abbrev pub has_record_room : Classed StepRecord → Bool
+has_record_room v = v.has_room && nat_le 16381 v.width

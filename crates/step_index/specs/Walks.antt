@@ -13,8 +13,8 @@ IsFirstFrom Q p rs low (Some i) =
     (low ≤ i) × ((g : StepRecord) × (slice_get rs i ≡ Some g) × (p g ≡ true)) × ((k : ℕ) (g : StepRecord) → slice_get rs k ≡ Some g → low ≤ k → k < i → Q k → p g ≡ false)
 
 -- a later step depends directly on one
-abbrev pub needs : StepRecord → StepRecord → Bool
-needs f g = depends_directly f.fact g.fact
+abbrev pub record_needs : StepRecord → StepRecord → Bool
+record_needs f g = depends_directly f.fact g.fact
 
 -- a step is one on which a later one depends directly
 abbrev pub needed_by : Fact → StepRecord → Bool

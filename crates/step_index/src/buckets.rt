@@ -4,7 +4,7 @@ ghost use Rattle.std.specs.Prelude.{◌≡◌, ◌<◌, ◌≤◌, ◌%◌, ◌|
 ghost use Rattle.std.specs.Hash.FoldHasher.{finish};
 ghost use Rattle.depends.specs.Dependence.{is_start};
 ghost use Rattle.saved_steps.specs.Steps.{is_fork};
-ghost use Rattle.step_index.specs.Buckets.{above, by_home, by_name, by_thread, by_exec, by_gate, by_key, by_write, name_bucket, thread_bucket, exec_bucket, key_bucket, is_gate, all_classes, set_number};
+ghost use Rattle.step_index.specs.Buckets.{thread_at_depth, by_home, by_name, by_thread, by_exec, by_gate, by_key, by_write, name_bucket, thread_bucket, exec_bucket, key_bucket, is_gate, all_classes, set_number};
 ghost use Rattle.linked_classes.specs.Cells.{cell_at};
 
 use attr_values::Key;
@@ -89,7 +89,7 @@ pub(crate) fn thread_bucket(thread: &ThreadName) -> u32
 #[tactic(auto, unfolding(crate::specs::Buckets::thread_bucket))]
 pub(crate) fn bucket_above(thread: &ThreadName, depth: usize) -> u32
     requires { depth ≤ length thread.now.path }
-    ensures bucket { result ≡ thread_bucket (above thread.now depth) }
+    ensures bucket { result ≡ thread_bucket (thread_at_depth thread.now depth) }
     ensures below { result < 16381 }
 {
     let mut hasher = FoldHasher::default();

@@ -6,7 +6,7 @@ ghost use Rattle.std.specs.HashSet.{contains as has_class};
 ghost use Rattle.linked_classes.specs.Cells.{cell_at};
 ghost use Rattle.saved_steps.specs.declared.record.StepRecord.{StepRecord as Kept};
 ghost use Rattle.step_index.specs.Buckets.{by_set};
-ghost use Rattle.step_index.specs.Due.{AllDue, AreDue, IsBehind, IsFurther, IsGrown, IsOpen, IsOpenByAccess, IsOpenByName, IsTaken, Keeps, is_due};
+ghost use Rattle.step_index.specs.Due.{AllDue, AreDue, IsBehind, IsFurther, IsGrown, HasOpenClasses, IsOpenByAccess, IsOpenByName, IsPlaceTaken, Keeps, is_due};
 ghost use Rattle.step_index.specs.Near.{shares, shares_by_access, shares_by_name};
 ghost use Rattle.step_index.specs.Queue.{has_place};
 ghost use Rattle.step_index.specs.Records.{classes_by, classes_in};
@@ -50,7 +50,7 @@ impl DuePlaces {
 
     /// Takes the least due place, if there is one.
     pub(crate) fn take_first(&mut self) -> Option<usize>
-        ensures { (rs : List Kept) (from : ℕ) → AreDue rs from self.old → IsTaken rs from self.old self.new result }
+        ensures { (rs : List Kept) (from : ℕ) → AreDue rs from self.old → IsPlaceTaken rs from self.old self.new result }
     {
         self.places.pop()
     }
@@ -62,7 +62,7 @@ impl DuePlaces {
         at: usize,
         fact: &Fact,
     ) -> Result<(), AllocError>
-        ensures opened { OnOk result (IsOpen self.new fact.now) }
+        ensures opened { OnOk result (HasOpenClasses self.new fact.now) }
         ensures further { OnOk result (IsFurther (shares fact.now) records.now at self.old self.new) }
     {
         self.open_by_name(records, at, fact)?;

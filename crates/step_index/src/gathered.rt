@@ -3,7 +3,7 @@
 ghost use Rattle.std.specs.Prelude.{◌≡◌, ◌<◌, ℕ, true, Some, IfOk, slice_get};
 ghost use Rattle.linked_classes.specs.Cells.{cell_at};
 ghost use Rattle.saved_steps.specs.declared.record.StepRecord.{StepRecord as Kept};
-ghost use Rattle.step_index.specs.Gathered.{accesses, is_of, places_where};
+ghost use Rattle.step_index.specs.Gathered.{accesses, is_of_execution, places_where};
 ghost use Rattle.step_index.specs.Records.{classes_in};
 
 use crate::buckets::{Classing, set_number};
@@ -20,8 +20,8 @@ pub(crate) fn gathered_of(
     exec: &str,
 ) -> Result<Vec<usize>, AllocError>
     requires { class < 16381 }
-    ensures { ((k : ℕ) (r : Kept) → slice_get records.now.items k ≡ Some r → is_of exec.now r ≡ true → cell_at (classes_in records.now Classing.Execs) k ≡ Some class)
-        → IfOk result (λ found. found.items ≡ places_where (is_of exec.now) records.now.items) }
+    ensures { ((k : ℕ) (r : Kept) → slice_get records.now.items k ≡ Some r → is_of_execution exec.now r ≡ true → cell_at (classes_in records.now Classing.Execs) k ≡ Some class)
+        → IfOk result (λ found. found.items ≡ places_where (is_of_execution exec.now) records.now.items) }
 {
     let mut found = Vec::new(alloc);
     let set = set_number(Classing::Execs);
@@ -60,7 +60,7 @@ pub(crate) fn gathered_accesses(
 
 /// Whether a record is that of a step of this execution.
 fn is_of(taken: &StepRecord, exec: &str) -> bool
-    ensures { result ≡ is_of exec.now taken.now }
+    ensures { result ≡ is_of_execution exec.now taken.now }
 {
     taken.fact.name.thread.exec() == exec
 }

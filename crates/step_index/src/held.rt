@@ -54,7 +54,7 @@ pub struct HeldSteps {
 
 impl Model for HeldSteps {
     ghost use Rattle.linked_classes.specs.Sets.{set_of};
-    ghost use Rattle.step_index.specs.Held.{AreAlongside, Held, is_open};
+    ghost use Rattle.step_index.specs.Held.{AreAlongside, Held, has_place_room};
 
     ghost Value = { Held };
 
@@ -64,7 +64,7 @@ impl Model for HeldSteps {
       execs = set_of a.places 2;
       keys = set_of a.places 4;
       writes = set_of a.places 5;
-      has_room = is_open a.places;
+      has_room = has_place_room a.places;
     } };
 
     ghost invariant = { λ a. AreAlongside a.places a.count };

@@ -4,7 +4,7 @@ ghost use Rattle.std.specs.Prelude.{◌≡◌, ◌==◌, ◌||◌, ◌≤◌, �
 ghost use Rattle.std.proofs.Props.{props};
 ghost use Rattle.std.specs.BinaryHeap.{IsHeap, heap_items};
 ghost use Rattle.std.specs.Ordering.{nat_cmp};
-ghost use Rattle.step_index.specs.Queue.{IsLeast, has_place};
+ghost use Rattle.step_index.specs.Queue.{IsLeastPlace, has_place};
 
 use std::alloc::{AllocError, Global};
 use std::cmp::Reverse;
@@ -37,7 +37,7 @@ impl PlaceQueue {
 
     /// Takes the least place, if there is one.
     pub(crate) fn pop(&mut self) -> Option<usize>
-        ensures { IsLeast (heap_items self.old.heap) (heap_items self.new.heap) result }
+        ensures { IsLeastPlace (heap_items self.old.heap) (heap_items self.new.heap) result }
     {
         let Some(top) = self.heap.pop() else {
             return None;

@@ -5,9 +5,9 @@ ghost use Rattle.std.specs.List.{count_by, remove};
 ghost use Rattle.depends.specs.Plans as plans;
 ghost use Rattle.saved_steps.specs.World.{is_same_step};
 ghost use Rattle.saved_steps.specs.declared.record.StepRecord.{StepRecord as Kept};
-ghost use Rattle.step_index.specs.Gathered.{accesses, is_of, places_where};
+ghost use Rattle.step_index.specs.Gathered.{accesses, is_of_execution, places_where};
 ghost use Rattle.step_index.specs.Near.{is_near};
-ghost use Rattle.step_index.specs.Walks.{ConflictsAt, IsFirstFrom, NeedsByName, needs};
+ghost use Rattle.step_index.specs.Walks.{ConflictsAt, IsFirstFrom, NeedsByName, record_needs};
 
 use crate::buckets::{
     BUCKETS, Classing, all_classes, exec_bucket, key_bucket, makes_threads, name_bucket,
@@ -38,7 +38,7 @@ pub struct StepRecords {
 }
 
 impl Model for StepRecords {
-    ghost use Rattle.step_index.specs.Records.{Records, AreIndexed, has_room};
+    ghost use Rattle.step_index.specs.Records.{Records, AreIndexed, has_record_room};
     ghost use Rattle.saved_steps.specs.contracts.record.StepRecord as record_row;
     ghost use Rattle.std.specs.Coded.{codes};
 
@@ -48,7 +48,7 @@ impl Model for StepRecords {
 
     ghost view = { λ a. record {
       items = a.records.items;
-      has_room = has_room a.records;
+      has_room = has_record_room a.records;
     } };
 
     ghost invariant = { λ a. AreIndexed a.records };
@@ -147,7 +147,7 @@ impl StepRecords {
     /// The places of an execution's steps, in ascending order. Takes memory for these; looks at the steps whose executions have its
     /// hash.
     pub fn of_execution(&self, alloc: Global, exec: &str) -> Result<Vec<usize>, AllocError>
-        ensures { IfOk result (λ places. places.items ≡ places_where (is_of exec.now) self.now.items) }
+        ensures { IfOk result (λ places. places.items ≡ places_where (is_of_execution exec.now) self.now.items) }
     {
         gathered_of(alloc, &self.records, exec_bucket(exec), exec)
     }
@@ -174,7 +174,7 @@ impl StepRecords {
     /// The earliest step that accesses the key of the one at a place, and not both read.
     fn first_conflict(&self, at: usize) -> Option<usize>
         requires { at < length self.now.items }
-        ensures { (f : Kept) → slice_get self.now.items at ≡ Some f → IsFirstFrom (ConflictsAt self.now.items f) (needs f) self.now.items (at + 1) result }
+        ensures { (f : Kept) → slice_get self.now.items at ≡ Some f → IsFirstFrom (ConflictsAt self.now.items f) (record_needs f) self.now.items (at + 1) result }
     {
         let records = &self.records;
         let Some(access) = &records.get(at).fact.access else {
@@ -227,7 +227,7 @@ impl StepRecords {
     /// The earliest step that depends directly on the one at a place, of those that do so by their names.
     fn first_in_execution(&self, at: usize) -> Option<usize>
         requires { at < length self.now.items }
-        ensures { (f : Kept) → slice_get self.now.items at ≡ Some f → IsFirstFrom (NeedsByName self.now.items f) (needs f) self.now.items (at + 1) result }
+        ensures { (f : Kept) → slice_get self.now.items at ≡ Some f → IsFirstFrom (NeedsByName self.now.items f) (record_needs f) self.now.items (at + 1) result }
     {
         let records = &self.records;
         let fact = &records.get(at).fact;

@@ -7,7 +7,7 @@ ghost use Rattle.linked_classes.specs.Sets.{set_of};
 ghost use Rattle.saved_steps.specs.World.{is_same_step};
 ghost use Rattle.saved_steps.specs.declared.record.StepRecord.{StepRecord as Kept};
 ghost use Rattle.step_index.specs.Records.{classes_in};
-ghost use Rattle.step_index.specs.Walks.{IsFirstFrom, needed_by, needs, earlier};
+ghost use Rattle.step_index.specs.Walks.{IsFirstFrom, needed_by, record_needs, earlier};
 
 use crate::buckets::{Classing, set_number};
 use depends::depends;
@@ -50,7 +50,7 @@ pub(crate) fn first_needing(
 ) -> Option<usize>
     requires { at < length records.now.items }
     ensures member { (c : ℕ) (f : Kept) → cell_at (classes_in records.now by) at ≡ Some c → slice_get records.now.items at ≡ Some f
-        → IsFirstFrom (λ k. cell_at (classes_in records.now by) k ≡ Some c) (needs f) records.now.items (at + 1) result }
+        → IsFirstFrom (λ k. cell_at (classes_in records.now by) k ≡ Some c) (record_needs f) records.now.items (at + 1) result }
     ensures none { cell_at (classes_in records.now by) at ≡ None → result ≡ None }
 {
     let set = set_number(by);
@@ -77,7 +77,7 @@ pub(crate) fn first_needing_in(
 ) -> Option<usize>
     requires there { at < length records.now.items }
     requires below { class < 16381 }
-    ensures { (f : Kept) → slice_get records.now.items at ≡ Some f → IsFirstFrom (λ k. cell_at (classes_in records.now by) k ≡ Some class) (needs f) records.now.items (at + 1) result }
+    ensures { (f : Kept) → slice_get records.now.items at ≡ Some f → IsFirstFrom (λ k. cell_at (classes_in records.now by) k ≡ Some class) (record_needs f) records.now.items (at + 1) result }
 {
     let set = set_number(by);
     let own = records.number(at);
@@ -103,7 +103,7 @@ fn nearer(
     requires own { IsNumber records.now.numbers own }
     requires number { IsNumber records.now.numbers number }
     ensures { (f g : Kept) → slice_get records.now.items (place_in records.now.numbers own) ≡ Some f → slice_get records.now.items (place_in records.now.numbers number) ≡ Some g
-        → result ≡ (if needs f g then Some number else found) }
+        → result ≡ (if record_needs f g then Some number else found) }
 {
     if depends(
         &records.of_number(own).fact,

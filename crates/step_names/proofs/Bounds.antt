@@ -4,7 +4,7 @@ use Rattle.std.specs.Option.{option_map, option_and_then}
 use Rattle.std.specs.List.{slice_split, list_all}
 use Rattle.std.proofs.lemmas.Bool.{leb-true, le-leb, lt-ltb}
 use Rattle.step_names.specs.Thread.{Thread, IsThread, is_name, is_branch}
-use Rattle.step_names.specs.Grammar.{read_number, read_branch, read_branch_parts, read_branches, read_path, read_thread, read_thread_parts}
+use Rattle.step_names.specs.Grammar.{read_step_number, read_branch, read_branch_parts, read_branches, read_path, read_thread, read_thread_parts}
 use Rattle.step_names.proofs.Numbers.{number_parts}
 
 number_then : (o : Option ℕ) (f : ℕ → Option (ℕ × ℕ)) (p : ℕ × ℕ) → option_and_then f o ≡ Some p → (n : ℕ) × (o ≡ Some n) × (f n ≡ Some p)
@@ -20,10 +20,10 @@ path_then None f path h = cc
 path_then (Some q) f path h = (q, refl, cc)
 
 -- the branch has both numbers
-pub branch_parts : (fork branch : List ℕ) (p : ℕ × ℕ) → read_branch_parts (fork ∷ branch ∷ []) ≡ Some p → (read_number fork ≡ Some p.0) × (read_number branch ≡ Some p.1) × ((p.0 == 0) ≡ false)
+pub branch_parts : (fork branch : List ℕ) (p : ℕ × ℕ) → read_branch_parts (fork ∷ branch ∷ []) ≡ Some p → (read_step_number fork ≡ Some p.0) × (read_step_number branch ≡ Some p.1) × ((p.0 == 0) ≡ false)
 branch_parts fork branch p h =
-    let s = number_then (read_number fork) (λ n. option_and_then (λ i. cond (n == 0) None (Some (n, i))) (read_number branch)) p h in
-    let t = number_then (read_number branch) (λ i. cond (s.0 == 0) None (Some (s.0, i))) p s.2 in
+    let s = number_then (read_step_number fork) (λ n. option_and_then (λ i. cond (n == 0) None (Some (n, i))) (read_step_number branch)) p h in
+    let t = number_then (read_step_number branch) (λ i. cond (s.0 == 0) None (Some (s.0, i))) p s.2 in
     let u = made (s.0 == 0) (s.0, t.0) p t.2 in
     (s.1 ∙ ap (λ (q : ℕ × ℕ). Some q.0) u.1, t.1 ∙ ap (λ (q : ℕ × ℕ). Some q.1) u.1, subst (λ (q : ℕ × ℕ). (q.0 == 0) ≡ false) u.1 u.0)
   where

@@ -7,7 +7,7 @@ use Rattle.std.specs.Fmt.{decimal}
 use Rattle.std.proofs.lemmas.Bool.{and_parts, and_from, ltb-true, lt-ltb}
 use Rattle.std.proofs.lemmas.Str.Parse.{IsNumeralModel, numerals_by_value, tells_all_ascii_digits, parse_plain}
 use Rattle.std.proofs.lemmas.Fmt.{digits_decimal, digits_value-decimal, decimal-digits_value, decimal_nonempty, decimal_digit, first_decimal}
-use Rattle.step_names.specs.Grammar.{is_numeral, read_number}
+use Rattle.step_names.specs.Grammar.{is_numeral, read_step_number}
 
 pub own : IsNumeralModel (λ ds. all_ascii_digits ds ≡ true) (digits_value 10)
 own = numerals_by_value (λ ds. all_ascii_digits ds ≡ true) tells_all_ascii_digits
@@ -34,10 +34,10 @@ if_none : (b : Bool) (x : ℕ) → (b ≡ true → ⊥) → cond b (Some x) None
 if_none true x h = absurd (h refl)
 if_none false x h = refl
 
-pub number_some : (ds : List ℕ) → is_numeral ds ≡ true → digits_value 10 ds < 2 ^ 32 → read_number ds ≡ Some (digits_value 10 ds)
+pub number_some : (ds : List ℕ) → is_numeral ds ≡ true → digits_value 10 ds < 2 ^ 32 → read_step_number ds ≡ Some (digits_value 10 ds)
 number_some ds h l = rw (h, lt-ltb (digits_value 10 ds) (2 ^ 32) l)
 
-pub number_none : (ds : List ℕ) → (is_numeral ds ≡ true → digits_value 10 ds < 2 ^ 32 → ⊥) → read_number ds ≡ None
+pub number_none : (ds : List ℕ) → (is_numeral ds ≡ true → digits_value 10 ds < 2 ^ 32 → ⊥) → read_step_number ds ≡ None
 number_none ds h =
     if_none (is_numeral ds && nat_lt (digits_value 10 ds) (2 ^ 32)) (digits_value 10 ds)
     (λ e. let s = and_parts (is_numeral ds) (nat_lt (digits_value 10 ds) (2 ^ 32)) e in h s.0 (ltb-true (digits_value 10 ds) (2 ^ 32) s.1))
@@ -46,7 +46,7 @@ if_some : (b : Bool) (x n : ℕ) → cond b (Some x) None ≡ Some n → (b ≡ 
 if_some true x n h = (refl, cc)
 if_some false x n h = cc
 
-pub number_parts : (ds : List ℕ) (n : ℕ) → read_number ds ≡ Some n → (is_numeral ds ≡ true) × (digits_value 10 ds ≡ n) × (n < 2 ^ 32)
+pub number_parts : (ds : List ℕ) (n : ℕ) → read_step_number ds ≡ Some n → (is_numeral ds ≡ true) × (digits_value 10 ds ≡ n) × (n < 2 ^ 32)
 number_parts ds n h =
     let p = if_some (is_numeral ds && nat_lt (digits_value 10 ds) (2 ^ 32)) (digits_value 10 ds) n h in
     let s = and_parts (is_numeral ds) (nat_lt (digits_value 10 ds) (2 ^ 32)) p.0 in
@@ -54,7 +54,7 @@ number_parts ds n h =
     (s.0, p.1, subst (λ (m : ℕ). m < 2 ^ 32) p.1 l)
 
 -- the number's one spelling
-pub number_reads : (n : ℕ) → n < 2 ^ 32 → read_number (decimal n) ≡ Some n
+pub number_reads : (n : ℕ) → n < 2 ^ 32 → read_step_number (decimal n) ≡ Some n
 number_reads n h =
     let value = digits_value-decimal own n (omega arith) in
     number_some (decimal n) (numeral_from (decimal n) (digits_decimal own n (omega arith)) (decimal_nonempty n (omega arith)) (zero_alone n h)) (rw value h) ∙ ap (λ (m : ℕ). Some m) value
@@ -63,14 +63,14 @@ number_reads n h =
     zero_alone zero h e = ap length (decimal_digit 0 (omega arith))
     zero_alone (suc n) h e = absurd (omega (arith, first_decimal (suc n) (omega arith) (omega arith)))
 
-pub number_writes : (ds : List ℕ) (n : ℕ) → read_number ds ≡ Some n → decimal n ≡ ds
+pub number_writes : (ds : List ℕ) (n : ℕ) → read_step_number ds ≡ Some n → decimal n ≡ ds
 number_writes ds n h =
     let p = number_parts ds n h in
     let s = numeral_parts ds p.0 in
     subst (λ (m : ℕ). decimal m ≡ ds) p.1 (decimal-digits_value own ds s.0 s.1 s.2 (omega (arith, p.1, p.2)))
 
 -- what `parse` gives of a text that begins with no sign and no zero
-pub number_parsed : {E : Type 0} (bs : List ℕ) (r : Result ℕ E) → ParsesUnsigned 32 10 bs r → get_or bs 0 0 ≢ 43 → get_or bs 0 0 ≢ 48 → result_ok r ≡ read_number bs
+pub number_parsed : {E : Type 0} (bs : List ℕ) (r : Result ℕ E) → ParsesUnsigned 32 10 bs r → get_or bs 0 0 ≢ 43 → get_or bs 0 0 ≢ 48 → result_ok r ≡ read_step_number bs
 number_parsed {E} bs (Ok n) h plus not_zero =
     let p = parse_plain own {E = E} 32 bs (Ok n) h plus in
     ap (λ (m : ℕ). Some m) p.1 ∙ sym (number_some bs (numeral_from bs p.0.0 p.0.1 (λ e. absurd (not_zero e))) p.0.2)
@@ -78,7 +78,7 @@ number_parsed {E} bs (Err e) h plus not_zero =
     let p = parse_plain own {E = E} 32 bs (Err e) h plus in
     sym (number_none bs (λ i l. let s = numeral_parts bs i in p (s.0, s.1, l)))
 
-pub zero_read : (bs : List ℕ) → get_or bs 0 0 ≡ 48 → length bs ≡ 1 → read_number bs ≡ Some 0
+pub zero_read : (bs : List ℕ) → get_or bs 0 0 ≡ 48 → length bs ≡ 1 → read_step_number bs ≡ Some 0
 zero_read [] e l = absurd (omega arith)
 zero_read (b ∷ []) e l = rw e
 zero_read (b ∷ c ∷ bs) e l = absurd (omega arith)

@@ -11,7 +11,7 @@ use Rattle.std.proofs.lemmas.Fmt.{digits_decimal}
 use Rattle.step_names.specs.Thread.{Thread, IsThread, IsStep, is_name, is_name_byte, is_branch}
 use Rattle.step_names.specs.declared.step.StepName.{StepName}
 use Rattle.step_names.specs.Written.{branch_text, thread_text, step_text}
-use Rattle.step_names.specs.Grammar.{read_number, read_branch, read_branch_parts, read_branches, read_thread, read_thread_parts, read_step, read_step_parts}
+use Rattle.step_names.specs.Grammar.{read_step_number, read_branch, read_branch_parts, read_branches, read_thread, read_thread_parts, read_step, read_step_parts}
 use Rattle.step_names.specs.Laws.{ThreadReadsBack, ThreadWritesBack, ThreadTextIsOne, StepReadsBack, StepWritesBack, StepTextIsOne}
 use Rattle.step_names.proofs.Parts.{lacks, lacks_split, lacks_split_at, lacks-append, passing_lacks, digits_lack}
 use Rattle.step_names.proofs.Numbers.{own, number_reads, number_writes, number_parts}
@@ -144,8 +144,8 @@ step_parts_write text [] step e h = cc
 step_parts_write text (thread ∷ []) step e h = cc
 step_parts_write text (thread ∷ number ∷ more ∷ parts) step e h = cc
 step_parts_write text (thread ∷ number ∷ []) step e h =
-    let s = thread_found (read_thread thread) (λ t. option_map (λ n. record { thread = t; no = n }) (read_number number)) step h in
-    let t = number_found (read_number number) (λ n. record { thread = s.0; no = n }) step s.2 in
+    let s = thread_found (read_thread thread) (λ t. option_map (λ n. record { thread = t; no = n }) (read_step_number number)) step h in
+    let t = number_found (read_step_number number) (λ n. record { thread = s.0; no = n }) step s.2 in
     let joined : thread ++ 35 ∷ number ≡ text = rw e at (join_with_byte-slice_split 35 text) in
     let kept = thread_writes thread s.0 s.1 in
     subst (λ (name : StepName). IsStep name.thread name.no × (step_text name ≡ text)) t.2

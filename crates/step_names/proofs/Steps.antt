@@ -5,13 +5,13 @@ use Rattle.std.specs.List.{slice_split}
 use Rattle.std.proofs.lemmas.List.Splits.{join_with_byte-slice_split}
 use Rattle.step_names.specs.Thread.{Thread}
 use Rattle.step_names.specs.declared.step.StepName.{StepName}
-use Rattle.step_names.specs.Grammar.{read_number, read_thread, read_step, read_step_parts}
+use Rattle.step_names.specs.Grammar.{read_step_number, read_thread, read_step, read_step_parts}
 use Rattle.step_names.proofs.Paths.{no_parts, number_whole}
 
 abbrev pub step_of : List ℕ → List ℕ → Option StepName
-step_of thread number = option_and_then (λ t. option_map (λ n. record { thread = t; no = n }) (read_number number)) (read_thread thread)
+step_of thread number = option_and_then (λ t. option_map (λ n. record { thread = t; no = n }) (read_step_number number)) (read_thread thread)
 
-pub no_number : (thread number : List ℕ) → read_number number ≡ None → step_of thread number ≡ None
+pub no_number : (thread number : List ℕ) → read_step_number number ≡ None → step_of thread number ≡ None
 no_number thread number h = rw h (neither (read_thread thread))
   where
     neither : (o : Option Thread) → option_and_then {T = Thread} {U = StepName} (λ t. None) o ≡ None
@@ -23,9 +23,9 @@ step_by thread number [] h = absurd (no_parts 35 number h)
 step_by thread number (part ∷ []) h =
     let e : part ≡ number = rw h at (join_with_byte-slice_split 35 number) in
     ap (λ (text : List ℕ). step_of thread text) e
-step_by thread number (part ∷ more ∷ parts) h = by_number (read_number number) refl
+step_by thread number (part ∷ more ∷ parts) h = by_number (read_step_number number) refl
   where
-    by_number : (o : Option ℕ) → read_number number ≡ o → None ≡ step_of thread number
+    by_number : (o : Option ℕ) → read_step_number number ≡ o → None ≡ step_of thread number
     by_number None e = sym (no_number thread number e)
     by_number (Some n) e = let whole : slice_split (λ b. b == 35) number ≡ number ∷ [] = number_whole 35 number n refl e in cc
 
@@ -33,10 +33,10 @@ pub step_cut : (bs thread number : List ℕ) → slice_split (λ b. b == 35) bs 
 step_cut bs thread number h = ap read_step_parts h ∙ step_by thread number (slice_split (λ b. b == 35) number) refl
 
 -- with its number read, it hangs on the thread
-pub step_with : (thread number : List ℕ) (n : ℕ) → read_number number ≡ Some n → step_of thread number ≡ option_map (λ t. record { thread = t; no = n }) (read_thread thread)
+pub step_with : (thread number : List ℕ) (n : ℕ) → read_step_number number ≡ Some n → step_of thread number ≡ option_map (λ t. record { thread = t; no = n }) (read_thread thread)
 step_with thread number n h = rw h
 
-pub step_none : (thread number : List ℕ) (n : ℕ) → read_number number ≡ Some n → (read_thread thread ≡ None) ↔ (step_of thread number ≡ None)
+pub step_none : (thread number : List ℕ) (n : ℕ) → read_step_number number ≡ Some n → (read_thread thread ≡ None) ↔ (step_of thread number ≡ None)
 step_none thread number n h = rw h (by_thread (read_thread thread))
   where
     by_thread : (o : Option Thread) → (o ≡ None) ↔ (option_map {U = StepName} (λ t. record { thread = t; no = n }) o ≡ None)

@@ -13,15 +13,15 @@ is_numeral [] = false
 is_numeral (d ∷ ds) = all_ascii_digits (d ∷ ds) && (not (d == 48) || length ds == 0)
 
 -- NUM: such digits, of a number that fits 32 bits
-abbrev pub read_number : List ℕ → Option ℕ
-read_number digits = if is_numeral digits && nat_lt (digits_value 10 digits) (2 ^ 32) then Some (digits_value 10 digits) else None
+abbrev pub read_step_number : List ℕ → Option ℕ
+read_step_number digits = if is_numeral digits && nat_lt (digits_value 10 digits) (2 ^ 32) then Some (digits_value 10 digits) else None
 
 -- NUM `.` NUM, cut at each point; the first is not 0
 abbrev pub read_branch_parts : List (List ℕ) → Option (ℕ × ℕ)
 read_branch_parts [] = None
 read_branch_parts (fork ∷ []) = None
 read_branch_parts (fork ∷ branch ∷ []) =
-    option_and_then (λ n. option_and_then (λ i. if n == 0 then None else Some (n, i)) (read_number branch)) (read_number fork)
+    option_and_then (λ n. option_and_then (λ i. if n == 0 then None else Some (n, i)) (read_step_number branch)) (read_step_number fork)
 read_branch_parts (fork ∷ branch ∷ more ∷ parts) = None
 
 abbrev pub read_branch : List ℕ → Option (ℕ × ℕ)
@@ -50,7 +50,7 @@ abbrev pub read_step_parts : List (List ℕ) → Option StepName
 read_step_parts [] = None
 read_step_parts (thread ∷ []) = None
 read_step_parts (thread ∷ number ∷ []) =
-    option_and_then (λ t. option_map (λ n. record { thread = t; no = n }) (read_number number)) (read_thread thread)
+    option_and_then (λ t. option_map (λ n. record { thread = t; no = n }) (read_step_number number)) (read_thread thread)
 read_step_parts (thread ∷ number ∷ more ∷ parts) = None
 
 abbrev pub read_step : List ℕ → Option StepName

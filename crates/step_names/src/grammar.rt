@@ -3,7 +3,7 @@
 ghost use Rattle.std.specs.Prelude.{◌≡◌, ℕ, ◌<◌, ◌≤◌, ◌==◌, [], ◌∷◌, length, None, Some, MatchOption, IfSome};
 ghost use Rattle.std.specs.List.{slice_split, list_all};
 ghost use Rattle.step_names.specs.Thread.{is_name, is_name_byte};
-ghost use Rattle.step_names.specs.Grammar.{read_number, read_branch, read_path, read_thread};
+ghost use Rattle.step_names.specs.Grammar.{read_step_number, read_branch, read_path, read_thread};
 
 use crate::path_buffer::PathBuffer;
 use crate::thread::LONGEST_EXEC;
@@ -41,7 +41,7 @@ pub fn cut(text: &str, separator: char) -> Option<(&str, &str)>
 
 /// A number with no sign and no leading zero.
 pub fn read_number(text: &str) -> Option<u32>
-    ensures { result ≡ read_number text.now }
+    ensures { result ≡ read_step_number text.now }
 {
     let first = *text.as_bytes().first()?;
     if first == b'0' {

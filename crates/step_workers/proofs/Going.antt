@@ -7,9 +7,9 @@ use Rattle.book_log.specs.declared.entry.Entry.TheVariants.{Define, Start, Step 
 use Rattle.shared_book.specs.Calls.{GivesReceipt, IsStepOf, Sees}
 use Rattle.shared_book.specs.Views.{PassView}
 use Rattle.shared_book.specs.declared.receipt.Receipt.{Receipt}
-use Rattle.step_workers.specs.Work.{AllSteps, GoesOn, IsStep}
+use Rattle.step_workers.specs.Work.{AllSteps, PassGoesOn, IsStepEntry}
 
-is_step : (t : Thread) (e : Entry) → IsStepOf t e → IsStep e
+is_step : (t : Thread) (e : Entry) → IsStepOf t e → IsStepEntry e
 is_step t (Stepped name kind) s = tt
 is_step t (Define _ _) s = s
 is_step t (Start _ _ _) s = s
@@ -42,10 +42,10 @@ steps_both : (xs ys : List Receipt) → AllSteps xs → AllSteps ys → AllSteps
 steps_both [] ys a b = b
 steps_both (x ∷ xs) ys a b = (a.0, steps_both xs ys a.1 b)
 
-pub goes_none : (n : ℕ) (p : PassView) → GoesOn n p p
+pub goes_none : (n : ℕ) (p : PassView) → PassGoesOn n p p
 goes_none n p = record { more = []; receipts = append_none p.receipts; few = omega arith; steps = tt; parts = refl; seen = omega arith }
 
-pub goes_one : (t : Thread) (begun : Log) (had has : PassView) (r : Receipt) → GivesReceipt begun had has r → IsStepOf t r.entry → GoesOn 1 had has
+pub goes_one : (t : Thread) (begun : Log) (had has : PassView) (r : Receipt) → GivesReceipt begun had has r → IsStepOf t r.entry → PassGoesOn 1 had has
 goes_one t begun had has r given step = record {
   more = r ∷ [];
   receipts = ap (λ (p : PassView). p.receipts) given.now;
@@ -56,7 +56,7 @@ goes_one t begun had has r given step = record {
 }
 
 -- a pass that was shown the log
-pub goes_shown : (begun : Log) (had has : PassView) (at : Log) → Sees begun had has at → GoesOn 0 had has
+pub goes_shown : (begun : Log) (had has : PassView) (at : Log) → Sees begun had has at → PassGoesOn 0 had has
 goes_shown begun had has at sees = record {
   more = [];
   receipts = ap (λ (p : PassView). p.receipts) sees.now ∙ append_none had.receipts;
@@ -66,7 +66,7 @@ goes_shown begun had has at sees = record {
   seen = let seen = ap (λ (p : PassView). p.seen) sees.now in let long = sees.may.known.long in omega (arith, seen, long);
 }
 
-pub goes_more : (n m : ℕ) (a b c : PassView) → GoesOn n a b → GoesOn m b c → GoesOn (n + m) a c
+pub goes_more : (n m : ℕ) (a b c : PassView) → PassGoesOn n a b → PassGoesOn m b c → PassGoesOn (n + m) a c
 goes_more n m a b c first then = record {
   more = first.more ++ then.more;
   receipts = then.receipts ∙ ap (λ (t : List Receipt). t ++ then.more) first.receipts ∙ append_twice a.receipts first.more then.more;
@@ -76,7 +76,7 @@ goes_more n m a b c first then = record {
   seen = let f = first.seen in let g = then.seen in omega (arith, f, g);
 }
 
-pub goes_within : (n m : ℕ) (a b : PassView) → n ≤ m → GoesOn n a b → GoesOn m a b
+pub goes_within : (n m : ℕ) (a b : PassView) → n ≤ m → PassGoesOn n a b → PassGoesOn m a b
 goes_within n m a b less goes = record {
   more = goes.more;
   receipts = goes.receipts;
@@ -86,5 +86,5 @@ goes_within n m a b less goes = record {
   seen = goes.seen;
 }
 
-pub goes_same : (n : ℕ) (had has : PassView) → has ≡ had → GoesOn n had has
+pub goes_same : (n : ℕ) (had has : PassView) → has ≡ had → PassGoesOn n had has
 goes_same n had has same = rw same (goes_none n had)

@@ -8,7 +8,7 @@ use Rattle.slip_queue.specs.declared.slips.Slips.{Slips}
 use Rattle.step_workers.specs.Seats.{AllSeated, AllServed, AllWell, HasServed, IsSeated, IsWell, count_served, pass_of, pass_served, share_of}
 use Rattle.step_workers.specs.Shares.{shares_of}
 use Rattle.step_workers.specs.Rooms.{IsTray}
-use Rattle.step_workers.specs.Work.{AllGoOn, EachAtMost, EachGoesOn, GoesOn, KeepsGiver, with_giver}
+use Rattle.step_workers.specs.Work.{AllGoOn, EachAtMost, EachGoesOn, PassGoesOn, KeepsGiver, with_giver}
 use Rattle.step_workers.specs.declared.gathering.Tray.{Tray}
 use Rattle.step_workers.specs.declared.seat.Seat.{Seat}
 use Rattle.step_workers.specs.declared.seat.Served.{Served}
@@ -65,7 +65,7 @@ module _ {L : Type 0} where
   all_well q (s ∷ ss) [] a = absurd a
   all_well q (s ∷ ss) (d ∷ ds) a = (a.0.well, all_well q ss ds a.1)
 
-  pub each_goes_on : (q : Slips Ticket) (ss : List (Seat L)) (ds : List (Served L)) (had has : PassView) → GoesOn 0 had has → AllServed q ss ds
+  pub each_goes_on : (q : Slips Ticket) (ss : List (Seat L)) (ds : List (Served L)) (had has : PassView) → PassGoesOn 0 had has → AllServed q ss ds
       → EachGoesOn (map share_of ss ++ 0 ∷ []) (map pass_of ss ++ had ∷ []) (map pass_served ds ++ has ∷ [])
   each_goes_on q [] [] had has none a = (none, tt)
   each_goes_on q [] (d ∷ ds) had has none a = absurd a
@@ -73,7 +73,7 @@ module _ {L : Type 0} where
   each_goes_on q (s ∷ ss) (d ∷ ds) had has none a = (a.0.goes, each_goes_on q ss ds had has none a.1)
 
   -- the seats and the one who hands out tickets have the passes of the round, and their shares
-  pub round_goes_on : (budget : ℕ) (q : Slips Ticket) (ss : List (Seat L)) (ds : List (Served L)) (ps xs : List PassView) (had has : PassView) → AllServed q ss ds → GoesOn 0 had has
+  pub round_goes_on : (budget : ℕ) (q : Slips Ticket) (ss : List (Seat L)) (ds : List (Served L)) (ps xs : List PassView) (had has : PassView) → AllServed q ss ds → PassGoesOn 0 had has
       → map share_of ss ≡ shares_of budget (length ps) → map pass_of ss ≡ xs → xs ++ had ∷ [] ≡ with_giver ps → AllGoOn budget ps (map pass_served ds ++ has ∷ [])
   round_goes_on budget q ss ds ps xs had has served none shares seats giver =
       let qs = map pass_served ds ++ has ∷ [] in

@@ -6,9 +6,9 @@ use Rattle.std.proofs.Math.Nat.{div-add-mod, mod-lt}
 use Rattle.std.proofs.lemmas.Bool.Decides.{nat_tests}
 use Rattle.slip_queue.specs.Slips.{is_given, times}
 use Rattle.slip_queue.proofs.Keeps.{times_more}
-use Rattle.step_workers.specs.Seats.{AllRoomy, IsRoomy, share_in, share_of, shares}
+use Rattle.step_workers.specs.Seats.{AllRoomy, IsRoomy, share_in, share_of, seat_shares}
 use Rattle.step_workers.specs.Shares.{first_shares, share_at, shares_of}
-use Rattle.step_workers.specs.Work.{IsWritten, all_taken}
+use Rattle.step_workers.specs.Work.{AreWrittenTaken, all_taken}
 use Rattle.step_workers.specs.declared.allowance.Allowance.{Allowance}
 use Rattle.step_workers.specs.declared.seat.Seat.{Seat}
 
@@ -81,11 +81,11 @@ sum_shares budget seats some =
     let whole = div-add-mod budget seats in
     omega (arith, first, all, whole)
 
-shares_sum : {L : Type 0} (ss : List (Seat L)) → shares ss ≡ sum_of (map share_of ss)
+shares_sum : {L : Type 0} (ss : List (Seat L)) → seat_shares ss ≡ sum_of (map share_of ss)
 shares_sum [] = refl
 shares_sum (s ∷ ss) = ap (λ (n : ℕ). s.share + n) (shares_sum ss)
 
-pub seats_share : {L : Type 0} (budget seats : ℕ) (ss : List (Seat L)) → 0 < seats → map share_of ss ≡ shares_of budget seats → shares ss ≡ budget
+pub seats_share : {L : Type 0} (budget seats : ℕ) (ss : List (Seat L)) → 0 < seats → map share_of ss ≡ shares_of budget seats → seat_shares ss ≡ budget
 seats_share budget seats ss some is = shares_sum ss ∙ ap sum_of is ∙ sum_shares budget seats some
 
 -- ---- memory
@@ -104,12 +104,12 @@ roomy_front as_ bs a is all = (roomy_last bs a (subst AllRoomy is all)).0
 pub roomy_back : (as_ bs : List Allowance) (a : Allowance) → as_ ≡ bs ++ a ∷ [] → AllRoomy as_ → IsRoomy a
 roomy_back as_ bs a is all = (roomy_last bs a (subst AllRoomy is all)).1
 
-pub shares_more : {L : Type 0} (ss : List (Seat L)) (s : Seat L) → shares (ss ++ s ∷ []) ≡ shares ss + s.share
+pub shares_more : {L : Type 0} (ss : List (Seat L)) (s : Seat L) → seat_shares (ss ++ s ∷ []) ≡ seat_shares ss + s.share
 shares_more [] s = omega arith
 shares_more (r ∷ ss) s = let h = shares_more ss s in omega (arith, h)
 
-pub shares_with : {L : Type 0} (ss ts : List (Seat L)) (s : Seat L) → ts ≡ ss ++ s ∷ [] → shares ts ≡ shares ss + s.share
-shares_with ss ts s is = ap shares is ∙ shares_more ss s
+pub shares_with : {L : Type 0} (ss ts : List (Seat L)) (s : Seat L) → ts ≡ ss ++ s ∷ [] → seat_shares ts ≡ seat_shares ss + s.share
+shares_with ss ts s is = ap seat_shares is ∙ shares_more ss s
 
 -- ---- numbers of tickets
 
@@ -128,7 +128,7 @@ taken_more x (u ∷ vs) v =
     omega (arith, h, e, f)
 
 -- one number more, written down and taken
-pub written_more : (n : ℕ) (written taken : List ℕ) → IsWritten written taken → IsWritten (written ++ n ∷ []) (taken ++ n ∷ [])
+pub written_more : (n : ℕ) (written taken : List ℕ) → AreWrittenTaken written taken → AreWrittenTaken (written ++ n ∷ []) (taken ++ n ∷ [])
 written_more n written taken all x =
     let h = all x in
     let e = times_more x written (n ∷ []) in
@@ -136,14 +136,14 @@ written_more n written taken all x =
     omega (arith, h, e, f)
 
 -- one number more that was taken
-pub taken_besides : (n : ℕ) (written taken : List ℕ) → IsWritten written taken → IsWritten written (taken ++ n ∷ [])
+pub taken_besides : (n : ℕ) (written taken : List ℕ) → AreWrittenTaken written taken → AreWrittenTaken written (taken ++ n ∷ [])
 taken_besides n written taken all x =
     let h = all x in
     let f = times_more x taken (n ∷ []) in
     omega (arith, h, f)
 
 -- one seat more
-pub written_all : {A : Type 0} (vs : List (Vec ℕ A)) (v : Vec ℕ A) (known by : List ℕ) → IsWritten (all_taken vs) known → IsWritten v.items by → IsWritten (all_taken (vs ++ v ∷ [])) (known ++ by)
+pub written_all : {A : Type 0} (vs : List (Vec ℕ A)) (v : Vec ℕ A) (known by : List ℕ) → AreWrittenTaken (all_taken vs) known → AreWrittenTaken v.items by → AreWrittenTaken (all_taken (vs ++ v ∷ [])) (known ++ by)
 written_all vs v known by all one x =
     let h = all x in
     let k = one x in

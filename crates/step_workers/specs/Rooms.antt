@@ -12,7 +12,7 @@ module _ {L : Type 0} where
     pub stopped : (t.stopped.items ≡ []) × (n ≤ vec_capacity t.stopped)
     pub taken : (t.taken.items ≡ []) × (n ≤ vec_capacity t.taken)
 
-  pub record HasRoom (n budget : ℕ) (r : Rooms L) : Type 0 where
+  pub record HasBoardRoom (n budget : ℕ) (r : Rooms L) : Type 0 where
     pub giver : IsGiver r.board.slips r.giver
     pub fresh : (parts_of r.giver ≡ all_parts) × (given_of r.giver ≡ 0) × (taken_of r.giver ≡ [])
     pub allowances : (vec_len r.allowances ≡ n) × (map share_in r.allowances.items ≡ shares_of budget n) × AllRoomy r.allowances.items

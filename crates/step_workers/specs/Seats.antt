@@ -2,9 +2,9 @@
 use Rattle.std.specs.Prelude.{◌≡◌, ℕ, ◌+◌, ◌≤◌, List, [], ◌∷◌, length, vec_capacity}
 use Rattle.book_events.specs.declared.ticket.Ticket.{Ticket}
 use Rattle.shared_book.specs.Views.{PassView}
-use Rattle.slip_queue.specs.Slips.{IsTaker, taken_by}
+use Rattle.slip_queue.specs.Slips.{IsTaker, taker_numbers}
 use Rattle.slip_queue.specs.declared.slips.Slips.{Slips}
-use Rattle.step_workers.specs.Work.{GoesOn, IsWritten}
+use Rattle.step_workers.specs.Work.{PassGoesOn, AreWrittenTaken}
 use Rattle.step_workers.specs.declared.allowance.Allowance.{Allowance}
 use Rattle.step_workers.specs.declared.seat.Seat.{Seat}
 use Rattle.step_workers.specs.declared.seat.Served.{Served}
@@ -26,9 +26,9 @@ module _ {L : Type 0} where
   abbrev pub share_of : Seat L → ℕ
   share_of s = s.share
 
-  abbrev pub shares : List (Seat L) → ℕ
-  shares [] = 0
-  shares (s ∷ ss) = s.share + shares ss
+  abbrev pub seat_shares : List (Seat L) → ℕ
+  seat_shares [] = 0
+  seat_shares (s ∷ ss) = s.share + seat_shares ss
 
   abbrev pub pass_of : Seat L → PassView
   pass_of s = s.pass
@@ -42,7 +42,7 @@ module _ {L : Type 0} where
   -- it takes of this queue, and has taken nothing so far
   pub record IsSeated (q : Slips Ticket) (s : Seat L) : Type 0 where
     pub taker : IsTaker q s.taker
-    pub none : (taken_by s.taker ≡ []) × (s.taken.items ≡ [])
+    pub none : (taker_numbers s.taker ≡ []) × (s.taken.items ≡ [])
     pub room : s.share ≤ vec_capacity s.taken
 
   abbrev pub AllSeated : Slips Ticket → List (Seat L) → Type 0
@@ -52,7 +52,7 @@ module _ {L : Type 0} where
   -- it wrote down what it took, no more than its share, for which it has room
   pub record IsTaking (q : Slips Ticket) (s : Seat L) : Type 0 where
     pub taker : IsTaker q s.taker
-    pub written : IsWritten s.taken.items (taken_by s.taker)
+    pub written : AreWrittenTaken s.taken.items (taker_numbers s.taker)
     pub few : length s.taken.items ≤ s.share
     pub room : s.share ≤ vec_capacity s.taken
 
@@ -68,7 +68,7 @@ module _ {L : Type 0} where
   -- what it wrote down it took of this queue
   pub record IsWell (q : Slips Ticket) (d : Served L) : Type 0 where
     pub taker : IsTaker q d.taker
-    pub written : IsWritten d.taken.items (taken_by d.taker)
+    pub written : AreWrittenTaken d.taken.items (taker_numbers d.taker)
 
   abbrev pub AllWell : Slips Ticket → List (Served L) → Type 0
   AllWell q [] = Unit {0}
@@ -76,7 +76,7 @@ module _ {L : Type 0} where
 
   -- it took no more moves than its share
   pub record HasServed (q : Slips Ticket) (s : Seat L) (d : Served L) : Type 0 where
-    pub goes : GoesOn s.share s.pass d.pass
+    pub goes : PassGoesOn s.share s.pass d.pass
     pub few : length d.taken.items ≤ s.share
     pub well : IsWell q d
 

@@ -11,16 +11,16 @@ use Rattle.slip_queue.specs.declared.slips.Slips.{Slips}
 use Rattle.slip_queue.specs.declared.giver.Giver.{Giver}
 use Rattle.step_workers.specs.Shares.{shares_of}
 
-abbrev pub IsStep : Entry → Type 0
-IsStep (Stepped name kind) = Unit {0}
-IsStep _ = ⊥
+abbrev pub IsStepEntry : Entry → Type 0
+IsStepEntry (Stepped name kind) = Unit {0}
+IsStepEntry _ = ⊥
 
 abbrev pub AllSteps : List Receipt → Type 0
 AllSteps [] = Unit {0}
-AllSteps (r ∷ rs) = IsStep r.entry × AllSteps rs
+AllSteps (r ∷ rs) = IsStepEntry r.entry × AllSteps rs
 
 -- at most n receipts more, each of a step; as many parts as before, and no less seen
-pub record GoesOn (n : ℕ) (had has : PassView) : Type 0 where
+pub record PassGoesOn (n : ℕ) (had has : PassView) : Type 0 where
   pub more : List Receipt
   pub receipts : has.receipts ≡ had.receipts ++ more
   pub few : length more ≤ n
@@ -31,7 +31,7 @@ pub record GoesOn (n : ℕ) (had has : PassView) : Type 0 where
 -- each pass goes on, by as many receipts at most
 abbrev pub EachGoesOn : List ℕ → List PassView → List PassView → Type 0
 EachGoesOn [] [] [] = Unit {0}
-EachGoesOn (n ∷ ns) (p ∷ ps) (q ∷ qs) = GoesOn n p q × EachGoesOn ns ps qs
+EachGoesOn (n ∷ ns) (p ∷ ps) (q ∷ qs) = PassGoesOn n p q × EachGoesOn ns ps qs
 EachGoesOn _ _ _ = ⊥
 
 -- the first pass gives half of its parts to a further one, of the one who hands out the tickets
@@ -54,8 +54,8 @@ EachAtMost (n ∷ ns) (m ∷ ms) = (n ≤ m) × EachAtMost ns ms
 EachAtMost _ _ = ⊥
 
 -- each number that was written down was taken, as often as it was written down
-abbrev pub IsWritten : List ℕ → List ℕ → Type 0
-IsWritten written taken = (x : ℕ) → times x written ≤ times x taken
+abbrev pub AreWrittenTaken : List ℕ → List ℕ → Type 0
+AreWrittenTaken written taken = (x : ℕ) → times x written ≤ times x taken
 
 abbrev pub all_taken : {A : Type 0} → List (Vec ℕ A) → List ℕ
 all_taken [] = []

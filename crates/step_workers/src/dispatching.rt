@@ -1,7 +1,7 @@
 // The one who hands out tickets.
 ghost use Rattle.std.specs.Prelude.{◌≡◌, ◌+◌};
 ghost use Rattle.slip_queue.specs.Slips.{IsGiver};
-ghost use Rattle.step_workers.specs.Work.{GoesOn, KeepsGiver};
+ghost use Rattle.step_workers.specs.Work.{PassGoesOn, KeepsGiver};
 
 use crate::board::Board;
 use crate::seat::Served;
@@ -36,7 +36,7 @@ pub(crate) fn dispatch<B: Events, L: Sharing>(
 ) -> Dispatcher<L>
     requires { IsGiver board.now.slips dispatcher.giver }
     ensures giver { KeepsGiver (dispatcher.tickets + dispatcher.workers) board.now.slips dispatcher.giver result.giver }
-    ensures pass { GoesOn 0 dispatcher.pass result.pass }
+    ensures pass { PassGoesOn 0 dispatcher.pass result.pass }
     ensures served { result.served ≡ dispatcher.served }
 {
     let Dispatcher {
@@ -80,7 +80,7 @@ fn hand_out<B: Events, L: Sharing>(
 ) -> Option<SharedRefusal>
     requires { IsGiver board.now.slips giver.old }
     ensures giver { KeepsGiver limits.tickets board.now.slips giver.old giver.new }
-    ensures pass { GoesOn 0 pass.old pass.new }
+    ensures pass { PassGoesOn 0 pass.old pass.new }
 {
     let mut left = limits.tickets;
     for _ in rt.forever() {

@@ -3,7 +3,7 @@ ghost use Rattle.std.specs.Prelude.{◌≡◌, ◌+◌, ◌<◌, ◌≤◌, ◌^
 ghost use Rattle.slip_queue.specs.Slips.{IsGiver, all_parts, given_of, is_given, parts_of, taken_of, times};
 ghost use Rattle.step_workers.specs.Seats.{AllWell, count_served, pass_served};
 ghost use Rattle.step_workers.specs.Rooms.{IsTray};
-ghost use Rattle.step_workers.specs.Work.{IsWritten, all_taken, count_of};
+ghost use Rattle.step_workers.specs.Work.{AreWrittenTaken, all_taken, count_of};
 
 use crate::board::Board;
 use crate::dispatching::Dispatcher;
@@ -90,7 +90,7 @@ fn lay_out<L: Ledger>(
     ensures giver { IsGiver board.now.slips giver.new }
     ensures given { given_of giver.new ≡ given_of giver.old }
     ensures parts { parts_of giver.new ≡ parts_of giver.old + vec_len served }
-    ensures written { IsWritten (all_taken result.taken.items) (taken_of giver.new) }
+    ensures written { AreWrittenTaken (all_taken result.taken.items) (taken_of giver.new) }
     ensures passes { result.passes.items ≡ map pass_served served.items }
     ensures counts { map count_of result.taken.items ≡ map count_served served.items }
     ensures lens { (vec_len result.passes ≡ vec_len served) × (vec_len result.stopped ≡ vec_len served) × (vec_len result.taken ≡ vec_len served) }

@@ -1,6 +1,6 @@
 // One move of a worker.
 ghost use Rattle.std.specs.Prelude.{◌≡◌};
-ghost use Rattle.step_workers.specs.Work.{GoesOn};
+ghost use Rattle.step_workers.specs.Work.{PassGoesOn};
 
 use crate::gate::Gate;
 use book_events::turns::{Phase, Prepared, prepare};
@@ -21,7 +21,7 @@ pub(crate) fn take_move<B: Events, L: Sharing, G: Gate>(
     pass: &mut Pass<L>,
     ticket: Ticket,
 ) -> Result<(), SharedRefusal>
-    ensures { GoesOn 1 pass.old pass.new }
+    ensures { PassGoesOn 1 pass.old pass.new }
 {
     match ticket.frame().phase {
         Phase::Ready => {
@@ -52,7 +52,7 @@ fn commit<B: Events, L: Sharing>(
     ticket: Ticket,
     prepared: Prepared,
 ) -> Result<(), SharedRefusal>
-    ensures { GoesOn 1 pass.old pass.new }
+    ensures { PassGoesOn 1 pass.old pass.new }
 {
     match shared.commit(rt, alloc, pass, ticket, prepared) {
         Ok(receipt) => {
@@ -81,7 +81,7 @@ fn join<B: Events, L: Sharing>(
     pass: &mut Pass<L>,
     ticket: Ticket,
 ) -> Result<(), SharedRefusal>
-    ensures { GoesOn 1 pass.old pass.new }
+    ensures { PassGoesOn 1 pass.old pass.new }
 {
     let answer = shared.step(rt, alloc, pass, ticket.thread());
     shared.give_back(rt, ticket);

@@ -2,8 +2,8 @@
 ghost use Rattle.std.specs.Prelude.{◌≡◌, ◌+◌, ◌≤◌, IfErr, IfOk, vec_len, vec_capacity};
 ghost use denote.Param.Send.{IsSend, IsSync};
 ghost use Rattle.slip_queue.specs.Slips.{IsGiver};
-ghost use Rattle.step_workers.specs.Work.{GoesOn, KeepsGiver};
-ghost use Rattle.step_workers.specs.Seats.{AllSeated, AllServed, HasServed, IsSeated, shares};
+ghost use Rattle.step_workers.specs.Work.{PassGoesOn, KeepsGiver};
+ghost use Rattle.step_workers.specs.Seats.{AllSeated, AllServed, HasServed, IsSeated, seat_shares};
 
 use crate::board::Board;
 use crate::dispatching::{Dispatcher, dispatch};
@@ -90,8 +90,8 @@ where
     requires giver { IsGiver board.now.slips dispatcher.giver }
     requires seats { AllSeated board.now.slips seats.items }
     requires room { (vec_len dispatcher.served ≡ 0) × (vec_len seats ≤ vec_capacity dispatcher.served) }
-    ensures giver { KeepsGiver (dispatcher.tickets + dispatcher.workers + (shares seats.items + vec_len seats)) board.now.slips dispatcher.giver result.giver }
-    ensures pass { GoesOn 0 dispatcher.pass result.pass }
+    ensures giver { KeepsGiver (dispatcher.tickets + dispatcher.workers + (seat_shares seats.items + vec_len seats)) board.now.slips dispatcher.giver result.giver }
+    ensures pass { PassGoesOn 0 dispatcher.pass result.pass }
     ensures served { AllServed board.now.slips seats.items result.served.items }
     ensures room { (vec_len result.served ≡ vec_len seats) × (vec_capacity result.served ≡ vec_capacity dispatcher.served) }
 {
@@ -134,8 +134,8 @@ where
     requires giver { IsGiver board.now.slips dispatcher.giver }
     requires seats { AllSeated board.now.slips seats.items }
     requires room { (vec_len dispatcher.served ≡ 0) × (vec_len seats ≤ vec_capacity dispatcher.served) }
-    ensures giver { KeepsGiver (dispatcher.tickets + dispatcher.workers + (shares seats.items + vec_len seats)) board.now.slips dispatcher.giver result.giver }
-    ensures pass { GoesOn 0 dispatcher.pass result.pass }
+    ensures giver { KeepsGiver (dispatcher.tickets + dispatcher.workers + (seat_shares seats.items + vec_len seats)) board.now.slips dispatcher.giver result.giver }
+    ensures pass { PassGoesOn 0 dispatcher.pass result.pass }
     ensures served { AllServed board.now.slips seats.items result.served.items }
     ensures len { vec_len result.served ≡ vec_len seats }
 {
@@ -145,8 +145,8 @@ where
         move |scope| -> Dispatcher<L>
             requires { IsSend B.row × IsSend L.row × IsSync L.row × IsSync G.row × IsSync R.row
                 × IsGiver board.now.slips dispatcher.giver × AllSeated board.now.slips seats.items × (vec_len dispatcher.served ≡ 0) × (vec_len seats ≤ vec_capacity dispatcher.served) }
-            ensures giver { KeepsGiver (dispatcher.tickets + dispatcher.workers + (shares seats.items + vec_len seats)) board.entry.now.slips dispatcher.giver result.giver }
-            ensures pass { GoesOn 0 dispatcher.pass result.pass }
+            ensures giver { KeepsGiver (dispatcher.tickets + dispatcher.workers + (seat_shares seats.items + vec_len seats)) board.entry.now.slips dispatcher.giver result.giver }
+            ensures pass { PassGoesOn 0 dispatcher.pass result.pass }
             ensures served { AllServed board.entry.now.slips seats.items result.served.items }
             ensures len { vec_len result.served ≡ vec_len seats }
         { run_seats(rt, alloc, scope, shared, board, gate, seats, dispatcher) },

@@ -1,7 +1,7 @@
 // One worker.
 ghost use Rattle.std.specs.Prelude.{◌≡◌, []};
 ghost use Rattle.step_workers.specs.Seats.{HasServed, IsSeated, IsTaking, KeepsSeat, is_more};
-ghost use Rattle.step_workers.specs.Work.{GoesOn};
+ghost use Rattle.step_workers.specs.Work.{PassGoesOn};
 
 use crate::board::Board;
 use crate::gate::Gate;
@@ -74,7 +74,7 @@ fn take_all<B: Events, L: Sharing, G: Gate, R: Wait>(
     requires taking { IsTaking board.now.slips seat.old }
     requires none { seat.old.taken.items ≡ [] }
     ensures taking { IsTaking board.now.slips seat.new }
-    ensures goes { GoesOn seat.old.share seat.old.pass seat.new.pass }
+    ensures goes { PassGoesOn seat.old.share seat.old.pass seat.new.pass }
     ensures share { seat.new.share ≡ seat.old.share }
 {
     for _ in rt.forever() {

@@ -2,7 +2,7 @@
 ghost use Rattle.std.specs.Prelude.{◌^◌, ◌≡◌, ◌+◌, ◌<◌, ◌≤◌, ℕ, IfErr, IfOk, IfSome, map, slice_get, vec_len};
 ghost use Rattle.slip_queue.specs.Slips.{is_given, times};
 ghost use Rattle.step_workers.specs.Work.{AllGoOn, EachAtMost, all_taken, count_of};
-ghost use Rattle.step_workers.specs.Rooms.{HasRoom};
+ghost use Rattle.step_workers.specs.Rooms.{HasBoardRoom};
 ghost use Rattle.step_workers.specs.Shares.{shares_of};
 
 use crate::allowance::{Allowance, allowances};
@@ -43,7 +43,7 @@ struct Rooms<L: Ledger> {
 impl<L: Ledger> Rooms<L> {
     fn new(alloc: Global, seats: usize, budget: u32) -> Result<Rooms<L>, AllocError>
         requires { (0 < seats) × (seats < 2 ^ 32) }
-        ensures { IfOk result (HasRoom seats budget) }
+        ensures { IfOk result (HasBoardRoom seats budget) }
     {
         let (slips, giver) = Slips::open(alloc, MOST_WAITING)?;
         let board = Board {

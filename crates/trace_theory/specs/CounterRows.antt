@@ -2,47 +2,47 @@
 -- writes counter 1, both end, and the root joins them.
 use Rattle.std.specs.Prelude.{◌≡◌, ℕ, false, List, [], ◌∷◌, reverse, Option, Some, None, option_map, refl}
 use Rattle.trace_theory.specs.Traces.{run, names_of, consequences, undo_each}
-use Rattle.trace_theory.specs.Counters.{Frame, World, ready, reads, writes, forks, joins, ends, Step, counters, start, depends}
+use Rattle.trace_theory.specs.Counters.{Frame, CounterWorld, ready, reads, writes, forks, joins, ends, CounterStep, counters, start, depends}
 
-abbrev fork : Step
+abbrev fork : CounterStep
 fork = record { thread = []; no = 1; act = forks }
 
-abbrev a_writes : Step
+abbrev a_writes : CounterStep
 a_writes = record { thread = (1, 0) ∷ []; no = 1; act = writes 0 }
 
-abbrev b_writes : Step
+abbrev b_writes : CounterStep
 b_writes = record { thread = (1, 1) ∷ []; no = 1; act = writes 5 }
 
-abbrev b_reads : Step
+abbrev b_reads : CounterStep
 b_reads = record { thread = (1, 1) ∷ []; no = 2; act = reads 0 }
 
-abbrev b_writes_more : Step
+abbrev b_writes_more : CounterStep
 b_writes_more = record { thread = (1, 1) ∷ []; no = 3; act = writes 1 }
 
-abbrev a_ends : Step
+abbrev a_ends : CounterStep
 a_ends = record { thread = (1, 0) ∷ []; no = 2; act = ends }
 
-abbrev b_ends : Step
+abbrev b_ends : CounterStep
 b_ends = record { thread = (1, 1) ∷ []; no = 4; act = ends }
 
-abbrev join : Step
+abbrev join : CounterStep
 join = record { thread = []; no = 2; act = joins }
 
-abbrev history : List Step
+abbrev history : List CounterStep
 history = fork ∷ a_writes ∷ b_writes ∷ b_reads ∷ b_writes_more ∷ a_ends ∷ b_ends ∷ join ∷ []
 
 -- what a row looks at: the counters 0, 1 and 5, and the frames of the root, a and b
-abbrev seen : World → List ℕ × List (Option Frame)
+abbrev seen : CounterWorld → List ℕ × List (Option Frame)
 seen w = (w.counters 0 ∷ w.counters 1 ∷ w.counters 5 ∷ [], w.frames [] ∷ w.frames ((1, 0) ∷ []) ∷ w.frames ((1, 1) ∷ []) ∷ [])
 
-abbrev after_of : List Step → Step → Option (List Step)
+abbrev after_of : List CounterStep → CounterStep → Option (List CounterStep)
 after_of steps s = option_map (λ p. names_of counters (consequences counters p.1 s)) (run counters start steps)
 
 -- the world once the consequences of s are undone from the last to the first
-abbrev rolled_back : List Step → Step → Option (List ℕ × List (Option Frame))
+abbrev rolled_back : List CounterStep → CounterStep → Option (List ℕ × List (Option Frame))
 rolled_back steps s = option_map (λ p. seen (undo_each counters p.0 (reverse (consequences counters p.1 s)))) (run counters start steps)
 
-abbrev gives : List Step → Option (List ℕ × List (Option Frame))
+abbrev gives : List CounterStep → Option (List ℕ × List (Option Frame))
 gives steps = option_map (λ p. seen p.0) (run counters start steps)
 
 row_run : gives history ≡ Some (1 ∷ 2 ∷ 1 ∷ [], Some (record { count = 2; value = 0; phase = ready }) ∷ None ∷ None ∷ [])

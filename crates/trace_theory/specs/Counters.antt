@@ -5,21 +5,21 @@ use Rattle.trace_theory.specs.Traces.{Machine, IsReversible, HasNames}
 use Rattle.trace_theory.specs.Footprints.{Plans}
 
 -- A thread is named by the branches that lead to it: step number n of thread t, a fork, makes the threads t/(n, 0) and t/(n, 1).
-abbrev pub same_branch : ℕ × ℕ → ℕ × ℕ → Bool
-same_branch a b = (a.0 == b.0) && (a.1 == b.1)
+abbrev pub counter_same_branch : ℕ × ℕ → ℕ × ℕ → Bool
+counter_same_branch a b = (a.0 == b.0) && (a.1 == b.1)
 
-abbrev pub same_thread : List (ℕ × ℕ) → List (ℕ × ℕ) → Bool
-same_thread [] [] = true
-same_thread [] (b ∷ q) = false
-same_thread (a ∷ p) [] = false
-same_thread (a ∷ p) (b ∷ q) = same_branch a b && same_thread p q
+abbrev pub counter_same_thread : List (ℕ × ℕ) → List (ℕ × ℕ) → Bool
+counter_same_thread [] [] = true
+counter_same_thread [] (b ∷ q) = false
+counter_same_thread (a ∷ p) [] = false
+counter_same_thread (a ∷ p) (b ∷ q) = counter_same_branch a b && counter_same_thread p q
 
 -- q lies under the fork that is step n of p
-abbrev pub is_under : List (ℕ × ℕ) → ℕ → List (ℕ × ℕ) → Bool
-is_under [] n [] = false
-is_under [] n (b ∷ q) = b.0 == n
-is_under (a ∷ p) n [] = false
-is_under (a ∷ p) n (b ∷ q) = same_branch a b && is_under p n q
+abbrev pub counter_is_under : List (ℕ × ℕ) → ℕ → List (ℕ × ℕ) → Bool
+counter_is_under [] n [] = false
+counter_is_under [] n (b ∷ q) = b.0 == n
+counter_is_under (a ∷ p) n [] = false
+counter_is_under (a ∷ p) n (b ∷ q) = counter_same_branch a b && counter_is_under p n q
 
 pub data Phase : Type 0 where
   ready : Phase
@@ -31,7 +31,7 @@ pub record Frame : Type 0 where
   pub value : ℕ
   pub phase : Phase
 
-pub record World : Type 0 where
+pub record CounterWorld : Type 0 where
   pub frames : List (ℕ × ℕ) → Option Frame
   pub counters : ℕ → ℕ
 
@@ -44,17 +44,17 @@ pub data Act : Type 0 where
   ends : Act
 
 -- the name of a step, with what it carries
-pub record Step : Type 0 where
+pub record CounterStep : Type 0 where
   pub thread : List (ℕ × ℕ)
   pub no : ℕ
   pub act : Act
 
-abbrev pub is_fork : Act → Bool
-is_fork forks = true
-is_fork (reads k) = false
-is_fork (writes k) = false
-is_fork joins = false
-is_fork ends = false
+abbrev pub counter_is_fork : Act → Bool
+counter_is_fork forks = true
+counter_is_fork (reads k) = false
+counter_is_fork (writes k) = false
+counter_is_fork joins = false
+counter_is_fork ends = false
 
 abbrev pub is_join : Act → Bool
 is_join joins = true
@@ -86,48 +86,48 @@ conflict joins b = false
 conflict ends b = false
 
 -- the thread lies under the fork that the step is, or under the fork before it, which it joins
-abbrev pub makes : Step → List (ℕ × ℕ) → Bool
-makes s q = is_fork s.act && is_under s.thread s.no q
+abbrev pub counter_makes : CounterStep → List (ℕ × ℕ) → Bool
+counter_makes s q = counter_is_fork s.act && counter_is_under s.thread s.no q
 
-abbrev pub closes : Step → List (ℕ × ℕ) → Bool
-closes s q = is_join s.act && is_under s.thread (s.no - 1) q
+abbrev pub counter_closes : CounterStep → List (ℕ × ℕ) → Bool
+counter_closes s q = is_join s.act && counter_is_under s.thread (s.no - 1) q
 
-abbrev pub depends : Step → Step → Bool
-depends a b = same_thread a.thread b.thread || (makes a b.thread || (closes b a.thread || conflict a.act b.act))
+abbrev pub depends : CounterStep → CounterStep → Bool
+depends a b = counter_same_thread a.thread b.thread || (counter_makes a b.thread || (counter_closes b a.thread || conflict a.act b.act))
 
 -- ---- plans
 
-pub data Cell : Type 0 where
-  frame_at : List (ℕ × ℕ) → Cell
-  counter_at : ℕ → Cell
+pub data CounterCell : Type 0 where
+  frame_at : List (ℕ × ℕ) → CounterCell
+  counter_at : ℕ → CounterCell
 
-pub data Content : Type 0 where
-  a_frame : Option Frame → Content
-  a_number : ℕ → Content
+pub data CounterContent : Type 0 where
+  a_frame : Option Frame → CounterContent
+  a_number : ℕ → CounterContent
 
-abbrev pub at : World → Cell → Content
-at w (frame_at q) = a_frame (w.frames q)
-at w (counter_at k) = a_number (w.counters k)
+abbrev pub content_at : CounterWorld → CounterCell → CounterContent
+content_at w (frame_at q) = a_frame (w.frames q)
+content_at w (counter_at k) = a_number (w.counters k)
 
 -- a step, its thread's frame afterwards, and what a counter that it writes holds afterwards
 pub record Plan : Type 0 where
-  pub step : Step
+  pub step : CounterStep
   pub frame : Frame
   pub number : ℕ
 
-abbrev pub is_ready : Phase → Bool
-is_ready ready = true
-is_ready parked = false
-is_ready done = false
+abbrev pub counter_is_ready : Phase → Bool
+counter_is_ready ready = true
+counter_is_ready parked = false
+counter_is_ready done = false
 
-abbrev pub is_parked : Phase → Bool
-is_parked parked = true
-is_parked ready = false
-is_parked done = false
+abbrev pub counter_is_parked : Phase → Bool
+counter_is_parked parked = true
+counter_is_parked ready = false
+counter_is_parked done = false
 
-abbrev pub is_done : Option Frame → Bool
-is_done None = false
-is_done (Some f) = is_end f.phase
+abbrev pub counter_is_done : Option Frame → Bool
+counter_is_done None = false
+counter_is_done (Some f) = is_end f.phase
   where
     is_end : Phase → Bool
     is_end done = true
@@ -136,11 +136,11 @@ is_done (Some f) = is_end f.phase
 
 -- a step of a frame can be taken: it is ready, or it is parked and both branches are done
 abbrev pub can : Act → Frame → Option Frame → Option Frame → Bool
-can joins f a b = is_parked f.phase && (is_done a && is_done b)
-can (reads k) f a b = is_ready f.phase
-can (writes k) f a b = is_ready f.phase
-can forks f a b = is_ready f.phase
-can ends f a b = is_ready f.phase
+can joins f a b = counter_is_parked f.phase && (counter_is_done a && counter_is_done b)
+can (reads k) f a b = counter_is_ready f.phase
+can (writes k) f a b = counter_is_ready f.phase
+can forks f a b = counter_is_ready f.phase
+can ends f a b = counter_is_ready f.phase
 
 abbrev pub phase_after : Act → Phase
 phase_after forks = parked
@@ -157,59 +157,59 @@ value_after joins f seen = f.value
 value_after ends f seen = f.value
 
 -- what a step looks up besides its thread's frame: the counter that it reads, and the branches that it joins
-abbrev pub seen : World → Act → ℕ
+abbrev pub seen : CounterWorld → Act → ℕ
 seen w (reads k) = w.counters k
 seen w (writes k) = 0
 seen w forks = 0
 seen w joins = 0
 seen w ends = 0
 
-abbrev pub branch : World → Act → List (ℕ × ℕ) → ℕ → ℕ → Option Frame
+abbrev pub branch : CounterWorld → Act → List (ℕ × ℕ) → ℕ → ℕ → Option Frame
 branch w joins t n i = w.frames (t ++ (n - 1, i) ∷ [])
 branch w (reads k) t n i = None
 branch w (writes k) t n i = None
 branch w forks t n i = None
 branch w ends t n i = None
 
-abbrev pub plan_by : Step → ℕ → Option Frame → Option Frame → Frame → Option Plan
+abbrev pub plan_by : CounterStep → ℕ → Option Frame → Option Frame → Frame → Option Plan
 plan_by s value a b f =
     if (s.no == f.count + 1) && can s.act f a b
     then Some record { step = s; frame = record { count = f.count + 1; value = value_after s.act f value; phase = phase_after s.act }; number = f.value + 1 }
     else None
 
-abbrev pub plan : World → Step → Option Plan
-plan w s = option_and_then (plan_by s (seen w s.act) (branch w s.act s.thread s.no 0) (branch w s.act s.thread s.no 1)) (w.frames s.thread)
+abbrev pub counter_plan : CounterWorld → CounterStep → Option Plan
+counter_plan w s = option_and_then (plan_by s (seen w s.act) (branch w s.act s.thread s.no 0) (branch w s.act s.thread s.no 1)) (w.frames s.thread)
 
-abbrev pub first_frame : Frame
-first_frame = record { count = 0; value = 0; phase = ready }
+abbrev pub counter_first_frame : Frame
+counter_first_frame = record { count = 0; value = 0; phase = ready }
 
 -- what stands under a fork once the step is taken: the two branches of a fork, and nothing after a join
-abbrev pub below : Step → List (ℕ × ℕ) → Option Frame
-below s q = if is_fork s.act && (same_thread (s.thread ++ (s.no, 0) ∷ []) q || same_thread (s.thread ++ (s.no, 1) ∷ []) q) then Some first_frame else None
+abbrev pub below : CounterStep → List (ℕ × ℕ) → Option Frame
+below s q = if counter_is_fork s.act && (counter_same_thread (s.thread ++ (s.no, 0) ∷ []) q || counter_same_thread (s.thread ++ (s.no, 1) ∷ []) q) then Some counter_first_frame else None
 
-abbrev pub reaches : Step → List (ℕ × ℕ) → Bool
-reaches s q = makes s q || closes s q
+abbrev pub counter_reaches : CounterStep → List (ℕ × ℕ) → Bool
+counter_reaches s q = counter_makes s q || counter_closes s q
 
-abbrev pub after_effect : World → Plan → World
-after_effect w p = record {
-  frames = λ q. if same_thread p.step.thread q then Some p.frame else (if reaches p.step q then below p.step q else w.frames q);
+abbrev pub counter_after_effect : CounterWorld → Plan → CounterWorld
+counter_after_effect w p = record {
+  frames = λ q. if counter_same_thread p.step.thread q then Some p.frame else (if counter_reaches p.step q then below p.step q else w.frames q);
   counters = λ k. if writes_counter p.step.act k then p.number else w.counters k;
 }
 
-abbrev pub touched : Plan → Cell → Bool
-touched p (frame_at q) = same_thread p.step.thread q || reaches p.step q
+abbrev pub touched : Plan → CounterCell → Bool
+touched p (frame_at q) = counter_same_thread p.step.thread q || counter_reaches p.step q
 touched p (counter_at k) = touches_counter p.step.act k
 
-abbrev pub written : Plan → Cell → Bool
-written p (frame_at q) = same_thread p.step.thread q || reaches p.step q
-written p (counter_at k) = writes_counter p.step.act k
+abbrev pub counter_written : Plan → CounterCell → Bool
+counter_written p (frame_at q) = counter_same_thread p.step.thread q || counter_reaches p.step q
+counter_written p (counter_at k) = writes_counter p.step.act k
 
-abbrev pub held_after : Plan → Cell → Content
-held_after p (frame_at q) = a_frame (if same_thread p.step.thread q then Some p.frame else below p.step q)
-held_after p (counter_at k) = a_number p.number
+abbrev pub counter_held_after : Plan → CounterCell → CounterContent
+counter_held_after p (frame_at q) = a_frame (if counter_same_thread p.step.thread q then Some p.frame else below p.step q)
+counter_held_after p (counter_at k) = a_number p.number
 
-abbrev pub counter_plans : Plans World Step Step Cell Content Plan
-counter_plans = record { at = at; plan = plan; after_effect = after_effect; fact = λ p. p.step; touches = touched; writes = written; holds = held_after }
+abbrev pub counter_plans : Plans CounterWorld CounterStep CounterStep CounterCell CounterContent Plan
+counter_plans = record { at = content_at; plan = counter_plan; after_effect = counter_after_effect; fact = λ p. p.step; touches = touched; writes = counter_written; holds = counter_held_after }
 
 -- ---- the machine
 
@@ -219,34 +219,34 @@ pub record Saved : Type 0 where
   pub counter : ℕ
   pub joined : List (ℕ × ℕ) → Option Frame
 
-abbrev pub counter_before : World → Act → ℕ
+abbrev pub counter_before : CounterWorld → Act → ℕ
 counter_before w (writes k) = w.counters k
 counter_before w (reads k) = 0
 counter_before w forks = 0
 counter_before w joins = 0
 counter_before w ends = 0
 
-abbrev pub saved : World → Step → Saved
-saved w s = record { frame = w.frames s.thread; counter = counter_before w s.act; joined = λ q. if closes s q then w.frames q else None }
+abbrev pub saved : CounterWorld → CounterStep → Saved
+saved w s = record { frame = w.frames s.thread; counter = counter_before w s.act; joined = λ q. if counter_closes s q then w.frames q else None }
 
-abbrev pub undo : World → Step → Saved → World
-undo v s kept = record {
-  frames = λ q. if same_thread s.thread q then kept.frame else (if reaches s q then kept.joined q else v.frames q);
+abbrev pub counter_undo : CounterWorld → CounterStep → Saved → CounterWorld
+counter_undo v s kept = record {
+  frames = λ q. if counter_same_thread s.thread q then kept.frame else (if counter_reaches s q then kept.joined q else v.frames q);
   counters = λ k. if writes_counter s.act k then kept.counter else v.counters k;
 }
 
-abbrev pub counters : Machine World Step Step Saved
+abbrev pub counters : Machine CounterWorld CounterStep CounterStep Saved
 counters = record {
-  take = λ w s. option_map (λ p. (after_effect w p, p.step)) (plan w s);
-  is_same = λ a b. same_thread a.thread b.thread && (a.no == b.no);
+  take = λ w s. option_map (λ p. (counter_after_effect w p, p.step)) (counter_plan w s);
+  is_same = λ a b. counter_same_thread a.thread b.thread && (a.no == b.no);
   depends = depends;
   saved = saved;
-  undo = undo;
+  undo = counter_undo;
 }
 
 -- one thread that is ready, and each counter 0
-abbrev pub start : World
-start = record { frames = λ q. if same_thread [] q then Some first_frame else None; counters = λ _. 0 }
+abbrev pub start : CounterWorld
+start = record { frames = λ q. if counter_same_thread [] q then Some counter_first_frame else None; counters = λ _. 0 }
 
 abbrev pub CountersAreReversible : Type 0
 CountersAreReversible = IsReversible counters start
@@ -256,12 +256,12 @@ CountersHaveNames = HasNames counters start
 
 -- In a world that no run reaches, where a thread stands under one that isn't parked, two steps that don't depend on each other
 -- can be taken in one order, and in the other give another world.
-pub record SwapFails (w : World) (a b : Step) : Type 0 where
+pub record SwapFails (w : CounterWorld) (a b : CounterStep) : Type 0 where
   pub independent : depends a b ≡ false
-  pub first : World
-  pub second : World
-  pub other_first : World
-  pub other_second : World
+  pub first : CounterWorld
+  pub second : CounterWorld
+  pub other_first : CounterWorld
+  pub other_second : CounterWorld
   pub takes_first : counters.take w a ≡ Some (first, a)
   pub takes_second : counters.take first b ≡ Some (second, b)
   pub takes_other : counters.take w b ≡ Some (other_first, b)
@@ -269,4 +269,4 @@ pub record SwapFails (w : World) (a b : Step) : Type 0 where
   pub differ : second ≡ other_second → ⊥
 
 abbrev pub PremiseIsNeeded : Type 0
-PremiseIsNeeded = (w : World) × (a : Step) × (b : Step) × SwapFails w a b
+PremiseIsNeeded = (w : CounterWorld) × (a : CounterStep) × (b : CounterStep) × SwapFails w a b

@@ -2,7 +2,7 @@ use Rattle.std.proofs.Common.{List, codes, arith, subst, ◌<◌, ◌≤◌, len
 use Rattle.serde_json.specs.Find.{get}
 use Rattle.serde_json.specs.View.{view, items_view, members_view}
 use Rattle.serde_json.specs.declared.value.Value.{Value}
-use Rattle.asl_fields.specs.Refusal.{Refuses}
+use Rattle.asl_fields.specs.Refusal.{RefusesForFault}
 use Rattle.asl_machine.specs.Faults.{LevelFault, BranchesFault}
 use Rattle.asl_machine.specs.Profile.{IsMachine}
 use Rattle.asl_states.specs.Reading.{name_of_two}
@@ -26,7 +26,7 @@ read_each_branch-returns-in-Err-clause-fault t c =
     let F = LevelFault c.args.levels in
     let from = c.deref-item-items.result.now in
     let e = c.in-Err.fault in
-    subst (λ (vs : List Value). Refuses e (BranchesFault F (items_view vs) e)) c.deref-item-items.ensures.value
+    subst (λ (vs : List Value). RefusesForFault e (BranchesFault F (items_view vs) e)) c.deref-item-items.ensures.value
     (branch_refuses F from c.loop-item.item-index c.item-item.result (members_view c.in-Some.fields.now.entries) e c.item-item.is c.loop-item-test.true c.in-Some.ensures c.loop-item.invariant.1 c.in-Err.ensures.fault)
 
 pub read_processor-returns-clause-fault : goal.read_processor-returns-clause-fault

@@ -3,10 +3,10 @@ use Rattle.serde_json.specs.Data.{depth, items_depth}
 use Rattle.serde_json.specs.Find.{get}
 use Rattle.serde_json.specs.View.{view, items_view, members_view}
 use Rattle.serde_json.specs.declared.value.Value.{Value}
-use Rattle.asl_fields.specs.Refusal.{Refuses}
+use Rattle.asl_fields.specs.Refusal.{RefusesForFault}
 use Rattle.asl_states.proofs.TestReadings.{field_falls, list_falls, value_falls, tests_step, tests_end, test_refuses, items_read, passed_on, form_refuses, later_step}
 use Rattle.asl_states.specs.TestFaults.{TestFault, TestFaultWithin, TestsFieldFault, SomeTestFault, NotFault}
-use Rattle.asl_states.specs.TestFields.{form_of, TestsAre}
+use Rattle.asl_states.specs.TestFields.{test_form_of, TestsAre}
 use Rattle.asl_states.specs.TestTree.{test_trees}
 use Rattle.asl_states.specs.TestView.{tests_of}
 use Rattle.asl_states.specs.declared.test_readers.TestForm.TheVariants.{And, Or, Not}
@@ -22,7 +22,7 @@ read_each_test-read_test-requires t c =
 pub read_each_test-returns-in-Err-clause-fault : goal.read_each_test-returns-in-Err-clause-fault
 read_each_test-returns-in-Err-clause-fault t c =
     let e = c.in-Err.fault in
-    subst (λ (vs : List Value). Refuses e ((n : ℕ) × SomeTestFault (TestFaultWithin n) c.args.field.now (items_view vs) e)) c.deref-item-items.ensures.value
+    subst (λ (vs : List Value). RefusesForFault e ((n : ℕ) × SomeTestFault (TestFaultWithin n) c.args.field.now (items_view vs) e)) c.deref-item-items.ensures.value
     (test_refuses c.args.field.now c.deref-item-items.result.now c.loop-item.item-index c.item-item.result e c.item-item.is c.loop-item-test.true c.loop-item.invariant.1 c.in-Err.ensures.fault)
 
 pub read_each_test-loop-item-preserved : goal.read_each_test-loop-item-preserved
@@ -46,24 +46,24 @@ pub read_test-returns-in_err-read_tests-in-Some-And-clause-fault : goal.read_tes
 read_test-returns-in_err-read_tests-in-Some-And-clause-fault t c =
     let d = view c.args.value.now in
     let e = c.in_err-read_tests-in-Some-And.field-0.0 in
-    let formed : Some And ≡ form_of d = search rules in
-    passed_on c.from_residual-in_err-read_tests-in-Some-And.result e (λ f. Refuses f (TestFault c.args.place c.args.field.now d f)) c.from_residual-in_err-read_tests-in-Some-And.ensures.1
+    let formed : Some And ≡ test_form_of d = search rules in
+    passed_on c.from_residual-in_err-read_tests-in-Some-And.result e (λ f. RefusesForFault f (TestFault c.args.place c.args.field.now d f)) c.from_residual-in_err-read_tests-in-Some-And.ensures.1
     (form_refuses (λ n f. TestsFieldFault (TestFaultWithin n) (codes "And") (get (codes "And") d) f) c.args.place c.args.field.now d (members_view c.in-Some.fields.now.entries) And e c.in-Some.ensures formed (λ n f. f) c.in_err-read_tests-in-Some-And.ensures.fault)
 
 pub read_test-returns-in_err-read_tests-in-Some-Or-clause-fault : goal.read_test-returns-in_err-read_tests-in-Some-Or-clause-fault
 read_test-returns-in_err-read_tests-in-Some-Or-clause-fault t c =
     let d = view c.args.value.now in
     let e = c.in_err-read_tests-in-Some-Or.field-0.0 in
-    let formed : Some Or ≡ form_of d = search rules in
-    passed_on c.from_residual-in_err-read_tests-in-Some-Or.result e (λ f. Refuses f (TestFault c.args.place c.args.field.now d f)) c.from_residual-in_err-read_tests-in-Some-Or.ensures.1
+    let formed : Some Or ≡ test_form_of d = search rules in
+    passed_on c.from_residual-in_err-read_tests-in-Some-Or.result e (λ f. RefusesForFault f (TestFault c.args.place c.args.field.now d f)) c.from_residual-in_err-read_tests-in-Some-Or.ensures.1
     (form_refuses (λ n f. TestsFieldFault (TestFaultWithin n) (codes "Or") (get (codes "Or") d) f) c.args.place c.args.field.now d (members_view c.in-Some.fields.now.entries) Or e c.in-Some.ensures formed (λ n f. f) c.in_err-read_tests-in-Some-Or.ensures.fault)
 
 pub read_test-returns-in_err-read_inner-in-Some-Not-clause-fault : goal.read_test-returns-in_err-read_inner-in-Some-Not-clause-fault
 read_test-returns-in_err-read_inner-in-Some-Not-clause-fault t c =
     let d = view c.args.value.now in
     let e = c.in_err-read_inner-in-Some-Not.field-0.0 in
-    let formed : Some Not ≡ form_of d = search rules in
-    passed_on c.from_residual-in_err-read_inner-in-Some-Not.result e (λ f. Refuses f (TestFault c.args.place c.args.field.now d f)) c.from_residual-in_err-read_inner-in-Some-Not.ensures.1
+    let formed : Some Not ≡ test_form_of d = search rules in
+    passed_on c.from_residual-in_err-read_inner-in-Some-Not.result e (λ f. RefusesForFault f (TestFault c.args.place c.args.field.now d f)) c.from_residual-in_err-read_inner-in-Some-Not.ensures.1
     (form_refuses (λ n f. NotFault (TestFaultWithin n) (get (codes "Not") d) f) c.args.place c.args.field.now d (members_view c.in-Some.fields.now.entries) Not e c.in-Some.ensures formed (λ n f. f) c.in_err-read_inner-in-Some-Not.ensures.fault)
 
 pub read_tests-read_each_test-requires : goal.read_tests-read_each_test-requires

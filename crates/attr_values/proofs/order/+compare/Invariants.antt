@@ -2,7 +2,7 @@ use Rattle.std.proofs.Common.{◌≡◌, drop}
 use Rattle.std.specs.Slice.Iter.{iter_rest}
 use Rattle.attr_values.specs.Datum.{elements_of, attributes_of}
 use Rattle.attr_values.specs.Order.{elements_cmp, attributes_cmp}
-use Rattle.attr_values.specs.View.{list_of, entries_of}
+use Rattle.attr_values.specs.View.{datum_list_of, entries_of}
 use Rattle.attr_values.proofs.order.+compare.Given as goal
 
 -- what is left decides
@@ -12,4 +12,4 @@ invariant-compare_maps-loop-x l =
 
 abbrev pub invariant-compare_lists-loop-x : goal.invariant-compare_lists-loop-x
 invariant-compare_lists-loop-x l =
-    elements_cmp (elements_of (list_of (drop l.x-index l.x-items))) (elements_of (list_of (iter_rest l.rest))) ≡ elements_cmp (elements_of l.a) (elements_of l.b)
+    elements_cmp (elements_of (datum_list_of (drop l.x-index l.x-items))) (elements_of (datum_list_of (iter_rest l.rest))) ≡ elements_cmp (elements_of l.a) (elements_of l.b)

@@ -4,9 +4,9 @@ use Rattle.json_tree.specs.Data.{items_of, members_of}
 use Rattle.json_tree.specs.View.{data_of}
 use Rattle.attr_values.specs.Datum.{list, document, elements_of, attributes_of}
 use Rattle.attr_values.specs.Faults.{result_map}
-use Rattle.attr_values.specs.Item.{IsInNameOrder}
+use Rattle.attr_values.specs.Item.{IsItemInNameOrder}
 use Rattle.attr_values.specs.Reading as spec
-use Rattle.attr_values.specs.View.{list_of, entries_of}
+use Rattle.attr_values.specs.View.{datum_list_of, entries_of}
 use Rattle.attr_values.specs.declared.reading.Kind.TheVariants.{L, M}
 use Rattle.attr_values.proofs.ReadingLemmas.{element_step, elements_end, attributes_start, attribute_step, next_field, attributes_end, attributes_ordered, read_datum-field, read_datum-other, read_kind-none, read_kind-list, read_kind-map, mapped_fault}
 use Rattle.attr_values.proofs.reading.+read.Goals as goal
@@ -35,7 +35,7 @@ read_attributes-returns-clause-ordered t c =
     let l = c.loop-field in
     let from = c.as_slice-field-items.result.now in
     let sorted = attributes_ordered c.args.levels (drop l.field-index from) l.inner.items _ (drop_all l.field-index from c.loop-field-test.false) l.invariant in
-    subst (λ v. IsInNameOrder (entries_of v.items)) (sym c.in_ok-new.ensures.ok) sorted
+    subst (λ v. IsItemInNameOrder (entries_of v.items)) (sym c.in_ok-new.ensures.ok) sorted
 
 pub read_elements-loop-json-preserved : goal.read_elements-loop-json-preserved
 read_elements-loop-json-preserved t c =
@@ -46,7 +46,7 @@ read_elements-loop-json-preserved t c =
 pub read_elements-returns : goal.read_elements-returns
 read_elements-returns t c =
     elements_end c.args.levels c.as_slice-json-items.result.now c.loop-json.json-index c.loop-json.inner.items _ c.loop-json-test.false c.loop-json.invariant
-    ∙ ap (λ v. Ok (elements_of (list_of v.items))) (sym c.in_ok-new.ensures.ok)
+    ∙ ap (λ v. Ok (elements_of (datum_list_of v.items))) (sym c.in_ok-new.ensures.ok)
 
 pub read_within-returns-in_default-only_field-clause-read : goal.read_within-returns-in_default-only_field-clause-read
 read_within-returns-in_default-only_field-clause-read t c =

@@ -6,14 +6,14 @@ use Rattle.json_tree.specs.Fields.{text_cmp}
 use Rattle.json_tree.specs.View.{list_of as json_list_of, fields_of}
 use Rattle.attr_values.specs.Faults.{result_map}
 use Rattle.attr_values.specs.Reading as spec
-use Rattle.attr_values.specs.View.{list_of, entries_of}
+use Rattle.attr_values.specs.View.{datum_list_of, entries_of}
 use Rattle.attr_values.proofs.ReadingLemmas.{elements_before, attributes_before}
 use Rattle.attr_values.proofs.reading.+read.Given as goal
 
 abbrev pub invariant-read_elements-loop-json : goal.invariant-read_elements-loop-json
 invariant-read_elements-loop-json l =
     spec.read_elements l.levels (items_of l.list)
-    ≡ result_map (elements_before (list_of l.inner.items)) (spec.read_elements l.levels (items_of (json_list_of (drop l.json-index l.json-items))))
+    ≡ result_map (elements_before (datum_list_of l.inner.items)) (spec.read_elements l.levels (items_of (json_list_of (drop l.json-index l.json-items))))
 
 abbrev pub invariant-read_attributes-loop-field : goal.invariant-read_attributes-loop-field
 invariant-read_attributes-loop-field l =

@@ -5,7 +5,7 @@ use Rattle.std.specs.Arc.{arc_value}
 use Rattle.json_tree.specs.Data as json
 use Rattle.json_tree.specs.Data.{items_of, members_of}
 use Rattle.json_tree.specs.View.{fields_of}
-use Rattle.attr_values.specs.Item.{IsInNameOrder}
+use Rattle.attr_values.specs.Item.{IsItemInNameOrder}
 use Rattle.attr_values.specs.View.{datum_of, entries_of}
 use Rattle.attr_values.specs.Writing.{json_of, json_entries, one_field}
 use Rattle.attr_values.proofs.WritingLemmas.{items_of-json, members_of-json, fields_ordered}
@@ -17,7 +17,7 @@ write_map-from_sorted-requires t c =
     let items = c.deref-attribute-items.result.now in
     let is : items ≡ (arc_value c.map.inside.inner).items = c.deref-attribute-items.ensures.value ∙ ap (λ v. v.items) c.deref-attributes.ensures in
     let all : fields_of l.fields.items ≡ json_entries (entries_of items) = l.invariant ∙ ap (λ xs. json_entries (entries_of xs)) (take_all l.attribute-index items c.loop-attribute-test.false) in
-    fields_ordered l.fields.items (entries_of items) (subst (λ xs. IsInNameOrder (entries_of xs)) (sym is) c.map.invariant) all
+    fields_ordered l.fields.items (entries_of items) (subst (λ xs. IsItemInNameOrder (entries_of xs)) (sym is) c.map.invariant) all
 
 pub write_value-returns-in_ok-write_list-in-L : goal.write_value-returns-in_ok-write_list-in-L
 write_value-returns-in_ok-write_list-in-L t c =

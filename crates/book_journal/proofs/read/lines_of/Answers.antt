@@ -4,7 +4,7 @@ use Rattle.book_journal.specs.declared.fault.JournalFault.TheVariants.{Gap, Memo
 use Rattle.sqlite.specs.declared.error.ErrorCode.TheVariants.{OutOfMemory}
 use Rattle.sqlite.specs.declared.error.Error.TheVariants.{SqliteFailure}
 use Rattle.sqlite.specs.declared.types.Value.TheVariants.{Int}
-use Rattle.book_journal.specs.Entries.{number_of}
+use Rattle.book_journal.specs.Entries.{row_number}
 use Rattle.book_journal.proofs.Numbers.{one_more, gap_at}
 use Rattle.book_journal.proofs.Refusals.{unreadable_at}
 use Rattle.book_journal.proofs.read.lines_of.Goals as goal
@@ -20,7 +20,7 @@ returns-in_err-line_at-clause-gap c n is =
     let count : length lines ≡ at = length-map c.loop-row.lines.items string_bytes ∙ c.loop-row.invariant.0 in
     let position : n ≡ at = search rules in
     let item = sym c.row-item.is in
-    let differs : number_of c.row-item.result ≢ Int (pos at) = (λ e. said.1 (e ∙ ap (λ (m : ℕ). Int (pos m)) (sym position ∙ said.0))) in
+    let differs : row_number c.row-item.result ≢ Int (pos at) = (λ e. said.1 (e ∙ ap (λ (m : ℕ). Int (pos m)) (sym position ∙ said.0))) in
     rw position (gap_at at rows lines c.row-item.result c.row-item.result low count c.loop-row.invariant.1 item differs)
 
 pub loop-row-preserved : goal.loop-row-preserved

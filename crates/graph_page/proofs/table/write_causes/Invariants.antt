@@ -1,6 +1,6 @@
-use Rattle.graph_page.specs.Markup.{Extends}
+use Rattle.graph_page.specs.Markup.{ExtendsText}
 use Rattle.graph_page.proofs.table.write_causes.Given as goal
 
 -- what was there is there before the causes so far
 abbrev pub invariant-loop-place : goal.invariant-loop-place
-invariant-loop-place l = Extends l.initial.html.bytes.items l.html.bytes.items
+invariant-loop-place l = ExtendsText l.initial.html.bytes.items l.html.bytes.items

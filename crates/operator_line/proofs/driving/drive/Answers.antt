@@ -2,7 +2,7 @@ use Rattle.std.proofs.Common.{◌≡◌, ◌++◌, List, [], ℕ, map, Some, OnO
 use Rattle.std.proofs.lemmas.Result.{on_ok_weaker}
 use Rattle.step_names.specs.Written.{step_text}
 use Rattle.book_log.specs.Log.{Log}
-use Rattle.operator_line.specs.Answers.{AnswersDrive, drive_reply, taken_in}
+use Rattle.operator_line.specs.Answers.{AnswersDrive, drive_reply, turn_steps}
 use Rattle.operator_line.specs.Sessions.{log_in}
 use Rattle.reply_lines.specs.Replies.{names_reply}
 use Rattle.operator_line.proofs.Sessions.{some_log, if_log, on_err-from}
@@ -25,7 +25,7 @@ returns-clause-ok g c =
     if_log (λ log. OnOk c.accept_lines.result (AnswersDrive log c.args.count text after)) (log_in c.args.book.now)
     (λ before held.
     let it = c.take_steps.ensures.taken before held in
-    let names = taken_in it.2.turns in
+    let names = turn_steps it.2.turns in
     let stop = c.take_steps.result in
     let told_is : drive_reply names stop ≡ names_reply names = elim c.in_default.branch [
       | in_default-via-in-Some+else-count-eq0 w ↦ drive_taken c.take_steps.new.lines names stop it.2.lines_are (λ z. w.if-count-eq0.false (w.count.ensures ∙ z))

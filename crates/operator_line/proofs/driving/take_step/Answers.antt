@@ -11,7 +11,7 @@ use Rattle.journaled_book.specs.Changes.{AnswersChangeOr}
 use Rattle.journaled_book.specs.Journaled.{with_entry}
 use Rattle.operator_line.specs.Answers.{IsLeastEnabled}
 use Rattle.operator_line.specs.Sessions.{log_in}
-use Rattle.operator_line.specs.Driving.{IsFirst, IsFound, KeepsLines, passed_in}
+use Rattle.operator_line.specs.Driving.{IsFirstMoving, IsFound, KeepsLines, passed_in}
 use Rattle.operator_line.proofs.Replied.{in_log}
 use Rattle.sqlite.specs.Held.{state}
 use Rattle.operator_line.proofs.Sessions.{appended_clean, some_entered, some_kept, some_log}
@@ -25,8 +25,8 @@ returns-in-Err-clause-step g c =
     let fault = c.in-Err.fault in
     let keeps : KeepsLines c.args.lines.now c.reserve_step.new.self = (c.reserve_step.ensures.count, λ texts h. record { counted = c.reserve_step.ensures.count ∙ h.counted; written = c.reserve_step.ensures.text ∙ h.written }) in
     λ before held.
-    let found : IfOk c.first_ready.result (IsFirst P before) = subst (λ (o : Option Log). IfSome o (λ s. IfOk c.first_ready.result (IsFirst P s))) held c.first_ready.ensures.first in
-    let first : IsLeastEnabled P before t = subst (IsFirst P before) c.in-Some.is (subst (λ r. IfOk r (IsFirst P before)) c.in_ok-thread.was found) in
+    let found : IfOk c.first_ready.result (IsFirstMoving P before) = subst (λ (o : Option Log). IfSome o (λ s. IfOk c.first_ready.result (IsFirstMoving P s))) held c.first_ready.ensures.first in
+    let first : IsLeastEnabled P before t = subst (IsFirstMoving P before) c.in-Some.is (subst (λ r. IfOk r (IsFirstMoving P before)) c.in_ok-thread.was found) in
     let answer = subst (AnswersChangeOr (StepLacks before t) (step_answer before t)) c.in-Err.is (in_log (λ s. AnswersChangeOr (StepLacks s t) (step_answer s t) c.step.result) c.args.book.now.book before held c.step.ensures.answer) in
     (before, c.in-Err.ensures.err ∙ held, refused_turn before t c.args.passed.now c.pass_by.new.passed c.args.lines.now c.reserve_step.new.self fault c.pass_by.result first answer c.pass_by.ensures.passes keeps)
 
@@ -40,8 +40,8 @@ returns-clause-step g c =
     let m = c.in-Ok.moved in
     let keeps : (texts : List (List ℕ)) → AreLines c.args.lines.now texts → AreLines c.reserve_step.new.self texts = λ texts h. record { counted = c.reserve_step.ensures.count ∙ h.counted; written = c.reserve_step.ensures.text ∙ h.written } in
     λ before held.
-    let found : IfOk c.first_ready.result (IsFirst P before) = subst (λ (o : Option Log). IfSome o (λ s. IfOk c.first_ready.result (IsFirst P s))) held c.first_ready.ensures.first in
-    let first : IsLeastEnabled P before t = subst (IsFirst P before) c.in-Some.is (subst (λ r. IfOk r (IsFirst P before)) c.in_ok-thread.was found) in
+    let found : IfOk c.first_ready.result (IsFirstMoving P before) = subst (λ (o : Option Log). IfSome o (λ s. IfOk c.first_ready.result (IsFirstMoving P s))) held c.first_ready.ensures.first in
+    let first : IsLeastEnabled P before t = subst (IsFirstMoving P before) c.in-Some.is (subst (λ r. IfOk r (IsFirstMoving P before)) c.in_ok-thread.was found) in
     let answer : step_answer before t ≡ Ok m =
     subst (AnswersChangeOr (StepLacks before t) (step_answer before t)) c.in-Ok.is (in_log (λ s. AnswersChangeOr (StepLacks s t) (step_answer s t) c.step.result) c.args.book.now.book before held c.step.ensures.answer)
     in

@@ -2,7 +2,7 @@ use Rattle.std.proofs.Common.{◌≡◌, ◌+◌, ◌∷◌, drop, subst, arith}
 use Rattle.std.proofs.lemmas.List.{drop_all}
 use Rattle.json_tree.specs.Data.{items_of}
 use Rattle.json_tree.specs.View.{data_of}
-use Rattle.ref_paths.specs.PayloadView.{payload_of, field_of}
+use Rattle.ref_paths.specs.PayloadView.{payload_of, payload_field_of}
 use Rattle.ref_paths.specs.Templates.{IsTemplate, FieldIs}
 use Rattle.ref_paths.proofs.TemplateReadings.{on_named, passed_on, item_depth, next_field, field_depth, items_step, items_end, item_fault, fields_step, fields_end, object_fault, object_reads}
 use Rattle.ref_paths.proofs.template_reading.+read_node.Goals as goal
@@ -13,7 +13,7 @@ read_fields-loop-field-preserved t c =
     let from = c.as_slice-field-items.result.now in
     let x = c.field-item.result in
     let f = c.in_ok-read_field.field-0 in
-    let reads = subst (λ k. FieldIs c.args.item_paths c.args.fields.now k (data_of x.value) (field_of f) (IsTemplate c.args.item_paths (data_of x.value) (payload_of f.value))) c.as_str.ensures c.in_ok-read_field.ensures.ok in
+    let reads = subst (λ k. FieldIs c.args.item_paths c.args.fields.now k (data_of x.value) (payload_field_of f) (IsTemplate c.args.item_paths (data_of x.value) (payload_of f.value))) c.as_str.ensures c.in_ok-read_field.ensures.ok in
     fields_step c.args.item_paths c.args.fields.now (drop l.field-index from) (drop (l.field-index + 1) from) x l.inner.items c.push.new.self.items f (next_field from l.field-index x c.field-item.is c.loop-field-test.true) reads c.in_ok-push.ensures.items l.invariant
 
 pub read_fields-returns-clause-ok : goal.read_fields-returns-clause-ok

@@ -1,7 +1,7 @@
 use Rattle.std.proofs.Common.{◌≡◌, sym, subst, Ok, Result}
 use Rattle.std.specs.Prelude.{IfOk}
 use Rattle.attr_values.specs.declared.key.Key.{Key}
-use Rattle.item_store.specs.Store.{items_of}
+use Rattle.item_store.specs.Store.{stored_items}
 use Rattle.item_store.specs.Table.{key_asked, on_key}
 use Rattle.item_store.specs.declared.fault.CallFault.{CallFault}
 use Rattle.saved_steps.specs.Answering.{IsAnswered}
@@ -12,4 +12,4 @@ returns-in-Ok-clause-answer c =
     let s = c.args.items.now in
     let call = c.args.call in
     let asked : key_asked s.table s.schema call ≡ Ok c.in-Ok.key = c.in-Ok.ensures.key in
-    subst (λ (r : Result Key CallFault). IfOk c.answer_key.result (λ a. IsAnswered c.answer_key.new.items (on_key (items_of s) call.request r) a)) (sym asked) c.answer_key.ensures.answer
+    subst (λ (r : Result Key CallFault). IfOk c.answer_key.result (λ a. IsAnswered c.answer_key.new.items (on_key (stored_items s) call.request r) a)) (sym asked) c.answer_key.ensures.answer

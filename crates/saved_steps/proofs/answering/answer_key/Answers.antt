@@ -1,7 +1,7 @@
 use Rattle.std.proofs.Common.{◌≡◌, subst, Some}
 use Rattle.attr_values.specs.declared.key.Key.{Key}
 use Rattle.item_store.specs.Deciding.{decision}
-use Rattle.item_store.specs.Store.{items_of, slot_key}
+use Rattle.item_store.specs.Store.{stored_items, slot_key}
 use Rattle.item_store.specs.Table.{Table, at_key}
 use Rattle.saved_steps.specs.Answering.{IsAnswerAt, IsAnswered}
 use Rattle.saved_steps.proofs.Answered.{if_ok, touched, slotted}
@@ -10,8 +10,8 @@ use Rattle.saved_steps.proofs.answering.answer_key.Goals as goal
 pub returns-clause-answer : goal.returns-clause-answer
 returns-clause-answer c =
     let key = c.args.key in
-    let old = items_of c.args.items.now in
-    let new = items_of c.slot.new.self in
+    let old = stored_items c.args.items.now in
+    let new = stored_items c.slot.new.self in
     let slot = c.in-Ok-slot.slot in
     let request = c.args.call.request in
     let kept : c.in-Ok.kept ≡ key = c.in-Ok.ensures in

@@ -4,7 +4,7 @@ use Rattle.std.specs.BTreeSet.{contains}
 use Rattle.std.specs.Cmp.Lexicographic.{slice_cmp}
 use Rattle.std.specs.Ordering.{nat_cmp}
 use Rattle.std.specs.String.{string_bytes}
-use Rattle.branch_tree.specs.First.{IsFirst}
+use Rattle.branch_tree.specs.First.{IsFirstFree}
 use Rattle.step_names.specs.Order.{thread_cmp}
 use Rattle.step_names.specs.Thread.{execution}
 use Rattle.saved_steps.specs.Held.{placed, rows_at, tree_in}
@@ -32,9 +32,9 @@ returns-in-Some-2 c =
     let place = c.in-Some.place.now in
     let there = ap (get_by_text m) (sym c.as_str-awake.ensures.value) ∙ sym c.in-Some.ensures.value in
     let below : slice_cmp nat_cmp awake name ≡ Less = sym (ap₂ (slice_cmp nat_cmp) c.as_str-awake.ensures.value c.as_str.ensures.value) ∙ sym c.cmp.ensures ∙ c.in-Less.is in
-    let found = subst (λ (exec : List ℕ). IsFirst true (rows_at place) (execution exec) passed c.in_ok-found.field-0) c.as_str-awake.ensures.value c.in_ok-found.ensures in
+    let found = subst (λ (exec : List ℕ). IsFirstFree true (rows_at place) (execution exec) passed c.in_ok-found.field-0) c.as_str-awake.ensures.value c.in_ok-found.ensures in
     awake_found m name awake passed c.requires.quiet below place (ap placed there) c.in-Some-2.found c.path.ensures.bounds
-    (subst (IsFirst true (rows_at place) (execution awake) passed) c.in-Some-2.is found)
+    (subst (IsFirstFree true (rows_at place) (execution awake) passed) c.in-Some-2.is found)
 
 pub returns-in-None-2 : goal.returns-in-None-2
 returns-in-None-2 c =
@@ -43,9 +43,9 @@ returns-in-None-2 c =
     let passed = contains thread_cmp c.args.passed.now in
     let place = c.in-Some.place.now in
     let there = ap (get_by_text m) (sym c.as_str-awake.ensures.value) ∙ sym c.in-Some.ensures.value in
-    let found = subst (λ (exec : List ℕ). IsFirst true (rows_at place) (execution exec) passed c.in_ok-found.field-0) c.as_str-awake.ensures.value c.in_ok-found.ensures in
+    let found = subst (λ (exec : List ℕ). IsFirstFree true (rows_at place) (execution exec) passed c.in_ok-found.field-0) c.as_str-awake.ensures.value c.in_ok-found.ensures in
     none_there m (string_bytes c.args.quiet.now.name) awake passed c.requires.quiet place (ap placed there)
-    (subst (IsFirst true (rows_at place) (execution awake) passed) c.in-None-2.is found)
+    (subst (IsFirstFree true (rows_at place) (execution awake) passed) c.in-None-2.is found)
 
 pub returns-in-Less-cmp : goal.returns-in-Less-cmp
 returns-in-Less-cmp c =

@@ -1,7 +1,7 @@
 use Rattle.std.proofs.Common.{ℕ, true, List, ap, subst, ◌∙◌}
 use Rattle.std.specs.BTreeSet.{contains}
 use Rattle.std.specs.String.{string_bytes}
-use Rattle.branch_tree.specs.First.{IsFirst}
+use Rattle.branch_tree.specs.First.{IsFirstFree}
 use Rattle.step_names.specs.Order.{thread_cmp}
 use Rattle.step_names.specs.Thread.{execution}
 use Rattle.saved_steps.specs.Held.{frames_in, rows_at, tree_in}
@@ -13,18 +13,18 @@ returns-in-Some-2 c =
     let m = c.args.trees.now in
     let passed = contains thread_cmp c.args.passed.now in
     let gone = subst (IsGone m passed) c.in-Some.ensures.steps c.loop-exec.invariant in
-    let found = subst (λ (exec : List ℕ). IsFirst true (rows_at c.in-Some.place.now) (execution exec) passed c.in_ok-found.field-0) c.as_str-name.ensures.value c.in_ok-found.ensures in
+    let found = subst (λ (exec : List ℕ). IsFirstFree true (rows_at c.in-Some.place.now) (execution exec) passed c.in_ok-found.field-0) c.as_str-name.ensures.value c.in_ok-found.ensures in
     is_found m passed c.in-Some.exec.now c.in-Some.place.now c.next.new.self gone c.in-Some-2.found c.path.ensures.bounds
-    (subst (IsFirst true (rows_at c.in-Some.place.now) (execution (string_bytes c.in-Some.exec.now)) passed) c.in-Some-2.is found)
+    (subst (IsFirstFree true (rows_at c.in-Some.place.now) (execution (string_bytes c.in-Some.exec.now)) passed) c.in-Some-2.is found)
 
 pub loop-exec-preserved : goal.loop-exec-preserved
 loop-exec-preserved c =
     let m = c.args.trees.now in
     let passed = contains thread_cmp c.args.passed.now in
     let gone = subst (IsGone m passed) c.in-Some.ensures.steps c.loop-exec.invariant in
-    let found = subst (λ (exec : List ℕ). IsFirst true (rows_at c.in-Some.place.now) (execution exec) passed c.in_ok-found.field-0) c.as_str-name.ensures.value c.in_ok-found.ensures in
+    let found = subst (λ (exec : List ℕ). IsFirstFree true (rows_at c.in-Some.place.now) (execution exec) passed c.in_ok-found.field-0) c.as_str-name.ensures.value c.in_ok-found.ensures in
     goes_by m passed c.in-Some.exec.now c.in-Some.place.now c.next.new.self gone
-    (subst (IsFirst true (rows_at c.in-Some.place.now) (execution (string_bytes c.in-Some.exec.now)) passed) c.in_default.is found)
+    (subst (IsFirstFree true (rows_at c.in-Some.place.now) (execution (string_bytes c.in-Some.exec.now)) passed) c.in_default.is found)
 
 pub loop-exec-init : goal.loop-exec-init
 loop-exec-init c =

@@ -1,6 +1,6 @@
 use Rattle.std.proofs.Common.{true, sym, subst, Option, None, ap, ◌∙◌}
 use Rattle.std.specs.BTreeSet.{contains}
-use Rattle.branch_tree.specs.First.{IsFirst, NoneBeforePath}
+use Rattle.branch_tree.specs.First.{IsFirstFree, NoneBeforePath}
 use Rattle.branch_tree.specs.Tree.{Rows, frame_at}
 use Rattle.step_names.specs.Order.{thread_cmp}
 use Rattle.step_names.specs.Thread.{Thread, execution}
@@ -11,7 +11,7 @@ use Rattle.saved_steps.proofs.first.first_in.Goals as goal
 pub returns-then-has_ended : goal.returns-then-has_ended
 returns-then-has_ended c =
     let passed = contains thread_cmp c.args.passed.now in
-    subst (λ (o : Option Rows). IsFirst true (rows_at o) (execution c.args.exec.now) passed None) (sym c.in-Some.is) (c.if-has_ended.ensures (execution c.args.exec.now) passed)
+    subst (λ (o : Option Rows). IsFirstFree true (rows_at o) (execution c.args.exec.now) passed None) (sym c.in-Some.is) (c.if-has_ended.ensures (execution c.args.exec.now) passed)
 
 pub first_ready-requires : goal.first_ready-requires
 first_ready-requires c =

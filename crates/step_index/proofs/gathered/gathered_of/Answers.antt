@@ -4,7 +4,7 @@ use Rattle.linked_classes.specs.Cells.{cell_at}
 use Rattle.linked_classes.specs.Places.{place_in}
 use Rattle.linked_classes.specs.Sets.{set_of}
 use Rattle.saved_steps.specs.declared.record.StepRecord.{StepRecord}
-use Rattle.step_index.specs.Gathered.{is_of}
+use Rattle.step_index.specs.Gathered.{is_of_execution}
 use Rattle.step_index.proofs.Collecting.{IsGathered, begun, passed, taken}
 use Rattle.step_index.proofs.gathered.gathered_of.Goals as goal
 use Rattle.step_index.proofs.gathered.gathered_of.Goals.{then-is_of+in_ok-push, else-is_of}
@@ -17,8 +17,8 @@ loop-next-init c =
     record {
       there = c.first-next.ensures.there;
       within = c.first-next.ensures.within;
-      gathered = subst (λ found. IsGathered g c.args.class (is_of c.args.exec.now) v.items first found) (sym c.new-found.ensures.items)
-          (begun g c.args.class (is_of c.args.exec.now) v.items first c.first-next.ensures.first);
+      gathered = subst (λ found. IsGathered g c.args.class (is_of_execution c.args.exec.now) v.items first found) (sym c.new-found.ensures.items)
+          (begun g c.args.class (is_of_execution c.args.exec.now) v.items first c.first-next.ensures.first);
     }
 
 pub loop-next-preserved : goal.loop-next-preserved
@@ -27,7 +27,7 @@ loop-next-preserved c =
     let rs = v.items in
     let ns = v.numbers in
     let g = cell_at (set_of v c.set_number-set.result) in
-    let p = is_of c.args.exec.now in
+    let p = is_of_execution c.args.exec.now in
     let at = place_in ns c.in-Some.number in
     let more = option_map (place_in ns) c.next-next.result in
     let old = subst (λ o. IsGathered g c.args.class p rs (option_map (place_in ns) o) c.loop-next.found.items) c.in-Some.is c.loop-next.invariant.gathered in
@@ -50,6 +50,6 @@ returns c =
     let v = c.args.records.now in
     let rs = v.items in
     let g = cell_at (set_of v c.set_number-set.result) in
-    let p = is_of c.args.exec.now in
+    let p = is_of_execution c.args.exec.now in
     let all = subst (λ o. IsGathered g c.args.class p rs (option_map (place_in v.numbers) o) c.loop-next.found.items) c.in_default.is c.loop-next.invariant.gathered in
     λ h. all.gathered (subst (λ s. (k : ℕ) (r : StepRecord) → slice_get rs k ≡ Some r → p r ≡ true → cell_at (set_of v s) k ≡ Some c.args.class) (sym c.set_number-set.ensures.number) h)

@@ -1,7 +1,7 @@
 use Rattle.std.proofs.Common.{◌≡◌, ◌<◌, ◌≤◌, ◌+◌, ◌∙◌, length, map, ap, subst, arith}
 use Rattle.std.specs.Prelude.{vec_len}
 use Rattle.slip_queue.specs.Slips.{given_of}
-use Rattle.step_workers.specs.Seats.{count_served, shares}
+use Rattle.step_workers.specs.Seats.{count_served, seat_shares}
 use Rattle.step_workers.specs.Shares.{shares_of}
 use Rattle.step_workers.specs.Work.{EachAtMost}
 use Rattle.step_workers.proofs.Seated.{all_well, each_took, giver_seated, round_goes_on}
@@ -17,20 +17,20 @@ returns-clause-passes g c =
     let long = c.args.passes.ok.0 in
     let has = c.requires.some.0 in
     let some : 0 < length c.args.passes.items = omega (arith, has, long) in
-    let shares = c.seat_all-seats.ensures.shares ∙ c.in-Ok.ensures.allowances.1 ∙ ap (shares_of c.args.budget) (len ∙ long) in
-    rw c.gather.ensures.passes (round_goes_on _ _ _ _ _ _ _ _ c.run_all-done.ensures.served c.run_all-done.ensures.pass shares c.seat_all-seats.ensures.passes
+    let seat_shares = c.seat_all-seats.ensures.shares ∙ c.in-Ok.ensures.allowances.1 ∙ ap (shares_of c.args.budget) (len ∙ long) in
+    rw c.gather.ensures.passes (round_goes_on _ _ _ _ _ _ _ _ c.run_all-done.ensures.served c.run_all-done.ensures.pass seat_shares c.seat_all-seats.ensures.passes
     (giver_seated _ _ _ _ some c.index_mut.ensures.value c.in-Some.ensures.seated.1 c.in-Some.ensures.seated.0))
 
 pub returns-clause-few : goal.returns-clause-few
 returns-clause-few g c =
-    let shares = c.seat_all-seats.ensures.shares ∙ c.in-Ok.ensures.allowances.1 ∙ ap (shares_of c.args.budget) c.len.ensures in
-    rw c.gather.ensures.counts (subst (EachAtMost (map count_served c.run_all-done.result.served.items)) shares (each_took _ _ _ c.run_all-done.ensures.served))
+    let seat_shares = c.seat_all-seats.ensures.shares ∙ c.in-Ok.ensures.allowances.1 ∙ ap (shares_of c.args.budget) c.len.ensures in
+    rw c.gather.ensures.counts (subst (EachAtMost (map count_served c.run_all-done.result.served.items)) seat_shares (each_took _ _ _ c.run_all-done.ensures.served))
 
 pub returns-clause-once : goal.returns-clause-once
 returns-clause-once g c x =
     let len = c.len.ensures in
     let has = c.requires.some.0 in
-    let all : shares c.seat_all-seats.result.items ≡ c.args.budget =
+    let all : seat_shares c.seat_all-seats.result.items ≡ c.args.budget =
     seats_share c.args.budget c.len.result _ (omega (arith, len, has)) (c.seat_all-seats.ensures.shares ∙ c.in-Ok.ensures.allowances.1) in
     let before = c.in-Ok.ensures.fresh.1 in
     let same = c.seat_all-seats.ensures.same.0 in

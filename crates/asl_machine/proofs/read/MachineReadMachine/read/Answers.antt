@@ -6,12 +6,12 @@ use Rattle.asl_machine.proofs.Refused.{definition_refused}
 use Rattle.asl_tree.specs.Definition.{Definition}
 use Rattle.asl_machine.specs.Faults.{DefinitionFault}
 use Rattle.asl_machine.specs.Profile.{DefinesNone}
-use Rattle.asl_fields.specs.Refusal.{Refuses}
+use Rattle.asl_fields.specs.Refusal.{RefusesForFault}
 use Rattle.asl_fields.specs.declared.fault.MachineFault.{MachineFault}
 use Rattle.asl_fields.specs.declared.fault.MachineFault.TheVariants.{Missing, UnknownField, Unsupported, BadField, NoTarget, NextAndEnd, StatesAllPlace, TooDeep, Memory}
 use Rattle.asl_machine.proofs.read.MachineReadMachine.read.Goals as goal
 
-refuses : (d : Source) (e : MachineFault) → Refuses e (DefinitionFault d e) → Refuses e (DefinesNone d)
+refuses : (d : Source) (e : MachineFault) → RefusesForFault e (DefinitionFault d e) → RefusesForFault e (DefinesNone d)
 refuses d (Missing field) h = definition_refused d _ h
 refuses d (UnknownField field) h = definition_refused d _ h
 refuses d (Unsupported field) h = definition_refused d _ h
@@ -22,7 +22,7 @@ refuses d StatesAllPlace h = definition_refused d _ h
 refuses d TooDeep h = definition_refused d _ h
 refuses d Memory h = h
 
-all_refuse : (d : Source) (r : Result Definition MachineFault) → IfErr r (λ e. Refuses e (DefinitionFault d e)) → IfErr r (λ e. Refuses e (DefinesNone d))
+all_refuse : (d : Source) (r : Result Definition MachineFault) → IfErr r (λ e. RefusesForFault e (DefinitionFault d e)) → IfErr r (λ e. RefusesForFault e (DefinesNone d))
 all_refuse d (Ok m) h = h
 all_refuse d (Err e) h = refuses d e h
 

@@ -4,7 +4,7 @@ use Rattle.sqlite.specs.Held.{state}
 use Rattle.sqlite.specs.declared.error.ErrorCode.TheVariants.{Closed}
 use Rattle.sqlite.specs.declared.error.Error.{Error}
 use Rattle.sqlite.specs.declared.error.Error.TheVariants.{SqliteFailure}
-use Rattle.book_journal.specs.Faults.{fault_of, HasReadCause}
+use Rattle.book_journal.specs.Faults.{journal_fault_of, HasReadCause}
 use Rattle.book_journal.specs.declared.fault.JournalFault.TheVariants.{Store}
 use Rattle.book_journal.proofs.Refusals.{told_as_cause, unreadable_entries}
 use Rattle.book_journal.proofs.Keeping.{read_lines, read_gap}
@@ -30,8 +30,8 @@ returns-clause-gap g c clean n failed =
 pub returns-in_err-rows-clause-cause : goal.returns-in_err-rows-clause-cause
 returns-in_err-rows-clause-cause g c clean cause is =
     let e : Error = c.in_err-rows.field-0.0 in
-    let told : c.from_residual.result ≡ Err (fault_of e) = search rules in
-    let same : fault_of e ≡ Store cause = (let f = sym told ∙ is in cc) in
+    let told : c.from_residual.result ≡ Err (journal_fault_of e) = search rules in
+    let same : journal_fault_of e ≡ Store cause = (let f = sym told ∙ is in cc) in
     let why = c.in_err-rows.ensures.cause clean in
     inl (subst (HasReadCause (state g.S.Store c.args.self.now) (state g.S.Store c.all_rows.new.conn)) (told_as_cause e cause same) (rw c.self.view_is at why))
 

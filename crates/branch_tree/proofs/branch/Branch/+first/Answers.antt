@@ -2,7 +2,7 @@ use Rattle.std.proofs.Common.{arith, ◌<◌, ◌==◌, Bool, ◌&&◌, ◌||◌
 use Rattle.std.specs.BTreeSet.{contains}
 use Rattle.step_names.specs.Order.{thread_cmp}
 use Rattle.step_names.specs.Thread.{Thread, child_of}
-use Rattle.branch_tree.specs.First.{IsFirst}
+use Rattle.branch_tree.specs.First.{IsFirstFree}
 use Rattle.branch_tree.specs.Tree.{frame_at}
 use Rattle.branch_tree.proofs.FirstOf.{IsFirstOf, begun, first_from, none_in_kid, none_of, first_of_step, first_of_ready, fork_itself, fork_found, fork_none, next_in_turn, parked_at}
 use Rattle.branch_tree.proofs.branch.Branch.+first.Goals as goal
@@ -81,5 +81,5 @@ first_at_fork-returns t c begins none =
 pub first_ready-returns-in_ok-copy-in-Ready : goal.first_ready-returns-in_ok-copy-in-Ready
 first_ready-returns-in_ok-copy-in-Ready t c none =
     let free = ap (λ (b : Bool). (c.self.inside.frame.count == 0 && not c.args.begins) || b) (sym c.contains.ensures) ∙ c.if-waits-contains.false in
-    subst (λ (u : Thread). IsFirst c.args.begins (frame_at c.args.self.now) c.args.name.now (contains thread_cmp c.args.passed.now) (Some u)) (sym c.in_ok-copy-in-Ready.ensures)
+    subst (λ (u : Thread). IsFirstFree c.args.begins (frame_at c.args.self.now) c.args.name.now (contains thread_cmp c.args.passed.now) (Some u)) (sym c.in_ok-copy-in-Ready.ensures)
     (first_of_ready c.args.begins c.self.inside.frame c.self.inside.kids.items c.args.self.now c.self.view_is c.self.invariant.node c.args.name.now (contains thread_cmp c.args.passed.now) c.in-Ready.is free)

@@ -5,7 +5,7 @@ use Rattle.indexmap.specs.IndexMap.{insert_entry}
 use Rattle.indexmap.proofs.CallerLemmas.{insert_entry-new}
 use Rattle.attr_values.specs.Key.{key_cmp}
 use Rattle.attr_values.specs.declared.key.Key.{Key}
-use Rattle.item_store.specs.Store.{Slots, Store, items_of, has_slot_of, with_slot}
+use Rattle.item_store.specs.Store.{Slots, Store, stored_items, has_slot_of, with_slot}
 use Rattle.item_store.specs.Table.{is_same_key}
 use Rattle.item_store.specs.declared.slot.SlotNo.{SlotNo}
 use Rattle.item_store.proofs.Slots.{added_indexed, added_items, added_store, last_key, none_of, kept_with_slot, one_slot, ok_gives}
@@ -55,7 +55,7 @@ returns-clause-found c =
 
 pub returns-clause-items : goal.returns-clause-items
 returns-clause-items c =
-    added_items c.self.inside.slots.entries c.insert-2.new.self.entries c.args.key (absent c) (found_after c) ∙ ap items_of c.self.view_is
+    added_items c.self.inside.slots.entries c.insert-2.new.self.entries c.args.key (absent c) (found_after c) ∙ ap stored_items c.self.view_is
 
 pub returns-clause-one : goal.returns-clause-one
 returns-clause-one c = λ m at. one_slot c.insert-2.new.self.entries c.insert-2.ensures.unique m (slot_of c) c.args.key at (returns-clause-found c)

@@ -1,7 +1,7 @@
 use Rattle.std.proofs.Common.{◌≡◌, Some, is_some, sym, ap, ◌∙◌, subst}
 use Rattle.indexmap.specs.IndexMap.{set_value_at}
 use Rattle.indexmap.proofs.CallerLemmas.{keys-with_value_at}
-use Rattle.item_store.specs.Store.{slot_key, slot_keys, items_of}
+use Rattle.item_store.specs.Store.{slot_key, slot_keys, stored_items}
 use Rattle.item_store.specs.Table.{with_item}
 use Rattle.item_store.proofs.Slots.{some_is, stands, standing, swapped, swapped_indexed, write_updates}
 use Rattle.item_store.proofs.store.ItemStore.swap.Goals as goal
@@ -19,7 +19,7 @@ invariant_of-self c =
 pub returns-clause-old : goal.returns-clause-old
 returns-clause-old c = λ key at.
     let inside = subst (λ s. slot_key s c.args.slot ≡ Some key) (sym c.self.view_is) at in
-    c.replace.ensures.value ∙ standing c.self.inside.slots c.args.slot.index key _ c.self.invariant.unique inside c.index_mut.ensures.value ∙ ap (λ s. items_of s key) c.self.view_is
+    c.replace.ensures.value ∙ standing c.self.inside.slots c.args.slot.index key _ c.self.invariant.unique inside c.index_mut.ensures.value ∙ ap (λ s. stored_items s key) c.self.view_is
 
 pub returns-clause-items : goal.returns-clause-items
 returns-clause-items c = λ key at.
@@ -28,7 +28,7 @@ returns-clause-items c = λ key at.
     let w = c.replace.new.dest in
     let inside = subst (λ s. slot_key s c.args.slot ≡ Some key) (sym c.self.view_is) at in
     swapped m.entries (set_value_at m.entries i w) key w (write_updates m i key _ w c.self.invariant.unique inside c.index_mut.ensures.value)
-    ∙ ap (λ s. with_item (items_of s) key w) c.self.view_is ∙ ap (with_item (items_of c.args.self.now) key) c.replace.ensures.after
+    ∙ ap (λ s. with_item (stored_items s) key w) c.self.view_is ∙ ap (with_item (stored_items c.args.self.now) key) c.replace.ensures.after
 
 pub returns-clause-slots : goal.returns-clause-slots
 returns-clause-slots c = keys-with_value_at c.self.inside.slots c.args.slot.index c.replace.new.dest ∙ ap slot_keys c.self.view_is

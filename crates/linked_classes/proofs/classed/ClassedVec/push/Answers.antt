@@ -2,7 +2,7 @@ use Rattle.std.proofs.Common.{◌≡◌, ◌++◌, ◌∷◌, [], arith, true, l
 use Rattle.std.proofs.lemmas.List.{length-append}
 use Rattle.linked_classes.specs.Cells.{cell_at}
 use Rattle.linked_classes.specs.Classes.{class_of}
-use Rattle.linked_classes.specs.Sets.{IsPut, has_room, set_class, set_of}
+use Rattle.linked_classes.specs.Sets.{IsPut, has_classed_room, set_class, set_of}
 use Rattle.linked_classes.proofs.Sets.{pushed, pushed_seen}
 use Rattle.linked_classes.proofs.classed.ClassedVec.push.Goals as goal
 
@@ -16,7 +16,7 @@ invariant_of-self g c =
     let far = c.put_all.ensures.end in
     let e = c.push-number.ensures.number in
     rw (c.push-number.ensures.numbers, c.push-number.ensures.end, c.push-number.ensures.number)
-    (pushed v.listed.numbers f (class_of new) v.listed.end (length v.listed.items) (length v.slots.classes) c.self.invariant c.args.classes.now put (length c.push-number.new.self.items) (length new.classes) (omega (arith, more)) (omega (arith, far, e)) (let room : has_room v.listed.has_room v.listed.end v.slots ≡ true = rw (← c.self.view_is) at c.requires.room in grind (arith, room)))
+    (pushed v.listed.numbers f (class_of new) v.listed.end (length v.listed.items) (length v.slots.classes) c.self.invariant c.args.classes.now put (length c.push-number.new.self.items) (length new.classes) (omega (arith, more)) (omega (arith, far, e)) (let room : has_classed_room v.listed.has_room v.listed.end v.slots ≡ true = rw (← c.self.view_is) at c.requires.room in grind (arith, room)))
 
 pub returns-clause-sets : goal.returns-clause-sets
 returns-clause-sets g c set few =

@@ -1,8 +1,8 @@
 use Rattle.std.proofs.Common.{◌≡◌, ◌∙◌, ◌+◌, refl, ap, sym, subst, true, None, Err}
-use Rattle.branch_tree.specs.First.{is_enabled}
+use Rattle.branch_tree.specs.First.{is_free_to_move}
 use Rattle.branch_tree.specs.declared.readiness.Readiness.{Readiness}
 use Rattle.book_log.specs.Answers.{is_full_for_step, step_answer}
-use Rattle.book_log.specs.Log.{held}
+use Rattle.book_log.specs.Log.{step_on_hold}
 use Rattle.book_log.specs.declared.refusal.Refusal.TheVariants.{NoThread, NotReady, Full}
 use Rattle.rollback_book.specs.Book.{BookView, book_view}
 use Rattle.rollback_book.specs.Ready.{HasRoomUnlessHeld, IsReadyTo}
@@ -19,14 +19,14 @@ returns-in_default c =
 
 pub returns-then-not-is_enabled : goal.returns-then-not-is_enabled
 returns-then-not-is_enabled c =
-    let told = sym (ap is_enabled c.in-Some.ensures.ready) ∙ sym c.is_enabled.ensures ∙ c.if-not-is_enabled.true in
+    let told = sym (ap is_free_to_move c.in-Some.ensures.ready) ∙ sym c.is_enabled.ensures ∙ c.if-not-is_enabled.true in
     subst (λ (b : BookView). step_answer b.log c.args.thread.now ≡ Err (NotReady c.in-Some.readiness)) c.self.view_is
     (step_stuck _ c.self.invariant c.args.thread.now c.in-Some.frame.now (sym c.in-Some.ensures.frame) told ∙ ap (λ (r : Readiness). Err (NotReady r)) (sym c.in-Some.ensures.ready))
 
 pub returns-then-is_full_unheld : goal.returns-then-is_full_unheld
 returns-then-is_full_unheld c =
     let b = book_view c.self.inside.begin c.self.inside.machines c.self.inside.history c.self.inside.entries c.self.inside.settled c.self.inside.held in
-    let told = sym (ap is_enabled c.in-Some.ensures.ready) ∙ sym c.is_enabled.ensures ∙ c.if-not-is_enabled.false in
+    let told = sym (ap is_free_to_move c.in-Some.ensures.ready) ∙ sym c.is_enabled.ensures ∙ c.if-not-is_enabled.false in
     let full = full_said b.log (history_records b.history) b.held (nat_le 65536 c.len-2.result || nat_lt 999998 (c.len.result + c.len-2.result)) c.self.invariant.held (sym c.is_full_unheld.ensures ∙ c.if-is_full_unheld.true) in
     let all = full_by b c.self.invariant c.len.result c.len-2.result (nat_le 65536 c.len-2.result || nat_lt 999998 (c.len.result + c.len-2.result)) (c.len.ensures ∙ c.self.inside.entries.ok.0) c.len-2.ensures refl ∙ full.1 in
     subst (λ (b : BookView). step_answer b.log c.args.thread.now ≡ Err Full) c.self.view_is (step_full b c.self.invariant c.args.thread.now c.in-Some.frame.now (sym c.in-Some.ensures.frame) full.0 told all)
@@ -37,7 +37,7 @@ unreachable-requires c = machine_known _ c.self.invariant c.args.thread.now c.in
 pub returns : goal.returns
 returns c =
     let b = book_view c.self.inside.begin c.self.inside.machines c.self.inside.history c.self.inside.entries c.self.inside.settled c.self.inside.held in
-    let told = sym (ap is_enabled c.in-Some.ensures.ready) ∙ sym c.is_enabled.ensures ∙ c.if-not-is_enabled.false in
+    let told = sym (ap is_free_to_move c.in-Some.ensures.ready) ∙ sym c.is_enabled.ensures ∙ c.if-not-is_enabled.false in
     let free : HasRoomUnlessHeld b.log = λ none. full_by b c.self.invariant c.len.result c.len-2.result (nat_le 65536 c.len-2.result || nat_lt 999998 (c.len.result + c.len-2.result)) (c.len.ensures ∙ c.self.inside.entries.ok.0) c.len-2.ensures refl
     ∙ room_said b.log (history_records b.history) b.held (nat_le 65536 c.len-2.result || nat_lt 999998 (c.len.result + c.len-2.result)) c.self.invariant.held (sym c.is_full_unheld.ensures ∙ c.if-is_full_unheld.false) none in
     subst (λ (b : BookView). IsReadyTo b c.args.thread.now c.in-Some-machine_in.machine.now c.in-Some.frame.now) c.self.view_is

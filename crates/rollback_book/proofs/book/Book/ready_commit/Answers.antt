@@ -3,7 +3,7 @@ use Rattle.step_names.specs.declared.step.StepName.{StepName}
 use Rattle.saved_steps.specs.Effects.{next_step}
 use Rattle.saved_steps.specs.declared.next.Next.TheVariants.{Work}
 use Rattle.book_log.specs.Answers.{is_full_for_step, step_answer}
-use Rattle.book_log.specs.Log.{held}
+use Rattle.book_log.specs.Log.{step_on_hold}
 use Rattle.book_log.specs.declared.moved.Moved.{Moved}
 use Rattle.book_log.specs.declared.refusal.Refusal.{Refusal}
 use Rattle.book_log.specs.declared.refusal.Refusal.TheVariants.{Full, Memory}

@@ -3,7 +3,7 @@ use Rattle.std.specs.List.{All}
 use Rattle.branch_tree.specs.Frame.{Frame}
 use Rattle.asl_forward.specs.declared.prepared.Outcome.TheVariants as outcome
 use Rattle.branch_tree.specs.Tree.{leaf}
-use Rattle.saved_steps.specs.Made.{is_open}
+use Rattle.saved_steps.specs.Made.{is_unparked}
 use Rattle.saved_steps.proofs.Ready.{turned, plain, fork}
 use Rattle.saved_steps.proofs.world.World.make_work.Goals as goal
 
@@ -12,7 +12,7 @@ leaves-requires c =
     let p = c.args.prepared in
     let is : p.outcome ≡ outcome.Fork c.in-Fork.frame c.in-Fork.frames = sym (ap (λ x. x.2) c.into_parts-outcome.ensures) ∙ c.in-Fork.is in
     let y = turned p (outcome.Fork c.in-Fork.frame c.in-Fork.frames) is in
-    subst (λ (fs : List Frame). All is_open fs) (sym c.into_vec.ensures) y.3
+    subst (λ (fs : List Frame). All is_unparked fs) (sym c.into_vec.ensures) y.3
 
 pub returns-in-Next-clause-made : goal.returns-in-Next-clause-made
 returns-in-Next-clause-made c =

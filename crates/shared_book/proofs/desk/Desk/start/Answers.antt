@@ -11,7 +11,7 @@ use Rattle.shared_book.specs.declared.receipt.Receipt.{Receipt}
 use Rattle.shared_book.proofs.Answering.{cause, counted_more, given, given_after, start_accepted}
 use Rattle.shared_book.proofs.HeldBack.{were_more}
 use Rattle.shared_book.proofs.Sought.{none_elsewhere}
-use Rattle.book_events.specs.Cursors.{GoesBack, place_of}
+use Rattle.book_events.specs.Cursors.{GoesBack, cursor_place}
 use Rattle.shared_book.proofs.desk.Desk.start.Goals as goal
 
 pub returns-clause-receipt : goal.returns-clause-receipt
@@ -43,8 +43,8 @@ returns-in-Err-start-clause-err g c =
 
 pub invariant_of-self-2 : goal.invariant_of-self-2
 invariant_of-self-2 g c =
-    let from = place_of c.self.inside.cursor in
-    let to = place_of c.go_back.new.self in
+    let from = cursor_place c.self.inside.cursor in
+    let to = cursor_place c.go_back.new.self in
     let appended = start_accepted _ c.args.exec.now c.args.machine.now c.args.input c.in-Ok-start.name c.in-Ok-start.ensures.answer c.requires.execution c.requires.shallow in
     let leaves = starts_leave_others (g.B.Events.log c.self.inside.book) c.args.exec.now c.args.machine.now c.args.input c.entries.ensures.legal appended in
     let back = subst (λ (x : List ℕ). GoesBack x from to) c.exec.ensures.exec c.go_back.ensures in (

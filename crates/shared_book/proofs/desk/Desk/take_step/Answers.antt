@@ -8,7 +8,7 @@ use Rattle.shared_book.specs.Away.{WasRefused}
 use Rattle.shared_book.specs.Views.{DeskView}
 use Rattle.shared_book.proofs.HeldBack.{held_step, were_more}
 use Rattle.shared_book.proofs.Sought.{none_elsewhere}
-use Rattle.book_events.specs.Cursors.{GoesBack, place_of}
+use Rattle.book_events.specs.Cursors.{GoesBack, cursor_place}
 use Rattle.shared_book.proofs.desk.Desk.take_step.Goals as goal
 
 pub returns-clause-receipt : goal.returns-clause-receipt
@@ -36,8 +36,8 @@ returns-in-Err-clause-held g c = λ h.
 pub invariant_of-self-2 : goal.invariant_of-self-2
 invariant_of-self-2 g c =
     let moved = c.in-Ok-step.moved in
-    let from = place_of c.self.inside.cursor in
-    let to = place_of c.go_back.new.self in
+    let from = cursor_place c.self.inside.cursor in
+    let to = cursor_place c.go_back.new.self in
     let appended = step_accepted _ c.args.thread.now moved c.in-Ok-step.ensures.answer in
     let leaves = steps_leave_others (g.B.Events.log c.self.inside.book) moved.name moved.kind c.entries.ensures.legal appended in
     let own = ap (λ (t : Thread). t.exec) (step_of _ c.args.thread.now moved c.in-Ok-step.ensures.answer) in

@@ -15,7 +15,7 @@ use Rattle.shared_book.specs.Views.{DeskView, PassView}
 use Rattle.shared_book.specs.declared.refusal.SharedCommitRefusal.{SharedCommitRefusal}
 use Rattle.shared_book.proofs.HeldBack.{held_turn, were_more}
 use Rattle.shared_book.proofs.Sought.{none_elsewhere}
-use Rattle.book_events.specs.Cursors.{GoesBack, place_of}
+use Rattle.book_events.specs.Cursors.{GoesBack, cursor_place}
 use Rattle.shared_book.proofs.desk.Desk.take_turn.Goals as goal
 
 pub returns-clause-receipt : goal.returns-clause-receipt
@@ -41,8 +41,8 @@ returns-clause-entry g c = ap (λ (n : StepName). n.thread) c.step-told.ensures 
 pub invariant_of-self-2 : goal.invariant_of-self-2
 invariant_of-self-2 g c =
     let moved = c.in-Ok-commit.moved in
-    let from = place_of c.self.inside.cursor in
-    let to = place_of c.go_back.new.self in
+    let from = cursor_place c.self.inside.cursor in
+    let to = cursor_place c.go_back.new.self in
     let answer = c.in-Ok-commit.ensures.answer.1 in
     let appended = turn_accepted _ c.args.thread.now moved answer in
     let leaves = steps_leave_others (g.B.Events.log c.self.inside.book) moved.name moved.kind c.entries.ensures.legal appended in

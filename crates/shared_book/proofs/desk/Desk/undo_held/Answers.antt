@@ -2,7 +2,7 @@ use Rattle.std.proofs.Common.{◌≡◌, Some, None, inr, refl, sym, subst}
 use Rattle.step_names.specs.declared.step.StepName.{StepName}
 use Rattle.book_events.specs.Calls.{IsLatestLeft}
 use Rattle.book_log.specs.Legal.{IsLegal}
-use Rattle.book_log.specs.Log.{held}
+use Rattle.book_log.specs.Log.{step_on_hold}
 use Rattle.shared_book.specs.Views.{DeskView}
 use Rattle.shared_book.proofs.Latest.{gives_latest, is_refused_latest, is_refused_latest_at, latest_undone, nothing_held}
 use Rattle.shared_book.proofs.desk.Desk.undo_held.Goals as goal
@@ -38,4 +38,4 @@ returns-clause-cause g c =
 
 pub returns-in_default-last_left-clause-cause : goal.returns-in_default-last_left-clause-cause
 returns-in_default-last_left-clause-cause g c =
-    inr (refl, subst (λ (d : DeskView). held d.log ≡ None) c.self.view_is (nothing_held (g.B.Events.log c.self.inside.book) c.entries.ensures.legal c.in_default-last_left.ensures))
+    inr (refl, subst (λ (d : DeskView). step_on_hold d.log ≡ None) c.self.view_is (nothing_held (g.B.Events.log c.self.inside.book) c.entries.ensures.legal c.in_default-last_left.ensures))

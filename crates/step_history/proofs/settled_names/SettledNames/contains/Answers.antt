@@ -4,7 +4,7 @@ use Rattle.std.proofs.lemmas.Option.{slice_get_read}
 use Rattle.step_names.specs.Order.{step_cmp}
 use Rattle.step_names.specs.declared.step.StepName.{StepName}
 use Rattle.step_names.proofs.OrderLaws.{step_same}
-use Rattle.step_history.specs.SettledNames.{Names, bucket, is_among}
+use Rattle.step_history.specs.SettledNames.{SettledNamesView, bucket, is_name_among}
 use Rattle.step_history.proofs.NamesClassed.{IsPassed, none_passes, went_on, within}
 use Rattle.step_history.proofs.settled_names.SettledNames.contains.Goals as goal
 
@@ -26,4 +26,4 @@ returns c =
     let p = λ (n : StepName). eq_by_cmp step_cmp n name in
     let old = subst (λ o. IsPassed c.self.inside.classes (bucket name) p ns o) c.in_default.is c.loop-next.invariant in
     let none = none_passes c.self.inside.classes (bucket name) p ns c.self.invariant (λ n e. ap bucket (step_same n name e)) old in
-    sym (sym (ap (λ (v : Names). is_among name v.items) c.self.view_is) ∙ none)
+    sym (sym (ap (λ (v : SettledNamesView). is_name_among name v.items) c.self.view_is) ∙ none)

@@ -5,7 +5,7 @@ use Rattle.depends.specs.Dependence.{is_start}
 use Rattle.saved_steps.specs.Steps.{is_fork}
 use Rattle.saved_steps.specs.declared.record.StepRecord.{StepRecord}
 use Rattle.step_index.specs.Buckets.{exec_bucket, thread_bucket}
-use Rattle.step_index.specs.Walks.{IsFirstFrom, NeedsByName, needs}
+use Rattle.step_index.specs.Walks.{IsFirstFrom, NeedsByName, record_needs}
 use Rattle.step_index.proofs.Dependents.{own_exec, own_thread, first_of_exec, first_of_thread_or_gate}
 use Rattle.step_index.proofs.records.StepRecords.first_in_execution.Goals as goal
 
@@ -33,5 +33,5 @@ returns c f h =
     (c.first_needing-2.ensures.member thread f (own_thread i.records c.self.invariant c.args.at f is) is) in
     let closing = (c.first_needing_in-closing.ensures f is) in
     rw (← c.self.view_is)
-    (subst (λ r. IsFirstFrom (NeedsByName rs f) (needs f) rs (c.args.at + 1) r) (sym c.earlier.ensures)
+    (subst (λ r. IsFirstFrom (NeedsByName rs f) (record_needs f) rs (c.args.at + 1) r) (sym c.earlier.ensures)
     (first_of_thread_or_gate i.records c.self.invariant c.args.at f is c.exec_bucket-class.result c.first_needing-2.result c.first_needing_in-closing.result class none own_first closing))
