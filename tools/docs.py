@@ -92,8 +92,7 @@ class Code:
         self.words, self.functions, self.texts = set(), {}, {}
         for pattern in ("crates/*/src/*.rt", "crates/*/specs/*.antt", "crates/*/proofs/**/*.antt", "tools/**/*.*", "rows/**/*.txt", "crates.txt"):
             for path in TOP.glob(pattern):
-                # the old words of vocabulary.tsv are names no more
-                if path.name not in ("docs.py", "vocabulary.tsv") and path.is_file():
+                if path.name != "docs.py" and path.is_file():
                     self.read(path)
         self.titles = {
             line[2:].strip() for path in TOP.glob("rows/*.txt") for line in path.read_text().splitlines() if line.startswith("= ")

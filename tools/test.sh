@@ -35,7 +35,7 @@ part() {
 
 part sh tools/docs.sh --names
 part python3 tools/refusals.py
-part python3 tools/vocabulary.py
+part python3 tools/definitions.py
 part python3 tools/planted_tests.py
 part python3 tools/planted.py --current
 part python3 tools/gate_costs.py rt ci

@@ -4,7 +4,7 @@ use Rattle.std.proofs.Common.{◌≡◌, ℕ, suc, ◌+◌, nat_le, Bool, true, 
 use Rattle.std.specs.List.{AllByRecursion}
 use Rattle.json_tree.specs.Data.{Data}
 use Rattle.json_tree.specs.View.{data_of}
-use Rattle.asl_frames.specs.Complete.{state_of, IsState}
+use Rattle.asl_frames.specs.Complete.{state_of, IsStateName}
 use Rattle.asl_frames.specs.Definition.{Definition}
 use Rattle.asl_frames.specs.Find.{branch_of, machine_at}
 use Rattle.asl_frames.specs.LevelStep.{LevelStep}
@@ -68,10 +68,10 @@ pub record IsFirst (machine : Definition) (g : Frame) : Type 0 where
 
 -- each branch of a state starts at a state that it has
 abbrev pub BranchesStart : State → Type 0
-BranchesStart s = (branch : ℕ) (d : Definition) → branch_of branch s ≡ Some d → IsState d.states d.start
+BranchesStart s = (branch : ℕ) (d : Definition) → branch_of branch s ≡ Some d → IsStateName d.states d.start
 
 pub first_of : (machine : Definition) (at : Location) (f : Frame) (d : Definition) (branch : ℕ) (input : Data) → located machine f ≡ Some at → branch_of branch at.1 ≡ Some d
-    → IsState d.states d.start → IsFirst machine (branch_frame f d branch input)
+    → IsStateName d.states d.start → IsFirst machine (branch_frame f d branch input)
 first_of machine at f d branch input stands is starts = on_start (state_of d.start d.states) refl starts
   where
     there : machine_at (branch_frame f d branch input).level.path machine ≡ Some d

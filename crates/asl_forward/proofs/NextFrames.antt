@@ -5,7 +5,7 @@ use Rattle.json_tree.specs.View.{data_of}
 use Rattle.item_store.specs.Calls.{call_of}
 use Rattle.item_store.specs.Faults.{validation}
 use Rattle.item_store.specs.declared.call.Call.{Call}
-use Rattle.asl_frames.specs.Complete.{IsState, StaysInside}
+use Rattle.asl_frames.specs.Complete.{IsStateName, StaysInside}
 use Rattle.asl_frames.specs.Definition.{Definition}
 use Rattle.asl_frames.specs.State.{State}
 use Rattle.asl_frames.specs.State.TheVariants as state
@@ -60,7 +60,7 @@ turn-count at f = turn_frame (λ g. g.count ≡ f.count + 1) at.0 at.1 f (handle
 pub turn-level : (at : Location) (f : Frame) → OnFrame (λ g. g.level ≡ f.level) (turn at f)
 turn-level at f = turn_frame (λ g. g.level ≡ f.level) at.0 at.1 f (handled-level at.0 (errors_of at.1) f) (λ n m. refl) (next_frame-level at.0 at.1 f)
 
-pub turn-state : (at : Location) (f : Frame) → StaysInside at.0.states at.1 → IsState at.0.states f.state → OnFrame (λ g. IsState at.0.states g.state) (turn at f)
+pub turn-state : (at : Location) (f : Frame) → StaysInside at.0.states at.1 → IsStateName at.0.states f.state → OnFrame (λ g. IsStateName at.0.states g.state) (turn at f)
 turn-state at f stays here =
-    turn_frame (λ g. IsState at.0.states g.state) at.0 at.1 f (λ fault. handled-state at.0 (errors_of at.1) f fault (catchers_stay at.0.states at.1 stays) here) (λ n m. here)
+    turn_frame (λ g. IsStateName at.0.states g.state) at.0 at.1 f (λ fault. handled-state at.0 (errors_of at.1) f fault (catchers_stay at.0.states at.1 stays) here) (λ n m. here)
     (next_frame-state at.0 at.1 f stays here)

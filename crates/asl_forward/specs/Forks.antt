@@ -2,7 +2,7 @@
 use Rattle.std.specs.Prelude.{ℕ, ◌+◌, nat_le, List, [], ◌∷◌, ◌++◌, length, Option, None, Some, Result, Ok, Err, ok_or, if◌then◌else◌, codes}
 use Rattle.json_tree.specs.Data.{Data, list, null, boolean, whole, text, fields}
 use Rattle.asl_frames.specs.Definition.{Definition}
-use Rattle.asl_processing.specs.Reading.{json_of, items_in, most_branches}
+use Rattle.asl_processing.specs.Reading.{json_of, item_list, most_branches}
 use Rattle.asl_frames.specs.Level.{Level}
 use Rattle.asl_frames.specs.Map.{Map}
 use Rattle.asl_frames.specs.Parallel.{Parallel}
@@ -45,7 +45,7 @@ parallel_frames s f input = frames_from f 0 s.branches input
 -- ---- Map
 
 abbrev pub elements_in : Option Data → Result (List Data) (List ℕ)
-elements_in (Some (list ds)) = Ok (items_in ds)
+elements_in (Some (list ds)) = Ok (item_list ds)
 elements_in (Some null) = Err (codes "States.Runtime")
 elements_in (Some (boolean b)) = Err (codes "States.Runtime")
 elements_in (Some (whole z)) = Err (codes "States.Runtime")

@@ -13,7 +13,7 @@ use Rattle.asl_frames.specs.State.TheVariants as state
 use Rattle.asl_frames.specs.Transition.{Transition}
 use Rattle.asl_frames.specs.Transition.TheVariants.{Next}
 use Rattle.asl_forward.specs.Handling.{retried, catcher_for, error_object}
-use Rattle.asl_frames.specs.Processing.{and_then, held, passed_on, placed_in}
+use Rattle.asl_frames.specs.Processing.{and_then, within_levels, passed_on, placed_in}
 use Rattle.asl_frames.specs.Turn.{Location, located, ends, go_on, frame_failed_with, own_fault}
 use Rattle.asl_frames.specs.declared.frame.Fault.{Fault}
 use Rattle.asl_frames.specs.declared.frame.Frame.{Frame}
@@ -28,7 +28,7 @@ tries_again f counters = record { level = f.level; state = f.state; raw = f.raw;
 
 abbrev pub on_catch : Definition → Frame → Fault → Option Catcher → Frame
 on_catch level f fault None = frame_failed_with f fault
-on_catch level f fault (Some c) = ends level (Next c.next) f (and_then held (placed_in c.result_path (data_of f.raw) (error_object fault)))
+on_catch level f fault (Some c) = ends level (Next c.next) f (and_then within_levels (placed_in c.result_path (data_of f.raw) (error_object fault)))
 
 abbrev pub on_retry : Definition → ErrorHandling → Frame → Fault → Option (List ℕ) → Frame
 on_retry level errors f fault (Some counters) = tries_again f counters

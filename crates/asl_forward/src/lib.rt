@@ -16,6 +16,6 @@ pub use asl_frames::{
 };
 pub use frames::Frames;
 pub use handling::{after_branch, after_error, handle};
-pub use prepared::{Outcome, Prepared, prepare};
+pub use prepared::{Outcome, Prepared, prepare, prepare_at};
 pub use work::finish;
 pub use work_results::{after_answer, call_fault, joined, work_of};

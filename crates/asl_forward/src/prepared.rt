@@ -10,7 +10,7 @@ ghost use Rattle.asl_frames.specs.declared.frame.Phase.TheVariants.{Ready};
 
 use crate::frames::Frames;
 use crate::outcomes::turn;
-use asl_frames::machine_tree::SharedMachine;
+use asl_frames::machine_tree::{Machine, SharedMachine, State};
 use asl_frames::{Frame, Phase, located};
 use item_store::Call;
 use std::alloc::{AllocError, Global};
@@ -89,6 +89,24 @@ pub fn prepare(
     let Some((level, state)) = located(machine.machine(), frame) else {
         unreachable!()
     };
+    prepare_at(alloc, machine, level, state, frame)
+}
+
+/// The same of a frame whose level and state are at hand: these are looked up once. Takes what `prepare` takes.
+pub fn prepare_at(
+    alloc: Global,
+    machine: &SharedMachine,
+    level: &Machine,
+    state: &State,
+    frame: &Frame,
+) -> Result<Prepared, AllocError>
+    requires ready { frame.now.phase ≡ Phase.Ready }
+    requires stands { located machine.now frame.now ≡ Some (level.now, state.now) }
+    requires count { frame.now.count + 1 < 2 ^ 32 }
+    ensures frame { IfOk result (λ p. p.frame ≡ frame.now) }
+    ensures machine { IfOk result (λ p. p.machine ≡ machine.now) }
+    ensures outcome { IfOk result (λ p. turn_at machine.now frame.now ≡ Some p.outcome) }
+{
     let outcome = turn(alloc, level, state, frame)?;
     let (Ok(kept), Ok(machine)) = (frame.copy(), machine.share()) else {
         drop(outcome);

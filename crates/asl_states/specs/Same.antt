@@ -10,7 +10,7 @@ use Rattle.json_tree.proofs.Same.{eq_one, eq_itself}
 use Rattle.json_tree.specs.Order.{data_cmp}
 use Rattle.json_tree.specs.View.{data_of}
 use Rattle.json_tree.specs.declared.tree.Json.{Json}
-use Rattle.asl_fields.specs.Same.{same_text, same_path, same_payload, IsExact, exact, first_true, second_true, text_exact, path_exact, payload_exact, option_exact}
+use Rattle.asl_fields.specs.Same.{same_text, same_payload_path, same_payload, IsExact, exact, first_true, second_true, text_exact, path_exact, payload_exact, option_exact}
 use Rattle.asl_states.specs.TestSame.{same_rule, rules_exact}
 use Rattle.asl_errors.specs.Same.{same_handling, handling_exact}
 use Rattle.asl_states.specs.declared.state.Processing.{Processing}
@@ -43,7 +43,7 @@ same_transition End (Next t) = false
 same_transition End End = true
 
 abbrev pub same_processing : Processing → Processing → Bool
-same_processing s t = option_eq same_path s.input_path t.input_path && (option_eq same_payload s.parameters t.parameters && (option_eq same_payload s.result_selector t.result_selector && (option_eq same_path s.result_path t.result_path && option_eq same_path s.output_path t.output_path)))
+same_processing s t = option_eq same_payload_path s.input_path t.input_path && (option_eq same_payload s.parameters t.parameters && (option_eq same_payload s.result_selector t.result_selector && (option_eq same_payload_path s.result_path t.result_path && option_eq same_payload_path s.output_path t.output_path)))
 
 abbrev pub same_pass : Pass → Pass → Bool
 same_pass s t = same_processing s.processing t.processing && (option_eq same_json s.result t.result && same_transition s.transition t.transition)
@@ -92,19 +92,19 @@ transition_exact = exact same_transition transition_one transition_itself
 
 processing_one : (s t : Processing) → same_processing s t ≡ true → s ≡ t
 processing_one s t h =
-    let is_input_path : s.input_path ≡ t.input_path = (option_exact same_path path_exact s.input_path t.input_path).0 (first_true _ _ h) in
-    let h0 = second_true (option_eq same_path s.input_path t.input_path) _ h in
+    let is_input_path : s.input_path ≡ t.input_path = (option_exact same_payload_path path_exact s.input_path t.input_path).0 (first_true _ _ h) in
+    let h0 = second_true (option_eq same_payload_path s.input_path t.input_path) _ h in
     let is_parameters : s.parameters ≡ t.parameters = (option_exact same_payload payload_exact s.parameters t.parameters).0 (first_true _ _ h0) in
     let h1 = second_true (option_eq same_payload s.parameters t.parameters) _ h0 in
     let is_result_selector : s.result_selector ≡ t.result_selector = (option_exact same_payload payload_exact s.result_selector t.result_selector).0 (first_true _ _ h1) in
     let h2 = second_true (option_eq same_payload s.result_selector t.result_selector) _ h1 in
-    let is_result_path : s.result_path ≡ t.result_path = (option_exact same_path path_exact s.result_path t.result_path).0 (first_true _ _ h2) in
-    let h3 = second_true (option_eq same_path s.result_path t.result_path) _ h2 in
-    let is_output_path : s.output_path ≡ t.output_path = (option_exact same_path path_exact s.output_path t.output_path).0 h3 in
+    let is_result_path : s.result_path ≡ t.result_path = (option_exact same_payload_path path_exact s.result_path t.result_path).0 (first_true _ _ h2) in
+    let h3 = second_true (option_eq same_payload_path s.result_path t.result_path) _ h2 in
+    let is_output_path : s.output_path ≡ t.output_path = (option_exact same_payload_path path_exact s.output_path t.output_path).0 h3 in
     λ i. record { input_path = is_input_path i; parameters = is_parameters i; result_selector = is_result_selector i; result_path = is_result_path i; output_path = is_output_path i }
 
 pub processing_exact : IsExact same_processing
-processing_exact = exact same_processing processing_one (λ s. both_true ((option_exact same_path path_exact s.input_path s.input_path).1 refl) (both_true ((option_exact same_payload payload_exact s.parameters s.parameters).1 refl) (both_true ((option_exact same_payload payload_exact s.result_selector s.result_selector).1 refl) (both_true ((option_exact same_path path_exact s.result_path s.result_path).1 refl) ((option_exact same_path path_exact s.output_path s.output_path).1 refl)))))
+processing_exact = exact same_processing processing_one (λ s. both_true ((option_exact same_payload_path path_exact s.input_path s.input_path).1 refl) (both_true ((option_exact same_payload payload_exact s.parameters s.parameters).1 refl) (both_true ((option_exact same_payload payload_exact s.result_selector s.result_selector).1 refl) (both_true ((option_exact same_payload_path path_exact s.result_path s.result_path).1 refl) ((option_exact same_payload_path path_exact s.output_path s.output_path).1 refl)))))
 
 pass_one : (s t : Pass) → same_pass s t ≡ true → s ≡ t
 pass_one s t h =

@@ -6,7 +6,7 @@ use Rattle.std.specs.Cmp.{unsigned_Decides, signed_Decides, booleans_Decides}
 use Rattle.std.specs.Cmp.Derive.{both_true}
 use Rattle.std.specs.Ordering.{int_eq}
 use lib.Pointwise.{pointwise}
-use Rattle.asl_fields.specs.Same.{same_text, same_path, IsExact, exact, first_true, second_true, text_exact, path_exact, list_exact}
+use Rattle.asl_fields.specs.Same.{same_text, same_payload_path, IsExact, exact, first_true, second_true, text_exact, path_exact, list_exact}
 use Rattle.asl_states.specs.TestTree.{TestTree, all_of, any_of, negation, compare, TestTrees, no_tests, test, test_trees}
 use Rattle.asl_states.specs.TestView.{test_of}
 use Rattle.asl_states.specs.declared.choice.Comparison.{Comparison}
@@ -43,7 +43,7 @@ abbrev mutual
   same_test (all_of ts) (all_of us) = same_tests ts us
   same_test (any_of ts) (any_of us) = same_tests ts us
   same_test (negation t) (negation u) = same_test t u
-  same_test (compare p c) (compare q d) = same_path p q && same_comparison c d
+  same_test (compare p c) (compare q d) = same_payload_path p q && same_comparison c d
   same_test _ _ = false
 
   pub same_tests : TestTrees → TestTrees → Bool
@@ -105,7 +105,7 @@ mutual
   tree_one (negation t) (negation u) h = ap negation (tree_one t u h)
   tree_one (compare p c) (compare q d) h =
       let path : p ≡ q = (path_exact p q).0 (first_true _ _ h) in
-      let asked : c ≡ d = (comparison_exact c d).0 (second_true (same_path p q) _ h) in
+      let asked : c ≡ d = (comparison_exact c d).0 (second_true (same_payload_path p q) _ h) in
       cc
   tree_one _ _ h = cc
 

@@ -5,7 +5,7 @@ ghost use Rattle.std.specs.Cmp.Lexicographic.{slice_cmp};
 ghost use Rattle.std.specs.Ordering.{nat_cmp};
 ghost use Rattle.asl_tree.specs.Complete.{state_of, IsWellFormed};
 ghost use Rattle.asl_tree.specs.Find.{branch_of, machine_at, state_at};
-ghost use Rattle.asl_states.specs.Refusal.{Refuses};
+ghost use Rattle.asl_states.specs.Refusal.{RefusesForFault};
 ghost use Rattle.asl_tree.specs.Targets.{if_missing, missing_next, missing_catcher, missing_rule, missing_default, missing_target, first_missing, name_or_else, target_fault};
 ghost use Rattle.asl_tree.specs.TreeView.{tree_of};
 
@@ -72,7 +72,7 @@ impl Machine {
     pub fn new(start: Text, states: States) -> Result<Machine, MachineFault>
         ensures ok { IfOk result (λ m. m ≡ record { start = start; states = states }) }
         ensures whole { OnOk result (target_fault start states ≡ None) }
-        ensures fault { IfErr result (λ e. Refuses e (target_fault start states ≡ Some e)) }
+        ensures fault { IfErr result (λ e. RefusesForFault e (target_fault start states ≡ Some e)) }
     {
         match states.missing(&start) {
             Some(missing) => Err(MachineFault::NoTarget(missing.copy()?)),

@@ -2,7 +2,7 @@
 use Rattle.std.specs.Prelude.{◌≡◌, ℕ, ◌+◌, ◌||◌, List, [], ◌∷◌, ◌++◌, length, map, reverse, Bool, true, false, Option, None, Some, Result, Ok, Err, is_some, IsSome, IsTrue, ◌⊎◌, nat_le, nat_lt, if◌then◌else◌, option_map, option_and_then}
 use Rattle.std.specs.List.{find, list_any}
 use Rattle.serde_json.specs.Data.{Data}
-use Rattle.asl_machine.specs.Refusal.{Names}
+use Rattle.asl_machine.specs.Refusal.{NamesMachineFault}
 use Rattle.asl_machine.specs.Definition.{Definition}
 use Rattle.asl_machine.specs.Faults.{DefinitionFault}
 use Rattle.asl_machine.specs.Profile.{Defines, DefinesNone}
@@ -61,7 +61,7 @@ is_full_for_define log = nat_le most_places (length log.entries + length (remain
 
 -- a definition that isn't read is no machine's, for the fault that is told; or memory was refused
 abbrev pub IsReadRefusal : Data → Refusal → Type 0
-IsReadRefusal d (BadMachine fault) = DefinesNone d × Names fault (DefinitionFault d fault)
+IsReadRefusal d (BadMachine fault) = DefinesNone d × NamesMachineFault fault (DefinitionFault d fault)
 IsReadRefusal d Memory = Unit {0}
 IsReadRefusal d _ = ⊥
 

@@ -6,7 +6,7 @@ use Rattle.std.proofs.lemmas.Bool.{and_parts, eqb-true, eq-eqb}
 use Rattle.std.proofs.lemmas.List.{append-nil, append_cancel_left}
 use Rattle.std.proofs.lemmas.Option.{same_Some}
 use Rattle.std.proofs.lemmas.Slice.Eq.{bytes_eq-Decides}
-use Rattle.saved_steps.specs.Bounds.{Place, place_by, place_of, sibling, any_below, in_window, bound_in}
+use Rattle.saved_steps.specs.Bounds.{BranchPlace, place_by, place_of, sibling, any_below, in_window, bound_in}
 use Rattle.saved_steps.specs.Effects.{waits, first_bound}
 use Rattle.saved_steps.specs.Frame.{Frame}
 use Rattle.saved_steps.specs.Held.{paths_of}
@@ -28,15 +28,15 @@ sibling_by : (bound : ℕ) (c : ℕ × ℕ) (p : Path) (j : ℕ) → j + bound �
 sibling_by bound c [] j l = rw (eq-eqb c.0 c.0 refl, le_is (j + bound) c.1 l) refl
 sibling_by bound c (d ∷ p) j l = rw (same_itself c) (sibling_by bound d p j l)
 
-pub sibling_awaited : (bound : ℕ) (p : Path) (b : Place) (j : ℕ) → place_of p ≡ Some b → j + bound ≤ b.1.1 → awaited bound p (sibling b j) ≡ Some []
+pub sibling_awaited : (bound : ℕ) (p : Path) (b : BranchPlace) (j : ℕ) → place_of p ≡ Some b → j + bound ≤ b.1.1 → awaited bound p (sibling b j) ≡ Some []
 sibling_awaited bound [] b j h l = cc
 sibling_awaited bound (c ∷ p) b j h l =
     let e : place_by c p ≡ b = same_Some _ _ h in
-    subst (λ (x : Place). awaited bound (c ∷ p) (sibling x j) ≡ Some []) e (sibling_by bound c p j (subst (λ (x : Place). j + bound ≤ x.1.1) (sym e) l))
+    subst (λ (x : BranchPlace). awaited bound (c ∷ p) (sibling x j) ≡ Some []) e (sibling_by bound c p j (subst (λ (x : BranchPlace). j + bound ≤ x.1.1) (sym e) l))
 
 -- and none but such branches
 pub record IsAwaited (bound : ℕ) (p q r : Path) : Type 0 where
-  pub place : Place
+  pub place : BranchPlace
   pub is : place_of p ≡ Some place
   pub index : ℕ
   pub before : index + bound ≤ place.1.1
@@ -61,7 +61,7 @@ by_next bound c d x p q r k i =
     let at : place_by d p ≡ i.place = same_Some _ _ i.is in
     record {
       place = (c ∷ i.place.0, i.place.1);
-      is = ap (λ (b : Place). Some (c ∷ b.0, b.1)) at;
+      is = ap (λ (b : BranchPlace). Some (c ∷ b.0, b.1)) at;
       index = i.index;
       before = i.before;
       goes = ap₂ (λ (y : ℕ × ℕ) (u : Path). y ∷ u) (sym (one_branch c x k)) i.goes;
@@ -76,16 +76,16 @@ is_awaited bound (c ∷ (d ∷ p)) (x ∷ q) r h =
     by_bool (same_branch c x) _ (λ k. by_next bound c d x p q r k (is_awaited bound (d ∷ p) q r (rw k at h))) (λ k. let e = rw k at h in cc)
 
 -- a path is that of its place
-pub place_whole : (p : Path) (b : Place) → place_of p ≡ Some b → p ≡ b.0 ++ b.1 ∷ []
+pub place_whole : (p : Path) (b : BranchPlace) → place_of p ≡ Some b → p ≡ b.0 ++ b.1 ∷ []
 place_whole [] b h = cc
-place_whole (c ∷ p) b h = by c p ∙ ap (λ (x : Place). x.0 ++ x.1 ∷ []) (same_Some _ _ h)
+place_whole (c ∷ p) b h = by c p ∙ ap (λ (x : BranchPlace). x.0 ++ x.1 ∷ []) (same_Some _ _ h)
   where
     by : (c : ℕ × ℕ) (p : Path) → c ∷ p ≡ (place_by c p).0 ++ (place_by c p).1 ∷ []
     by c [] = refl
     by c (d ∷ p) = ap (λ (u : Path). c ∷ u) (by d p)
 
 -- another branch than the one that waits
-pub other_branch : (b : Place) (j bound : ℕ) → j + bound ≤ b.1.1 → 0 < bound → sibling b j ≡ b.0 ++ b.1 ∷ [] → ⊥
+pub other_branch : (b : BranchPlace) (j bound : ℕ) → j + bound ≤ b.1.1 → 0 < bound → sibling b j ≡ b.0 ++ b.1 ∷ [] → ⊥
 other_branch b j bound l some e =
     let f = append_cancel_left b.0 ((b.1.0, j) ∷ []) (b.1 ∷ []) e in
     let g : j ≡ b.1.1 = ap (λ (u : Path). index_of u) f in
@@ -136,17 +136,17 @@ all_done w t u f s own begins bound h = by_bool (f.count == 0) _ first (λ k. ab
         let begun : may_begin (paths_of w.frames t.exec) i.place ≡ true = started i.place k place in
         by_bool (frame_is is_done (w.frames u)) _ (λ d. d) (λ d. absurd (clash i.place i.index i.before bounded begun (there i.place i.index i.goes ∙ d)))
       where
-        there : (b : Place) (j : ℕ) → u.path ≡ sibling b j ++ [] → frame_is is_done (paths_of w.frames t.exec (sibling b j)) ≡ frame_is is_done (w.frames u)
+        there : (b : BranchPlace) (j : ℕ) → u.path ≡ sibling b j ++ [] → frame_is is_done (paths_of w.frames t.exec (sibling b j)) ≡ frame_is is_done (w.frames u)
         there b j e =
             let exec : t.exec ≡ u.exec = sym (ap (λ (x : Thread). x.exec) own) ∙ a.exec in
             ap₂ (λ (x : List ℕ) (p : Path). frame_is is_done (w.frames (record { exec = x; path = p }))) exec (sym (append-nil (sibling b j)) ∙ sym e)
 
-        started : (b : Place) → (f.count == 0) ≡ true → place_of t.path ≡ Some b → may_begin (paths_of w.frames t.exec) b ≡ true
+        started : (b : BranchPlace) → (f.count == 0) ≡ true → place_of t.path ≡ Some b → may_begin (paths_of w.frames t.exec) b ≡ true
         started b k place =
             let n : not (begins_under true (paths_of w.frames t.exec) (place_of t.path)) ≡ false = rw k at begins in
             by_bool (may_begin (paths_of w.frames t.exec) b) _ (λ y. y) (λ y. let x = rw (place, y) at n in cc)
 
-        clash : (b : Place) (j : ℕ) → j + s.bound ≤ b.1.1 → s.bound ≡ bound_in (paths_of w.frames t.exec b.0) → may_begin (paths_of w.frames t.exec) b ≡ true
+        clash : (b : BranchPlace) (j : ℕ) → j + s.bound ≤ b.1.1 → s.bound ≡ bound_in (paths_of w.frames t.exec b.0) → may_begin (paths_of w.frames t.exec) b ≡ true
             → frame_is is_done (paths_of w.frames t.exec (sibling b j)) ≡ false → ⊥
         clash b j l m begun undone =
             let bound_there = bound_in (paths_of w.frames t.exec b.0) in

@@ -16,7 +16,7 @@ use Rattle.item_store.specs.declared.call.Request.{Request}
 use Rattle.item_store.specs.declared.fault.CallFault.{CallFault}
 use Rattle.saved_steps.specs.Definition.{Definition}
 use Rattle.saved_steps.specs.Outcomes.{turn}
-use Rattle.saved_steps.specs.Results.{Work, work_of, after_answer}
+use Rattle.saved_steps.specs.Results.{Work, state_work, after_answer}
 use Rattle.saved_steps.specs.Turn.{Location, first_frame}
 use Rattle.saved_steps.specs.Frame.{Frame}
 use Rattle.saved_steps.specs.Phase.{Phase}
@@ -28,7 +28,7 @@ use Rattle.step_names.specs.Under.{is_under}
 use Rattle.step_names.specs.declared.step.StepName.{StepName}
 use Rattle.step_names.proofs.OrderLaws.{thread_same, thread_itself}
 use Rattle.saved_steps.specs.Effects.{Effect, next_step, own_effect, call_effect, effect_of_turn, kids, first_fault, outputs, effect_over, effect_in, stands, frame_effect, move_effect, if_numbered, effect_of, waits, first_bound, effect_with_bound}
-use Rattle.saved_steps.specs.Bounds.{Place, place_of, sibling, bound_in, in_window}
+use Rattle.saved_steps.specs.Bounds.{BranchPlace, place_of, sibling, bound_in, in_window}
 use Rattle.saved_steps.specs.Held.{paths_of}
 use Rattle.saved_steps.specs.Paths.{Path}
 use Rattle.saved_steps.specs.Ready.{frame_is, is_done, may_begin}
@@ -151,7 +151,7 @@ turn_alike : (s : Setting) (w x : World) (name : StepName) (at : Location) (f : 
 turn_alike s w x name at f (outcome.Next g) d a h = h
 turn_alike s w x name at f (outcome.Fork g branches) d a h = h
 turn_alike s w x name at f (outcome.Call c) d a h =
-    let m = map_some (λ (work : Work). call_effect name at.0 work f (table.in_form s.table s.schema w.items c)) (work_of at.1) d h in
+    let m = map_some (λ (work : Work). call_effect name at.0 work f (table.in_form s.table s.schema w.items c)) (state_work at.1) d h in
     let e = m.1 in
     rw e (ap Some (call_alike name at.0 m.0 f w x d a c.request (table.key_asked s.table s.schema c) m.2))
 
@@ -175,7 +175,7 @@ module _ (w x : World) (t : Thread) (f : Frame) (d : Effect) (a : Agree w x d) (
   at_thread p = ap (λ (u : Thread). paths_of w.frames u.exec p) own_thread
 
   -- the thread that forked it
-  over_alike : (b : Place) → place_of t.path ≡ Some b → (f.count == 0) ≡ true → paths_of x.frames t.exec b.0 ≡ paths_of w.frames t.exec b.0
+  over_alike : (b : BranchPlace) → place_of t.path ≡ Some b → (f.count == 0) ≡ true → paths_of x.frames t.exec b.0 ≡ paths_of w.frames t.exec b.0
   over_alike b place k =
       let u : Thread = record { exec = d.fact.name.thread.exec; path = b.0 } in
       let no : (d.fact.name.no == 1) ≡ true = eq-eqb d.fact.name.no 1 (ap (λ (n : StepName). n.no) named ∙ ap (λ n. n + 1) (eqb-true f.count 0 k)) in
@@ -186,7 +186,7 @@ module _ (w x : World) (t : Thread) (f : Frame) (d : Effect) (a : Agree w x d) (
       subst (λ (v : Thread). paths_of x.frames v.exec b.0 ≡ paths_of w.frames v.exec b.0) own_thread e
 
   -- the branches for which it waits
-  window_alike : (b : Place) (j : ℕ) → place_of t.path ≡ Some b → 0 < d.fact.bound → j + d.fact.bound ≤ b.1.1 → paths_of x.frames t.exec (sibling b j) ≡ paths_of w.frames t.exec (sibling b j)
+  window_alike : (b : BranchPlace) (j : ℕ) → place_of t.path ≡ Some b → 0 < d.fact.bound → j + d.fact.bound ≤ b.1.1 → paths_of x.frames t.exec (sibling b j) ≡ paths_of w.frames t.exec (sibling b j)
   window_alike b j place some l =
       let u : Thread = record { exec = d.fact.name.thread.exec; path = sibling b j } in
       let there : place_of d.fact.name.thread.path ≡ Some b = ap (λ (v : Thread). place_of v.path) own_thread ∙ place in
@@ -197,14 +197,14 @@ module _ (w x : World) (t : Thread) (f : Frame) (d : Effect) (a : Agree w x d) (
   bound_alike : first_bound x.frames t f ≡ first_bound w.frames t f
   bound_alike = by_bool (f.count == 0) _ (λ k. by (place_of t.path) refl k) (λ k. rw k refl)
     where
-      by : (o : Option Place) → place_of t.path ≡ o → (f.count == 0) ≡ true → first_bound x.frames t f ≡ first_bound w.frames t f
+      by : (o : Option BranchPlace) → place_of t.path ≡ o → (f.count == 0) ≡ true → first_bound x.frames t f ≡ first_bound w.frames t f
       by None e k = rw (k, e) refl
       by (Some b) e k = rw (k, e) (ap bound_in (over_alike b e k))
 
   waits_alike : waits x.frames t f ≡ waits w.frames t f
   waits_alike = by_bool (f.count == 0) _ (λ k. by (place_of t.path) refl k) (λ k. rw k refl)
     where
-      begin_alike : (b : Place) → place_of t.path ≡ Some b → (f.count == 0) ≡ true → may_begin (paths_of x.frames t.exec) b ≡ may_begin (paths_of w.frames t.exec) b
+      begin_alike : (b : BranchPlace) → place_of t.path ≡ Some b → (f.count == 0) ≡ true → may_begin (paths_of x.frames t.exec) b ≡ may_begin (paths_of w.frames t.exec) b
       begin_alike b e k =
           let m = bound_in (paths_of w.frames t.exec b.0) in
           let told : d.fact.bound ≡ m = bound ∙ rw (k, e) refl in
@@ -222,7 +222,7 @@ module _ (w x : World) (t : Thread) (f : Frame) (d : Effect) (a : Agree w x d) (
               rw l (ap (λ o. not (frame_is is_done o)) (window_alike b j e some before)))
               (λ l. rw l refl)
 
-      by : (o : Option Place) → place_of t.path ≡ o → (f.count == 0) ≡ true → waits x.frames t f ≡ waits w.frames t f
+      by : (o : Option BranchPlace) → place_of t.path ≡ o → (f.count == 0) ≡ true → waits x.frames t f ≡ waits w.frames t f
       by None e k = rw (k, e) refl
       by (Some b) e k = let g = begin_alike b e k in rw (k, e) (ap not g)
 
@@ -379,14 +379,14 @@ module _ (w : World) (d e : Effect) (first : IsPlanned w d) (second : IsPlanned 
 
 -- the thread that forked its own, or a branch for which it waited
 record Looked (s : Fact) (t : Thread) : Type 0 where
-  place : Place
+  place : BranchPlace
   is : place_of s.name.thread.path ≡ Some place
   over : Thread
   over_is : over ≡ record { exec = s.name.thread.exec; path = place.0 }
   child : s.name.thread ≡ child_of over place.1.0 place.1.1
   what : (over ≡ t) ⊎ ((index : ℕ) × (0 < s.bound) × (index + s.bound ≤ place.1.1) × (t ≡ child_of over place.1.0 index) × (awaited_by s t ≡ Some []))
 
-child_there : (t : Thread) (b : Place) → place_of t.path ≡ Some b → t ≡ child_of (record { exec = t.exec; path = b.0 }) b.1.0 b.1.1
+child_there : (t : Thread) (b : BranchPlace) → place_of t.path ≡ Some b → t ≡ child_of (record { exec = t.exec; path = b.0 }) b.1.0 b.1.1
 child_there t b h = ap (λ (p : Path). let u : Thread = record { exec = t.exec; path = p } in u) (place_whole t.path b h)
 
 looked : (s : Fact) (t : Thread) → looks s t ≡ true → Looked s t
@@ -395,7 +395,7 @@ looked s t h = elim (either (is_thread (forked_by s) t) (is_path_end (awaited_by
     by_fork : is_thread (forked_by s) t ≡ true → Looked s t
     by_fork k = by_bool (s.name.no == 1) _ (λ j. by_place (place_of s.name.thread.path) refl (rw j at k)) (λ j. let e = rw j at k in cc)
       where
-        by_place : (o : Option Place) → place_of s.name.thread.path ≡ o → is_thread (option_map (λ b. let u : Thread = record { exec = s.name.thread.exec; path = b.0 } in u) o) t ≡ true → Looked s t
+        by_place : (o : Option BranchPlace) → place_of s.name.thread.path ≡ o → is_thread (option_map (λ b. let u : Thread = record { exec = s.name.thread.exec; path = b.0 } in u) o) t ≡ true → Looked s t
         by_place None e j = cc
         by_place (Some b) e j = record {
           place = b;

@@ -21,9 +21,9 @@ use Rattle.saved_steps.specs.Transition.{Transition}
 use Rattle.saved_steps.specs.Transition.TheVariants.{Next, End}
 use Rattle.saved_steps.specs.Forks.{parallel_frames, map_frames}
 use Rattle.saved_steps.specs.Handling.{retried, catcher_for, error_object}
-use Rattle.saved_steps.specs.Outcomes.{action_of, asks, task_turn, forks, fork_of, turn_of, turn}
-use Rattle.saved_steps.specs.Results.{Work, work_of, on_catch, on_retry, handled, errors_of, taken_by, after_branch, call_fault, comes_to, after_result, after_answer, after_join}
-use Rattle.saved_steps.specs.Processing.{and_then, effective, held, passed_on, placed_in}
+use Rattle.saved_steps.specs.Outcomes.{action_of, outcome_of_call, task_turn, forks, fork_of, turn_of, turn}
+use Rattle.saved_steps.specs.Results.{Work, state_work, on_catch, on_retry, handled, errors_of, taken_by, after_branch, call_fault, comes_to, after_result, after_answer, after_join}
+use Rattle.saved_steps.specs.Processing.{and_then, effective, within_levels, passed_on, placed_in}
 use Rattle.saved_steps.specs.Turn.{Location, ends, go_on, own_fault}
 use Rattle.saved_steps.specs.Fault.{Fault}
 use Rattle.saved_steps.specs.Frame.{Frame}
@@ -60,7 +60,7 @@ ends_count level t f (Err error) = refl
 
 catch_count : (level : Definition) (f : Frame) (fault : Fault) (c : Option Catcher) → (on_catch level f fault c).count ≡ f.count + 1
 catch_count level f fault None = refl
-catch_count level f fault (Some c) = ends_count level (Next c.next) f (and_then held (placed_in c.result_path (data_of f.raw) (error_object fault)))
+catch_count level f fault (Some c) = ends_count level (Next c.next) f (and_then within_levels (placed_in c.result_path (data_of f.raw) (error_object fault)))
 
 retry_count : (level : Definition) (errors : ErrorHandling) (f : Frame) (fault : Fault) (counters : Option (List ℕ)) → (on_retry level errors f fault counters).count ≡ f.count + 1
 retry_count level errors f fault (Some counters) = refl
@@ -87,7 +87,7 @@ IsTurn f (outcome.Next g) = g.count ≡ f.count + 1
 IsTurn f (outcome.Call c) = Unit {0}
 IsTurn f (outcome.Fork g branches) = (g.count ≡ f.count + 1) × (is_parked g.phase ≡ true)
 
-asked : (level : Definition) (s : Task) (f : Frame) (c : Option call.Call) → IsTurn f (asks level s f c)
+asked : (level : Definition) (s : Task) (f : Frame) (c : Option call.Call) → IsTurn f (outcome_of_call level s f c)
 asked level s f (Some c) = tt
 asked level s f None = handled_count level s.errors f (call_fault validation)
 
@@ -133,7 +133,7 @@ module _ (name : StepName) (f : Frame) (ready : is_parked f.phase ≡ false) whe
   turn_move s w at (outcome.Next g) d t h = subst (IsMove name f) (same_Some _ _ h) (plain_move g t)
   turn_move s w at (outcome.Fork g branches) d t h = subst (IsMove name f) (same_Some _ _ h) (record { named = refl; count = t.0; parks = λ k. t.1; closes = λ k. cc })
   turn_move s w at (outcome.Call c) d t h =
-      let m = map_some (λ (work : Work). call_effect name at.0 work f (table.in_form s.table s.schema w.items c)) (work_of at.1) d h in
+      let m = map_some (λ (work : Work). call_effect name at.0 work f (table.in_form s.table s.schema w.items c)) (state_work at.1) d h in
       subst (IsMove name f) m.2 (call_move at.0 m.0 (table.in_form s.table s.schema w.items c))
 
 -- an effect that closes the fork of a frame
@@ -143,7 +143,7 @@ close_move name at f (Some fault) outputs_there d h =
     subst (λ (e : Effect). IsMove name f e × (is_close e.fact.kind ≡ true)) (same_Some _ _ h) (own, refl)
 close_move name at f None outputs_there d h =
     let j = and_then_some (join_effect name at f) outputs_there d h in
-    let m = map_some (λ (work : Work). own_effect Join name (after_join at.0 work f j.0)) (work_of at.1) d j.2 in
+    let m = map_some (λ (work : Work). own_effect Join name (after_join at.0 work f j.0)) (state_work at.1) d j.2 in
     let own : IsMove name f (own_effect Join name (after_join at.0 m.0 f j.0)) = record { named = refl; count = after_result_count at.0 m.0 f (list (items_of j.0)); parks = λ k. cc; closes = λ k. refl } in
     subst (λ (e : Effect). IsMove name f e × (is_close e.fact.kind ≡ true)) m.2 (own, refl)
 
@@ -167,7 +167,7 @@ close_unbounded : (name : StepName) (at : Location) (f : Frame) (fault : Option 
 close_unbounded name at f (Some fault) outputs_there d h = subst (λ (e : Effect). e.fact.bound ≡ 0) (same_Some _ _ h) refl
 close_unbounded name at f None outputs_there d h =
     let j = and_then_some (join_effect name at f) outputs_there d h in
-    let m = map_some (λ (work : Work). own_effect Join name (after_join at.0 work f j.0)) (work_of at.1) d j.2 in
+    let m = map_some (λ (work : Work). own_effect Join name (after_join at.0 work f j.0)) (state_work at.1) d j.2 in
     subst (λ (e : Effect). e.fact.bound ≡ 0) m.2 refl
 
 -- a move has the bound of the fork over it, whose thread may begin; or it has none

@@ -1,8 +1,8 @@
 -- What is kept of members, as members come and go.
 use Rattle.std.proofs.Common.{◌≡◌, ◌≢◌, ◌<◌, ◌≤◌, arith, ℕ, zero, suc, List, [], ◌∷◌, ◌++◌, Option, None, Some, length, map, refl, ap, sym, subst, ◌∙◌, inl, inr, length-append}
-use Rattle.std.specs.Prelude.{slice_index_or, slice_set, IfSome, IfNone, IsSome}
+use Rattle.std.specs.Prelude.{replicate, slice_index_or, slice_set, IfSome, IfNone, IsSome}
 use Rattle.std.proofs.lemmas.Bool.{cases_lt}
-use Rattle.std.proofs.lemmas.List.{get_or-set_same, get_or-set_other, get_or_default}
+use Rattle.std.proofs.lemmas.List.{append-nil, append_assoc, get_or-set_same, get_or-set_other, get_or_default}
 use Rattle.std.proofs.Math.ListN.{get_or-append, get_or-eq_default}
 use Rattle.std.proofs.Math.Path.{fun_ext}
 use Rattle.std.proofs.Math.Seq.{get_or-append_seam}
@@ -161,3 +161,7 @@ more_ends ends = fun_ext (λ k. elim (one_or_other k (length ends)) [
     | inr high ↦ get_or-eq_default (ends ++ None ∷ []) None (elim (cases_lt (length ends) k) [ inl above ↦ omega (arith, above, length-append ends (None ∷ [])) | inr below ↦ absurd (w (omega (arith, below, high))) ]) ∙ sym (get_or-eq_default ends None high)
   ]
 ])
+
+pub more_runs : (k : ℕ) (ends : List (Option ℕ)) → cell_at (ends ++ replicate k None) ≡ cell_at ends
+more_runs zero ends = ap cell_at (append-nil ends)
+more_runs (suc k) ends = ap cell_at (sym (append_assoc ends (None ∷ []) (replicate k None))) ∙ more_runs k (ends ++ None ∷ []) ∙ more_ends ends

@@ -88,9 +88,9 @@ pub(crate) fn widen(ends: &mut Vec<Option<u32>>, width: usize) -> Result<(), All
     ensures least { length ends.old.items ≤ length ends.new.items }
     ensures most { length ends.new.items ≤ max (length ends.old.items) width }
 {
-    ends.reserve(width.saturating_sub(ends.len()))?;
-    while ends.len() < width {
-        ends.push_reserved(None);
+    // one write of a whole run, where a push for each would cost several times as much
+    if ends.len() < width {
+        ends.resize(width, None)?;
     }
     Ok(())
 }

@@ -11,7 +11,7 @@ use Rattle.book_log.specs.declared.entry.Entry.{Entry}
 use Rattle.book_log.specs.declared.entry.Entry.TheVariants.{Define, Start, Step as Stepped, Undo, Rollback, Settle, Hold}
 use Rattle.book_rounds.specs.Rounds.{AreSteps, IsRound, with_entries}
 use Rattle.book_rounds.proofs.Logs.{with_more, with_none}
-use Rattle.book_rounds.specs.Work.{IsStep}
+use Rattle.book_rounds.specs.Work.{IsStepEntry}
 use Rattle.journaled_book.specs.Journaled.{GoesOnBy}
 use Rattle.journaled_book.specs.Lines.{AreEntryLines, IsLineOf}
 use Rattle.journaled_book.proofs.Given.{both_entry_lines}
@@ -128,7 +128,7 @@ names_more es at d e low is =
     ap (λ (xs : List Entry). map step_text (stepped_names xs)) (take_more es at d low ∙ ap (λ (x : Entry). take at es ++ x ∷ []) is)
     ∙ ap (map step_text) (names_both (take at es) (e ∷ [])) ∙ map-append step_text (stepped_names (take at es)) (stepped_names (e ∷ []))
 
-pub step_there : (es : List Entry) (at : ℕ) (d : Entry) → at < length es → AreSteps es → IsStep (get_or es at d)
+pub step_there : (es : List Entry) (at : ℕ) (d : Entry) → at < length es → AreSteps es → IsStepEntry (get_or es at d)
 step_there [] at d low steps = absurd (omega (arith, low))
 step_there (e ∷ es) zero d low steps = steps.0
 step_there (e ∷ es) (suc at) d low steps = step_there es at d (omega (arith, low)) steps.1

@@ -19,7 +19,7 @@ use Rattle.book_log.specs.declared.refusal.Refusal.TheVariants.{NoMachine, Machi
 use Rattle.journaled_book.proofs.Cursors.{none_at_first, none_left_out, none_up_to}
 use Rattle.journaled_book.proofs.Threads.{step_thread}
 use Rattle.journaled_book.specs.Changes.{RefusesChangeOr}
-use Rattle.journaled_book.specs.Cursors.{GoesBack, IsUpTo, LeavesNoneOut, first_of_all, place_of}
+use Rattle.journaled_book.specs.Cursors.{GoesBack, IsUpTo, LeavesNoneOut, first_of_all, cursor_place}
 use Rattle.journaled_book.specs.Cursor.{Cursor}
 use Rattle.journaled_book.specs.First.{IsFirstReady}
 use Rattle.journaled_book.specs.Planned.{OrMemory}
@@ -287,6 +287,6 @@ all_after_passing log t fault old new at (Ok PassedBy) h up first = none_up_to l
 all_after_passing log t fault old new at (Ok NoMove) h up first = absurd h
 all_after_passing log t fault old new at (Err e) h up first = tt
 
-pub all_in : (o : Option Log) (log : Log) (passed : BTreeSet Thread) (cursor : Cursor) (r : Result Tried EntryFault) → o ≡ Some log → OnOk r (LeavesNoneOut log (passed_in passed) (place_of cursor)) → OnOk r (LooksAtAll o passed cursor)
+pub all_in : (o : Option Log) (log : Log) (passed : BTreeSet Thread) (cursor : Cursor) (r : Result Tried EntryFault) → o ≡ Some log → OnOk r (LeavesNoneOut log (passed_in passed) (cursor_place cursor)) → OnOk r (LooksAtAll o passed cursor)
 all_in o log passed cursor (Ok tried) is h = subst (λ (x : Option Log). LooksAtAll x passed cursor) (sym is) h
 all_in o log passed cursor (Err e) is h = tt

@@ -12,7 +12,7 @@ use Rattle.book_log.specs.declared.entry.Entry.TheVariants.{Step as Stepped}
 use Rattle.book_log.specs.declared.moved.Moved.{Moved}
 use Rattle.book_log.specs.declared.refusal.Refusal.TheVariants.{Held, Memory}
 use Rattle.journaled_book.specs.Cursor.{Cursor}
-use Rattle.journaled_book.specs.Cursors.{LeavesNoneOut, place_of}
+use Rattle.journaled_book.specs.Cursors.{LeavesNoneOut, cursor_place}
 use Rattle.journaled_book.specs.First.{IsFirstReady}
 use Rattle.journaled_book.specs.declared.fault.EntryFault.{EntryFault}
 use Rattle.journaled_book.specs.declared.fault.EntryFault.TheVariants as by
@@ -59,7 +59,7 @@ PassesBy t fault old new (Err told) = (told ≡ by.Book Memory) ⊎ ((told ≡ f
 
 -- no thread before it has a move but those that are passed by
 abbrev pub LooksAtAll : Option Log → BTreeSet Thread → Cursor → Type 0
-LooksAtAll log passed from = IfSome log (λ s. LeavesNoneOut s (passed_in passed) (place_of from))
+LooksAtAll log passed from = IfSome log (λ s. LeavesNoneOut s (passed_in passed) (cursor_place from))
 
 -- the first thread that has a move and isn't passed by, as the frames of threads say it
 abbrev pub IsFound : (Thread → Bool) → Log → Option Thread → Type 0

@@ -1,7 +1,7 @@
 // Steps that are taken one after another.
 ghost use Rattle.std.specs.Prelude.{◌≡◌, ◌+◌, ◌<◌, ◌^◌, [], false, IfOk, IfErr, IfSome, IsSome, string_bytes, string_len, OnOk, OnErr};
 ghost use Rattle.book_log.specs.Legal.{IsLegal};
-ghost use Rattle.journaled_book.specs.Cursors.{IsUpTo, place_of};
+ghost use Rattle.journaled_book.specs.Cursors.{IsUpTo, cursor_place};
 ghost use Rattle.sqlite.specs.Held.{state};
 ghost use Rattle.operator_line.specs.Answers.{AnswersDrive};
 ghost use Rattle.operator_line.specs.Driving.{AddsThread, GrowsPassedBy, IsFirstMoving, IsFound, LooksAtAll, PassesBy, TakenOf, TakesOneOf, passed_in};
@@ -156,7 +156,7 @@ fn pass_by(
     requires { passed_in passed.old thread ≡ false }
     ensures passes { PassesBy thread fault passed.old passed.new result }
     ensures grows { GrowsPassedBy passed.old passed.new result }
-    ensures cursor { OnOk result (IsUpTo thread (place_of cursor.new)) }
+    ensures cursor { OnOk result (IsUpTo thread (cursor_place cursor.new)) }
 {
     match fault {
         EntryFault::Book(Refusal::Held(_)) => {

@@ -5,7 +5,7 @@ ghost use Rattle.sqlite.specs.Held.{state};
 ghost use Rattle.book_journal.specs.Entries.{texts};
 ghost use Rattle.book_log.specs.declared.entry.Entry.{Entry as LogEntry};
 ghost use Rattle.book_rounds.specs.Rounds.{AreSteps};
-ghost use Rattle.book_rounds.specs.Work.{IsStep};
+ghost use Rattle.book_rounds.specs.Work.{IsStepEntry};
 ghost use Rattle.journaled_book.specs.Journaled.{GoesOnBy, journal_of, log_of};
 ghost use Rattle.journaled_book.specs.Lines.{AreEntryLines};
 ghost use Rattle.operator_line.specs.Answering.{GoesOnFrom, IsToldOr, SettlesWork, Stays, TellsNone, WorksBy, is_gone, since, stepped_names};
@@ -221,7 +221,7 @@ fn tell_step(
     told: &mut Lines,
     lines: &mut Vec<String>,
 ) -> Result<(), AllocError>
-    requires step { IsStep entry.now }
+    requires step { IsStepEntry entry.now }
     requires few { told.old.count + 1 < 2 ^ 32 }
     ensures told { OnOk result ((names : List (List ℕ)) → AreLines told.old names → AreLines told.new (names ++ map step_text (stepped_names (entry.now ∷ [])))) }
     ensures count { OnOk result (told.new.count ≡ told.old.count + 1) }

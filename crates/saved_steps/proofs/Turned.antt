@@ -27,7 +27,7 @@ use Rattle.asl_forward.specs.Handling.{retried, catcher_for}
 use Rattle.asl_forward.specs.Outcomes.{outcome_of_call, task_turn, forks, fork_of, turn_of, turn, action_of}
 use Rattle.asl_forward.specs.Results.{Work, call_fault, on_catch, on_retry, handled, comes_to, after_answer, after_join, after_branch, errors_of, taken_by}
 use Rattle.asl_forward.specs.Planned.{turn_at}
-use Rattle.asl_forward.specs.Processing.{effective, held, passed_on}
+use Rattle.asl_forward.specs.Processing.{effective, within_levels, passed_on}
 use Rattle.branch_tree.specs.Turn.{Location, located, go_on, ends, own_fault, goes_where, choice_frame, next_frame}
 use Rattle.branch_tree.specs.Fault.{Fault}
 use Rattle.branch_tree.specs.Frame.{Frame}
@@ -112,7 +112,7 @@ others_open (Err other) f d branch (Err error) h = tt
 
 from_open : (f : Frame) (branch : ℕ) (ds : List Definition) (input : Data) → AllOpen (frames_from f branch ds input)
 from_open f branch [] input = All-nil is_unparked
-from_open f branch (d ∷ ds) input = others_open (frames_from f (branch + 1) ds input) f d branch (held input) (from_open f (branch + 1) ds input)
+from_open f branch (d ∷ ds) input = others_open (frames_from f (branch + 1) ds input) f d branch (within_levels input) (from_open f (branch + 1) ds input)
 
 elements_open : (s : Map) (f : Frame) (input : Data) (index : ℕ) (xs : List Data) → AllOpen (element_frames s f input index xs)
 elements_open s f input index [] = All-nil is_unparked

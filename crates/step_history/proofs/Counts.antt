@@ -18,7 +18,7 @@ use Rattle.asl_states.specs.declared.state.Task.{Task}
 use Rattle.asl_forward.specs.Forks.{branch_frame, with_others, begins_branch, frames_from, parallel_frames, element_frames, element_input, counted_frames, elements, map_frames}
 use Rattle.asl_forward.specs.Outcomes.{outcome_of_call, task_turn, forks, fork_of, turn_of, turn, action_of}
 use Rattle.asl_forward.specs.Results.{Work, state_work, after_join, after_answer}
-use Rattle.asl_forward.specs.Processing.{effective, held}
+use Rattle.asl_forward.specs.Processing.{effective, within_levels}
 use Rattle.asl_frames.specs.Turn.{Location, first_frame}
 use Rattle.asl_frames.specs.declared.frame.Fault.{Fault}
 use Rattle.asl_frames.specs.declared.frame.Frame.{Frame}
@@ -73,7 +73,7 @@ others_fresh (Err other) f d branch (Err error) h = tt
 
 from_fresh : (f : Frame) (branch : ℕ) (ds : List Definition) (input : Data) → AllFresh (frames_from f branch ds input)
 from_fresh f branch [] input = none_fresh
-from_fresh f branch (d ∷ ds) input = others_fresh (frames_from f (branch + 1) ds input) f d branch (held input) (from_fresh f (branch + 1) ds input)
+from_fresh f branch (d ∷ ds) input = others_fresh (frames_from f (branch + 1) ds input) f d branch (within_levels input) (from_fresh f (branch + 1) ds input)
 
 elements_fresh : (s : Map) (f : Frame) (input : Data) (index : ℕ) (xs : List Data) → AllFresh (element_frames s f input index xs)
 elements_fresh s f input index [] = none_fresh

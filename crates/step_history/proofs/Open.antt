@@ -26,7 +26,7 @@ use Rattle.asl_forward.specs.Forks.{parallel_frames, map_frames}
 use Rattle.asl_forward.specs.Handling.{retried, catcher_for, error_object}
 use Rattle.asl_forward.specs.Outcomes.{action_of, outcome_of_call, task_turn, forks, fork_of, turn_of, turn}
 use Rattle.asl_forward.specs.Results.{Work, state_work, on_catch, on_retry, handled, errors_of, taken_by, after_branch, call_fault, comes_to, after_result, after_answer, after_join}
-use Rattle.asl_forward.specs.Processing.{and_then, effective, held, passed_on, placed_in}
+use Rattle.asl_forward.specs.Processing.{and_then, effective, within_levels, passed_on, placed_in}
 use Rattle.asl_frames.specs.Turn.{Location, go_on, ends, own_fault, goes_where, choice_frame, next_frame, pass_output, idle_output, first_frame}
 use Rattle.asl_frames.specs.declared.frame.Fault.{Fault}
 use Rattle.asl_frames.specs.declared.frame.Frame.{Frame}
@@ -57,7 +57,7 @@ ends_open level t f (Err error) = refl
 
 catch_open : (level : Definition) (f : Frame) (fault : Fault) (c : Option Catcher) → is_unparked (on_catch level f fault c)
 catch_open level f fault None = refl
-catch_open level f fault (Some c) = ends_open level (Next c.next) f (and_then held (placed_in c.result_path (data_of f.raw) (error_object fault)))
+catch_open level f fault (Some c) = ends_open level (Next c.next) f (and_then within_levels (placed_in c.result_path (data_of f.raw) (error_object fault)))
 
 retry_open : (level : Definition) (errors : ErrorHandling) (f : Frame) (fault : Fault) (counters : Option (List ℕ)) → is_unparked (on_retry level errors f fault counters)
 retry_open level errors f fault (Some counters) = refl

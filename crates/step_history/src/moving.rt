@@ -12,7 +12,7 @@ ghost use Rattle.step_history.specs.Levels.{HasNamesBelow};
 ghost use Rattle.step_history.specs.Moves.{IsMachineOf, IsMoveOf, IsCloseOf, branches_of, fault_in, output_in};
 
 use crate::history::History;
-use asl_forward::{Fault, Frame, Phase, after_branch, joined, located, prepare};
+use asl_forward::{Fault, Frame, Phase, after_branch, joined, located, prepare_at};
 use asl_tree::{Machine, SharedMachine, State};
 use json_tree::{Json, JsonList};
 use saved_steps::{Next, nexts_are_moves};
@@ -28,7 +28,7 @@ fn has_work(state: &State) -> bool
 
 impl History {
     /// What the move of a thread with this frame, which may begin, is to do, in the machine of the frame's level; none, where it
-    /// waits for its branches, is done, has failed or stands nowhere in this machine. Takes what `prepare`, `joined` and `after_branch` take, and memory for the
+    /// waits for its branches, is done, has failed or stands nowhere in this machine. Takes what `prepare_at`, `joined` and `after_branch` take, and memory for the
     /// name of each branch in turn; the outputs of branches are shared.
     pub fn next_of(
         &self,
@@ -46,12 +46,12 @@ impl History {
             → IsMachineOf s (frames_of self.now.world thread.now) machine.now → IsMoveOf s self.now.world thread.now next) }
     {
         nexts_are_moves();
-        let Some((_, state)) = located(machine.machine(), frame) else {
+        let Some((level, state)) = located(machine.machine(), frame) else {
             return Ok(None);
         };
         match &frame.phase {
             Phase::Ready => {
-                let prepared = prepare(alloc, machine, frame)?;
+                let prepared = prepare_at(alloc, machine, level, state, frame)?;
                 Ok(Some(Next::Work(prepared)))
             }
             Phase::Parked(branches, _) => {

@@ -6,7 +6,7 @@ use Rattle.book_log.specs.Log.{Log, appended}
 use Rattle.book_log.specs.declared.entry.Entry.TheVariants.{Step as Stepped}
 use Rattle.reply_lines.specs.Replying.{AreLines}
 use Rattle.journaled_book.proofs.Threads.{step_thread}
-use Rattle.journaled_book.specs.Cursors.{GoesBack, LeavesNoneOut, place_of}
+use Rattle.journaled_book.specs.Cursors.{GoesBack, LeavesNoneOut, cursor_place}
 use Rattle.journaled_book.specs.Changes.{AnswersChangeOr}
 use Rattle.journaled_book.specs.Journaled.{with_entry}
 use Rattle.operator_line.specs.Answers.{IsLeastEnabled}
@@ -78,13 +78,13 @@ returns-clause-all g c =
     let P = passed_in c.args.passed.now in
     let m = c.in-Ok.moved in
     let legal : IsLegal before = subst (λ (o : Option Log). IfSome o IsLegal) s.1 c.first_ready.ensures.legal in
-    let none : LeavesNoneOut before P (place_of c.args.cursor.now) = subst (λ (o : Option Log). IfSome o (λ log. LeavesNoneOut log P (place_of c.args.cursor.now))) s.1 c.requires.all in
+    let none : LeavesNoneOut before P (cursor_place c.args.cursor.now) = subst (λ (o : Option Log). IfSome o (λ log. LeavesNoneOut log P (cursor_place c.args.cursor.now))) s.1 c.requires.all in
     let answer : step_answer before t ≡ Ok m =
     subst (AnswersChangeOr (StepLacks before t) (step_answer before t)) c.in-Ok.is (in_log (λ s. AnswersChangeOr (StepLacks s t) (step_answer s t) c.step.result) c.args.book.now.book before s.1 c.step.ensures.answer)
     in
-    let back = subst (λ (x : List ℕ). GoesBack x (place_of c.args.cursor.now) (place_of c.go_back.new.self)) c.exec.ensures.exec c.go_back.ensures in
-    subst (λ (o : Option Log). IfSome o (λ log. LeavesNoneOut log P (place_of c.go_back.new.self))) (sym (c.in-Ok.ensures.ok ∙ ap (λ (o : Option Log). with_entry o (Stepped m.name m.kind)) s.1))
-    (all_after_step before t m P (place_of c.args.cursor.now) (place_of c.go_back.new.self) legal answer back none)
+    let back = subst (λ (x : List ℕ). GoesBack x (cursor_place c.args.cursor.now) (cursor_place c.go_back.new.self)) c.exec.ensures.exec c.go_back.ensures in
+    subst (λ (o : Option Log). IfSome o (λ log. LeavesNoneOut log P (cursor_place c.go_back.new.self))) (sym (c.in-Ok.ensures.ok ∙ ap (λ (o : Option Log). with_entry o (Stepped m.name m.kind)) s.1))
+    (all_after_step before t m P (cursor_place c.args.cursor.now) (cursor_place c.go_back.new.self) legal answer back none)
 
 pub returns-in-Err-clause-all : goal.returns-in-Err-clause-all
 returns-in-Err-clause-all g c =
@@ -95,4 +95,4 @@ returns-in-Err-clause-all g c =
     let found = subst (λ (o : Option Log). IfSome o (λ log. IfOk c.first_ready.result (IsFound P log))) s.1 c.first_ready.ensures.found in
     let first = subst (IsFound P before) c.in-Some.is (subst (λ r. IfOk r (IsFound P before)) c.in_ok-thread.was found) in
     all_in (log_in c.step.new.self) before c.pass_by.new.passed c.pass_by.new.cursor c.pass_by.result (c.in-Err.ensures.err ∙ s.1)
-    (all_after_passing before t c.in-Err.fault c.args.passed.now c.pass_by.new.passed (place_of c.pass_by.new.cursor) c.pass_by.result c.pass_by.ensures.passes c.pass_by.ensures.cursor first)
+    (all_after_passing before t c.in-Err.fault c.args.passed.now c.pass_by.new.passed (cursor_place c.pass_by.new.cursor) c.pass_by.result c.pass_by.ensures.passes c.pass_by.ensures.cursor first)

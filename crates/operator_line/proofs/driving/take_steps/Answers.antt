@@ -3,7 +3,7 @@ use Rattle.std.specs.BTreeMap.{is_at}
 use Rattle.std.specs.List.{list_any}
 use Rattle.step_names.specs.Order.{thread_cmp}
 use Rattle.step_names.specs.Thread.{Thread}
-use Rattle.journaled_book.specs.Cursors.{place_of}
+use Rattle.journaled_book.specs.Cursors.{cursor_place}
 use Rattle.operator_line.specs.Driving.{TakesOneOf, passed_in}
 use Rattle.operator_line.specs.Sessions.{log_in}
 use Rattle.operator_line.specs.declared.driving.Tried.{Tried}
@@ -24,7 +24,7 @@ loop-left-init g c = (
   refl,
   c.requires.room,
   λ clean. clean,
-  all_at_first (log_in c.args.book.now) (passed_in c.new-passed.result) (place_of c.new-cursor.result) c.new-cursor.ensures,
+  all_at_first (log_in c.args.book.now) (passed_in c.new-passed.result) (cursor_place c.new-cursor.result) c.new-cursor.ensures,
 )
 
 pub loop-left-preserved-in-Ok-Taken : goal.loop-left-preserved-in-Ok-Taken

@@ -7,8 +7,8 @@ use Rattle.step_history.proofs.Counts.{parked_moved}
 use Rattle.step_history.proofs.Worked.{ok_map, is_over, work_move, close_move}
 use Rattle.step_history.proofs.history.History.next_of.Goals as goal
 
-pub prepare-requires-clause-count : goal.prepare-requires-clause-count
-prepare-requires-clause-count c = c.requires.count
+pub prepare_at-requires-clause-count : goal.prepare_at-requires-clause-count
+prepare_at-requires-clause-count c = c.requires.count
 
 pub close_of-requires-clause-fork : goal.close_of-requires-clause-fork
 close_of-requires-clause-fork c =
