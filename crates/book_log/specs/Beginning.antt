@@ -9,15 +9,15 @@ use Rattle.attr_values.specs.declared.fault.ItemFault.{ItemFault}
 use Rattle.attr_values.specs.declared.key.Key.{Key}
 use Rattle.attr_values.specs.declared.key.KeySchema.{KeySchema}
 use Rattle.item_store.specs.Calls.{attribute_pairs}
-use Rattle.item_store.specs.Deciding.{Attributes}
+use Rattle.item_store.specs.Deciding.{ItemAttributes}
 use Rattle.item_store.specs.Table.{Table, with_item}
 use Rattle.book_log.specs.declared.begin.Begin.{Begin}
 
-abbrev pub with_key : KeySchema → Attributes → Result (Key × Attributes) ItemFault
+abbrev pub with_key : KeySchema → ItemAttributes → Result (Key × ItemAttributes) ItemFault
 with_key schema item = result_map (λ key. (key, item)) (key_of schema item)
 
 -- the item of an object, with its key
-abbrev pub keyed_item : KeySchema → Data → Result (Key × Attributes) ItemFault
+abbrev pub keyed_item : KeySchema → Data → Result (Key × ItemAttributes) ItemFault
 keyed_item schema d = result_and_then (λ item. with_key schema (attribute_pairs item)) (read_item d)
 
 -- one after another into a table; a later item of a key replaces an earlier one, and the first that is none is refused

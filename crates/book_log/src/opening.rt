@@ -2,7 +2,7 @@
 ghost use Rattle.std.specs.Prelude.{◌≡◌, ◌⊎◌, Some, Ok, Err, IfOk, MatchResult};
 ghost use Rattle.json_tree.specs.View.{data_of};
 ghost use Rattle.attr_values.specs.declared.key.Key.{Key};
-ghost use Rattle.item_store.specs.Deciding.{Attributes};
+ghost use Rattle.item_store.specs.Deciding.{ItemAttributes};
 ghost use Rattle.item_store.specs.Store.{stored_items};
 ghost use Rattle.item_store.specs.Table.{with_item};
 ghost use Rattle.book_log.specs.Beginning.{keyed_item, begun_table};
@@ -31,7 +31,7 @@ pub fn first_store(alloc: Global, begin: &Begin) -> Result<ItemStore, ItemFault>
 /// Puts the item of an object at its key.
 fn put(alloc: Global, store: &mut ItemStore, object: &Json) -> Result<(), ItemFault>
     ensures item { MatchResult result
-        (λ _. (e : Key × Attributes) × (keyed_item store.old.schema (data_of object.now) ≡ Ok e) × (stored_items store.new ≡ with_item (stored_items store.old) e.0 (Some e.1)))
+        (λ _. (e : Key × ItemAttributes) × (keyed_item store.old.schema (data_of object.now) ≡ Ok e) × (stored_items store.new ≡ with_item (stored_items store.old) e.0 (Some e.1)))
         (λ f. (f ≡ ItemFault.Memory) ⊎ (keyed_item store.old.schema (data_of object.now) ≡ Err f)) }
     ensures table { store.new.table ≡ store.old.table }
     ensures schema { store.new.schema ≡ store.old.schema }

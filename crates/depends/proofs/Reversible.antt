@@ -7,7 +7,7 @@ use Rattle.std.proofs.lemmas.Bool.{and_parts, or_parts, eqb-true, eq-eqb}
 use Rattle.std.proofs.lemmas.List.{append-nil}
 use Rattle.attr_values.specs.declared.key.Key.{Key}
 use Rattle.attr_values.proofs.Same.{key_eq_both}
-use Rattle.item_store.specs.Deciding.{Attributes, Decision, decision}
+use Rattle.item_store.specs.Deciding.{ItemAttributes, Decision, decision}
 use Rattle.item_store.specs.Table as table
 use Rattle.item_store.specs.Table.{Table, is_same_key}
 use Rattle.item_store.specs.declared.access.AccessMode.{AccessMode}
@@ -87,12 +87,12 @@ within d (item_at key) h = writes_touches d.fact.access key h
 a_frame_is : (f g : Option Frame) → a_frame f ≡ a_frame g → f ≡ g
 a_frame_is f g h = cc
 
-an_item_is : (a b : Option Attributes) → an_item a ≡ an_item b → a ≡ b
+an_item_is : (a b : Option ItemAttributes) → an_item a ≡ an_item b → a ≡ b
 an_item_is a b h = cc
 
 same : (w x : World) → ((c : Cell) → at w c ≡ at x c) → w ≡ x
 same w x h =
-    ap₂ (λ (f : Thread → Option Frame) (i : Key → Option Attributes). let v : World = record { frames = f; items = i } in v)
+    ap₂ (λ (f : Thread → Option Frame) (i : Key → Option ItemAttributes). let v : World = record { frames = f; items = i } in v)
     (fun_ext (λ t. a_frame_is (w.frames t) (x.frames t) (h (frame_at t))))
     (fun_ext (λ key. an_item_is (w.items key) (x.items key) (h (item_at key))))
 
@@ -117,12 +117,12 @@ agree_at w x d a = record {
     own t h = a_frame_is (x.frames t) (w.frames t) (a (frame_at t) (or_left (is_same_thread d.fact.name.thread t || reaches d.fact t) (looks d.fact t) h))
 
 -- the item of a key after a call of it
-abbrev item_then : Key → AccessMode → Option Attributes → Option Attributes → Option Attributes
+abbrev item_then : Key → AccessMode → Option ItemAttributes → Option ItemAttributes → Option ItemAttributes
 item_then key Read new old = old
 item_then key Write new old = cond (is_same_key key key) new old
 
 -- what a call of a key does, by the item that is there
-abbrev key_effect : StepName → Definition → Work → Frame → Request → Key → Option Attributes → Effect
+abbrev key_effect : StepName → Definition → Work → Frame → Request → Key → Option ItemAttributes → Effect
 key_effect name level work f request key old =
     let d = decision request old in
     record { fact = record { name = name; kind = Call; access = Some record { key = key; mode = d.access }; bound = 0 }; frame = after_answer level work f d.answer; branches = []; item = item_then key d.access d.new old }
@@ -132,13 +132,13 @@ module _ (name : StepName) (level : Definition) (work : Work) (f : Frame) (w x :
   by_key items request key = by_mode (decision request (items key))
     where
       by_mode : (e : Decision) → call_effect name level work f (table.at_key items key e) ≡ (let k : Effect = record { fact = record { name = name; kind = Call; access = Some record { key = key; mode = e.access }; bound = 0 }; frame = after_answer level work f e.answer; branches = []; item = item_then key e.access e.new (items key) } in k)
-      by_mode e = ap (λ (o : Option Attributes). let k : Effect = record { fact = record { name = name; kind = Call; access = Some record { key = key; mode = e.access }; bound = 0 }; frame = after_answer level work f e.answer; branches = []; item = o } in k) (then_is e.access e.new)
+      by_mode e = ap (λ (o : Option ItemAttributes). let k : Effect = record { fact = record { name = name; kind = Call; access = Some record { key = key; mode = e.access }; bound = 0 }; frame = after_answer level work f e.answer; branches = []; item = o } in k) (then_is e.access e.new)
         where
-          then_is : (mode : AccessMode) (new : Option Attributes) → table.table_after items key mode new key ≡ item_then key mode new (items key)
+          then_is : (mode : AccessMode) (new : Option ItemAttributes) → table.table_after items key mode new key ≡ item_then key mode new (items key)
           then_is Read new = refl
           then_is Write new = refl
 
-  key_touched : (request : Request) (key : Key) (old : Option Attributes) → key_effect name level work f request key old ≡ d → touches_key d.fact key ≡ true
+  key_touched : (request : Request) (key : Key) (old : Option ItemAttributes) → key_effect name level work f request key old ≡ d → touches_key d.fact key ≡ true
   key_touched request key old e = ap (λ (k : Effect). touches_key k.fact key) (sym e) ∙ key_itself key
 
   call_alike : (request : Request) (asked : Result Key CallFault) → call_effect name level work f (table.on_key w.items request asked) ≡ d → call_effect name level work f (table.on_key x.items request asked) ≡ d
@@ -264,7 +264,7 @@ kept_alike : (w x : World) (d : Effect) → Agree w x d → kept x d.fact ≡ ke
 kept_alike w x d a =
     let below : (λ t. cond (closes d.fact t) (x.frames t) None) ≡ (λ t. cond (closes d.fact t) (w.frames t) None) =
     fun_ext (λ t. by_bool (closes d.fact t) (cond (closes d.fact t) (x.frames t) None ≡ cond (closes d.fact t) (w.frames t) None) (λ k. rw k (a.closed t k)) (λ k. rw k refl)) in
-    ap₂ (λ (f : Option Frame) (i : Option Attributes). let k : SavedState = record { frame = f; item = i; below = λ t. cond (closes d.fact t) (x.frames t) None } in k) a.own (by_access d.fact.access (λ key h. a.item key h))
+    ap₂ (λ (f : Option Frame) (i : Option ItemAttributes). let k : SavedState = record { frame = f; item = i; below = λ t. cond (closes d.fact t) (x.frames t) None } in k) a.own (by_access d.fact.access (λ key h. a.item key h))
     ∙ ap (λ (g : Thread → Option Frame). let k : SavedState = record { frame = w.frames d.fact.name.thread; item = item_written w.items d.fact.access; below = g } in k) below
   where
     by_access : (access : Option Access) → ((key : Key) → is_of_key access key ≡ true → x.items key ≡ w.items key) → item_written x.items access ≡ item_written w.items access

@@ -1,7 +1,7 @@
 -- Steps of executions as steps that may commute: what they depend on, what they keep, and what they touch.
 use Rattle.std.specs.Prelude.{◌==◌, Bool, true, false, ◌||◌, [], ◌∷◌, Option, None, Some, option_map, if◌then◌else◌}
 use Rattle.attr_values.specs.declared.key.Key.{Key}
-use Rattle.item_store.specs.Deciding.{Attributes}
+use Rattle.item_store.specs.Deciding.{ItemAttributes}
 use Rattle.saved_steps.specs.Frame.{Frame}
 use Rattle.step_names.specs.Thread.{Thread}
 use Rattle.trace_theory.specs.Footprints.{Plans}
@@ -40,7 +40,7 @@ pub data Cell : Type 0 where
 
 pub data Content : Type 0 where
   a_frame : Option Frame → Content
-  an_item : Option Attributes → Content
+  an_item : Option ItemAttributes → Content
 
 abbrev pub at : World → Cell → Content
 at w (frame_at t) = a_frame (w.frames t)

@@ -2,7 +2,7 @@
 use Rattle.std.specs.Prelude.{ℕ, List, Option, Some, None, option_map, option_and_then, Result, Ok, Err}
 use Rattle.json_tree.specs.Data.{Data}
 use Rattle.attr_values.specs.declared.key.Key.{Key}
-use Rattle.item_store.specs.Deciding.{Attributes, Reply, refused, decision}
+use Rattle.item_store.specs.Deciding.{ItemAttributes, Reply, refused, decision}
 use Rattle.item_store.specs.Store.{Store}
 use Rattle.item_store.specs.Table.{key_asked, told}
 use Rattle.item_store.specs.declared.call.Call.{Call}
@@ -20,12 +20,12 @@ use Rattle.asl_forward.specs.declared.prepared.Outcome.TheVariants as outcome
 
 -- ---- what the table answers
 
-abbrev pub reply_by : Request → Option Attributes → Result Key CallFault → Reply
+abbrev pub reply_by : Request → Option ItemAttributes → Result Key CallFault → Reply
 reply_by request item (Ok key) = (decision request item).answer
 reply_by request item (Err e) = refused (told e)
 
 -- what a table of this name and schema answers a call, if this item has the call's key
-abbrev pub reply_at : Store → Option Attributes → Call → Reply
+abbrev pub reply_at : Store → Option ItemAttributes → Call → Reply
 reply_at table item c = reply_by c.request item (key_asked table.table table.schema c)
 
 -- ---- the frame afterwards
@@ -34,7 +34,7 @@ abbrev pub after_reply : Definition → Frame → Reply → Option Frame
 after_reply d f reply = option_and_then (λ at. option_map (λ w. after_answer at.0 w f reply) (state_work at.1)) (located d f)
 
 -- the frame that a turn with this outcome comes to
-abbrev pub frame_after : Definition → Frame → Store → Option Attributes → Outcome → Option Frame
+abbrev pub frame_after : Definition → Frame → Store → Option ItemAttributes → Outcome → Option Frame
 frame_after d f table item (outcome.Next g) = Some g
 frame_after d f table item (outcome.Call c) = after_reply d f (reply_at table item c)
 frame_after d f table item (outcome.Fork g fs) = Some g

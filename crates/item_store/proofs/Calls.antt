@@ -3,7 +3,7 @@ use Rattle.std.proofs.Common.{◌≡◌, ℕ, List, Bool, true, false, cond, Opt
 use Rattle.std.proofs.Math.Path.{fun_ext}
 use Rattle.attr_values.specs.declared.key.Key.{Key}
 use Rattle.attr_values.specs.declared.key.KeySchema.{KeySchema}
-use Rattle.item_store.specs.Deciding.{Attributes, decision}
+use Rattle.item_store.specs.Deciding.{ItemAttributes, decision}
 use Rattle.item_store.specs.Laws.{ChangesOnly, AgreeAtKey, SameOutcome, CallsChangeOneItem, CallsLookAtOneItem, SwapsAreUndone}
 use Rattle.item_store.specs.Calls.{call_of}
 use Rattle.item_store.specs.Table.{Table, is_same_key, key_asked, on_form, on_key, table_after}
@@ -14,7 +14,7 @@ use Rattle.item_store.specs.declared.call.Request.{Request}
 use Rattle.item_store.specs.declared.fault.CallFault.{CallFault}
 use Rattle.item_store.proofs.Slots.{same_key}
 
-changes_at : (items : Table) (key : Key) (mode : AccessMode) (new : Option Attributes) → ChangesOnly (Some (key, mode)) items (table_after items key mode new)
+changes_at : (items : Table) (key : Key) (mode : AccessMode) (new : Option ItemAttributes) → ChangesOnly (Some (key, mode)) items (table_after items key mode new)
 changes_at items key Read new = refl
 changes_at items key Write new = λ q apart. ap (λ b. cond b new (items q)) apart
 
@@ -29,7 +29,7 @@ changes_form table schema items (Some c) = changes_key items c.request (key_aske
 pub calls_change : CallsChangeOneItem
 calls_change table schema items action d = changes_form table schema items (call_of action d)
 
-after_at : (a b : Table) (key : Key) (mode : AccessMode) (new : Option Attributes) → a key ≡ b key → table_after a key mode new key ≡ table_after b key mode new key
+after_at : (a b : Table) (key : Key) (mode : AccessMode) (new : Option ItemAttributes) → a key ≡ b key → table_after a key mode new key ≡ table_after b key mode new key
 after_at a b key Read new h = h
 after_at a b key Write new h = ap (cond (is_same_key key key) new) h
 
@@ -50,7 +50,7 @@ looks_form table schema a b (Some c) h = looks_key a b c.request (key_asked tabl
 pub calls_look : CallsLookAtOneItem
 calls_look table schema a b action d h = looks_form table schema a b (call_of action d) h
 
-undone_by : (b : Bool) (item old here : Option Attributes) → (b ≡ true → old ≡ here) → cond b old (cond b item here) ≡ here
+undone_by : (b : Bool) (item old here : Option ItemAttributes) → (b ≡ true → old ≡ here) → cond b old (cond b item here) ≡ here
 undone_by true item old here h = h refl
 undone_by false item old here h = refl
 

@@ -8,7 +8,7 @@ use Rattle.std.specs.List.Sorted.{IsStrictlySortedBy}
 use Rattle.std.specs.Map.{keys_of, values_of, lookup}
 use Rattle.attr_values.specs.Key.{key_cmp}
 use Rattle.attr_values.specs.declared.key.Key.{Key}
-use Rattle.item_store.specs.Deciding.{Attributes}
+use Rattle.item_store.specs.Deciding.{ItemAttributes}
 use Rattle.item_store.specs.Listing.{IsListing, item_at, with_listed, entries_in}
 use Rattle.item_store.specs.Store.{Slots, what_stands, items_in, IsIndexed}
 use Rattle.item_store.specs.declared.slot.SlotNo.{SlotNo}
@@ -17,7 +17,7 @@ use Rattle.item_store.proofs.Slots.{same_key, none_of, stands, value_at}
 abbrev Below : Key → List Key → Type 0
 Below key ks = AllByRecursion (λ q. key_cmp key q ≡ Less) ks
 
-below_with : (key other : Key) (x : Option Attributes) (rest : List (Key × Attributes)) → key_cmp key other ≡ Less → Below key (keys_of rest) → Below key (keys_of (with_listed other x rest))
+below_with : (key other : Key) (x : Option ItemAttributes) (rest : List (Key × ItemAttributes)) → key_cmp key other ≡ Less → Below key (keys_of rest) → Below key (keys_of (with_listed other x rest))
 below_with key other None rest h k = k
 below_with key other (Some item) rest h k = (h, k)
 
@@ -25,7 +25,7 @@ below_entries : (key : Key) (slots : Slots) (order : List (Key × SlotNo)) → B
 below_entries key slots [] h = tt
 below_entries key slots (e ∷ es) h = below_with key e.0 (item_at slots e.1) (entries_in slots es) h.0 (below_entries key slots es h.1)
 
-sorted_with : (key : Key) (x : Option Attributes) (rest : List (Key × Attributes)) → Below key (keys_of rest) → IsStrictlySortedBy key_cmp (keys_of rest) → IsStrictlySortedBy key_cmp (keys_of (with_listed key x rest))
+sorted_with : (key : Key) (x : Option ItemAttributes) (rest : List (Key × ItemAttributes)) → Below key (keys_of rest) → IsStrictlySortedBy key_cmp (keys_of rest) → IsStrictlySortedBy key_cmp (keys_of (with_listed key x rest))
 unfolding IsStrictlySortedBy
 sorted_with key None rest h k = k
 sorted_with key (Some item) rest h k = (h, k)
@@ -35,7 +35,7 @@ unfolding IsStrictlySortedBy
 sorted_entries slots [] h = tt
 sorted_entries slots (e ∷ es) h = sorted_with e.0 (item_at slots e.1) (entries_in slots es) (below_entries e.0 slots es h.0) (sorted_entries slots es h.1)
 
-fewer_with : (key : Key) (x : Option Attributes) (rest : List (Key × Attributes)) (n : ℕ) → length (values_of rest) ≤ n → length (values_of (with_listed key x rest)) ≤ suc n
+fewer_with : (key : Key) (x : Option ItemAttributes) (rest : List (Key × ItemAttributes)) (n : ℕ) → length (values_of rest) ≤ n → length (values_of (with_listed key x rest)) ≤ suc n
 fewer_with key None rest n h = omega arith
 fewer_with key (Some item) rest n h = omega arith
 
@@ -49,7 +49,7 @@ below_none : {X : Type 0} (key : Key) (es : List (Key × X)) → Below key (keys
 below_none key [] h = refl
 below_none key (e ∷ es) h = rw h.0 (below_none key es h.1)
 
-found_by : (b : Bool) (x : Option Attributes) (key other : Key) (n : SlotNo) (slots : Slots) (rest : List (Key × Attributes)) (left : Option SlotNo)
+found_by : (b : Bool) (x : Option ItemAttributes) (key other : Key) (n : SlotNo) (slots : Slots) (rest : List (Key × ItemAttributes)) (left : Option SlotNo)
     → item_at slots n ≡ x → is_at (key_cmp key) other ≡ b → (b ≡ true → lookup (is_at (key_cmp key)) rest ≡ None) → lookup (is_at (key_cmp key)) rest ≡ option_and_then (item_at slots) left
     → lookup (is_at (key_cmp key)) (with_listed other x rest) ≡ option_and_then (item_at slots) (cond b (Some n) left)
 found_by true None key other n slots rest left at is none same = none refl ∙ sym at
@@ -67,7 +67,7 @@ found_in key slots (e ∷ es) h =
     (λ b. below_none key (entries_in slots es) (subst (λ k. Below k (keys_of (entries_in slots es))) (sym (same_key key e.0 b)) (below_entries e.0 slots es h.0)))
     (found_in key slots es h.1)
 
-module _ {S : Type 0} (m : HashMap Key (Option Attributes) S) (order : List (Key × SlotNo)) (i : IsIndexed m.entries order) where
+module _ {S : Type 0} (m : HashMap Key (Option ItemAttributes) S) (order : List (Key × SlotNo)) (i : IsIndexed m.entries order) where
   leads_by : (key : Key) (r : Option SlotNo) → lookup (is_at (key_cmp key)) order ≡ r → option_and_then (item_at m.entries) r ≡ items_in m.entries key
   leads_by key None h = sym (ap what_stands (none_of _ (sym (i.whole key) ∙ ap is_some h)))
   leads_by key (Some n) h =

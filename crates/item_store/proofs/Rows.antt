@@ -5,7 +5,7 @@ use Rattle.attr_values.specs.Datum.{text as text_datum}
 use Rattle.attr_values.specs.declared.key.KeySchema.{KeySchema}
 use Rattle.attr_values.specs.declared.key.KeyType.TheVariants.{S}
 use Rattle.item_store.specs.Condition.{condition_of, condition_on}
-use Rattle.item_store.specs.Deciding.{Attributes, given, refused, read_only, decision}
+use Rattle.item_store.specs.Deciding.{ItemAttributes, given, refused, read_only, decision}
 use Rattle.item_store.specs.Faults.{validation, no_such_table, check_failed}
 use Rattle.item_store.specs.Table.{Table, call, no_access}
 use Rattle.item_store.specs.declared.access.AccessMode.TheVariants.{Write}
@@ -29,7 +29,7 @@ one_attribute = refl
 no_digit_first : condition_of (codes "attribute_exists(1)") ≡ None
 no_digit_first = refl
 
-abbrev old_item : Attributes
+abbrev old_item : ItemAttributes
 old_item = (codes "id", text_datum (codes "k")) ∷ []
 
 -- a put with `attribute_not_exists(id)` on an item that is there reads it, and is refused

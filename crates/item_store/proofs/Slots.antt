@@ -15,7 +15,7 @@ use Rattle.indexmap.proofs.RemoveLemmas.{own_first}
 use Rattle.attr_values.specs.Key.{key_cmp}
 use Rattle.attr_values.specs.KeyOrder.{key_cmp_total, key_cmp_equal}
 use Rattle.attr_values.specs.declared.key.Key.{Key}
-use Rattle.item_store.specs.Deciding.{Attributes}
+use Rattle.item_store.specs.Deciding.{ItemAttributes}
 use Rattle.item_store.specs.Store.{Slots, Store, what_stands, items_in, has_slot_of, slot_key, with_slot, IsIndexed}
 use Rattle.item_store.specs.Table.{is_same_key, with_item}
 use Rattle.item_store.specs.declared.slot.SlotNo.{SlotNo}
@@ -32,7 +32,7 @@ same_key a b h = key_cmp_equal a b (is_equal (key_cmp a b) h)
 pub key_laws : IsEquivalence is_same_key
 key_laws = eq_by_cmp_equiv key_cmp_total
 
-entry_at : (slots : Slots) (i : ℕ) (key : Key) (x : Option Attributes) → slice_get (keys_of slots) i ≡ Some key → slice_get (values_of slots) i ≡ Some x → slice_get slots i ≡ Some (key, x)
+entry_at : (slots : Slots) (i : ℕ) (key : Key) (x : Option ItemAttributes) → slice_get (keys_of slots) i ≡ Some key → slice_get (values_of slots) i ≡ Some x → slice_get slots i ≡ Some (key, x)
 entry_at [] i key x h k = cc
 entry_at (e ∷ es) zero key x h k =
     let same_first : e.0 ≡ key = cc in
@@ -41,7 +41,7 @@ entry_at (e ∷ es) zero key x h k =
 entry_at (e ∷ es) (suc i) key x h k = entry_at es i key x h k
 
 -- the key of a slot leads to what stands in the slot
-pub stands : {S : Type 0} (m : HashMap Key (Option Attributes) S) (i : ℕ) (key : Key) (x : Option Attributes) → IsUnique is_same_key m
+pub stands : {S : Type 0} (m : HashMap Key (Option ItemAttributes) S) (i : ℕ) (key : Key) (x : Option ItemAttributes) → IsUnique is_same_key m
     → slice_get (keys m) i ≡ Some key → slice_get (values m) i ≡ Some x → get is_same_key m key ≡ Some x
 stands m i key x unique h k = hash_map_get_place key_laws m i key x unique (entry_at m.entries i key x h k)
 
@@ -56,22 +56,22 @@ stored key (e ∷ es) h = stored_by (is_same_key key e.0) key e.0 _ (same_key ke
 
 -- ---- a swap
 
-with_by : (b : Bool) (w : Option Attributes) (x y : Option (Option Attributes)) → x ≡ cond b (Some w) y → what_stands x ≡ cond b w (what_stands y)
+with_by : (b : Bool) (w : Option ItemAttributes) (x y : Option (Option ItemAttributes)) → x ≡ cond b (Some w) y → what_stands x ≡ cond b w (what_stands y)
 with_by true w x y h = ap what_stands h
 with_by false w x y h = ap what_stands h
 
 -- what a write into a slot makes of the items
-pub swapped : (old new : Slots) (key : Key) (item : Option Attributes)
+pub swapped : (old new : Slots) (key : Key) (item : Option ItemAttributes)
     → ((q : Key) → lookup (is_same_key q) new ≡ cond (is_same_key key q) (Some item) (lookup (is_same_key q) old))
     → items_in new ≡ with_item (items_in old) key item
 swapped old new key item h = fun_ext (λ q. with_by (is_same_key key q) item _ _ (h q))
 
-there_by : (b : Bool) (w : Option Attributes) (x y : Option (Option Attributes)) → x ≡ cond b (Some w) y → (b ≡ true → is_some y ≡ true) → is_some x ≡ is_some y
+there_by : (b : Bool) (w : Option ItemAttributes) (x y : Option (Option ItemAttributes)) → x ≡ cond b (Some w) y → (b ≡ true → is_some y ≡ true) → is_some x ≡ is_some y
 there_by true w x y h k = ap is_some h ∙ sym (k refl)
 there_by false w x y h k = ap is_some h
 
 -- and the slots stay those of the order
-pub swapped_indexed : (old new : Slots) (order : List (Key × SlotNo)) (key : Key) (item : Option Attributes) → IsIndexed old order → keys_of new ≡ keys_of old
+pub swapped_indexed : (old new : Slots) (order : List (Key × SlotNo)) (key : Key) (item : Option ItemAttributes) → IsIndexed old order → keys_of new ≡ keys_of old
     → ((q : Key) → lookup (is_same_key q) new ≡ cond (is_same_key key q) (Some item) (lookup (is_same_key q) old))
     → is_some (lookup (is_same_key key) old) ≡ true → IsIndexed new order
 swapped_indexed old new order key item i same h there = record {
@@ -99,7 +99,7 @@ earlier_key [] key i q h = cc
 earlier_key (e ∷ es) key zero q h = h
 earlier_key (e ∷ es) key (suc i) q h = earlier_key es key i q h
 
-empty_by : (b : Bool) (x y : Option (Option Attributes)) → x ≡ cond b (Some None) y → (b ≡ true → y ≡ None) → what_stands x ≡ what_stands y
+empty_by : (b : Bool) (x y : Option (Option ItemAttributes)) → x ≡ cond b (Some None) y → (b ≡ true → y ≡ None) → what_stands x ≡ what_stands y
 empty_by true x y h k = ap what_stands h ∙ sym (ap what_stands (k refl))
 empty_by false x y h k = ap what_stands h
 
@@ -116,7 +116,7 @@ numbered_by true key q n slot x y slots at h found same old =
     ap (λ m. slice_get (keys_of (slots ++ (key, None) ∷ [])) m.index) first ∙ ap (slice_get (keys_of (slots ++ (key, None) ∷ []))) at ∙ last_key slots key ∙ ap Some (same refl)
 numbered_by false key q n slot x y slots at h found same old = earlier_key slots key n.index q (old (sym h ∙ found))
 
-there_either : (b : Bool) (slot : SlotNo) (x y : Option SlotNo) (v w : Option (Option Attributes)) → x ≡ cond b (Some slot) y → v ≡ cond b (Some None) w → is_some y ≡ is_some w → is_some x ≡ is_some v
+there_either : (b : Bool) (slot : SlotNo) (x y : Option SlotNo) (v w : Option (Option ItemAttributes)) → x ≡ cond b (Some slot) y → v ≡ cond b (Some None) w → is_some y ≡ is_some w → is_some x ≡ is_some v
 there_either true slot x y v w h k e = ap is_some h ∙ sym (ap is_some k)
 there_either false slot x y v w h k e = ap is_some h ∙ e ∙ sym (ap is_some k)
 
@@ -150,7 +150,7 @@ some_map f None = refl
 some_map f (Some y) = refl
 
 -- the store has a slot just where it has an entry at the number
-pub has_entry : {A : Type 0} (f : A → Key × Option Attributes) (r : Option A) (slots : Slots) (i : ℕ) → option_map f r ≡ slice_get slots i → is_some r ≡ is_some (slice_get (keys_of slots) i)
+pub has_entry : {A : Type 0} (f : A → Key × Option ItemAttributes) (r : Option A) (slots : Slots) (i : ℕ) → option_map f r ≡ slice_get slots i → is_some r ≡ is_some (slice_get (keys_of slots) i)
 has_entry f r slots i h = sym (some_map f r) ∙ ap is_some h ∙ sym (some_map (λ e. e.0) (slice_get slots i)) ∙ ap is_some (sym (slice_get-map (λ e. e.0) slots i))
 
 -- ---- the facts as the calls give them
@@ -163,13 +163,13 @@ pub on_err : {A E : Type 0} (r : Result A E) (P : Type 0) → P → OnErr r P
 on_err (Ok x) P h = tt
 on_err (Err e) P h = h
 
-module _ {S : Type 0} (m : HashMap Key (Option Attributes) S) where
+module _ {S : Type 0} (m : HashMap Key (Option ItemAttributes) S) where
   -- what stands in the slot of a key is the item of the key
-  pub standing : (i : ℕ) (key : Key) (x : Option Attributes) → IsUnique is_same_key m → slice_get (keys m) i ≡ Some key → slice_get (values m) i ≡ Some x
+  pub standing : (i : ℕ) (key : Key) (x : Option ItemAttributes) → IsUnique is_same_key m → slice_get (keys m) i ≡ Some key → slice_get (values m) i ≡ Some x
       → x ≡ items_in m.entries key
   standing i key x unique h k = sym (ap what_stands (stands m i key x unique h k))
 
-  pub write_updates : (i : ℕ) (key : Key) (x w : Option Attributes) → IsUnique is_same_key m → slice_get (keys m) i ≡ Some key → slice_get (values m) i ≡ Some x
+  pub write_updates : (i : ℕ) (key : Key) (x w : Option ItemAttributes) → IsUnique is_same_key m → slice_get (keys m) i ≡ Some key → slice_get (values m) i ≡ Some x
       → (q : Key) → lookup (is_same_key q) (set_value_at m.entries i w) ≡ cond (is_same_key key q) (Some w) (lookup (is_same_key q) m.entries)
   write_updates i key x w unique h k = (updates-with_value_at m i w key_laws unique key x (entry_at m.entries i key x h k)).0
 
@@ -179,7 +179,7 @@ module _ {S : Type 0} (m : HashMap Key (Option Attributes) S) where
 
 -- ---- one slot a key
 
-pub value_at : (slots : Slots) (i : ℕ) (key : Key) → slice_get (keys_of slots) i ≡ Some key → (x : Option Attributes) × (slice_get slots i ≡ Some (key, x))
+pub value_at : (slots : Slots) (i : ℕ) (key : Key) → slice_get (keys_of slots) i ≡ Some key → (x : Option ItemAttributes) × (slice_get slots i ≡ Some (key, x))
 value_at [] i key h = cc
 value_at (e ∷ es) zero key h =
     let same : e.0 ≡ key = cc in

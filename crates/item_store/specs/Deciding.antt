@@ -18,8 +18,8 @@ use Rattle.item_store.specs.declared.deciding.Answer.TheVariants.{Given, Refused
 use Rattle.item_store.specs.declared.deciding.Decided.{Decided}
 
 -- an item as contracts see it
-abbrev pub Attributes : Type 0
-Attributes = List (List ℕ × Datum)
+abbrev pub ItemAttributes : Type 0
+ItemAttributes = List (List ℕ × Datum)
 
 -- what a caller is told: a value, or an error's name
 pub data Reply : Type 0 where
@@ -35,7 +35,7 @@ reply_takes_memory _ = true
 pub record Decision : Type 0 where
   pub answer : Reply
   pub access : AccessMode
-  pub new : Option Attributes
+  pub new : Option ItemAttributes
 
 abbrev pub reply_of : Answer → Reply
 reply_of (Given j) = given (data_of j)
@@ -45,11 +45,11 @@ abbrev pub decision_of : Decided → Decision
 decision_of d = record { answer = reply_of d.answer; access = d.access; new = d.new }
 
 -- an object with an item in its one field, or with no field where there is none
-abbrev pub object_with : List ℕ → Option Attributes → json.Data
+abbrev pub object_with : List ℕ → Option ItemAttributes → json.Data
 object_with name None = json.fields json.no_members
 object_with name (Some item) = one_field name (item_json item)
 
-abbrev pub returned : ReturnValues → Option Attributes → Option Attributes
+abbrev pub returned : ReturnValues → Option ItemAttributes → Option ItemAttributes
 returned Nothing old = None
 returned AllOld old = old
 
@@ -57,13 +57,13 @@ abbrev pub read_only : Reply → Decision
 read_only reply = record { answer = reply; access = Read; new = None }
 
 -- a put or a delete: where its condition holds of the old item, the new one stands in its place
-abbrev pub write : Terms → Option Attributes → Option Attributes → Decision
+abbrev pub write : Terms → Option ItemAttributes → Option ItemAttributes → Decision
 write terms new old =
     if holds terms.condition old
     then record { answer = given (object_with (codes "Attributes") (returned terms.returns old)); access = Write; new = new }
     else read_only (refused check_failed)
 
-abbrev pub decision : Request → Option Attributes → Decision
+abbrev pub decision : Request → Option ItemAttributes → Decision
 decision (Get key) old = read_only (given (object_with (codes "Item") old))
 decision (Put item terms) old = write terms (Some item) old
 decision (Delete key terms) old = write terms None old

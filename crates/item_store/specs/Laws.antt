@@ -3,7 +3,7 @@ use Rattle.std.specs.Prelude.{◌≡◌, ℕ, List, false, Option, Some, None}
 use Rattle.json_tree.specs.Data.{Data}
 use Rattle.attr_values.specs.declared.key.Key.{Key}
 use Rattle.attr_values.specs.declared.key.KeySchema.{KeySchema}
-use Rattle.item_store.specs.Deciding.{Attributes}
+use Rattle.item_store.specs.Deciding.{ItemAttributes}
 use Rattle.item_store.specs.Table.{Table, Outcome, is_same_key, with_item, call}
 use Rattle.item_store.specs.declared.access.AccessMode.{AccessMode}
 use Rattle.item_store.specs.declared.access.AccessMode.TheVariants.{Read, Write}
@@ -37,4 +37,4 @@ CallsLookAtOneItem = (table : List ℕ) (schema : KeySchema) (a b : Table) (acti
 
 -- an item that is put at a key, and then what stood there put back, is no change
 abbrev pub SwapsAreUndone : Type 0
-SwapsAreUndone = (items : Table) (key : Key) (item : Option Attributes) → with_item (with_item items key item) key (items key) ≡ items
+SwapsAreUndone = (items : Table) (key : Key) (item : Option ItemAttributes) → with_item (with_item items key item) key (items key) ≡ items

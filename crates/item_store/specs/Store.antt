@@ -7,12 +7,12 @@ use Rattle.std.specs.Map.{keys_of, lookup}
 use Rattle.attr_values.specs.Key.{key_cmp}
 use Rattle.attr_values.specs.declared.key.Key.{Key}
 use Rattle.attr_values.specs.declared.key.KeySchema.{KeySchema}
-use Rattle.item_store.specs.Deciding.{Attributes}
+use Rattle.item_store.specs.Deciding.{ItemAttributes}
 use Rattle.item_store.specs.Table.{Table, is_same_key}
 use Rattle.item_store.specs.declared.slot.SlotNo.{SlotNo}
 
 abbrev pub Slots : Type 0
-Slots = List (Key × Option Attributes)
+Slots = List (Key × Option ItemAttributes)
 
 pub record Store : Type 0 where
   pub table : List ℕ

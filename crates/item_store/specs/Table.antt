@@ -12,7 +12,7 @@ use Rattle.attr_values.specs.declared.key.KeyAttribute.{KeyAttribute}
 use Rattle.attr_values.specs.declared.key.KeySchema.{KeySchema}
 use Rattle.item_store.specs.Calls.{call_of}
 use Rattle.item_store.specs.Condition.{is_text}
-use Rattle.item_store.specs.Deciding.{Attributes, Reply, refused, Decision, decision}
+use Rattle.item_store.specs.Deciding.{ItemAttributes, Reply, refused, Decision, decision}
 use Rattle.item_store.specs.Faults.{validation, no_such_table}
 use Rattle.item_store.specs.declared.access.AccessMode.{AccessMode}
 use Rattle.item_store.specs.declared.access.AccessMode.TheVariants.{Read, Write}
@@ -24,13 +24,13 @@ use Rattle.item_store.specs.declared.fault.CallFault.{CallFault}
 use Rattle.item_store.specs.declared.fault.CallFault.TheVariants.{WrongTable, BadKey}
 
 abbrev pub Table : Type 0
-Table = Key → Option Attributes
+Table = Key → Option ItemAttributes
 
 abbrev pub is_same_key : Key → Key → Bool
 is_same_key = eq_by_cmp key_cmp
 
 -- the items, with this at the key, or with none there
-abbrev pub with_item : Table → Key → Option Attributes → Table
+abbrev pub with_item : Table → Key → Option ItemAttributes → Table
 with_item items key item = update is_same_key items key item
 
 -- ---- the key of a request
@@ -44,7 +44,7 @@ abbrev pub key_count : KeySchema → ℕ
 key_count schema = sort_count schema.sort
 
 -- the key that is asked by its attributes: these and no others
-abbrev pub exact_key : KeySchema → Attributes → Result Key ItemFault
+abbrev pub exact_key : KeySchema → ItemAttributes → Result Key ItemFault
 exact_key schema key = if length key == key_count schema then key_of schema key else Err NoKey
 
 -- a get and a delete name a key, and a put has an item with one
@@ -76,7 +76,7 @@ abbrev pub told : CallFault → List ℕ
 told WrongTable = no_such_table
 told _ = validation
 
-abbrev pub table_after : Table → Key → AccessMode → Option Attributes → Table
+abbrev pub table_after : Table → Key → AccessMode → Option ItemAttributes → Table
 table_after items key Read new = items
 table_after items key Write new = with_item items key new
 

@@ -10,7 +10,7 @@ use Rattle.operator_line.specs.Lines.{grown, kept_front, within_limit, without_r
 use Rattle.operator_line.specs.Texts.{lines_of, lines_after, has_no_feed}
 use Rattle.operator_line.specs.Answers.{AnswersLine, AnswersLines}
 use Rattle.reply_lines.specs.Replies.{memory_reply}
-use Rattle.operator_line.specs.Serving.{AnswersUntil, AnswersBefore, AnswersPart, AnswersUpTo, AnswersFailed, AnswersRead, FailsLine, fails, serving_failed, WritesPart, WritesReply, ServesLine, ServesLast, ServesPiece, ServesRead, Serves}
+use Rattle.operator_line.specs.Serving.{AnswersUntil, AnswersBefore, AnswersPart, AnswersUpTo, AnswersFailed, AnswersRead, FailsLine, ends_session, serving_failed, WritesPart, WritesReply, ServesLine, ServesLast, ServesPiece, ServesRead, Serves}
 use Rattle.operator_line.specs.declared.serving.ServeFault.{ServeFault}
 use Rattle.operator_line.specs.declared.serving.ServeFault.TheVariants.{Read, Write, Journal, Memory}
 
@@ -172,13 +172,13 @@ module _ (front bytes rest : List ℕ) (h : has_no_feed bytes ≡ true) (a b : O
   }
 
   pub line-lost : FailsLine (ended_line (grown bytes (kept_front front))) a b o n → AnswersFailed (lines_after front (bytes ++ 10 ∷ rest)) a b o n
-  line-lost fails = record {
+  line-lost ends_session = record {
     line = ended_line (grown bytes (kept_front front));
     later = lines_after [] rest;
     between = a;
     contents = o;
     until = subst (λ (l : List (Option (List ℕ))). AnswersUntil l (ended_line (grown bytes (kept_front front)) ∷ lines_after [] rest) a a o o) (sym line_is) (until-none (ended_line (grown bytes (kept_front front)) ∷ lines_after [] rest) a o);
-    fails = fails;
+    fails = ends_session;
   }
 
 pub up_to-kept : (lines : List (Option (List ℕ))) (a b : Option Log) (o p n : Option (List ℕ)) → AnswersUpTo lines a b o p → Keeps p n → AnswersUpTo lines a b o n
@@ -426,11 +426,11 @@ failed-whole r e is o P = if_some o (λ _ _. subst (λ (x : Result Unit ServeFau
 
 pub flush_keeps : (r : Result Unit ServeFault) → IfErr r (λ e. e ≡ Write) → serving_failed r ≡ false
 flush_keeps (Ok u) is = refl
-flush_keeps (Err e) is = ap fails is
+flush_keeps (Err e) is = ap ends_session is
 
 pub add_keeps : (r : Result Unit ServeFault) → IfErr r (λ e. e ≡ Memory) → serving_failed r ≡ false
 add_keeps (Ok u) is = refl
-add_keeps (Err e) is = ap fails is
+add_keeps (Err e) is = ap ends_session is
 
 pub write_keeps : (r : Result Unit ServeFault) (reply : List ℕ) (o n : Option (List ℕ)) → WritesReply r reply o n → serving_failed r ≡ false
 write_keeps (Ok u) reply o n w = refl

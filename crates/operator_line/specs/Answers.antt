@@ -14,7 +14,7 @@ use Rattle.json_tree.specs.declared.tree.Json.{Json}
 use Rattle.attr_values.specs.Writing.{item_json}
 use Rattle.attr_values.specs.declared.fault.ItemFault.{ItemFault}
 use Rattle.attr_values.specs.declared.key.KeySchema.{KeySchema}
-use Rattle.item_store.specs.Deciding.{Attributes}
+use Rattle.item_store.specs.Deciding.{ItemAttributes}
 use Rattle.item_store.specs.Listing.{IsListing}
 use Rattle.item_store.specs.Table.{Table}
 use Rattle.journaled_book.specs.Definition.{Definition}
@@ -157,12 +157,12 @@ abbrev pub AnswersShow : Log → Option Frame → List ℕ → Option Log → Ty
 AnswersShow log None = AnswersUnchanged (refused 5) (Some log)
 AnswersShow log (Some f) = AnswersUnchanged (frame_reply f) (Some log)
 
-abbrev pub item_text : Attributes → List ℕ
+abbrev pub item_text : ItemAttributes → List ℕ
 item_text attributes = text_of (item_json attributes)
 
 -- the items, in the order of their keys
 pub record AnswersListing (log : Log) (reply : List ℕ) (after : Option Log) : Type 0 where
-  pub listed : List Attributes
+  pub listed : List ItemAttributes
   pub listing : IsListing (world_of log).items listed
   pub told : AnswersUnchanged (list_reply (map item_text listed)) (Some log) reply after
 

@@ -81,15 +81,15 @@ pub record AnswersRead (input : List ℕ) (left : Option (List ℕ)) (before : O
   pub until : AnswersUntil (lines_of input) (lines_after begun rest) before after old new
 
 -- a session has failed where serving ended so
-abbrev pub fails : ServeFault → Bool
-fails Read = false
-fails Write = false
-fails Journal = true
-fails Memory = false
+abbrev pub ends_session : ServeFault → Bool
+ends_session Read = false
+ends_session Write = false
+ends_session Journal = true
+ends_session Memory = false
 
 abbrev pub serving_failed : {T : Type 0} → Result T ServeFault → Bool
 serving_failed (Ok done) = false
-serving_failed (Err fault) = fails fault
+serving_failed (Err fault) = ends_session fault
 
 -- how serving ends
 abbrev pub Serves : Result Unit ServeFault → List ℕ → Option Log → Option Log → Option (List ℕ) → Option (List ℕ) → Type 0

@@ -2,7 +2,7 @@
 use Rattle.std.proofs.Common.{◌≡◌, Bool, true, false, cond, refl, sym, ap, ◌∙◌, subst, Option, Some, Result, Ok, Err}
 use Rattle.std.specs.Prelude.{IfOk}
 use Rattle.attr_values.specs.declared.key.Key.{Key}
-use Rattle.item_store.specs.Deciding.{Attributes, Decision}
+use Rattle.item_store.specs.Deciding.{ItemAttributes, Decision}
 use Rattle.item_store.specs.Store.{Store, slot_key, has_slot_of, with_slot}
 use Rattle.item_store.specs.Table.{Table, table_after, at_key}
 use Rattle.item_store.specs.declared.access.AccessMode.{AccessMode}
@@ -18,7 +18,7 @@ pub if_ok : {A E : Type 0} (r : Result A E) (P Q : A → Type 0) → IfOk r P �
 if_ok (Ok x) P Q h k = k x h
 if_ok (Err e) P Q h k = h
 
-after_write : (items : Table) (key : Key) (mode : AccessMode) (new : Option Attributes) → is_write mode ≡ true → new ≡ table_after items key mode new key
+after_write : (items : Table) (key : Key) (mode : AccessMode) (new : Option ItemAttributes) → is_write mode ≡ true → new ≡ table_after items key mode new key
 after_write items key Read new h = cc
 after_write items key Write new h = rw ((key_eq_both key key).1 refl) refl
 

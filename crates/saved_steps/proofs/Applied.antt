@@ -10,7 +10,7 @@ use Rattle.std.proofs.lemmas.Slice.Eq.{bytes_eq-Decides}
 use Rattle.std.proofs.Math.Path.{fun_ext}
 use Rattle.attr_values.specs.declared.key.Key.{Key}
 use Rattle.item_store.specs.Store.{Store, stored_items, slot_key}
-use Rattle.item_store.specs.Deciding.{Attributes}
+use Rattle.item_store.specs.Deciding.{ItemAttributes}
 use Rattle.item_store.specs.Table.{is_same_key}
 use Rattle.item_store.specs.declared.slot.SlotNo.{SlotNo}
 use Rattle.branch_tree.specs.Frame.{Frame}
@@ -95,11 +95,11 @@ plain w v name bound f g items stands was now =
 
 -- ---- a call
 
-item_is : (w k : Bool) (item x now : Option Attributes) → (w ≡ true → x ≡ item) → cond (w && k) x now ≡ cond (w && k) item now
+item_is : (w k : Bool) (item x now : Option ItemAttributes) → (w ≡ true → x ≡ item) → cond (w && k) x now ≡ cond (w && k) item now
 item_is true k item x now h = rw (h refl) refl
 item_is false k item x now h = refl
 
-pub call : (w v : World) (name : StepName) (bound : ℕ) (f g : Frame) (a : Access) (slot : SlotNo) (new old : Option Attributes) → CanApplyChange w name (change.Call f a slot new) → frames_of w name.thread ≡ Some g
+pub call : (w v : World) (name : StepName) (bound : ℕ) (f g : Frame) (a : Access) (slot : SlotNo) (new old : Option ItemAttributes) → CanApplyChange w name (change.Call f a slot new) → frames_of w name.thread ≡ Some g
     → ((t : Thread) → frames_of v t ≡ with_thread (frames_of w) name.thread f t)
     → old ≡ item_written (stored_items w.items) (Some a) → ((key : Key) → stored_items v.items key ≡ cond (is_write_of (Some a) key) new (stored_items w.items key)) → KeepsStore w.items v.items
     → IsApplied w (record { name = name; bound = bound; change = change.Call f a slot new }) v (record { fact = record { name = name; kind = kind.Call; access = Some a; bound = bound }; saved = Called g slot old })
@@ -110,7 +110,7 @@ call w v name bound f g a slot new old stands was now was_item items store =
     (λ d x. subst (λ (e : Effect). world_view v ≡ after_effect (world_view w) e) (effect_is d s f x.fact x.change.0)
     (same_world (world_view v) (after_effect (world_view w) (record { fact = s; frame = f; branches = d.branches; item = d.item })) now
     (λ key. items key ∙ item_is (is_write a.mode) (is_same_key a.key key) d.item new (stored_items w.items key) x.change.1)))
-    (ap₂ (λ (o : Option Frame) (i : Option Attributes). keeps o i) (sym was) was_item)
+    (ap₂ (λ (o : Option Frame) (i : Option ItemAttributes). keeps o i) (sym was) was_item)
     (record {
       record_fits = (refl, subst (λ (o : Option Frame). IsSomeAnd o is_unparked) was stands.0);
       slot = (a, refl, store.slots slot a.key stands.2);

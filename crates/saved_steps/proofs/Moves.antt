@@ -4,7 +4,7 @@ use Rattle.std.specs.Option.{option_map, option_and_then}
 use Rattle.std.proofs.lemmas.Bool.{eq-eqb}
 use Rattle.std.proofs.lemmas.Option.{same_Some}
 use Rattle.attr_values.specs.declared.key.Key.{Key}
-use Rattle.item_store.specs.Deciding.{Attributes}
+use Rattle.item_store.specs.Deciding.{ItemAttributes}
 use Rattle.item_store.specs.Store.{stored_items}
 use Rattle.item_store.specs.Table as table
 use Rattle.item_store.specs.Table.{Table, is_same_key}
@@ -46,7 +46,7 @@ frame_later false true closed own was now s m = sym (m refl)
 frame_later false false true own was now s m = refl
 frame_later false false false own was now s m = refl
 
-item_later : (w k : Bool) (own was now : Option Attributes) → (k ≡ true → own ≡ was) → cond (w && k) (cond w own None) now ≡ cond (w && k) was now
+item_later : (w k : Bool) (own was now : Option ItemAttributes) → (k ≡ true → own ≡ was) → cond (w && k) (cond w own None) now ≡ cond (w && k) was now
 item_later true true own was now h = h refl
 item_later true false own was now h = refl
 item_later false k own was now h = refl
@@ -67,7 +67,7 @@ frame_again false true closed f b own was now h = sym (h refl)
 frame_again false false true f b own was now h = sym (h refl)
 frame_again false false false f b own was now h = refl
 
-item_again : (w : Bool) (new own was now : Option Attributes) → (w ≡ true → now ≡ cond w new was) → cond w new (cond w own now) ≡ now
+item_again : (w : Bool) (new own was now : Option ItemAttributes) → (w ≡ true → now ≡ cond w new was) → cond w new (cond w own now) ≡ now
 item_again true new own was now h = sym (h refl)
 item_again false new own was now h = refl
 

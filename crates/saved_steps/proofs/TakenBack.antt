@@ -8,7 +8,7 @@ use Rattle.std.proofs.lemmas.Option.{same_Some}
 use Rattle.std.specs.Prelude.{is_some, IfSome}
 use Rattle.std.proofs.lemmas.Slice.Eq.{bytes_eq-Decides}
 use Rattle.attr_values.specs.declared.key.Key.{Key}
-use Rattle.item_store.specs.Deciding.{Attributes}
+use Rattle.item_store.specs.Deciding.{ItemAttributes}
 use Rattle.item_store.specs.Store.{Store, stored_items}
 use Rattle.item_store.specs.Table.{Table, with_item}
 use Rattle.item_store.specs.declared.access.AccessMode.TheVariants.{Write}
@@ -41,12 +41,12 @@ alike : {A : Type 0} (b : Bool) (x : A) → x ≡ cond b x x
 alike true x = refl
 alike false x = refl
 
-unwritten : (access : Option Access) → access ≡ None → (key : Key) (new now : Option Attributes) → now ≡ cond (is_write_of access key) new now
+unwritten : (access : Option Access) → access ≡ None → (key : Key) (new now : Option ItemAttributes) → now ≡ cond (is_write_of access key) new now
 unwritten access e key new now = rw e refl
 
 -- ---- items
 
-pub swapped_back : (old new : Table) (access : Option Access) (a b : Access) (item : Option Attributes) → access ≡ Some a → access ≡ Some b → b.mode ≡ Write → new ≡ with_item old a.key item
+pub swapped_back : (old new : Table) (access : Option Access) (a b : Access) (item : Option ItemAttributes) → access ≡ Some a → access ≡ Some b → b.mode ≡ Write → new ≡ with_item old a.key item
     → (key : Key) → new key ≡ cond (is_write_of access key) item (old key)
 swapped_back old new access a b item e f m h key =
     let same : a ≡ b = same_Some a b (sym e ∙ f) in
@@ -73,7 +73,7 @@ plain w v s f items can now = record {
   store = same_store w.items v.items items;
 }
 
-pub call : (w v : World) (s : Fact) (f : Frame) (slot : SlotNo) (old : Option Attributes) → CanUndo w (record { fact = s; saved = Called f slot old })
+pub call : (w v : World) (s : Fact) (f : Frame) (slot : SlotNo) (old : Option ItemAttributes) → CanUndo w (record { fact = s; saved = Called f slot old })
     → ((t : Thread) → frames_of v t ≡ with_thread (frames_of w) s.name.thread f t)
     → ((key : Key) → stored_items v.items key ≡ cond (is_write_of s.access key) old (stored_items w.items key))
     → KeepsStore w.items v.items

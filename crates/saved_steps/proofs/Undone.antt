@@ -2,7 +2,7 @@
 use Rattle.std.proofs.Common.{◌≡◌, Bool, true, false, ◌&&◌, cond, refl, sym, ap, ap₂, Option, Some, None}
 use Rattle.std.proofs.Math.Path.{fun_ext}
 use Rattle.attr_values.specs.declared.key.Key.{Key}
-use Rattle.item_store.specs.Deciding.{Attributes}
+use Rattle.item_store.specs.Deciding.{ItemAttributes}
 use Rattle.item_store.specs.Table.{Table, is_same_key}
 use Rattle.item_store.proofs.Slots.{same_key}
 use Rattle.branch_tree.specs.Frame.{Frame}
@@ -25,12 +25,12 @@ frame_back false true closed was f b now s m = sym (m refl)
 frame_back false false true was f b now s m = refl
 frame_back false false false was f b now s m = refl
 
-item_back : (w k : Bool) (new was now : Option Attributes) → (k ≡ true → was ≡ now) → cond (w && k) (cond w was None) (cond (w && k) new now) ≡ now
+item_back : (w k : Bool) (new was now : Option ItemAttributes) → (k ≡ true → was ≡ now) → cond (w && k) (cond w was None) (cond (w && k) new now) ≡ now
 item_back true true new was now h = h refl
 item_back true false new was now h = refl
 item_back false k new was now h = refl
 
-item_undone : (items : Table) (access : Option Access) (new : Option Attributes) (key : Key)
+item_undone : (items : Table) (access : Option Access) (new : Option ItemAttributes) (key : Key)
     → cond (is_write_of access key) (item_written items access) (cond (is_write_of access key) new (items key)) ≡ items key
 item_undone items None new key = refl
 item_undone items (Some a) new key = item_back (is_write a.mode) (is_same_key a.key key) new (items a.key) (items key) (λ e. ap items (same_key a.key key e))

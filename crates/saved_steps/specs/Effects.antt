@@ -5,7 +5,7 @@ use Rattle.json_tree.specs.Data.{Data}
 use Rattle.json_tree.specs.View.{data_of}
 use Rattle.json_tree.specs.declared.tree.Json.{Json}
 use Rattle.attr_values.specs.declared.key.Key.{Key}
-use Rattle.item_store.specs.Deciding.{Attributes}
+use Rattle.item_store.specs.Deciding.{ItemAttributes}
 use Rattle.item_store.specs.Table as table
 use Rattle.item_store.specs.declared.access.AccessMode.{AccessMode}
 use Rattle.branch_tree.specs.Definition.{Definition}
@@ -35,7 +35,7 @@ pub record Effect : Type 0 where
   pub fact : Fact
   pub frame : Frame
   pub branches : List Frame
-  pub item : Option Attributes
+  pub item : Option ItemAttributes
 
 -- a thread's moves are numbered from 1
 abbrev pub next_step : Thread → Frame → StepName

@@ -3,7 +3,7 @@ use Rattle.std.specs.Prelude.{List, if◌then◌else◌, Option, Some, None, opt
 use Rattle.branch_tree.specs.Frame.{Frame}
 use Rattle.branch_tree.specs.Paths.{rest_after}
 use Rattle.branch_tree.specs.Tree.{Rows, node_at}
-use Rattle.item_store.specs.Deciding.{Attributes}
+use Rattle.item_store.specs.Deciding.{ItemAttributes}
 use Rattle.step_names.specs.Thread.{Thread}
 use Rattle.saved_steps.specs.Saving.{SavedState}
 use Rattle.saved_steps.specs.Steps.{closes}
@@ -13,7 +13,7 @@ use Rattle.saved_steps.specs.declared.record.Saved.TheVariants.{Started, Framed,
 use Rattle.saved_steps.specs.declared.record.StepRecord.{StepRecord}
 
 -- a frame and an item, and nothing below
-abbrev pub keeps : Option Frame → Option Attributes → SavedState
+abbrev pub keeps : Option Frame → Option ItemAttributes → SavedState
 keeps frame item = record { frame = frame; item = item; below = λ _. None }
 
 -- what lay under the fork that a step closes: the branches, each under its number

@@ -1,7 +1,7 @@
 -- Steps taken one after another.
 use Rattle.std.specs.Prelude.{List, [], ◌∷◌, if◌then◌else◌, Option, Some, None, slice_get, option_map, option_and_then}
 use Rattle.attr_values.specs.declared.key.Key.{Key}
-use Rattle.item_store.specs.Deciding.{Attributes}
+use Rattle.item_store.specs.Deciding.{ItemAttributes}
 use Rattle.branch_tree.specs.Frame.{Frame}
 use Rattle.branch_tree.specs.Paths.{Path, rest_after}
 use Rattle.step_names.specs.Thread.{Thread}
@@ -27,7 +27,7 @@ frames_after frames d t =
     if makes d.fact t then begun_frame d t else
     if closes d.fact t then None else frames t
 
-abbrev pub items_after : (Key → Option Attributes) → Effect → Key → Option Attributes
+abbrev pub items_after : (Key → Option ItemAttributes) → Effect → Key → Option ItemAttributes
 items_after items d key = if writes_key d.fact key then d.item else items key
 
 abbrev pub after_effect : World → Effect → World

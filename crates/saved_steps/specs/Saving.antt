@@ -1,6 +1,6 @@
 -- What a step's undoing gives back.
 use Rattle.std.specs.Prelude.{if◌then◌else◌, Option, Some, None}
-use Rattle.item_store.specs.Deciding.{Attributes}
+use Rattle.item_store.specs.Deciding.{ItemAttributes}
 use Rattle.item_store.specs.Table.{Table}
 use Rattle.branch_tree.specs.Frame.{Frame}
 use Rattle.step_names.specs.Thread.{Thread}
@@ -12,10 +12,10 @@ use Rattle.saved_steps.specs.declared.fact.Fact.{Fact}
 -- the thread's frame, the item at the key of a write, and what lies under the fork that a join or a terminate closes
 pub record SavedState : Type 0 where
   pub frame : Option Frame
-  pub item : Option Attributes
+  pub item : Option ItemAttributes
   pub below : Thread → Option Frame
 
-abbrev pub item_written : Table → Option Access → Option Attributes
+abbrev pub item_written : Table → Option Access → Option ItemAttributes
 item_written items None = None
 item_written items (Some a) = if is_write a.mode then items a.key else None
 
