@@ -21,7 +21,7 @@ they then are. The crate itself has to be proved in the copy first. The status i
 --current  asks no prover: it fails if an edit has no record, no longer applies, or if what its refusal rests on has changed since.
 --later    gives each edit without a record a line that says that it is to be tried.
 --renamed  carries edits and records along if words were renamed since a commit (HEAD): LIST has an old word and its new one on each line,
-           names of crates too. A record goes over if nothing else differs. The others are to be tried again.
+           names of crates too, and a line for each of several. A record goes over if nothing else differs. The others are to be tried again.
 """
 import argparse
 import glob
@@ -189,7 +189,8 @@ def try_all(names, asked, wanted):
 
 def carry_all(names, asked):
     """Carries edits and records along; the status of the whole."""
-    words = planted_records.read_names(asked.renamed)
+    with open(asked.renamed, encoding="utf-8") as lines:
+        words = planted_records.Names(lines)
     with tempfile.TemporaryDirectory() as room:
         packed = subprocess.Popen(["git", "archive", asked.since, "crates.txt", "crates"], cwd=TOP, stdout=subprocess.PIPE)
         subprocess.run(["tar", "xf", "-", "-C", room], stdin=packed.stdout, check=True)

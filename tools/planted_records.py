@@ -3,6 +3,7 @@
 An edit that the prover refused: its name, how it was refused (the function and the goals that were left), the kit's logic, and the
 SHA-256 of what the refusal rests on (tools/planted_sums.py). One that nobody has tried yet: its name and `to be tried`.
 """
+import collections
 import glob
 import os
 
@@ -98,30 +99,35 @@ def current(top, names):
     return failed == 0 and passed > 0
 
 
-def read_names(path):
-    """The list of a renaming: an old word and its new one on each line."""
-    with open(path, encoding="utf-8") as lines:
-        return dict(line.split()[:2] for line in lines if len(line.split()) >= 2 and not line.startswith("#"))
+class Names:
+    """The list of a renaming: an old word and its new one on each line. A word that got several has a line for each: what it became depends
+    on the file, so an edit's own text is renamed by the words alone that got one."""
+
+    def __init__(self, lines):
+        pairs = [line.split()[:2] for line in lines if len(line.split()) >= 2 and not line.startswith("#")]
+        olds = collections.Counter(old for old, _ in pairs)
+        self.new = {old: new for old, new in pairs if olds[old] == 1}
+        self.old = {new: old for old, new in pairs}
 
 
 def carry(names, old, new, name):
     """Carries a crate's edits and records from one tree to another in which words were renamed; answers how many went over, of how many."""
-    crate, went = os.path.join(new.top, "crates", names.get(name, name)), 0
+    crate, went = os.path.join(new.top, "crates", names.new.get(name, name)), 0
     before = os.path.join(old.top, "crates", name)
     records, edits, kept = read(before), edits_of(before), read(crate)
     for edit in edits:
         record, path = records.get(edit.name), os.path.join(crate, "planted", edit.name)
         with open(edit.path, encoding="utf-8") as text:
-            says = next(iter(renamed([text.read()], names)))
+            says = next(iter(renamed([text.read()], names.new)))
         os.makedirs(os.path.dirname(path), exist_ok=True)
         if not os.path.isfile(path) or Edit(path, crate).texts(crate) is None:
             with open(path, "w", encoding="utf-8") as out:
                 out.write(says)
         if record is None or record.is_later or record.sum != sum_of(old, before, edit, record):
             continue
-        here = Record(next(iter(renamed([record.how], names))), record.logic)
+        here = Record(next(iter(renamed([record.how], names.new))), record.logic)
         now = parts(new, os.path.basename(crate), Edit(path, crate), here.refused())
-        if now == renamed(parts(old, name, edit, record.refused()), names):
+        if renamed(now, names.old) == parts(old, name, edit, record.refused()):
             here.sum = digest(now)
             kept[edit.name] = here
             went += 1

@@ -155,13 +155,18 @@ class Records(unittest.TestCase):
                 os.makedirs(os.path.dirname(os.path.join(room, path)), exist_ok=True)
                 with open(os.path.join(room, path), "w", encoding="utf-8") as out:
                     out.write(change(text))
-            went = planted_records.carry({"halved": "bisected", "low": "lower"}, old, Sources(room), "high")
+            went = planted_records.carry(planted_records.Names(["halved bisected", "low lower"]), old, Sources(room), "high")
             with contextlib.redirect_stdout(io.StringIO()) as said:
                 is_current = planted_records.current(room, ["high"])
         return went, is_current, said.getvalue()
 
     def test_records_are_carried_along_a_renaming(self):
         self.assertEqual(self.renamed_tree(lambda text: text)[:2], ((1, 1), True))
+
+    def test_a_word_with_several_new_ones_is_known_by_each(self):
+        names = planted_records.Names(["# of two files", "kept kept_line", "kept kept_frame", "low lower"])
+        self.assertEqual(names.new, {"low": "lower"})
+        self.assertEqual(names.old, {"kept_line": "kept", "kept_frame": "kept", "lower": "low"})
 
     def test_a_renaming_that_changes_more_carries_no_record(self):
         went, is_current, _ = self.renamed_tree(lambda text: text.replace("≤ 100", "≤ 99"))
