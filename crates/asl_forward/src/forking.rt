@@ -11,7 +11,7 @@ ghost use Rattle.asl_frames.specs.Turn.{counters_at};
 use crate::frames::Frames;
 use asl_frames::machine_tree::{Branches, Level, Machine, Map, Parallel};
 use asl_frames::{
-    Frame, MOST_LEVELS, Phase, Retries, StateError, TurnFault, counters_at, effective_input, held,
+    Frame, MOST_LEVELS, OwnFault, Phase, Retries, TurnFault, counters_at, effective_input, held,
 };
 use asl_processing::paths::{FillFault, RefPath, Template};
 use json_tree::{Json, JsonList, Text, depth};
@@ -128,7 +128,7 @@ fn parallel_frames(
         return Ok(Frames::new(alloc));
     }
     if depth(input) > MOST_LEVELS {
-        return Err(TurnFault::Error(StateError::Runtime));
+        return Err(TurnFault::Error(OwnFault::Runtime));
     }
     Ok(begin_branches(alloc, &parallel.branches, frame, input)?)
 }
@@ -161,7 +161,7 @@ fn selected(
 {
     match selector.fill(alloc, input, Some((index, element))) {
         Ok(made) => held(made),
-        Err(FillFault::NoSuchNode) => Err(TurnFault::Error(StateError::ParameterPathFailure)),
+        Err(FillFault::NoSuchNode) => Err(TurnFault::Error(OwnFault::ParameterPathFailure)),
         Err(FillFault::Memory) => Err(TurnFault::Memory),
     }
 }
@@ -220,10 +220,10 @@ fn map_frames(alloc: Global, map: &Map, frame: &Frame, input: &Json) -> Result<F
     ensures fault { IfErr result (λ e. NamesError e (map_frames map.now frame.now (data_of input.now))) }
 {
     let Some(elements) = elements(&map.items_path, input) else {
-        return Err(TurnFault::Error(StateError::Runtime));
+        return Err(TurnFault::Error(OwnFault::Runtime));
     };
     if elements.len() > BRANCHES {
-        return Err(TurnFault::Error(StateError::Runtime));
+        return Err(TurnFault::Error(OwnFault::Runtime));
     }
     element_frames(alloc, map, frame, input, elements)
 }

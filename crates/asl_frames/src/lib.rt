@@ -8,7 +8,7 @@ mod laws;
 mod turn;
 
 pub use asl_processing::{
-    MOST_LEVELS, StateError, TurnFault, effective_input, error_handling as error_handling, held,
+    MOST_LEVELS, OwnFault, TurnFault, effective_input, error_handling as error_handling, held,
     output_of, place_held, state_parts as state_parts,
 };
 pub use asl_tree as machine_tree;

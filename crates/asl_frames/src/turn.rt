@@ -11,7 +11,7 @@ ghost use Rattle.asl_processing.specs.Processing.{effective};
 use crate::frame::{Fault, Frame, Origin, Phase, Retries};
 use asl_processing::error_handling::Retrier;
 use asl_processing::state_parts::{Choice, Fail, Pass, Processing, Transition};
-use asl_processing::{StateError, TurnFault, choose, effective_input, output_of};
+use asl_processing::{OwnFault, TurnFault, choose, effective_input, output_of};
 use asl_tree::{Level, LevelPath, Machine, State};
 use json_tree::{Json, Text};
 use std::alloc::{AllocError, Global};
@@ -58,7 +58,7 @@ pub fn next_frame(
             end(alloc, level, &Transition::End, frame, output)
         }
         State::Fail(state) => failed(frame, declared_fault(state)?),
-        _ => failed(frame, own_fault(alloc, StateError::Runtime)?),
+        _ => failed(frame, own_fault(alloc, OwnFault::Runtime)?),
     }
 }
 
@@ -277,7 +277,7 @@ pub fn failed(frame: &Frame, fault: Fault) -> Result<Frame, AllocError>
 }
 
 /// An error of the state itself.
-pub fn own_fault(alloc: Global, error: StateError) -> Result<Fault, AllocError>
+pub fn own_fault(alloc: Global, error: OwnFault) -> Result<Fault, AllocError>
     ensures { IfOk result (λ f. f ≡ own_fault (error_name error)) }
 {
     let cause = Text::new(alloc, "")?;

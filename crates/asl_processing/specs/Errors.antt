@@ -1,11 +1,11 @@
 -- Errors as the code holds them.
 use Rattle.std.specs.Prelude.{◌≡◌, ℕ, List, Result, Err, codes}
-use Rattle.asl_processing.specs.declared.error.StateError.{StateError}
-use Rattle.asl_processing.specs.declared.error.StateError.TheVariants.{Runtime, ParameterPathFailure, ResultPathMatchFailure, NoChoiceMatched}
+use Rattle.asl_processing.specs.declared.error.OwnFault.{OwnFault}
+use Rattle.asl_processing.specs.declared.error.OwnFault.TheVariants.{Runtime, ParameterPathFailure, ResultPathMatchFailure, NoChoiceMatched}
 use Rattle.asl_processing.specs.declared.error.TurnFault.{TurnFault}
 use Rattle.asl_processing.specs.declared.error.TurnFault.TheVariants.{Error, Memory}
 
-abbrev pub error_name : StateError → List ℕ
+abbrev pub error_name : OwnFault → List ℕ
 error_name Runtime = codes "States.Runtime"
 error_name ParameterPathFailure = codes "States.ParameterPathFailure"
 error_name ResultPathMatchFailure = codes "States.ResultPathMatchFailure"

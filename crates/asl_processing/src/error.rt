@@ -6,23 +6,23 @@ use std::alloc::AllocError;
 
 /// An error of a state itself ("Errors").
 #[derive(Clone, Copy, Debug, PartialEq, Eq)]
-pub enum StateError {
+pub enum OwnFault {
     Runtime,
     ParameterPathFailure,
     ResultPathMatchFailure,
     NoChoiceMatched,
 }
 
-impl StateError {
+impl OwnFault {
     /// The error's name.
     pub fn name(self) -> &'static str
         ensures { result.now ≡ error_name self }
     {
         match self {
-            StateError::Runtime => "States.Runtime",
-            StateError::ParameterPathFailure => "States.ParameterPathFailure",
-            StateError::ResultPathMatchFailure => "States.ResultPathMatchFailure",
-            StateError::NoChoiceMatched => "States.NoChoiceMatched",
+            OwnFault::Runtime => "States.Runtime",
+            OwnFault::ParameterPathFailure => "States.ParameterPathFailure",
+            OwnFault::ResultPathMatchFailure => "States.ResultPathMatchFailure",
+            OwnFault::NoChoiceMatched => "States.NoChoiceMatched",
         }
     }
 }
@@ -30,7 +30,7 @@ impl StateError {
 /// Why a value was not made.
 #[derive(Clone, Copy, Debug, PartialEq, Eq)]
 pub enum TurnFault {
-    Error(StateError),
+    Error(OwnFault),
     /// An allocation was refused.
     Memory,
 }

@@ -5,7 +5,7 @@ ghost use Rattle.json_tree.specs.View.{data_of};
 ghost use Rattle.asl_processing.specs.Errors.{NamesError};
 ghost use Rattle.asl_processing.specs.Processing.{and_then, picked_by_path, filled_from, placed_in, within_levels, effective, passed_on};
 
-use crate::error::{StateError, TurnFault};
+use crate::error::{OwnFault, TurnFault};
 use asl_states::Processing;
 use asl_states::paths::{FillFault, PickRefusal, RefPath, Template, pick_placed};
 use json_tree::{Json, JsonFields, depth};
@@ -73,11 +73,9 @@ fn pick_of_placed(
 {
     match pick_placed(alloc, raw, placing, selected, picking, MOST_LEVELS) {
         Ok(Some(json)) => Ok(json),
-        Ok(None) => Err(TurnFault::Error(StateError::Runtime)),
-        Err(PickRefusal::TooDeep) => Err(TurnFault::Error(StateError::Runtime)),
-        Err(PickRefusal::CannotPlace) => {
-            Err(TurnFault::Error(StateError::ResultPathMatchFailure))
-        }
+        Ok(None) => Err(TurnFault::Error(OwnFault::Runtime)),
+        Err(PickRefusal::TooDeep) => Err(TurnFault::Error(OwnFault::Runtime)),
+        Err(PickRefusal::CannotPlace) => { Err(TurnFault::Error(OwnFault::ResultPathMatchFailure)) }
         Err(PickRefusal::Memory) => Err(TurnFault::Memory),
     }
 }
@@ -90,7 +88,7 @@ fn nothing_of(alloc: Global, placing: &RefPath, raw: &Json) -> Result<Json, Turn
     if placing.can_place(raw) {
         Ok(Json::Fields(JsonFields::new(alloc)))
     } else {
-        Err(TurnFault::Error(StateError::ResultPathMatchFailure))
+        Err(TurnFault::Error(OwnFault::ResultPathMatchFailure))
     }
 }
 
@@ -111,7 +109,7 @@ pub fn held(json: Json) -> Result<Json, TurnFault>
 {
     if depth(&json) > MOST_LEVELS {
         drop(json);
-        return Err(TurnFault::Error(StateError::Runtime));
+        return Err(TurnFault::Error(OwnFault::Runtime));
     }
     Ok(json)
 }
@@ -149,7 +147,7 @@ fn pick(alloc: Global, path: &Option<RefPath>, json: &Json) -> Result<Json, Turn
     };
     match path.pick(json) {
         Some(picked) => Ok(picked.copy()?),
-        None => Err(TurnFault::Error(StateError::Runtime)),
+        None => Err(TurnFault::Error(OwnFault::Runtime)),
     }
 }
 
@@ -165,7 +163,7 @@ fn fill(alloc: Global, template: &Option<Template>, input: Json) -> Result<Json,
     drop(input);
     match filled {
         Ok(json) => Ok(json),
-        Err(FillFault::NoSuchNode) => Err(TurnFault::Error(StateError::ParameterPathFailure)),
+        Err(FillFault::NoSuchNode) => Err(TurnFault::Error(OwnFault::ParameterPathFailure)),
         Err(FillFault::Memory) => Err(TurnFault::Memory),
     }
 }

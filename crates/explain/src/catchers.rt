@@ -4,7 +4,7 @@ use crate::results::no_place;
 use crate::why::{Way, field};
 use asl_forward::call_fault;
 use asl_forward::frame_turns::error_handling::{ErrorHandling, ErrorNames};
-use asl_forward::frame_turns::{Fault, Origin, StateError, own_fault};
+use asl_forward::frame_turns::{Fault, Origin, OwnFault, own_fault};
 use json_tree::{Json, Text};
 use std::alloc::{AllocError, Global};
 
@@ -22,7 +22,7 @@ pub(crate) fn caught_by(errors: &ErrorHandling, fault: &Fault) -> Option<usize> 
 pub(crate) fn caught_own(
     alloc: Global,
     errors: &ErrorHandling,
-    error: StateError,
+    error: OwnFault,
 ) -> Result<Option<usize>, AllocError> {
     let fault = own_fault(alloc, error)?;
     Ok(caught_by(errors, &fault))

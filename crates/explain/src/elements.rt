@@ -4,7 +4,7 @@ use crate::details::{Case, NoList, TooMany};
 use crate::results::too_deep;
 use crate::templates::{in_path, in_template};
 use crate::why::{Way, field};
-use asl_forward::frame_turns::{MOST_LEVELS, StateError};
+use asl_forward::frame_turns::{MOST_LEVELS, OwnFault};
 use asl_forward::machine_tree::Map;
 use json_tree::{Json, JsonList, depth};
 use ref_paths::FillFault;
@@ -118,7 +118,7 @@ fn in_selector(
             Selected::TooDeep(found) => return Ok(found),
             Selected::NoSuchNode => {
                 way.leave();
-                return match caught_own(alloc, &map.errors, StateError::ParameterPathFailure)? {
+                return match caught_own(alloc, &map.errors, OwnFault::ParameterPathFailure)? {
                     Some(index) => in_catcher(alloc, way, fields, index, raw),
                     None => in_template(alloc, way, fields, name, input, Some(element)),
                 };

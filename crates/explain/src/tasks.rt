@@ -8,7 +8,7 @@ use crate::results::{in_input, in_result};
 use crate::why::Way;
 use asl_forward::frame_turns::error_handling::ErrorHandling;
 use asl_forward::frame_turns::state_parts::{Processing, Resource, Task};
-use asl_forward::frame_turns::{StateError, TurnFault, effective_input, output_of};
+use asl_forward::frame_turns::{OwnFault, TurnFault, effective_input, output_of};
 use asl_forward::{Outcome, Prepared};
 use attr_values::Item;
 use item_store::{Action, Answer, Call, CallFault, ItemStore};
@@ -88,7 +88,7 @@ fn output_error(
     processing: &Processing,
     raw: &Json,
     made: &Json,
-) -> Result<Option<StateError>, AllocError> {
+) -> Result<Option<OwnFault>, AllocError> {
     match output_of(alloc, processing, raw, made.copy()?) {
         Ok(output) => {
             drop(output);

@@ -12,10 +12,10 @@ use Rattle.rollback_run.specs.OpenFault.{OpenFault}
 use Rattle.journaled_book.specs.Changes.{IsRead}
 use Rattle.graph_text.specs.declared.asking.Answer.{Answer}
 use Rattle.graph_text.specs.Writing.{text_on}
-use Rattle.rollback_run.specs.Faults.{of_journal, of_open, IsBegun, IsExitCauseSaid}
+use Rattle.rollback_run.specs.Faults.{of_journal, of_open, IsBegun, IsExitFaultSaid}
 use Rattle.rollback_run.specs.Status.{IsTextShown}
-use Rattle.rollback_run.specs.declared.fault.ExitCause.{ExitCause}
-use Rattle.rollback_run.specs.declared.fault.ExitCause.TheVariants as fault
+use Rattle.rollback_run.specs.declared.fault.ExitFault.{ExitFault}
+use Rattle.rollback_run.specs.declared.fault.ExitFault.TheVariants as fault
 use Rattle.graph_run.specs.declared.asked.AskRefusal.{AskRefusal}
 use Rattle.graph_run.specs.declared.asked.AskRefusal.TheVariants.{Shown, Usage, Memory}
 
@@ -39,7 +39,7 @@ module _ {Held : Type 0} (show : Held → State) where
     pub is_read : IsRead (show journal) (show left)
 
   -- the database refuses to open a journal, or the journal gives no book
-  abbrev pub GivesNoFile : Held → ExitCause → Type 0
+  abbrev pub GivesNoFile : Held → ExitFault → Type 0
   GivesNoFile connection cause =
       ((error : Error) × (cause ≡ of_journal (journal_fault_of error))) ⊎ ((reason : OpenFault) × (cause ≡ of_open reason) × RefusesFile connection reason)
 
@@ -47,32 +47,32 @@ module _ {Held : Type 0} (show : Held → State) where
   OpensFile (Ok connection) book = GivesFile connection book
   OpensFile (Err error) book = ⊥
 
-  abbrev pub OpensNoFile : Result Held Error → ExitCause → Type 0
+  abbrev pub OpensNoFile : Result Held Error → ExitFault → Type 0
   OpensNoFile (Ok connection) cause = GivesNoFile connection cause
   OpensNoFile (Err error) cause = cause ≡ of_journal (journal_fault_of error)
 
 -- ---- what is written
 
 -- an answer's text is written, or a beginning of it where the output can't be written
-abbrev pub IsAnswerWritten : Answer → Result Bool ExitCause → Option (List ℕ) → Option (List ℕ) → Type 0
+abbrev pub IsAnswerWritten : Answer → Result Bool ExitFault → Option (List ℕ) → Option (List ℕ) → Type 0
 IsAnswerWritten answer (Ok found) old new = (found ≡ answer.is_found) × Appends old new (text_on answer.page)
 IsAnswerWritten answer (Err cause) old new = (cause ≡ fault.Output) × IsBegun (text_on answer.page) old new
 
 -- nothing is where memory for it is refused
-abbrev pub IsQuestionAnswered : Result Answer AllocError → Result Bool ExitCause → Option (List ℕ) → Option (List ℕ) → Type 0
+abbrev pub IsQuestionAnswered : Result Answer AllocError → Result Bool ExitFault → Option (List ℕ) → Option (List ℕ) → Type 0
 IsQuestionAnswered (Ok answer) result old new = IsAnswerWritten answer result old new
 IsQuestionAnswered (Err error) result old new = (result ≡ Err fault.Memory) × Keeps old new
 
 -- some answer is
-abbrev pub AnswersQuestion : Result Bool ExitCause → Option (List ℕ) → Option (List ℕ) → Type 0
+abbrev pub AnswersQuestion : Result Bool ExitFault → Option (List ℕ) → Option (List ℕ) → Type 0
 AnswersQuestion result old new = (answered : Result Answer AllocError) × IsQuestionAnswered answered result old new
 
 -- There is a book, of which an answer is written; or there is none for this cause, and then nothing is written.
 module _ {Held : Type 0} (show : Held → State) where
-  abbrev pub HasAnswer : Result Held Error → Result Bool ExitCause → Option (List ℕ) → Option (List ℕ) → Type 0
+  abbrev pub HasAnswer : Result Held Error → Result Bool ExitFault → Option (List ℕ) → Option (List ℕ) → Type 0
   HasAnswer connection result old new =
       ((book : Option Log) × OpensFile show connection book × AnswersQuestion result old new)
-      ⊎ ((cause : ExitCause) × (result ≡ Err cause) × OpensNoFile show connection cause × Keeps old new)
+      ⊎ ((cause : ExitFault) × (result ≡ Err cause) × OpensNoFile show connection cause × Keeps old new)
 
 -- ---- words that ask for nothing
 
@@ -83,4 +83,4 @@ graph_usage_text = codes "usage: rollback_graph FILE QUESTION [--json], or rollb
 abbrev pub IsAskRefusal : AskRefusal → ℕ → Option (List ℕ) → Option (List ℕ) → Option (List ℕ) → Option (List ℕ) → Type 0
 IsAskRefusal (Shown text) status old new quiet said = IsTextShown status (string_bytes text) old new quiet said
 IsAskRefusal Usage status old new quiet said = (status ≡ 2) × Keeps old new × IsBegun graph_usage_text quiet said
-IsAskRefusal Memory status old new quiet said = (status ≡ 4) × Keeps old new × IsExitCauseSaid (Err fault.Memory) quiet said
+IsAskRefusal Memory status old new quiet said = (status ≡ 4) × Keeps old new × IsExitFaultSaid (Err fault.Memory) quiet said

@@ -7,7 +7,7 @@ use Rattle.book_journal.specs.Faults.{journal_fault_of}
 use Rattle.book_journal.specs.Kept.{lines_in, IsOpened, IsSame}
 use Rattle.book_journal.specs.declared.fault.JournalFault.{JournalFault}
 use Rattle.rollback_run.specs.Faults.{of_journal}
-use Rattle.rollback_run.specs.declared.fault.ExitCause.{ExitCause}
+use Rattle.rollback_run.specs.declared.fault.ExitFault.{ExitFault}
 
 module _ {Held : Type 0} (show : Held → State) where
   -- The connection's journal was opened, these are its lines, and they stay as they were. Of a disk that failed nothing is said.
@@ -20,13 +20,13 @@ module _ {Held : Type 0} (show : Held → State) where
     pub survives : Survives (show journal) (show loaded) (λ _. ⊥)
 
   -- the journal isn't opened, or its lines aren't given, for a fault of the journal
-  abbrev pub GivesNoLines : Held → ExitCause → Type 0
+  abbrev pub GivesNoLines : Held → ExitFault → Type 0
   GivesNoLines connection cause = (fault : JournalFault) × (cause ≡ of_journal fault)
 
   abbrev pub Reads : Result Held Error → List (List ℕ) → Type 0
   Reads (Ok connection) lines = GivesLines connection lines
   Reads (Err error) lines = ⊥
 
-  abbrev pub ReadsNone : Result Held Error → ExitCause → Type 0
+  abbrev pub ReadsNone : Result Held Error → ExitFault → Type 0
   ReadsNone (Ok connection) cause = GivesNoLines connection cause
   ReadsNone (Err error) cause = cause ≡ of_journal (journal_fault_of error)

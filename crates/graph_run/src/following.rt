@@ -1,7 +1,7 @@
 // Following the lines of an input, behind those of a file, over any streams and any stores.
 use crate::lines::{lines_of, session_of};
 use graph_follower::{FollowFault, Followed, follow_behind};
-use rollback_run::ExitCause;
+use rollback_run::ExitFault;
 use rollback_run::lines::ServeFault;
 use sqlite::{Alter, Connection, Error};
 use std::alloc::Global;
@@ -22,7 +22,7 @@ pub fn serve<T: Threads + Wait + Sync, S: Alter + Drop, M: Alter + Drop, R: BufR
     memory: Result<Connection<M>, Error>,
     reader: &mut R,
     writer: &mut W,
-) -> Result<(), ExitCause> {
+) -> Result<(), ExitFault> {
     match lines_at(alloc, file) {
         Ok(lines) => serve_behind(rt, alloc, lines.as_slice(), memory, reader, writer),
         Err(cause) => {
@@ -36,7 +36,7 @@ pub fn serve<T: Threads + Wait + Sync, S: Alter + Drop, M: Alter + Drop, R: BufR
 fn lines_at<S: Alter + Drop>(
     alloc: Global,
     file: Option<Result<Connection<S>, Error>>,
-) -> Result<Vec<String>, ExitCause> {
+) -> Result<Vec<String>, ExitFault> {
     match file {
         Some(connection) => lines_of(alloc, connection),
         None => Ok(Vec::new(alloc)),
@@ -50,7 +50,7 @@ fn serve_behind<T: Threads + Wait + Sync, M: Alter + Drop, R: BufRead, W: Write>
     memory: Result<Connection<M>, Error>,
     reader: &mut R,
     writer: &mut W,
-) -> Result<(), ExitCause> {
+) -> Result<(), ExitFault> {
     match session_of(alloc, memory) {
         Ok(session) => match follow_behind(rt, alloc, session, lines, reader, writer) {
             Ok(()) => Ok(()),
@@ -60,21 +60,21 @@ fn serve_behind<T: Threads + Wait + Sync, M: Alter + Drop, R: BufRead, W: Write>
     }
 }
 
-pub(crate) fn of_follow(fault: FollowFault) -> ExitCause {
+pub(crate) fn of_follow(fault: FollowFault) -> ExitFault {
     match fault {
-        FollowFault::Read => ExitCause::Input,
-        FollowFault::Write => ExitCause::Output,
-        FollowFault::Refused(place) => ExitCause::Damaged(place),
-        FollowFault::NoQuestion => ExitCause::Memory,
+        FollowFault::Read => ExitFault::Input,
+        FollowFault::Write => ExitFault::Output,
+        FollowFault::Refused(place) => ExitFault::Damaged(place),
+        FollowFault::NoQuestion => ExitFault::Memory,
         FollowFault::Followed(fault) => of_followed(fault),
     }
 }
 
-fn of_followed(fault: Followed) -> ExitCause {
+fn of_followed(fault: Followed) -> ExitFault {
     match fault {
-        Followed::Lost | Followed::Failed(ServeFault::Memory) => ExitCause::Memory,
-        Followed::Failed(ServeFault::Read) => ExitCause::Input,
-        Followed::Failed(ServeFault::Write) => ExitCause::Output,
-        Followed::Failed(ServeFault::Journal) => ExitCause::Store,
+        Followed::Lost | Followed::Failed(ServeFault::Memory) => ExitFault::Memory,
+        Followed::Failed(ServeFault::Read) => ExitFault::Input,
+        Followed::Failed(ServeFault::Write) => ExitFault::Output,
+        Followed::Failed(ServeFault::Journal) => ExitFault::Store,
     }
 }

@@ -5,7 +5,7 @@ ghost use Rattle.graph_run.specs.Reading.{GivesLines, GivesNoLines, Reads, Reads
 
 use crate::running::{of_journal, of_open};
 use book_journal::{Journal, JournalFault};
-use rollback_run::ExitCause;
+use rollback_run::ExitFault;
 use rollback_run::lines::Session;
 use sqlite::{Alter, Connection, Error};
 use std::alloc::Global;
@@ -14,7 +14,7 @@ use std::alloc::Global;
 pub(crate) fn lines_of<S: Alter + Drop>(
     alloc: Global,
     connection: Result<Connection<S>, Error>,
-) -> Result<Vec<String>, ExitCause>
+) -> Result<Vec<String>, ExitFault>
     ensures ok { IfOk result (λ lines. Reads (λ held. state S.Store held) connection (map string_bytes lines.items)) }
     ensures err { IfErr result (ReadsNone (λ held. state S.Store held) connection) }
 {
@@ -27,7 +27,7 @@ pub(crate) fn lines_of<S: Alter + Drop>(
 fn lines_in<S: Alter + Drop>(
     alloc: Global,
     connection: Connection<S>,
-) -> Result<Vec<String>, ExitCause>
+) -> Result<Vec<String>, ExitFault>
     ensures ok { IfOk result (λ lines. GivesLines (λ held. state S.Store held) connection (map string_bytes lines.items)) }
     ensures err { IfErr result (GivesNoLines (λ held. state S.Store held) connection) }
 {
@@ -47,7 +47,7 @@ fn lines_in<S: Alter + Drop>(
 pub(crate) fn session_of<M: Alter + Drop>(
     alloc: Global,
     connection: Result<Connection<M>, Error>,
-) -> Result<Session<M>, ExitCause> {
+) -> Result<Session<M>, ExitFault> {
     let connection = match connection {
         Ok(connection) => connection,
         Err(cause) => return Err(of_journal(JournalFault::from(cause))),

@@ -4,7 +4,7 @@ use crate::telling::answers_behind;
 use graph_follower::questions::Answer;
 use graph_page::{PageParts, page_of};
 use question_text::text_of;
-use rollback_run::ExitCause;
+use rollback_run::ExitFault;
 use sqlite::{Alter, Connection, Error};
 use std::alloc::{AllocError, Global};
 use std::io::Write;
@@ -41,7 +41,7 @@ pub fn write_page<T: Threads + Wait + Sync, S: Alter + Drop, M: Alter + Drop, W:
     file: Result<Connection<S>, Error>,
     memory: Result<Connection<M>, Error>,
     writer: &mut W,
-) -> Result<bool, ExitCause> {
+) -> Result<bool, ExitFault> {
     match step_text(alloc, subject.from) {
         Ok(step) => {
             let step = step.as_deref();
@@ -50,7 +50,7 @@ pub fn write_page<T: Threads + Wait + Sync, S: Alter + Drop, M: Alter + Drop, W:
         Err(AllocError) => {
             drop(file);
             drop(memory);
-            Err(ExitCause::Memory)
+            Err(ExitFault::Memory)
         }
     }
 }
@@ -71,13 +71,13 @@ fn write_at<T: Threads + Wait + Sync, S: Alter + Drop, M: Alter + Drop, W: Write
     file: Result<Connection<S>, Error>,
     memory: Result<Connection<M>, Error>,
     writer: &mut W,
-) -> Result<bool, ExitCause> {
+) -> Result<bool, ExitFault> {
     let question = match question_of(alloc, step) {
         Ok(question) => question,
         Err(AllocError) => {
             drop(file);
             drop(memory);
-            return Err(ExitCause::Memory);
+            return Err(ExitFault::Memory);
         }
     };
     // (the third asks for every step that may remain)
@@ -106,9 +106,9 @@ fn write_answers<W: Write>(
     viewer: Viewer<'_>,
     answers: &[Answer],
     writer: &mut W,
-) -> Result<bool, ExitCause> {
+) -> Result<bool, ExitFault> {
     let [list, machines, steps, shown] = answers else {
-        return Err(ExitCause::Memory);
+        return Err(ExitFault::Memory);
     };
     if !shown.is_found {
         return write_sentence(alloc, shown, writer);
@@ -127,7 +127,7 @@ fn write_answers<W: Write>(
             show_bytes(page.as_slice(), b"", writer)?;
             Ok(true)
         }
-        Err(AllocError) => Err(ExitCause::Memory),
+        Err(AllocError) => Err(ExitFault::Memory),
     }
 }
 
@@ -135,12 +135,12 @@ fn write_sentence<W: Write>(
     alloc: Global,
     absent: &Answer,
     writer: &mut W,
-) -> Result<bool, ExitCause> {
+) -> Result<bool, ExitFault> {
     match text_of(alloc, "show", &absent.json) {
         Ok(lines) => {
             show_bytes(lines.as_bytes(), b"", writer)?;
             Ok(false)
         }
-        Err(AllocError) => Err(ExitCause::Memory),
+        Err(AllocError) => Err(ExitFault::Memory),
     }
 }

@@ -12,7 +12,7 @@ use book_journal::{Journal, JournalFault};
 use graph_text::{Answer, Question, ask};
 use journaled_book::{JournaledBook, OpenFault};
 use rollback_run::lines::{ServeFault, flush, write_all};
-use rollback_run::{ExitCause, ModeRefusal, USAGE, finish};
+use rollback_run::{ExitFault, ModeRefusal, USAGE, finish};
 use sqlite::{Alter, Connection, Error};
 use std::alloc::{AllocError, Global};
 use std::io::Write;
@@ -30,7 +30,7 @@ pub fn run<S: Alter + Drop, W: Write>(
     question: &Question,
     connection: Result<Connection<S>, Error>,
     writer: &mut W,
-) -> Result<bool, ExitCause>
+) -> Result<bool, ExitFault>
     ensures { HasAnswer (λ held. state S.Store held) connection result (W.contents writer.old) (W.contents writer.new) }
 {
     match open(alloc, connection) {
@@ -45,7 +45,7 @@ fn answer_from<S: Alter + Drop, W: Write>(
     question: &Question,
     book: JournaledBook<S>,
     writer: &mut W,
-) -> Result<bool, ExitCause>
+) -> Result<bool, ExitFault>
     ensures { AnswersQuestion result (W.contents writer.old) (W.contents writer.new) }
 {
     let answered = ask(alloc, book.book(), question);
@@ -54,27 +54,27 @@ fn answer_from<S: Alter + Drop, W: Write>(
 }
 
 /// Writes what was answered.
-fn tell<W: Write>(answered: Result<Answer, AllocError>, writer: &mut W) -> Result<bool, ExitCause>
+fn tell<W: Write>(answered: Result<Answer, AllocError>, writer: &mut W) -> Result<bool, ExitFault>
     ensures { IsQuestionAnswered answered result (W.contents writer.old) (W.contents writer.new) }
 {
     match answered {
         Ok(answer) => show_answer(answer, writer),
-        Err(AllocError) => Err(ExitCause::Memory),
+        Err(AllocError) => Err(ExitFault::Memory),
     }
 }
 
 /// Writes an answer, and tells whether it is what was asked.
-fn show_answer<W: Write>(answer: Answer, writer: &mut W) -> Result<bool, ExitCause>
+fn show_answer<W: Write>(answer: Answer, writer: &mut W) -> Result<bool, ExitFault>
     ensures { IsAnswerWritten answer result (W.contents writer.old) (W.contents writer.new) }
 {
     match show(writer, answer.page.as_bytes()) {
         Ok(()) => Ok(answer.is_found),
-        Err(_) => Err(ExitCause::Output),
+        Err(_) => Err(ExitFault::Output),
     }
 }
 
 /// The program's status for a run that ended so. A fault is told on `faults`.
-pub fn status_of<W: Write>(outcome: Result<bool, ExitCause>, faults: &mut W) -> u8
+pub fn status_of<W: Write>(outcome: Result<bool, ExitFault>, faults: &mut W) -> u8
     ensures status { result ≡ status_of outcome }
     ensures told { IsAskFaultSaid outcome (W.contents faults.old) (W.contents faults.new) }
 {
@@ -104,10 +104,10 @@ pub fn refuse<W: Write, E: Write>(refusal: AskRefusal, writer: &mut W, faults: &
 /// # Errors
 ///
 /// `Output` if they can't be written.
-pub fn show_parts<W: Write>(parts: &[&'static str], writer: &mut W) -> Result<bool, ExitCause> {
+pub fn show_parts<W: Write>(parts: &[&'static str], writer: &mut W) -> Result<bool, ExitFault> {
     for part in parts {
         if write_all(writer, part.as_bytes()).is_err() {
-            return Err(ExitCause::Output);
+            return Err(ExitFault::Output);
         }
     }
     show_bytes(b"", b"", writer)?;
@@ -119,11 +119,11 @@ pub(crate) fn show_bytes<W: Write>(
     text: &[u8],
     end: &[u8],
     writer: &mut W,
-) -> Result<(), ExitCause> {
+) -> Result<(), ExitFault> {
     if write_all(writer, text).is_ok() && show(writer, end).is_ok() {
         Ok(())
     } else {
-        Err(ExitCause::Output)
+        Err(ExitFault::Output)
     }
 }
 
@@ -140,7 +140,7 @@ fn show<W: Write>(writer: &mut W, text: &[u8]) -> Result<(), ServeFault>
 fn open<S: Alter + Drop>(
     alloc: Global,
     connection: Result<Connection<S>, Error>,
-) -> Result<JournaledBook<S>, ExitCause>
+) -> Result<JournaledBook<S>, ExitFault>
     ensures ok { IfOk result (λ j. OpensFile (λ held. state S.Store held) connection (log_of j.book)) }
     ensures err { IfErr result (OpensNoFile (λ held. state S.Store held) connection) }
 {
@@ -153,7 +153,7 @@ fn open<S: Alter + Drop>(
 fn open_connected<S: Alter + Drop>(
     alloc: Global,
     connection: Connection<S>,
-) -> Result<JournaledBook<S>, ExitCause>
+) -> Result<JournaledBook<S>, ExitFault>
     ensures ok { IfOk result (λ j. GivesFile (λ held. state S.Store held) connection (log_of j.book)) }
     ensures err { IfErr result (GivesNoFile (λ held. state S.Store held) connection) }
 {
@@ -167,23 +167,23 @@ fn open_connected<S: Alter + Drop>(
 }
 
 /// How a refusal of the journal is told.
-pub(crate) fn of_journal(fault: JournalFault) -> ExitCause
+pub(crate) fn of_journal(fault: JournalFault) -> ExitFault
     ensures { result ≡ of_journal fault }
 {
     match fault {
-        JournalFault::Store(_) => ExitCause::Store,
-        JournalFault::Gap(position) => ExitCause::Gap(position),
-        JournalFault::Memory => ExitCause::Memory,
+        JournalFault::Store(_) => ExitFault::Store,
+        JournalFault::Gap(position) => ExitFault::Gap(position),
+        JournalFault::Memory => ExitFault::Memory,
     }
 }
 
 /// How a journal is told that gives no book.
-pub(crate) fn of_open(fault: OpenFault) -> ExitCause
+pub(crate) fn of_open(fault: OpenFault) -> ExitFault
     ensures { result ≡ of_open fault }
 {
     match fault {
-        OpenFault::Damaged(line) => ExitCause::Damaged(line),
+        OpenFault::Damaged(line) => ExitFault::Damaged(line),
         OpenFault::Journal(fault) => of_journal(fault),
-        OpenFault::Memory => ExitCause::Memory,
+        OpenFault::Memory => ExitFault::Memory,
     }
 }

@@ -5,7 +5,7 @@ use crate::running::show_bytes;
 use crate::spoken::Spoken;
 use graph_follower::questions::Answer;
 use graph_follower::{Form, ask_behind, written};
-use rollback_run::ExitCause;
+use rollback_run::ExitFault;
 use sqlite::{Alter, Connection, Error};
 use std::alloc::{AllocError, Global};
 use std::io::Write;
@@ -25,7 +25,7 @@ pub fn tell<T: Threads + Wait + Sync, S: Alter + Drop, M: Alter + Drop, W: Write
     file: Result<Connection<S>, Error>,
     memory: Result<Connection<M>, Error>,
     writer: &mut W,
-) -> Result<bool, ExitCause> {
+) -> Result<bool, ExitFault> {
     match answers_behind(rt, alloc, &[spoken.question.as_str()], file, memory) {
         Ok(answers) => {
             let mut answers = answers;
@@ -45,7 +45,7 @@ pub(crate) fn answers_behind<T: Threads + Wait + Sync, S: Alter + Drop, M: Alter
     questions: &[&str],
     file: Result<Connection<S>, Error>,
     memory: Result<Connection<M>, Error>,
-) -> Result<Vec<Answer>, ExitCause> {
+) -> Result<Vec<Answer>, ExitFault> {
     match lines_of(alloc, file) {
         Ok(lines) => answers_of(rt, alloc, questions, lines.as_slice(), memory),
         Err(cause) => {
@@ -61,7 +61,7 @@ fn answers_of<T: Threads + Wait + Sync, M: Alter + Drop>(
     questions: &[&str],
     lines: &[String],
     memory: Result<Connection<M>, Error>,
-) -> Result<Vec<Answer>, ExitCause> {
+) -> Result<Vec<Answer>, ExitFault> {
     match session_of(alloc, memory) {
         Ok(session) => match ask_behind(rt, alloc, session, lines, questions) {
             Ok(answers) => Ok(answers),
@@ -77,7 +77,7 @@ fn show_answer<W: Write>(
     spoken: &Spoken,
     answer: Answer,
     writer: &mut W,
-) -> Result<bool, ExitCause> {
+) -> Result<bool, ExitFault> {
     let form = if spoken.is_json {
         Form::Json
     } else {
@@ -89,6 +89,6 @@ fn show_answer<W: Write>(
             show_bytes(answered.bytes.as_slice(), end, writer)?;
             Ok(answered.is_found)
         }
-        Err(AllocError) => Err(ExitCause::Memory),
+        Err(AllocError) => Err(ExitFault::Memory),
     }
 }

@@ -5,7 +5,7 @@
 mod picture;
 
 use graph_run::{
-    AskRefusal, Asked, ExitCause, Part, Question, Spoken, Subject, Viewer, Wanted, refuse, run,
+    AskRefusal, Asked, ExitFault, Part, Question, Spoken, Subject, Viewer, Wanted, refuse, run,
     serve, show_parts, status_of, tell, unread_words, wanted_of, write_page,
 };
 use graph_viewer::{script_parts, style_parts};
@@ -65,14 +65,14 @@ fn run_served<T: Threads + Wait + Sync, W: Write>(
     threads: &T,
     file: Option<&str>,
     writer: &mut W,
-) -> Result<bool, ExitCause> {
+) -> Result<bool, ExitFault> {
     let file = match file {
         Some(file) => Some(open_at(rt, file)),
         None => None,
     };
     let Ok(mut reader) = BufReader::new(rt.alloc(), rt.stdin()) else {
         drop(file);
-        return Err(ExitCause::Memory);
+        return Err(ExitFault::Memory);
     };
     match serve(
         threads,
@@ -93,7 +93,7 @@ fn run_spoken<T: Threads + Wait + Sync, W: Write>(
     threads: &T,
     spoken: &Spoken,
     writer: &mut W,
-) -> Result<bool, ExitCause> {
+) -> Result<bool, ExitFault> {
     let file = open_at(rt, spoken.file.as_str());
     tell(threads, rt.alloc(), spoken, file, in_memory(rt), writer)
 }
@@ -105,7 +105,7 @@ fn run_page<T: Threads + Wait + Sync, W: Write>(
     path: &str,
     from: Option<&StepName>,
     writer: &mut W,
-) -> Result<bool, ExitCause> {
+) -> Result<bool, ExitFault> {
     let name = match path.rsplit_once('/') {
         Some((_folder, name)) => name,
         None => path,
@@ -133,7 +133,7 @@ fn run_question<T: Threads + Wait + Sync, W: Write>(
     threads: &T,
     asked: &Asked,
     writer: &mut W,
-) -> Result<bool, ExitCause> {
+) -> Result<bool, ExitFault> {
     match asked {
         Asked::Question { file, question } => match question {
             Question::Lines(question) => {
@@ -150,7 +150,7 @@ fn run_wanted<T: Threads + Wait + Sync, W: Write>(
     threads: &T,
     wanted: &Wanted,
     writer: &mut W,
-) -> Result<bool, ExitCause> {
+) -> Result<bool, ExitFault> {
     match wanted {
         Wanted::Asked(asked) => run_question(rt, threads, asked, writer),
         Wanted::Spoken(spoken) => run_spoken(rt, threads, spoken, writer),
@@ -167,29 +167,29 @@ fn run_to_file<T: Threads + Wait + Sync, W: Write>(
     wanted: &Wanted,
     file: &str,
     writer: &mut W,
-) -> Result<bool, ExitCause> {
+) -> Result<bool, ExitFault> {
     let Ok(making) = Making::new(rt, file) else {
-        return Err(ExitCause::Memory);
+        return Err(ExitFault::Memory);
     };
     let outcome = match making.open(rt) {
         Ok(file) => match BufWriter::new(rt.alloc(), file) {
             Ok(mut picture) => run_wanted(rt, threads, wanted, &mut picture),
-            Err(_) => Err(ExitCause::Memory),
+            Err(_) => Err(ExitFault::Memory),
         },
-        Err(_) => Err(ExitCause::Output),
+        Err(_) => Err(ExitFault::Output),
     };
     match outcome {
         Ok(true) if making.keep(rt).is_ok() => Ok(true),
         Ok(true) => {
             making.drop_part(rt);
-            Err(ExitCause::Output)
+            Err(ExitFault::Output)
         }
         Ok(false) => {
             let sentence = making.sentence(rt);
             making.drop_part(rt);
             match sentence {
                 Ok(sentence) => show_sentence(sentence.as_slice(), writer),
-                Err(_) => Err(ExitCause::Output),
+                Err(_) => Err(ExitFault::Output),
             }
         }
         Err(cause) => {
@@ -200,13 +200,13 @@ fn run_to_file<T: Threads + Wait + Sync, W: Write>(
 }
 
 /// Writes why there is no picture.
-fn show_sentence<W: Write>(sentence: &[u8], writer: &mut W) -> Result<bool, ExitCause> {
+fn show_sentence<W: Write>(sentence: &[u8], writer: &mut W) -> Result<bool, ExitFault> {
     match writer.write_all(sentence) {
         Ok(()) => match writer.flush() {
             Ok(()) => Ok(false),
-            Err(_) => Err(ExitCause::Output),
+            Err(_) => Err(ExitFault::Output),
         },
-        Err(_) => Err(ExitCause::Output),
+        Err(_) => Err(ExitFault::Output),
     }
 }
 

@@ -4,7 +4,7 @@
 
 use journal_copy::open_at;
 use rollback_run::{
-    ExitCause, Mode, ModeRefusal, finish, has_to_close, mode_of, refuse, run, unread_words,
+    ExitFault, Mode, ModeRefusal, finish, has_to_close, mode_of, refuse, run, unread_words,
 };
 use sqlite::{Connection, Error, ErrorCode, File, FileStore, MemStore};
 use std::alloc::{AllocError, Global};
@@ -55,7 +55,7 @@ fn run_in_memory<T: Threads + Wait + Sync, W: Write>(
 /// Closes a connection if the run has to.
 fn close_after(
     mode: &Mode,
-    outcome: Result<(), ExitCause>,
+    outcome: Result<(), ExitFault>,
     connection: Connection<FileStore<File>>,
 ) -> Result<(), Error> {
     if has_to_close(mode, outcome) {

@@ -2,7 +2,7 @@
 ghost use Rattle.std.specs.Prelude.{◌≡◌};
 ghost use Rattle.book_journal.specs.Faults.{journal_fault_of};
 ghost use Rattle.operator_line.specs.Serving.{WritesReply};
-ghost use Rattle.rollback_run.specs.Faults.{exit_text, fault_status, outcome_status, of_journal, of_open, of_serve, IsExitCauseSaid};
+ghost use Rattle.rollback_run.specs.Faults.{exit_text, fault_status, outcome_status, of_journal, of_open, of_serve, IsExitFaultSaid};
 
 use crate::writing::write_number;
 use book_journal::JournalFault;
@@ -25,7 +25,7 @@ pub const FAILED: u8 = 4;
 
 /// Why a run fails.
 #[derive(Clone, Copy, Debug, PartialEq, Eq)]
-pub enum ExitCause {
+pub enum ExitFault {
     /// The journal's line of this number isn't what its place needs, or is refused.
     Damaged(usize),
     /// The journal's number at this position is another.
@@ -40,45 +40,45 @@ pub enum ExitCause {
     Memory,
 }
 
-impl ExitCause {
+impl ExitFault {
     /// How a refusal of the journal is told.
-    pub(crate) fn of_journal(fault: JournalFault) -> ExitCause
+    pub(crate) fn of_journal(fault: JournalFault) -> ExitFault
         ensures { result ≡ of_journal fault }
     {
         match fault {
-            JournalFault::Store(_) => ExitCause::Store,
-            JournalFault::Gap(position) => ExitCause::Gap(position),
-            JournalFault::Memory => ExitCause::Memory,
+            JournalFault::Store(_) => ExitFault::Store,
+            JournalFault::Gap(position) => ExitFault::Gap(position),
+            JournalFault::Memory => ExitFault::Memory,
         }
     }
 
     /// How a refusal to connect is told.
-    pub(crate) fn of_connection(cause: Error) -> ExitCause
+    pub(crate) fn of_connection(cause: Error) -> ExitFault
         ensures { result ≡ of_journal (journal_fault_of cause) }
     {
-        ExitCause::of_journal(JournalFault::from(cause))
+        ExitFault::of_journal(JournalFault::from(cause))
     }
 
     /// How a journal is told that gives no book.
-    pub(crate) fn of_open(fault: OpenFault) -> ExitCause
+    pub(crate) fn of_open(fault: OpenFault) -> ExitFault
         ensures { result ≡ of_open fault }
     {
         match fault {
-            OpenFault::Damaged(line) => ExitCause::Damaged(line),
-            OpenFault::Journal(fault) => ExitCause::of_journal(fault),
-            OpenFault::Memory => ExitCause::Memory,
+            OpenFault::Damaged(line) => ExitFault::Damaged(line),
+            OpenFault::Journal(fault) => ExitFault::of_journal(fault),
+            OpenFault::Memory => ExitFault::Memory,
         }
     }
 
     /// How an end of serving is told.
-    pub(crate) fn of_serve(fault: ServeFault) -> ExitCause
+    pub(crate) fn of_serve(fault: ServeFault) -> ExitFault
         ensures { result ≡ of_serve fault }
     {
         match fault {
-            ServeFault::Read => ExitCause::Input,
-            ServeFault::Write => ExitCause::Output,
-            ServeFault::Journal => ExitCause::Store,
-            ServeFault::Memory => ExitCause::Memory,
+            ServeFault::Read => ExitFault::Input,
+            ServeFault::Write => ExitFault::Output,
+            ServeFault::Journal => ExitFault::Store,
+            ServeFault::Memory => ExitFault::Memory,
         }
     }
 
@@ -86,8 +86,8 @@ impl ExitCause {
         ensures { result ≡ fault_status self }
     {
         match self {
-            ExitCause::Damaged(_) | ExitCause::Gap(_) | ExitCause::Store => REFUSED,
-            ExitCause::Input | ExitCause::Output | ExitCause::Memory => FAILED,
+            ExitFault::Damaged(_) | ExitFault::Gap(_) | ExitFault::Store => REFUSED,
+            ExitFault::Input | ExitFault::Output | ExitFault::Memory => FAILED,
         }
     }
 
@@ -96,20 +96,20 @@ impl ExitCause {
         ensures { WritesReply result (exit_text self) (W.contents faults.old) (W.contents faults.new) }
     {
         match self {
-            ExitCause::Damaged(line) => write_number(faults, b"rollback: damaged ", line, b"\n"),
-            ExitCause::Gap(position) => write_number(faults, b"rollback: gap ", position, b"\n"),
-            ExitCause::Store => write_all(faults, b"rollback: store\n"),
-            ExitCause::Input => write_all(faults, b"rollback: input\n"),
-            ExitCause::Output => write_all(faults, b"rollback: output\n"),
-            ExitCause::Memory => write_all(faults, b"rollback: memory\n"),
+            ExitFault::Damaged(line) => write_number(faults, b"rollback: damaged ", line, b"\n"),
+            ExitFault::Gap(position) => write_number(faults, b"rollback: gap ", position, b"\n"),
+            ExitFault::Store => write_all(faults, b"rollback: store\n"),
+            ExitFault::Input => write_all(faults, b"rollback: input\n"),
+            ExitFault::Output => write_all(faults, b"rollback: output\n"),
+            ExitFault::Memory => write_all(faults, b"rollback: memory\n"),
         }
     }
 }
 
 /// The status of a run's outcome, which is told where it is a fault. Where even that can't be written, the status alone tells it.
-pub(crate) fn end<W: Write>(outcome: Result<(), ExitCause>, faults: &mut W) -> u8
+pub(crate) fn end<W: Write>(outcome: Result<(), ExitFault>, faults: &mut W) -> u8
     ensures status { result ≡ outcome_status outcome }
-    ensures told { IsExitCauseSaid outcome (W.contents faults.old) (W.contents faults.new) }
+    ensures told { IsExitFaultSaid outcome (W.contents faults.old) (W.contents faults.new) }
 {
     match outcome {
         Ok(()) => ENDED,

@@ -6,7 +6,7 @@ mod mode;
 mod running;
 mod writing;
 
-pub use fault::{ENDED, ExitCause, FAILED, REFUSED, USAGE};
+pub use fault::{ENDED, ExitFault, FAILED, REFUSED, USAGE};
 pub use mode::{Mode, ModeRefusal, mode_of, unread_words};
 pub use operator_line as lines;
 pub use running::{finish, has_to_close, refuse, run, run_session};

@@ -11,7 +11,7 @@ ghost use Rattle.operator_line.specs.Texts.{lines_of};
 ghost use Rattle.rollback_run.specs.Faults.{of_journal};
 ghost use Rattle.rollback_run.specs.Status.{GivesNoJournal, GivesJournal, HasOutcome, IsDone, IsPrinted, IsModeRefusal, IsProgramRun, IsServed, IsStatus, OpensJournal, OpensNoJournal, after_closing, has_to_close, is_check, sizes_of, sizes_text};
 
-use crate::fault::{ENDED, ExitCause, FAILED, USAGE, end};
+use crate::fault::{ENDED, ExitFault, FAILED, USAGE, end};
 use crate::mode::{Mode, ModeRefusal};
 use crate::writing::write_number;
 use book_journal::Journal;
@@ -36,7 +36,7 @@ pub fn run<T: Threads + Wait + Sync, S: Alter + Drop, R: Read, W: Write>(
     connection: Result<Connection<S>, Error>,
     reader: &mut R,
     writer: &mut W,
-) -> (Result<(), ExitCause>, Option<Connection<S>>)
+) -> (Result<(), ExitFault>, Option<Connection<S>>)
     ensures { HasOutcome (λ held. state S.Store held) mode.now connection result.0 result.1 (R.remaining reader.old) (R.remaining reader.new) (W.contents writer.old) (W.contents writer.new) }
 {
     match open(alloc, connection) {
@@ -50,7 +50,7 @@ pub fn run<T: Threads + Wait + Sync, S: Alter + Drop, R: Read, W: Write>(
 
 /// Whether the connection has to be closed after a run that ended so: if an input was served to its end on a file's journal. The file alone
 /// has all lines then.
-pub fn has_to_close(mode: &Mode, outcome: Result<(), ExitCause>) -> bool
+pub fn has_to_close(mode: &Mode, outcome: Result<(), ExitFault>) -> bool
     ensures { result ≡ has_to_close mode.now outcome }
 {
     matches!((mode, outcome), (Mode::Journal(_), Ok(())))
@@ -58,7 +58,7 @@ pub fn has_to_close(mode: &Mode, outcome: Result<(), ExitCause>) -> bool
 
 /// The program's status for a run that ended so, and for what closing its file answered. A fault is told on `faults`.
 pub fn finish<W: Write>(
-    outcome: Result<(), ExitCause>,
+    outcome: Result<(), ExitFault>,
     closed: Result<(), Error>,
     faults: &mut W,
 ) -> u8
@@ -68,11 +68,11 @@ pub fn finish<W: Write>(
 }
 
 /// Where all went well, what comes of closing the file.
-fn after_closing(outcome: Result<(), ExitCause>, closed: Result<(), Error>) -> Result<(), ExitCause>
+fn after_closing(outcome: Result<(), ExitFault>, closed: Result<(), Error>) -> Result<(), ExitFault>
     ensures { result ≡ after_closing outcome closed }
 {
     match (outcome, closed) {
-        (Ok(()), Err(cause)) => Err(ExitCause::of_connection(cause)),
+        (Ok(()), Err(cause)) => Err(ExitFault::of_connection(cause)),
         (outcome, _) => outcome,
     }
 }
@@ -84,13 +84,13 @@ pub fn refuse<W: Write, E: Write>(refusal: ModeRefusal, writer: &mut W, faults: 
     match refusal {
         ModeRefusal::Shown(text) => match show(writer, text.as_bytes()) {
             Ok(()) => ENDED,
-            Err(_) => end(Err(ExitCause::Output), faults),
+            Err(_) => end(Err(ExitFault::Output), faults),
         },
         ModeRefusal::Usage => {
             let _ = write_all(faults, USAGE_TEXT);
             USAGE
         }
-        ModeRefusal::Memory => end(Err(ExitCause::Memory), faults),
+        ModeRefusal::Memory => end(Err(ExitFault::Memory), faults),
     }
 }
 
@@ -107,7 +107,7 @@ fn show<W: Write>(writer: &mut W, text: &[u8]) -> Result<(), ServeFault>
 fn open<S: Alter + Drop>(
     alloc: Global,
     connection: Result<Connection<S>, Error>,
-) -> Result<Session<S>, (ExitCause, Option<Connection<S>>)>
+) -> Result<Session<S>, (ExitFault, Option<Connection<S>>)>
     ensures here { IfOk result (λ s. s.is_failed ≡ false) }
     ensures ok { IfOk result (λ s. OpensJournal (λ held. state S.Store held) connection s.journal (session_log s)) }
     ensures err { IfErr result (λ e. OpensNoJournal (λ held. state S.Store held) connection e.1 e.0) }
@@ -117,7 +117,7 @@ fn open<S: Alter + Drop>(
             Ok(session) => Ok(session),
             Err((fault, left)) => Err((fault, Some(left))),
         },
-        Err(cause) => Err((ExitCause::of_connection(cause), None)),
+        Err(cause) => Err((ExitFault::of_connection(cause), None)),
     }
 }
 
@@ -125,7 +125,7 @@ fn open<S: Alter + Drop>(
 fn open_connected<S: Alter + Drop>(
     alloc: Global,
     connection: Connection<S>,
-) -> Result<Session<S>, (ExitCause, Connection<S>)>
+) -> Result<Session<S>, (ExitFault, Connection<S>)>
     ensures here { IfOk result (λ s. s.is_failed ≡ false) }
     ensures ok { IfOk result (λ s. GivesJournal (λ held. state S.Store held) connection s.journal (session_log s)) }
     ensures err { IfErr result (λ e. GivesNoJournal (λ held. state S.Store held) connection e.1 e.0) }
@@ -133,9 +133,9 @@ fn open_connected<S: Alter + Drop>(
     match Journal::open(connection) {
         Ok(journal) => match Session::open(alloc, journal) {
             Ok(session) => Ok(session),
-            Err((fault, journal)) => Err((ExitCause::of_open(fault), journal.into_connection())),
+            Err((fault, journal)) => Err((ExitFault::of_open(fault), journal.into_connection())),
         },
-        Err((fault, left)) => Err((ExitCause::of_journal(fault), left)),
+        Err((fault, left)) => Err((ExitFault::of_journal(fault), left)),
     }
 }
 
@@ -149,7 +149,7 @@ fn run_owned<T: Threads + Wait + Sync, S: Alter + Drop, R: Read, W: Write>(
     session: Session<S>,
     reader: &mut R,
     writer: &mut W,
-) -> (Result<(), ExitCause>, Connection<S>)
+) -> (Result<(), ExitFault>, Connection<S>)
     requires here { session.is_failed ≡ false }
     ensures { IsProgramRun (λ held. state S.Store held) mode.now result.0 (session_log session) session.journal result.1 (R.remaining reader.old) (R.remaining reader.new) (W.contents writer.old) (W.contents writer.new) }
 {
@@ -179,17 +179,17 @@ pub fn run_session<T: Threads + Wait + Sync, S: Alter, R: Read, W: Write>(
     session: &mut Session<S>,
     reader: &mut R,
     writer: &mut W,
-) -> Result<(), ExitCause>
+) -> Result<(), ExitFault>
     ensures done { session.old.is_failed ≡ false → IsDone mode.now result (session_log session.old) (session_log session.new)
         (R.remaining reader.old) (R.remaining reader.new) (W.contents writer.old) (W.contents writer.new) }
     ensures check { is_check mode.now ≡ true → session.new ≡ session.old }
-    ensures failed { session.old.is_failed ≡ true → (result ≡ Err ExitCause.Store) × (session.new ≡ session.old)
+    ensures failed { session.old.is_failed ≡ true → (result ≡ Err ExitFault.Store) × (session.new ≡ session.old)
         × (R.remaining reader.new ≡ R.remaining reader.old) × (W.contents writer.new ≡ W.contents writer.old) }
     ensures handed { is_check mode.now ≡ false → IfSome (R.remaining reader.old) (λ input.
         Hands (KeepsOne (λ held. state S.Store held)) result (lines_of input) session.old.journal session.new.journal) }
 {
     if session.is_failed() {
-        return Err(ExitCause::Store);
+        return Err(ExitFault::Store);
     }
     match mode {
         Mode::InMemory | Mode::Journal(_) => serve_book(rt, alloc, session, reader, writer),
@@ -203,14 +203,14 @@ fn serve_book<T: Threads + Wait + Sync, S: Alter, R: Read, W: Write>(
     session: &mut Session<S>,
     reader: &mut R,
     writer: &mut W,
-) -> Result<(), ExitCause>
+) -> Result<(), ExitFault>
     requires here { session.old.is_failed ≡ false }
     ensures served { IsServed result (session_log session.old) (session_log session.new) (R.remaining reader.old) (W.contents writer.old) (W.contents writer.new) }
     ensures handed { IfSome (R.remaining reader.old) (λ input. Hands (KeepsOne (λ held. state S.Store held)) result (lines_of input) session.old.journal session.new.journal) }
 {
     match serve(rt, alloc, reader, writer, session) {
         Ok(()) => Ok(()),
-        Err(fault) => Err(ExitCause::of_serve(fault)),
+        Err(fault) => Err(ExitFault::of_serve(fault)),
     }
 }
 
@@ -227,12 +227,12 @@ fn sizes(book: Option<&Book>) -> (usize, usize)
     }
 }
 
-fn print_sizes<W: Write>(writer: &mut W, sizes: (usize, usize)) -> Result<(), ExitCause>
+fn print_sizes<W: Write>(writer: &mut W, sizes: (usize, usize)) -> Result<(), ExitFault>
     ensures { IsPrinted result (sizes_text sizes) (W.contents writer.old) (W.contents writer.new) }
 {
     match print(writer, sizes) {
         Ok(()) => Ok(()),
-        Err(_) => Err(ExitCause::Output),
+        Err(_) => Err(ExitFault::Output),
     }
 }
 
