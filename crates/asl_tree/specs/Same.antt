@@ -4,7 +4,7 @@ use Rattle.std.proofs.Common.{ap, sym, ◌∙◌}
 use Rattle.std.proofs.lemmas.Bool.{eqb-true, eq-eqb}
 use Rattle.std.specs.Cmp.Derive.{both_true}
 use Rattle.std.specs.Option.{option_eq}
-use Rattle.asl_states.specs.PathSame.{same_text, same_path, same_payload, IsExact, exact, first_true, second_true, text_exact, path_exact, payload_exact, option_exact}
+use Rattle.asl_states.specs.PathSame.{same_text, same_payload_path, same_payload, IsExact, exact, first_true, second_true, text_exact, path_exact, payload_exact, option_exact}
 use Rattle.asl_states.specs.ErrorSame.{same_handling, handling_exact}
 use Rattle.asl_tree.specs.Definition.{StateTree, pass, task, choice, wait, succeed, fail, parallel, map_over, MachineTree, machine, MachineTrees, no_machines, branch, NamedStates, no_states, named, Definition, states_in, named_states, definition_in, machine_tree}
 use Rattle.asl_states.specs.Same.{same_transition, same_processing, same_pass, same_task, same_choice, same_wait, same_succeed, same_fail, transition_exact, processing_exact, pass_exact, task_exact, choice_exact, wait_exact, succeed_exact, fail_exact}
@@ -19,7 +19,7 @@ abbrev mutual
   same_state (fail s) (fail t) = same_fail s t
   same_state (parallel ms p e t) (parallel ns q f u) = same_machines ms ns && (same_processing p q && (same_handling e f && same_transition t u))
   same_state (map_over m path selector k p e t) (map_over n way chooser l q f u) =
-      same_machine m n && (same_path path way && (option_eq same_payload selector chooser && ((k == l) && (same_processing p q && (same_handling e f && same_transition t u)))))
+      same_machine m n && (same_payload_path path way && (option_eq same_payload selector chooser && ((k == l) && (same_processing p q && (same_handling e f && same_transition t u)))))
   same_state _ _ = false
 
   pub same_machine : MachineTree → MachineTree → Bool
@@ -69,7 +69,7 @@ mutual
       let machines : m ≡ n = machine_one m n (first_true _ _ h) in
       let h1 = second_true (same_machine m n) _ h in
       let items : path ≡ way = (path_exact path way).0 (first_true _ _ h1) in
-      let h2 = second_true (same_path path way) _ h1 in
+      let h2 = second_true (same_payload_path path way) _ h1 in
       let selection : selector ≡ chooser = (option_exact same_payload payload_exact selector chooser).0 (first_true _ _ h2) in
       let h3 = second_true (option_eq same_payload selector chooser) _ h2 in
       let bound : k ≡ l = equal_numbers k l (first_true _ _ h3) in

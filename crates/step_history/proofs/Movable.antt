@@ -14,7 +14,7 @@ use Rattle.asl_frames.specs.declared.frame.Phase.{Phase}
 use Rattle.asl_frames.specs.declared.frame.Phase.TheVariants.{Ready, Parked, Done, Failed}
 use Rattle.asl_forward.specs.declared.prepared.Outcome.{Outcome}
 use Rattle.asl_forward.specs.declared.prepared.Outcome.TheVariants as outcome
-use Rattle.saved_steps.specs.BranchFirst.{is_enabled}
+use Rattle.saved_steps.specs.BranchFirst.{is_free_to_move}
 use Rattle.saved_steps.specs.FlatMap.{FrameMap, is_parked}
 use Rattle.saved_steps.specs.Paths.{Path}
 use Rattle.saved_steps.specs.Bounds.{place_of}
@@ -92,7 +92,7 @@ turn_moves s w name at f (outcome.Fork g fs) so = refl
 turn_moves s w name at f (outcome.Call c) so = some_mapped (λ (x : Work). call_effect name at.0 x f (table.in_form s.table s.schema w.items c)) (state_work at.1) so
 
 close_moves : (name : StepName) (at : Location) (f : Frame) (fault : Option Fault) (all : Option (List Data)) → is_some (state_work at.1) ≡ true
-    → is_some (close_effect name at f fault all) ≡ is_enabled (progress (is_some fault) (is_some all))
+    → is_some (close_effect name at f fault all) ≡ is_free_to_move (progress (is_some fault) (is_some all))
 close_moves name at f (Some fault) all works = refl
 close_moves name at f None None works = refl
 close_moves name at f None (Some ds) works = some_mapped (λ (x : Work). own_effect Join name (after_join at.0 x f ds)) (state_work at.1) works
@@ -105,25 +105,25 @@ module _ (s : Setting) (w : World) (t : Thread) where
   abbrev begins : Bool
   begins = begins_under true (paths_of w.frames t.exec) (place_of t.path)
 
-  first_moves : (f : Frame) (o : Option Effect) → is_some o ≡ true → is_some (turn_effect w.frames t f o) ≡ is_enabled (cond (f.count == 0 && not begins) readiness.Waiting readiness.Ready)
+  first_moves : (f : Frame) (o : Option Effect) → is_some o ≡ true → is_some (turn_effect w.frames t f o) ≡ is_free_to_move (cond (f.count == 0 && not begins) readiness.Waiting readiness.Ready)
   first_moves f o h = by (f.count == 0 && not begins) o h
     where
-      by : (b : Bool) (o : Option Effect) → is_some o ≡ true → is_some (cond b None (option_map (effect_with_bound (first_bound w.frames t f)) o)) ≡ is_enabled (cond b readiness.Waiting readiness.Ready)
+      by : (b : Bool) (o : Option Effect) → is_some o ≡ true → is_some (cond b None (option_map (effect_with_bound (first_bound w.frames t f)) o)) ≡ is_free_to_move (cond b readiness.Waiting readiness.Ready)
       by true o h = refl
       by false o h = some_mapped (effect_with_bound (first_bound w.frames t f)) o h
 
-  moves_by : (at : Location) (f : Frame) (p : Phase) → (is_parked p ≡ true → is_some (state_work at.1) ≡ true) → is_some (effect_in s w t at f p) ≡ is_enabled (readiness_in begins below f.count p)
+  moves_by : (at : Location) (f : Frame) (p : Phase) → (is_parked p ≡ true → is_some (state_work at.1) ≡ true) → is_some (effect_in s w t at f p) ≡ is_free_to_move (readiness_in begins below f.count p)
   moves_by at f Ready works = first_moves f (effect_of_turn s w (next_step t f) at f (turn at f)) (turn_moves s w (next_step t f) at f (turn at f) (turn_so at.0 at.1 f))
   moves_by at f (Parked n bound) works =
       let kid : ℕ → Option Frame = λ i. w.frames (child_of t f.count i) in
       let is = range_with_len 0 n in
       close_moves (next_step t f) at f (first_fault (map kid is)) (outputs (map kid is)) (works refl)
-      ∙ ap (λ (b : Bool). is_enabled (progress b (is_some (outputs (map kid is))))) (fault_among kid is)
-      ∙ ap (λ (b : Bool). is_enabled (progress (list_any (λ i. frame_is has_failed (kid i)) is) b)) (outputs_of kid is)
+      ∙ ap (λ (b : Bool). is_free_to_move (progress b (is_some (outputs (map kid is))))) (fault_among kid is)
+      ∙ ap (λ (b : Bool). is_free_to_move (progress (list_any (λ i. frame_is has_failed (kid i)) is) b)) (outputs_of kid is)
   moves_by at f (Done output) works = refl
   moves_by at f (Failed fault) works = refl
 
-  moves_where : HasWellFormedMachines s → (o : Option Frame) → ((f : Frame) → o ≡ Some f → Placed s (length t.path) f) → is_some (option_and_then (frame_effect s w t) o) ≡ is_enabled (readiness_of begins below o)
+  moves_where : HasWellFormedMachines s → (o : Option Frame) → ((f : Frame) → o ≡ Some f → Placed s (length t.path) f) → is_some (option_and_then (frame_effect s w t) o) ≡ is_free_to_move (readiness_of begins below o)
   moves_where whole None all = refl
   moves_where whole (Some f) all =
       let p = all f refl in
@@ -136,4 +136,4 @@ module _ (s : Setting) (w : World) (t : Thread) where
 pub threads_move : ThreadsMoveWhereReady
 threads_move s base ts h t whole is =
     let w = world_view h.world in
-    moves_where s w t whole (w.frames t) (placed s whole base ts h is t) ∙ ap (λ (o : Option Frame). is_enabled (readiness_of (begins s w t) (below s w t) o)) (sym (itself s w t))
+    moves_where s w t whole (w.frames t) (placed s whole base ts h is t) ∙ ap (λ (o : Option Frame). is_free_to_move (readiness_of (begins s w t) (below s w t) o)) (sym (itself s w t))

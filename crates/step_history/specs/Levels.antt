@@ -3,7 +3,7 @@ use Rattle.std.specs.Prelude.{◌≡◌, ◌≤◌, ◌<◌, ℕ, List, length, 
 use Rattle.asl_tree.specs.Levels.{IsWellFormedThroughout}
 use Rattle.asl_frames.specs.declared.frame.Frame.{Frame}
 use Rattle.asl_frames.specs.declared.frame.Phase.TheVariants.{Parked}
-use Rattle.saved_steps.specs.BranchFirst.{is_enabled}
+use Rattle.saved_steps.specs.BranchFirst.{is_free_to_move}
 use Rattle.saved_steps.specs.Ready.{readiness_at}
 use Rattle.step_names.specs.Thread.{Thread}
 use Rattle.saved_steps.specs.Effects.{stands, move_effect}
@@ -37,4 +37,4 @@ FramesStand =
 abbrev pub ThreadsMoveWhereReady : Type 0
 ThreadsMoveWhereReady =
     (s : Setting) (base : World) (ts : List TakenStep) (h : History) (t : Thread)
-    → HasWellFormedMachines s → IsHistory s base ts h → is_some (move_effect s (world_view h.world) t) ≡ is_enabled (readiness_at (paths_of (frames_of h.world) t.exec) t.path)
+    → HasWellFormedMachines s → IsHistory s base ts h → is_some (move_effect s (world_view h.world) t) ≡ is_free_to_move (readiness_at (paths_of (frames_of h.world) t.exec) t.path)
