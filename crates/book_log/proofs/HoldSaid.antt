@@ -7,13 +7,13 @@ use Rattle.depends.specs.Dependence.{depends_directly}
 use Rattle.depends.specs.Fact.{Fact}
 use Rattle.depends.specs.Instance.{TakenStep}
 use Rattle.book_log.specs.Answers.{remains, absent, needed_left, unless_held, hold_answer, is_full_for_define}
-use Rattle.book_log.specs.Log.{Log, Remainder, appended, step_on_hold, held_after, left_by, left_in, left_of, consequences_of, past_of, remainder, setting_of}
+use Rattle.book_log.specs.Log.{Log, Remainder, appended, step_on_hold, left_by, left_in, left_of, consequences_of, past_of, remainder, setting_of, after_entry}
 use Rattle.book_log.specs.declared.entry.Entry.{Entry}
 use Rattle.book_log.specs.declared.refusal.Refusal.{Refusal}
 use Rattle.book_log.specs.declared.refusal.Refusal.TheVariants.{Held, Full}
 use Rattle.book_log.proofs.Standing.{remainder_next}
 
-pub held_next : (log : Log) (e : Entry) → step_on_hold (appended log e) ≡ held_after log.begin (remainder log) e
+pub held_next : (log : Log) (e : Entry) → step_on_hold (appended log e) ≡ (after_entry log.begin (remainder log) e).held
 held_next log e = ap (λ (r : Remainder). r.held) (remainder_next log e)
 
 hold_split : (b full : Bool) (o : Option StepName) (count n : ℕ) (gone : Refusal) → (if b then unless_held o (if full then Err Full else Ok n) else Err gone) ≡ Ok count → (b ≡ true) × (o ≡ None) × (full ≡ false) × (n ≡ count)

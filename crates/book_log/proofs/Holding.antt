@@ -20,7 +20,7 @@ use Rattle.depends.proofs.Named.{steps_have_names}
 use Rattle.book_log.specs.Answers.{from_step, remains, needed_left}
 use Rattle.book_log.specs.Laws.{LeftIsAfter, HoldsStand, lowered_by, entries_lowered, IsHeldThroughout, HoldsAreShared}
 use Rattle.book_log.specs.Legal.{IsAccepted, GoesOnLegally, IsLegal}
-use Rattle.book_log.specs.Log.{Log, appended, base_of, remaining, step_on_hold, held_after, while_in, left_by, left_in, left_of, steps_but, rolled_back, consequences_of, remainder, setting_of, world_of, past_of}
+use Rattle.book_log.specs.Log.{Log, appended, base_of, remaining, step_on_hold, while_in, left_by, left_in, left_of, steps_but, rolled_back, consequences_of, remainder, setting_of, world_of, past_of, after_entry}
 use Rattle.book_log.specs.declared.begin.Begin.{Begin}
 use Rattle.book_log.specs.declared.entry.Entry.{Entry}
 use Rattle.book_log.specs.declared.entry.Entry.TheVariants.{Define, Start, Step as Stepped, Undo, Rollback, Settle, Hold}
@@ -57,7 +57,7 @@ while_said ss (Some n) name h =
 abbrev pub HoldRemains : Log → Type 0
 HoldRemains log = (name : StepName) → step_on_hold log ≡ Some name → HasName name (remaining log)
 
-still : (log : Log) (e : Entry) → held_after log.begin (remainder log) e ≡ step_on_hold log → ((x : Step) → In x (remaining log) → In x (remaining (appended log e))) → HoldRemains log → HoldRemains (appended log e)
+still : (log : Log) (e : Entry) → (after_entry log.begin (remainder log) e).held ≡ step_on_hold log → ((x : Step) → In x (remaining log) → In x (remaining (appended log e))) → HoldRemains log → HoldRemains (appended log e)
 still log e same kept p name h = let r = p name (sym same ∙ sym (held_next log e) ∙ h) in (r.0, kept r.0 r.1, r.2)
 
 same_steps : (log : Log) (e : Entry) → remaining (appended log e) ≡ remaining log → (x : Step) → In x (remaining log) → In x (remaining (appended log e))
@@ -66,7 +66,7 @@ same_steps log e same x i = subst (In x) (sym same) i
 one_step_more : (log : Log) (e : Entry) (step : Step) → remaining (appended log e) ≡ remaining log ++ step ∷ [] → (x : Step) → In x (remaining log) → In x (remaining (appended log e))
 one_step_more log e step same x i = subst (In x) (sym same) (In-front x (remaining log) (step ∷ []) i)
 
-fewer : (log : Log) (e : Entry) (ss : List Step) → held_after log.begin (remainder log) e ≡ while_in ss (step_on_hold log) → remaining (appended log e) ≡ ss → HoldRemains (appended log e)
+fewer : (log : Log) (e : Entry) (ss : List Step) → (after_entry log.begin (remainder log) e).held ≡ while_in ss (step_on_hold log) → remaining (appended log e) ≡ ss → HoldRemains (appended log e)
 fewer log e ss while same name h = subst (HasName name) (sym same) (while_said ss (step_on_hold log) name (sym while ∙ sym (held_next log e) ∙ h)).1
 
 -- ---- a step that remains

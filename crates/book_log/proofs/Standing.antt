@@ -28,7 +28,7 @@ use Rattle.depends.proofs.Named.{steps_have_names}
 use Rattle.depends.proofs.Planned.{planned}
 use Rattle.depends.proofs.Worlds.{effect_taken}
 use Rattle.depends.proofs.Extended.{runs_more}
-use Rattle.book_log.specs.Log.{Log, Remainder, appended, setting_in, first_world, world_after, base_in, base_of, settled, settled_after, steps_after, run_in, world_in, past_in, consequences_in, steps_but, rolled_back, with_machine, after_entry, nothing, remainder, remaining, setting_of, run_of, world_of, past_of, consequences_of}
+use Rattle.book_log.specs.Log.{Log, Remainder, appended, setting_in, first_world, world_after, base_in, base_of, settled, run_in, world_in, past_in, consequences_in, steps_but, rolled_back, with_machine, after_entry, nothing, remainder, remaining, setting_of, run_of, world_of, past_of, consequences_of}
 use Rattle.book_log.specs.declared.begin.Begin.{Begin}
 use Rattle.book_log.specs.declared.entry.Entry.{Entry}
 use Rattle.book_log.specs.declared.entry.Entry.TheVariants.{Define, Start, Step as Stepped, Undo, Rollback, Settle, Hold}
@@ -164,20 +164,20 @@ pub remainder_next : (log : Log) (e : Entry) → remainder (appended log e) ≡ 
 unfolding remainder
 remainder_next log e = fold-append (after_entry log.begin) nothing log.entries (e ∷ [])
 
-pub settled_next : (log : Log) (e : Entry) → settled (appended log e) ≡ settled_after (remainder log) e
+pub settled_next : (log : Log) (e : Entry) → settled (appended log e) ≡ (after_entry log.begin (remainder log) e).settled
 settled_next log e = ap (λ (r : Remainder). r.settled) (remainder_next log e)
 
 -- an entry that defines nothing and settles nothing leaves the base
-pub base_kept : (log : Log) (e : Entry) → setting_in log.begin (after_entry log.begin (remainder log) e) ≡ setting_of log → settled_after (remainder log) e ≡ settled log → base_of (appended log e) ≡ base_of log
+pub base_kept : (log : Log) (e : Entry) → setting_in log.begin (after_entry log.begin (remainder log) e) ≡ setting_of log → (after_entry log.begin (remainder log) e).settled ≡ settled log → base_of (appended log e) ≡ base_of log
 base_kept log e setting same = base_same (appended log e) log (ap (setting_in log.begin) (remainder_next log e) ∙ setting) refl (settled_next log e ∙ same)
 
-pub steps_next : (log : Log) (e : Entry) → remaining (appended log e) ≡ steps_after log.begin (remainder log) e
+pub steps_next : (log : Log) (e : Entry) → remaining (appended log e) ≡ (after_entry log.begin (remainder log) e).steps
 steps_next log e = ap (λ (r : Remainder). r.steps) (remainder_next log e)
 
 -- after an entry a log stands where the settled steps and those that remain then are run
 pub stands_next : (log : Log) (e : Entry) (s : Setting) (base w : World) (before ts : List TakenStep) → setting_in log.begin (after_entry log.begin (remainder log) e) ≡ s
-    → run (steps s) (first_world log.begin) (settled_after (remainder log) e) ≡ Some (base, before)
-    → run (steps s) base (steps_after log.begin (remainder log) e) ≡ Some (w, ts) → StandsAt (appended log e) s w ts
+    → run (steps s) (first_world log.begin) (after_entry log.begin (remainder log) e).settled ≡ Some (base, before)
+    → run (steps s) base (after_entry log.begin (remainder log) e).steps ≡ Some (w, ts) → StandsAt (appended log e) s w ts
 stands_next log e s base w before ts setting leads runs =
     let begin = log.begin in
     let r = after_entry begin (remainder log) e in

@@ -85,49 +85,23 @@ with_machine machines name machine n = if is_text name n then Some machine else 
 
 -- ---- after one more entry
 
-abbrev pub machines_after : Remainder → Entry → List ℕ → Option Definition
-machines_after r (Define name machine) = with_machine r.machines name machine
-machines_after r (Start exec machine input) = r.machines
-machines_after r (Stepped name kind) = r.machines
-machines_after r (Undo name) = r.machines
-machines_after r (Rollback name undone) = r.machines
-machines_after r Settle = r.machines
-machines_after r (Hold name count) = r.machines
-
-abbrev pub settled_after : Remainder → Entry → List Step
-settled_after r (Define name machine) = r.settled
-settled_after r (Start exec machine input) = r.settled
-settled_after r (Stepped name kind) = r.settled
-settled_after r (Undo name) = r.settled
-settled_after r (Rollback name undone) = r.settled
-settled_after r Settle = r.settled ++ r.steps
-settled_after r (Hold name count) = r.settled
-
-abbrev pub steps_after : Begin → Remainder → Entry → List Step
-steps_after begin r (Define name machine) = r.steps
-steps_after begin r (Start exec machine input) = r.steps ++ started exec.exec machine input ∷ []
-steps_after begin r (Stepped name kind) = r.steps ++ moved name ∷ []
-steps_after begin r (Undo name) = steps_but name r.steps
-steps_after begin r (Rollback name undone) = rolled_back begin r name
-steps_after begin r Settle = []
-steps_after begin r (Hold name count) = r.steps
-
 -- a hold lasts as long as its step remains
 abbrev pub while_in : List Step → Option StepName → Option StepName
 while_in ss None = None
 while_in ss (Some name) = if list_any (λ s. is_same_step name (name_of s)) ss then Some name else None
 
-abbrev pub held_after : Begin → Remainder → Entry → Option StepName
-held_after begin r (Define name machine) = r.held
-held_after begin r (Start exec machine input) = r.held
-held_after begin r (Stepped name kind) = r.held
-held_after begin r (Undo name) = while_in (steps_but name r.steps) r.held
-held_after begin r (Rollback name undone) = while_in (rolled_back begin r name) r.held
-held_after begin r Settle = None
-held_after begin r (Hold name count) = Some name
+-- the remainder without these steps: what is left, and what was held as long as it is left
+abbrev pub left_with : Remainder → List Step → Remainder
+left_with r ss = record r { steps = ss; held = while_in ss r.held }
 
 abbrev pub after_entry : Begin → Remainder → Entry → Remainder
-after_entry begin r e = record { machines = machines_after r e; settled = settled_after r e; steps = steps_after begin r e; held = held_after begin r e }
+after_entry begin r (Define name machine) = record r { machines = with_machine r.machines name machine }
+after_entry begin r (Start exec machine input) = record r { steps = r.steps ++ started exec.exec machine input ∷ [] }
+after_entry begin r (Stepped name kind) = record r { steps = r.steps ++ moved name ∷ [] }
+after_entry begin r (Undo name) = left_with r (steps_but name r.steps)
+after_entry begin r (Rollback name undone) = left_with r (rolled_back begin r name)
+after_entry begin r Settle = record r { settled = r.settled ++ r.steps; steps = []; held = None }
+after_entry begin r (Hold name count) = record r { held = Some name }
 
 abbrev pub nothing : Remainder
 nothing = record { machines = λ name. None; settled = []; steps = []; held = None }

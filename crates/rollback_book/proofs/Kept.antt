@@ -22,7 +22,7 @@ use Rattle.step_history.specs.History.{TakenStep}
 use Rattle.step_history.proofs.Planned.{Undoes}
 use Rattle.step_index.specs.Held.{Held, AreLeft, count_left}
 use Rattle.book_log.specs.Legal.{IsAccepted, IsLegal}
-use Rattle.book_log.specs.Log.{Log, appended, base_of, remainder, remaining, step_on_hold, held_after, while_in, left_by, left_of, past_of, setting_of, world_of, consequences_of}
+use Rattle.book_log.specs.Log.{Log, appended, base_of, remainder, remaining, step_on_hold, while_in, left_by, left_of, past_of, setting_of, world_of, consequences_of, after_entry}
 use Rattle.book_log.specs.declared.entry.Entry.{Entry}
 use Rattle.book_log.specs.declared.entry.Entry.TheVariants.{Define, Start, Step as Stepped, Undo, Rollback, Settle, Hold as HoldEntry}
 use Rattle.book_log.proofs.HoldSaid.{held_next, nothing_left}
@@ -178,7 +178,7 @@ can_take_out log s w rest places rs (Some g) h undoes k many =
     subst (λ (n : ℕ). AreWithin n places) (sym (k.1.many ∙ many)) (undone_within s base have places ts rest (λ x y b. have.once ts w x y (is_run log s w ts h) b) undoes)
 
 -- what is held was held
-pub held_before : (log : Log) (e : Entry) (ss : List Step) → held_after log.begin (remainder log) e ≡ while_in ss (step_on_hold log) → (name : StepName) → step_on_hold (appended log e) ≡ Some name → step_on_hold log ≡ Some name
+pub held_before : (log : Log) (e : Entry) (ss : List Step) → (after_entry log.begin (remainder log) e).held ≡ while_in ss (step_on_hold log) → (name : StepName) → step_on_hold (appended log e) ≡ Some name → step_on_hold log ≡ Some name
 held_before log e ss while name h = (while_said ss (step_on_hold log) name (sym while ∙ sym (held_next log e) ∙ h)).0
 
 -- ---- a hold begins

@@ -18,7 +18,7 @@ use Rattle.step_history.specs.History.{TakenStep, IsHistory, history_items, hist
 use Rattle.step_history.proofs.Left.{as_many, facts_alike}
 use Rattle.book_log.specs.Answers.{is_full_for_step, is_full_for_define}
 use Rattle.book_log.specs.Legal.{IsLegal}
-use Rattle.book_log.specs.Log.{Log, appended, base_of, settled, settled_after, remainder, remaining, setting_of, world_of, past_of}
+use Rattle.book_log.specs.Log.{Log, appended, base_of, settled, remainder, remaining, setting_of, world_of, past_of, after_entry}
 use Rattle.book_log.specs.declared.entry.Entry.{Entry}
 use Rattle.book_log.proofs.LegalRuns.{legal_stands}
 use Rattle.book_log.proofs.Standing.{StandsAt, stands_in, settled_next, world_there, past_there, steps_run, names_there, fact_named}
@@ -58,7 +58,7 @@ tied_by b s base w ts legal h same was machines names holds room few bounded =
     }
 
 -- an entry that settles nothing leaves the names of what was settled
-pub same_names : (b : BookView) (e : Entry) → BookInvariant b → settled_after (remainder b.log) e ≡ settled b.log → b.settled.items ≡ map name_of (settled (appended b.log e))
+pub same_names : (b : BookView) (e : Entry) → BookInvariant b → (after_entry b.log.begin (remainder b.log) e).settled ≡ settled b.log → b.settled.items ≡ map name_of (settled (appended b.log e))
 same_names b e tied same = tied.names ∙ ap (map name_of) (sym (settled_next b.log e ∙ same))
 
 module _ (b : BookView) (tied : BookInvariant b) where

@@ -17,4 +17,4 @@ pub use laws::{
     more_machines_keep_histories, threads_move_where_ready,
 };
 pub use settled_names::SettledNames;
-pub use step_index::{Looks, StepRecords};
+pub use step_index::StepRecords;

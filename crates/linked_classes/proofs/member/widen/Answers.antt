@@ -1,4 +1,4 @@
-use Rattle.std.proofs.Common.{ℕ, List, Option, None, ◌≤◌, ◌-◌, ◌++◌, ◌∙◌, arith, ap}
+use Rattle.std.proofs.Common.{ℕ, List, Option, None, ◌-◌, ◌++◌, ◌∙◌, arith, ap}
 use Rattle.std.specs.Prelude.{replicate}
 use Rattle.std.specs.Vec.{vec_len}
 use Rattle.std.proofs.lemmas.List.{take_all}
