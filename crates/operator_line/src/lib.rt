@@ -5,7 +5,7 @@ mod driving;
 mod laws;
 mod line;
 mod open_session;
-mod serving;
+mod worker;
 mod session;
 mod working;
 

@@ -8,8 +8,8 @@ use Rattle.step_workers.specs.Work.{PassGoesOn, AreWrittenTaken}
 use Rattle.step_workers.specs.declared.allowance.Allowance.{Allowance}
 use Rattle.step_workers.specs.declared.seat.Seat.{Seat}
 use Rattle.step_workers.specs.declared.seat.Served.{Served}
-use Rattle.step_workers.specs.declared.serving.NextTicket.{NextTicket}
-use Rattle.step_workers.specs.declared.serving.NextTicket.TheVariants as next
+use Rattle.step_workers.specs.declared.worker.NextTicket.{NextTicket}
+use Rattle.step_workers.specs.declared.worker.NextTicket.TheVariants as next
 
 -- memory for the numbers of as many tickets as it may take
 abbrev pub IsRoomy : Allowance → Type 0

@@ -12,9 +12,9 @@ mod outcome;
 mod running;
 mod seat;
 mod seating;
-mod serving;
 mod taking_back;
 mod undoing;
+mod worker;
 mod working;
 
 pub use gate::{Gate, OpenGate};

@@ -9,7 +9,7 @@ use crate::board::Board;
 use crate::dispatching::{Dispatcher, dispatch};
 use crate::gate::Gate;
 use crate::seat::{Seat, Served};
-use crate::serving::serve;
+use crate::worker::serve;
 use book_events::{Events, Ticket};
 use shared_book::{Shared, Sharing};
 use slip_queue::Slips;

@@ -1,6 +1,6 @@
 use Rattle.std.proofs.Common.{◌≡◌}
 use Rattle.step_workers.specs.Seats.{IsTaking, KeepsSeat}
-use Rattle.step_workers.proofs.serving.next_ticket.Given as goal
+use Rattle.step_workers.proofs.worker.next_ticket.Given as goal
 
 abbrev pub invariant-loop : goal.invariant-loop
 invariant-loop g l = record {

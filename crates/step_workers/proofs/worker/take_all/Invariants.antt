@@ -1,7 +1,7 @@
 use Rattle.std.proofs.Common.{◌≡◌, length}
 use Rattle.step_workers.specs.Seats.{IsTaking}
 use Rattle.step_workers.specs.Work.{PassGoesOn}
-use Rattle.step_workers.proofs.serving.take_all.Given as goal
+use Rattle.step_workers.proofs.worker.take_all.Given as goal
 
 abbrev pub invariant-loop : goal.invariant-loop
 invariant-loop g l = record {

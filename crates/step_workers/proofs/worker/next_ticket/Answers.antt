@@ -1,7 +1,7 @@
 use Rattle.std.proofs.Common.{arith}
 use Rattle.std.proofs.lemmas.List.{length_push}
 use Rattle.step_workers.proofs.Sums.{taken_besides, written_more}
-use Rattle.step_workers.proofs.serving.next_ticket.Goals as goal
+use Rattle.step_workers.proofs.worker.next_ticket.Goals as goal
 
 pub returns-in-Some-None-clause-taking : goal.returns-in-Some-None-clause-taking
 returns-in-Some-None-clause-taking g c = record {

@@ -1,6 +1,6 @@
 use Rattle.std.proofs.Common.{◌+◌, ◌∙◌, length, arith}
 use Rattle.step_workers.proofs.Going.{goes_more, goes_within}
-use Rattle.step_workers.proofs.serving.take_all.Goals as goal
+use Rattle.step_workers.proofs.worker.take_all.Goals as goal
 
 pub returns-in-Err-clause-goes : goal.returns-in-Err-clause-goes
 returns-in-Err-clause-goes g c =
