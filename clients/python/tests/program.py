@@ -37,6 +37,8 @@ def call(name, **parameters):
 PUT = call("putItem", Item={"id": {"S": "k"}, "v": {"S.$": "$.v"}})
 ECHO = {"StartAt": "P", "States": {"P": {"Type": "Pass", "End": True}}}
 LOOP = {"StartAt": "A", "States": {"A": {"Type": "Pass", "Next": "A"}}}
+# How many seconds is waited for what has to come. It only ends a test that hangs: no slow machine needs so long.
+PATIENCE = 900
 # Files are made in memory, if there is room: each line of a journal waits for its disk, and a busy one takes minutes for all tests.
 FOLDER = "/dev/shm" if os.access("/dev/shm", os.W_OK) and shutil.disk_usage("/dev/shm").free > 1 << 28 else None
 LISTS = ("items", "history", "plan", "rollback", "drive", "work", "held")
@@ -85,7 +87,7 @@ def takes_work(book):
     return True
 
 
-def connected(address, timeout=60):
+def connected(address, timeout=PATIENCE):
     """A plain connection to a server of lines."""
     if ":" in address and "/" not in address:
         host, _, port = address.rpartition(":")
@@ -135,7 +137,7 @@ class Server:
 
     def child(self):
         """The number of the program's process."""
-        ends = time.monotonic() + 60
+        ends = time.monotonic() + PATIENCE
         while time.monotonic() < ends:
             found = pathlib.Path(f"/proc/{self.process.pid}/task/{self.process.pid}/children").read_text().split()
             if found:
@@ -143,7 +145,7 @@ class Server:
             time.sleep(0.01)
         raise AssertionError("the server has no child")
 
-    def end(self, seconds=120, number=signal.SIGTERM):
+    def end(self, seconds=PATIENCE, number=signal.SIGTERM):
         """Ends the server, and gives its status and what it said on standard error."""
         if self.process.poll() is None:
             self.process.send_signal(number)
@@ -168,12 +170,12 @@ class Served(InFolder):
     def begun(self, *words, machine=PASS, **more):
         """A server whose book has a table and the machine `p`."""
         server = self.serve(*words, **more)
-        with Book.connect(server.address, timeout=60) as book:
+        with Book.connect(server.address, timeout=PATIENCE) as book:
             book.table("items", {"id": "S"})
             book.define("p", machine)
         return server
 
-    def refused(self, *words, program=PROGRAM, seconds=300, python=sys.executable):
+    def refused(self, *words, program=PROGRAM, seconds=PATIENCE, python=sys.executable):
         """The status of a server that doesn't serve, and what it says on standard error."""
         command = [python, "-m", "rollback_client.serve", "--program", program, *words]
         done = subprocess.run(
@@ -188,7 +190,7 @@ class Served(InFolder):
         self.assertNotIn(b"Traceback", done.stderr)
         return done.returncode, done.stderr.decode()
 
-    def plain(self, server, timeout=60):
+    def plain(self, server, timeout=PATIENCE):
         """A plain connection, with its lines."""
         stream = connected(server.address, timeout)
         self.addCleanup(stream.close)
@@ -196,7 +198,7 @@ class Served(InFolder):
         self.addCleanup(lines.close)
         return stream, lines
 
-    def until(self, is_so, seconds=60):
+    def until(self, is_so, seconds=PATIENCE):
         """Waits until something is so."""
         ends = time.monotonic() + seconds
         while not is_so():
