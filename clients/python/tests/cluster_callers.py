@@ -42,6 +42,11 @@ class Said:
         """Whether it has changed nothing for certain."""
         return self.reply is not None and not self.reply.startswith("ok")
 
+    @property
+    def is_refused_by_book(self):
+        """Whether the book refuses it, as it would with room and a leader: such a line isn't kept."""
+        return self.is_refused and not self.reply.startswith("no 40")
+
 
 class Caller:
     """Starts, steps and takes back executions of its own, and steps one that all share, a line after another.

@@ -18,7 +18,7 @@ import urllib.request
 from rollback_client.lines import lines_after
 from tests import certificates
 from tests.certificates import Authority, context_of
-from tests.program import PROGRAM, TOP, follower
+from tests.program import PATIENCE, PROGRAM, TOP, follower
 
 LISTS = ("items", "history", "plan", "rollback", "drive", "work", "held")
 PREFIX = "/rollback/orders"
@@ -62,7 +62,7 @@ def free_ports(count):
 def run_command(words, given=None):
     """Runs a command of the client's folder to its end."""
     folder = TOP / "clients/python"
-    return subprocess.run(words, input=given, capture_output=True, text=True, cwd=folder, timeout=600, check=False)
+    return subprocess.run(words, input=given, capture_output=True, text=True, cwd=folder, timeout=PATIENCE, check=False)
 
 
 def encoded(text):
@@ -340,7 +340,7 @@ class Cluster:
         except asyncio.TimeoutError:
             raise OSError("no connection in time") from None
 
-    async def until(self, holds, seconds=120):
+    async def until(self, holds, seconds=PATIENCE):
         """Waits until a coroutine function answers something true, and gives that."""
         ends, last = time.monotonic() + seconds, None
         while time.monotonic() < ends:
@@ -352,7 +352,7 @@ class Cluster:
             await asyncio.sleep(0.05)
         raise AssertionError(f"{holds.__name__} doesn't hold after {seconds} s: {last!r}")
 
-    async def ask(self, number, line, seconds=120):
+    async def ask(self, number, line, seconds=PATIENCE):
         """One line to one server, or to the one that leads, again until it is taken."""
 
         async def answered():

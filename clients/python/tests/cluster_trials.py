@@ -20,7 +20,7 @@ from rollback_client import AsyncBook, Book, ConnectionLost, Done, NoServer, Not
 from rollback_client.copy import copy_book
 from rollback_client.lines import MOST_BYTES
 from tests.cluster_callers import SETUP, Caller, Reader, Said, started
-from tests.cluster_checks import check, journals_agree, log_lines
+from tests.cluster_checks import KEPT, check, journals_agree, log_lines
 from tests.certificates import Authority
 from tests.cluster_machines import PREFIX, Cluster, Connection, encoded, follower_of, has_followed, run_command
 from tests.cluster_pages import pages_follow
@@ -66,11 +66,15 @@ class Trial:
             since = [each for each in self.said[-800:] if each.sent > moment and each.word in ("start", "step")]
             return next((each.answered - moment for each in since if each.reply and not each.is_refused), 0)
 
-        seconds = await self.cluster.until(found, 240)
+        seconds = await self.cluster.until(found)
         if most is not None:
             assert seconds <= allowed(most), f"accepted again after {seconds:.1f} s, and not within {allowed(most)} s"
         self.gone.append(seconds)
         return seconds
+
+    def was_told(self, reply):
+        """Whether a line had this reply."""
+        return any(each.reply == reply for each in self.said)
 
     def are_refused(self, reply):
         """Whether lines have one reply, the last twenty of them that have any."""
@@ -225,21 +229,15 @@ async def space_used_up(words):
         trial, count = Trial(cluster), 0
         await trial.begin()
         for number in range(1000):
-            if any(each.reply == "no 40 space" for each in trial.said[-40:]):
+            if trial.was_told("no 40 space"):
                 break
             reply = await long_line(trial, f"long-{number}")
             count += (reply or "").startswith("ok")
 
         async def is_named():
-            said = [each for each in trial.said if each.reply]
-            last = max(number for number, each in enumerate(said) if each.word != "show" and not each.is_refused)
-            since = [each for each in said[last + 1 :] if each.sent > said[last].answered]
-            refused = [each.reply for each in since if each.word != "show"]
-            is_read = any(each.word == "show" and each.reply.startswith("ok") for each in since)
-            assert all(reply.startswith("no 40") for reply in refused), set(refused)
-            return len(refused) > 20 and "no 40 space" in refused and is_read
+            return is_out_of_space([each for each in trial.said if each.reply])
 
-        await cluster.until(is_named, 240)
+        await cluster.until(is_named)
         assert cluster.events("space"), "the log file doesn't say that there is no space"
         cluster.quota = 1 << 30
         for number in range(3):
@@ -254,15 +252,38 @@ async def space_used_up(words):
         return f"{count} lines of {MOST_BYTES} bytes went in; {await trial.end()}"
 
 
+def is_out_of_space(said):
+    """Whether each line that changes the book is refused by now, twenty of them at least, while questions are answered.
+
+    What the book itself refuses isn't kept, and so needs no space: a caller is told so as ever.
+    """
+    last = max(number for number, each in enumerate(said) if each.word in KEPT and not each.is_refused)
+    since = [each for each in said[last + 1 :] if each.sent > said[last].answered]
+    changes = [each for each in since if each.word in KEPT]
+    of_book = [each for each in changes if each.is_refused_by_book]
+    assert all(is_as_ever(each) for each in of_book), of_book
+    refused = [each.reply for each in changes if not each.is_refused_by_book]
+    is_read = any(each.word == "show" and not each.is_refused for each in since)
+    return len(refused) > 20 and "no 40 space" in refused and is_read
+
+
+def is_as_ever(each):
+    """Whether this is what a caller gives so that the book refuses it, with its refusal."""
+    return each.word == "undo" and each.reply == f"no 8 {each.line.removeprefix('undo ').removesuffix('#0')}#1"
+
+
 async def long_line(trial, execution):
     """The reply of the leader to a line of the greatest length, which the check knows as that of a caller of its own."""
     begin = f'start {execution} p "'
     line = begin + "x" * (MOST_BYTES - len(begin) - 1) + '"'
-    try:
-        number = int(await trial.cluster.until(trial.cluster.leading, 10))
-    except AssertionError:
+
+    async def leads_or_is_full():
+        return "full" if trial.was_told("no 40 space") else await trial.cluster.leading()
+
+    number = await trial.cluster.until(leads_or_is_full)
+    if number == "full":
         return None  # other lines have used up the space, and nobody leads
-    connection = await trial.cluster.connect(number)
+    connection = await trial.cluster.connect(int(number))
     sent = time.monotonic()
     reply = await connection.ask(line)
     trial.said.append(Said("long", line, sent, reply, time.monotonic()))
