@@ -12,6 +12,7 @@ import urllib.error
 import urllib.request
 
 from tests.pages import WithPages, python_with
+from tests.program import PATIENCE
 
 MISSING = "no boto3 (on Debian the package python3-boto3, for /usr/bin/python3)"
 REGION, ACCOUNT = "us-east-1", "000000000000"
@@ -34,7 +35,7 @@ def provide(module):
     if python_with(module) is None and os.geteuid() == 0 and shutil.which("apt-get"):
         command = ["apt-get", "install", "-y", "--no-install-recommends", f"python3-{module}"]
         with contextlib.suppress(subprocess.SubprocessError):
-            subprocess.run(command, stdout=subprocess.DEVNULL, stderr=subprocess.DEVNULL, timeout=300, check=False)
+            subprocess.run(command, stdout=subprocess.DEVNULL, stderr=subprocess.DEVNULL, timeout=PATIENCE, check=False)
         python_with.cache_clear()
         importlib.invalidate_caches()
 
@@ -77,7 +78,7 @@ def request_of(url, target, body, headers=(), authorization=AUTHORIZATION):
         f"{url}/", data, {name: value for name, value in found.items() if value is not None}
     )
     try:
-        with urllib.request.urlopen(request, timeout=300) as response:
+        with urllib.request.urlopen(request, timeout=PATIENCE) as response:
             return response.status, response.headers, json.loads(response.read())
     except urllib.error.HTTPError as fault:
         with fault:
@@ -122,7 +123,7 @@ class WithAmazon(WithPages):
         text = definition if isinstance(definition, str) else json.dumps(definition)
         return states.create_state_machine(name=name, definition=text, roleArn=ROLE, **more)["stateMachineArn"]
 
-    def ended(self, states, arn, seconds=120):
+    def ended(self, states, arn, seconds=PATIENCE):
         """An execution, once it runs no more."""
         ends = time.monotonic() + seconds
         while (found := states.describe_execution(executionArn=arn))["status"] == "RUNNING":

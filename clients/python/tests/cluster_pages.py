@@ -7,7 +7,7 @@ from tests import pages
 from tests.amazon import STATES, TABLES, request_of
 from tests.cluster_callers import SETUP
 from tests.cluster_machines import Cluster
-from tests.program import TOP
+from tests.program import PATIENCE, TOP
 
 
 async def pages_follow(words):
@@ -59,7 +59,7 @@ def push_finds_the_same(cluster, number):
         cwd=TOP / "clients/python",
         capture_output=True,
         text=True,
-        timeout=600,
+        timeout=PATIENCE,
         check=False,
     )
     assert done.returncode == 0 and "0 to be written, 1 the same" in done.stdout, done

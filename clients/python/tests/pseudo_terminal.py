@@ -10,6 +10,8 @@ import subprocess
 import termios
 import time
 
+from tests.program import PATIENCE
+
 _ESCAPES = re.compile(r"\x1b\[[0-9;?]*[A-Za-z]|\x1b[=>]|[\r\x07]")
 CONTROL_C, CONTROL_D, CONTROL_U, TAB, UP = "\x03", "\x04", "\x15", "\t", "\x1b[A"
 
@@ -60,7 +62,7 @@ class PseudoTerminal:
         """What is shown and wasn't waited for, without the terminal's signs."""
         return _ESCAPES.sub("", self._data.decode(errors="replace"))
 
-    def expect(self, text, seconds=180):
+    def expect(self, text, seconds=PATIENCE):
         """Waits for a text, and hands back what was shown before it."""
         ends = time.monotonic() + seconds
         while text not in self.shown():
@@ -70,7 +72,7 @@ class PseudoTerminal:
         self._data = behind.encode()
         return before
 
-    def until(self, is_so, seconds=180):
+    def until(self, is_so, seconds=PATIENCE):
         """Waits until something is so."""
         ends = time.monotonic() + seconds
         while not is_so():
@@ -88,7 +90,7 @@ class PseudoTerminal:
                 continue
         raise AssertionError(f"{text!r} wasn't shown after Ctrl-C, but {self.shown()[-2000:]!r}")
 
-    def ended(self, seconds=180):
+    def ended(self, seconds=PATIENCE):
         """The status, once the process has ended."""
         ends = time.monotonic() + seconds
         while self.process.poll() is None and time.monotonic() < ends:

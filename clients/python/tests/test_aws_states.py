@@ -6,7 +6,7 @@ import time
 from rollback_client import Book, Full
 from tests.amazon import ROLE, STATES, WithAmazon, error_of, plain_answer, request_of
 from tests.amazon_machines import MACHINES, TRIALS, WIDGET
-from tests.program import ECHO, LOOP, PASS
+from tests.program import ECHO, LOOP, PASS, PATIENCE
 
 ARN = "arn:aws:states:us-east-1:000000000000:"
 POOR = {"StartAt": "A", "States": {"A": {"Type": "Pass", "Nxt": "B"}, "C": {"Type": "Task", "Resource": "x"}}}
@@ -376,7 +376,7 @@ class Executions(WithAmazon):
 
     def test_a_full_book(self):
         arn = self.created(self.states, "loop", LOOP)
-        with Book.connect(self.server.address, timeout=120) as book:
+        with Book.connect(self.server.address, timeout=PATIENCE) as book:
             book.pause()
             book.start("l", "loop", {})
             with self.assertRaises(Full):

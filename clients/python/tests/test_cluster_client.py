@@ -15,7 +15,7 @@ from rollback_client.aws.book import Table
 from rollback_client.faults import refusal_of
 from rollback_client.following import FIRST_PAUSE
 from tests.certificates import Authority, what_is_missing
-from tests.program import TOP, InFolder
+from tests.program import PATIENCE, TOP, InFolder
 
 
 class FakeMember:
@@ -110,7 +110,7 @@ class Followed(unittest.TestCase):
 
     def test_an_election_is_waited_for(self):
         member = self.member(lambda line: leads(line) if member.greetings > 4 else "no 40 election")
-        self.assertEqual(self.book(member, retry=60).history(), [Step("a", 0)])
+        self.assertEqual(self.book(member, retry=PATIENCE).history(), [Step("a", 0)])
         self.assertEqual(member.greetings, 5)
 
     def test_an_election_without_end(self):
@@ -138,7 +138,7 @@ class Followed(unittest.TestCase):
     def test_a_server_that_says_nothing(self):
         goes_on = threading.Event()
         self.addCleanup(goes_on.set)
-        silent = self.member(lambda line: "no 20" if line == "connect" or goes_on.wait(60) else "ok 0")
+        silent = self.member(lambda line: "no 20" if line == "connect" or goes_on.wait(PATIENCE) else "ok 0")
         book = self.book(silent, timeout=2)
         with self.assertRaises(ConnectionLost):
             book.history()
@@ -269,7 +269,7 @@ class Words(unittest.TestCase):
     def refused(self, *words):
         command = [sys.executable, "-m", "rollback_client.serve", *words]
         done = subprocess.run(
-            command, capture_output=True, text=True, cwd=TOP / "clients/python", timeout=300, check=False
+            command, capture_output=True, text=True, cwd=TOP / "clients/python", timeout=PATIENCE, check=False
         )
         self.assertEqual(done.returncode, 2, done.stderr)
         self.assertNotIn("Traceback", done.stderr)

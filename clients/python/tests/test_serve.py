@@ -9,7 +9,7 @@ import threading
 import unittest
 
 from rollback_client import Book, ConnectionLost, Done, RollbackError, Step
-from tests.program import PASS, PROGRAM, PUT, TOP, Served, connected, read_reply
+from tests.program import PASS, PATIENCE, PROGRAM, PUT, TOP, Served, connected, read_reply
 
 CALLERS = 16
 COMMANDS = int(os.environ.get("ROLLBACK_COMMANDS", "400"))
@@ -108,7 +108,9 @@ class Callers(Served):
 
     def test_one_too_many_is_told(self):
         server = self.begun("--callers", "2")
-        with Book.connect(server.address, retry=60) as first, Book.connect(server.address, retry=60) as second:
+        with Book.connect(server.address, retry=PATIENCE) as first, Book.connect(
+            server.address, retry=PATIENCE
+        ) as second:
             self.assertEqual(first.items(), second.items())
             third = connected(server.address, 10)
             self.addCleanup(third.close)
@@ -127,7 +129,7 @@ class Ends(Served):
         for book in callers:
             with self.assertRaises(ConnectionLost):
                 book.history()
-        server.process.wait(60)
+        server.process.wait(PATIENCE)
         status, _ = server.end()
         self.assertEqual(status, 128 + signal.SIGKILL)
         with Book.open(server.journal, PROGRAM) as book:

@@ -27,7 +27,7 @@ from rollback_client import (
     Taken,
 )
 from tests.fakes import FakeServer
-from tests.program import LOOP, PASS, PROGRAM, TOP, InFolder
+from tests.program import LOOP, PASS, PATIENCE, PROGRAM, TOP, InFolder
 
 THREADS, CALLS = 8, 2000
 ALARMS = int(os.environ.get("ROLLBACK_ALARMS", "300"))
@@ -368,7 +368,7 @@ class Places(InFolder):
 
             def slow(address):
                 found = connected(address)
-                closed.wait(60)
+                closed.wait(PATIENCE)
                 return found
 
             streams.unix_socket = slow
@@ -401,7 +401,7 @@ class Places(InFolder):
     def test_no_server(self):
         for address in (self.path("nothing"), "127.0.0.1:1"):
             with self.assertRaises(NoServer):
-                Book.connect(address, timeout=60)
+                Book.connect(address, timeout=PATIENCE)
         for address in ("127.0.0.1:99999", "\ud800"):
             with self.assertRaises(ValueError) as found:
                 Book.connect(address)
@@ -417,7 +417,7 @@ class Places(InFolder):
 
         later = threading.Thread(target=come)
         later.start()
-        book = Book.connect(os.path.join(self.room, "fake"), retry=60)
+        book = Book.connect(os.path.join(self.room, "fake"), retry=PATIENCE)
         later.join()
         self.assertEqual(book.items(), [])
         with self.assertRaises(NoServer):

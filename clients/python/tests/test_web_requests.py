@@ -9,7 +9,7 @@ import time
 
 from rollback_client import Book
 from tests.pages import WithPages
-from tests.program import ECHO, LOOP, PUT, ratio
+from tests.program import ECHO, LOOP, PATIENCE, PUT, ratio
 
 MOST_OF_AN_END = 20  # in how many times as long as one without streams a server ends that has some
 
@@ -47,7 +47,7 @@ class Repair(WithPages):
         super().setUp()
         self.server = self.served("--log", self.path("log"))
         self.who = self.page(self.server)
-        self.book = Book.connect(self.server.address, timeout=60)
+        self.book = Book.connect(self.server.address, timeout=PATIENCE)
         self.addCleanup(self.book.close)
         begin(self.book)
 
@@ -97,7 +97,7 @@ class Repair(WithPages):
         stopped = threading.Event()
 
         def go_on(number):
-            with Book.connect(self.server.address, timeout=60) as other:
+            with Book.connect(self.server.address, timeout=PATIENCE) as other:
                 for count in range(60):
                     if stopped.wait(0.02):
                         return
@@ -158,7 +158,7 @@ class Happened(WithPages):
 
     def test_without_a_log(self):
         server = self.served()
-        with Book.connect(server.address, timeout=60) as book:
+        with Book.connect(server.address, timeout=PATIENCE) as book:
             book.table("items", {"id": "S"})
         self.assertEqual(server.end()[0], 0)
         who = self.page(self.served())
@@ -175,7 +175,7 @@ class Happened(WithPages):
         server.end()
         other = self.served("--log", self.path("log"), journal="other.db")
         who = self.page(other)
-        with Book.connect(other.address, timeout=60) as book:
+        with Book.connect(other.address, timeout=PATIENCE) as book:
             book.table("items", {"id": "S"})
         self.assertTrue(self.entries(who)["log"][0]["who"].startswith("user "))
 
@@ -199,7 +199,7 @@ class ReadOnly(WithPages):
     def test_read_only(self):
         server = self.served("--read-only")
         who = self.page(server)
-        with Book.connect(server.address, timeout=60) as book:
+        with Book.connect(server.address, timeout=PATIENCE) as book:
             begin(book)
             for path, body in (("/line", {"line": "held"}), ("/rollback", {"step": "writer#0", "plan": PLAN})):
                 refused = who.post(path, **body)
@@ -215,7 +215,7 @@ class Streams(WithPages):
 
     def listen(self, who):
         """A stream of events as an iterator of what they say."""
-        connection = http.client.HTTPConnection(who.host, timeout=60)
+        connection = http.client.HTTPConnection(who.host, timeout=PATIENCE)
         self.addCleanup(connection.close)
         connection.request(
             "GET", "/events", headers={"Cookie": who.cookie, "Host": who.host, "Sec-Fetch-Site": "same-origin"}
@@ -229,7 +229,7 @@ class Streams(WithPages):
         who = self.page(server)
         said = self.listen(who)
         self.assertEqual(next(said)["entries"], 0)
-        with Book.connect(server.address, timeout=60) as book:
+        with Book.connect(server.address, timeout=PATIENCE) as book:
             book.table("items", {"id": "S"})
             self.assertEqual(next(said)["entries"], 1)
             book.pause()
@@ -307,7 +307,7 @@ class Runs(WithPages):
     def test_a_runner_that_is_at_work_from_the_beginning(self):
         """Numbers of lines are right, though the runner gave some before the console began."""
         server = self.served()
-        with Book.connect(server.address, timeout=60) as book:
+        with Book.connect(server.address, timeout=PATIENCE) as book:
             book.table("items", {"id": "S"})
             book.define("loop", LOOP)
             for number in range(5):

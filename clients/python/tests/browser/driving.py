@@ -20,7 +20,7 @@ from selenium.webdriver.remote.remote_connection import RemoteConnection
 
 from rollback_client import Book
 from tests.pages import WithPages
-from tests.program import PROGRAM, TOP, follower
+from tests.program import PATIENCE, PROGRAM, TOP, follower
 
 WIDTH, HEIGHT = 1280, 800
 # How long is waited at most, for a machine that does much else. Nothing that is there is waited for.
@@ -184,7 +184,7 @@ class InBrowser(WithPages):
 
     def open_console(self, server):
         """The page of a server in the browser, and a caller of its socket."""
-        self.book = Book.connect(server.address, timeout=60)
+        self.book = Book.connect(server.address, timeout=PATIENCE)
         self.addCleanup(self.book.close)
         self.driver.get(server.links["console"])
         self.address = self.driver.current_url.split("#")[0]

@@ -8,7 +8,7 @@ import time
 
 from rollback_client import Book
 from tests.browser.driving import InBrowser
-from tests.program import LOOP, ratio
+from tests.program import LOOP, PATIENCE, ratio
 
 # In how many times as long as its page opens a line is seen: in some 0.4 to 1.2.
 MOST_OF_AN_OPENING = 10
@@ -173,7 +173,7 @@ class Lost(InBrowser):
             return probe.getsockname()[1]
 
     def connected(self, server):
-        return Book.connect(server.address, timeout=60)
+        return Book.connect(server.address, timeout=PATIENCE)
 
 
 class Tokens(InBrowser):
