@@ -190,6 +190,24 @@ class Served(InFolder):
         self.assertNotIn(b"Traceback", done.stderr)
         return done.returncode, done.stderr.decode()
 
+    def held_program(self):
+        """A program that holds the second piece of a drive back, from `until_held` on to `let_go`."""
+        path = self.path("held")
+        held = TOP / "clients/python/tests/held_program.py"
+        with open(path, "w", encoding="utf-8") as file:
+            file.write(f'#!/bin/sh\nexec {sys.executable} {held} {PROGRAM} {self.room} "$@"\n')
+        os.chmod(path, 0o755)
+        return path
+
+    def until_held(self):
+        """Waits until one piece of the drive is answered, and the second one given."""
+        self.until(lambda: os.path.exists(self.path("asked")))
+
+    def let_go(self):
+        """Lets the drive go on."""
+        with open(self.path("go"), "w", encoding="utf-8"):
+            pass
+
     def plain(self, server, timeout=PATIENCE):
         """A plain connection, with its lines."""
         stream = connected(server.address, timeout)
