@@ -5,6 +5,7 @@
 import argparse
 import asyncio
 import contextlib
+import itertools
 import json
 import os
 import random
@@ -19,12 +20,15 @@ from contextlib import closing
 from rollback_client import AsyncBook, Book, ConnectionLost, Done, NoServer, NotLeader, Ready, Unavailable
 from rollback_client.copy import copy_book
 from rollback_client.lines import MOST_BYTES
-from tests.cluster_callers import SETUP, Caller, Reader, Said, started
+from tests.cluster_callers import PASSES, SETUP, Caller, Reader, Said, started, stepped, told
 from tests.cluster_checks import KEPT, check, journals_agree, log_lines
 from tests.certificates import Authority
-from tests.cluster_machines import PREFIX, Cluster, Connection, encoded, follower_of, has_followed, run_command
+from tests.cluster_machines import PREFIX, TTL, Cluster, Connection, encoded, follower_of, has_followed, run_command
 from tests.cluster_pages import pages_follow
-from tests.program import PROGRAM, TOP, follower
+from tests.program import PATIENCE, PROGRAM, TOP, follower
+
+
+NUMBERS = itertools.count()  # of executions
 
 
 class Trial:
@@ -39,8 +43,9 @@ class Trial:
     async def begin(self, seconds=0.7):
         """Begins the book and the callers."""
         for line in SETUP:
-            reply = await self.cluster.ask(None, line)
-            assert reply.startswith("ok"), (line, reply)
+            await self.cluster.ask(
+                None, line
+            )  # refused, if it was taken and its answer got lost: the check looks at the log
         self.tasks = [asyncio.ensure_future(caller.run()) for caller in self.callers]
         await asyncio.sleep(seconds)
 
@@ -306,7 +311,7 @@ async def reply_differs(words):
         wrong.chmod(0o755)
         for _ in range(2):  # begun again it doesn't lead either
             cluster.start_server(number, wrong)
-            status = await asyncio.to_thread(cluster.servers[number].wait, 240)
+            status = await asyncio.to_thread(cluster.servers[number].wait, PATIENCE)
             assert status == 6 and "Differs" in cluster.errors(number), (status, cluster.errors(number)[-300:])
         with closing(sqlite3.connect(cluster.journal(number))) as file:
             rows = [line for (line,) in file.execute("select line from entry order by no")]
@@ -337,7 +342,7 @@ async def journal_damaged(words):
                 assert changed == 1
             before = journal.read_bytes()
             cluster.start_server(number)
-            status = await asyncio.to_thread(cluster.servers[number].wait, 240)
+            status = await asyncio.to_thread(cluster.servers[number].wait, PATIENCE)
             assert status == 5 and "nothing was cut" in cluster.errors(number), (status, cluster.errors(number)[-300:])
             assert journal.read_bytes() == before, "the journal was changed"
             for path in cluster.room.glob(f"book{number}.db*"):
@@ -348,25 +353,26 @@ async def journal_damaged(words):
 
 
 async def rolling_restart(words):
-    """Each server in turn by SIGTERM, which hands over sooner than a kill does, amid callers who lose no line."""
+    """Each server in turn by SIGTERM, amid callers who lose no line. The one that leads gives its key back, which a kill leaves there."""
     async with Cluster(words.ttl) as cluster:
-        trial = Trial(cluster)
+        trial, handed, turn = Trial(cluster), 0, 0
         await trial.begin()
-        handed = []
-        for turn in range(3 * words.times):
-            number = await cluster.leader()
-            assert await cluster.end_server(turn % 3, signal.SIGTERM) == 0, cluster.errors(turn % 3)[-500:]
-            took = await trial.accepted_since(time.monotonic())
-            handed += [took] if number == turn % 3 else []
-            cluster.start_server(turn % 3)
-            await cluster.ask(turn % 3, "history")
-        number, moment = await cluster.leader(), time.monotonic()
-        await cluster.end_server(number)
-        killed = await trial.accepted_since(moment)
-        assert not handed or min(handed) < killed, f"a handover takes {min(handed):.1f} s, and a kill {killed:.1f} s"
-        cluster.start_server(number)
-        await cluster.ask(number, "history")
-        return await trial.end()
+        while turn < 3 * words.times or not handed and turn < 30:
+            number, (leader, term) = turn % 3, await cluster.until(cluster.leader_key)
+            assert await cluster.end_server(number, signal.SIGTERM) == 0, cluster.errors(number)[-500:]
+            handed += leader == cluster.addresses[number] and not await is_key_there(cluster, term)
+            await trial.accepted_since(time.monotonic())
+            cluster.start_server(number)
+            await cluster.ask(number, "history")
+            turn += 1
+        assert handed, "the key of a server that ends stays until its lease runs out"
+        return f"{handed} handed over; {await trial.end()}"
+
+
+async def is_key_there(cluster, term):
+    """Whether the leader's key is still that of a term."""
+    found = (await cluster.etcd_soon("kv/range", {"key": encoded(f"{PREFIX}/leader")})).get("kvs", [])
+    return any(int(pair["create_revision"]) == term for pair in found)
 
 
 async def drives(words):
@@ -379,7 +385,7 @@ async def drives(words):
         async def drive():
             number = await cluster.leader()
             connection = await cluster.connect(number)
-            reply = await connection.ask(f"drive {most}", words.ttl + 10)
+            reply = await connection.ask(f"drive {most}", PATIENCE)
             connection.close()
             if (reply or "").startswith("ok"):
                 told.append(reply.split("\n")[1:])
@@ -410,8 +416,8 @@ async def client_follows(words):
         address = "cluster:" + ",".join(cluster.addresses)
         for line in SETUP:
             await cluster.ask(None, line)
-        book = await asyncio.to_thread(Book.connect, address)
-        other = await AsyncBook.connect(address)
+        book = await asyncio.to_thread(Book.connect, address, retry=PATIENCE)
+        other = await AsyncBook.connect(address, retry=PATIENCE)
         lost = []
         for turn in range(2 * words.times):
             number, ended = await cluster.leader(), asyncio.Event()
@@ -425,6 +431,8 @@ async def client_follows(words):
                     except ConnectionLost as fault:
                         assert fault.line == "step shared"
                         lost.append(fault)
+                    except Unavailable:
+                        pass
 
             both = [
                 asyncio.ensure_future(step(call))
@@ -433,32 +441,49 @@ async def client_follows(words):
             await asyncio.sleep(0.2)
             await cluster.end_server(number, signal.SIGKILL if turn % 2 == 0 else signal.SIGTERM)
             ended.set()
-            await asyncio.wait_for(asyncio.gather(*both), 240)
+            await asyncio.wait_for(asyncio.gather(*both), PATIENCE)
             cluster.start_server(number)
             await cluster.ask(number, "history")
-        history = await other.history()
-        assert history == await asyncio.to_thread(book.history)
+        history = await told(other.history)
+        assert history == await told(lambda: asyncio.to_thread(book.history))
         assert [str(step) for step in history] == [f"shared#{number}" for number in range(len(history))]
         # What workers took, in an order that only the leader's program knows, is the same in all books.
-        for number in range(40):
-            await other.start(f"w{number}", "p", {})
-        taken = await other.work(4, 60)
-        history = await other.history()
+        taken = await told(lambda: works(other))
+        history = await told(other.history)
         assert taken and history[-len(taken) :] == taken
         standby = cluster.addresses[(await cluster.leader() + 1) % 3]
         reading = await asyncio.to_thread(Book.connect, standby)
-        assert await asyncio.to_thread(reading.history) == history
-        try:
-            await asyncio.to_thread(reading.step, "shared")
-            raise AssertionError("a standby takes a step")
-        except NotLeader as refusal:
-            assert refusal.leader == cluster.addresses[await cluster.leader()]
-        await asyncio.to_thread(copy_is_the_log, cluster, address)
+        assert await told(lambda: asyncio.to_thread(reading.history)) == history
+        await cluster.until(lambda: refuses_a_step(cluster))
+        await told(lambda: asyncio.to_thread(copy_is_the_log, cluster, address))
         for number in range(3):
             await cluster.end_member(number)
         await cluster.until(lambda: lacks_quorum(address))
         await other.close()
         return f"{len(lost)} calls were under way at {2 * words.times} ends, {len(history)} steps"
+
+
+async def works(book):
+    """What workers take of forty executions."""
+    for _ in range(40):
+        await started(book, f"w{next(NUMBERS)}", {})
+    return await book.work(4, 60)
+
+
+async def refuses_a_step(cluster):
+    """Whether a book at a server that stands by is told who leads, in place of a step."""
+    leader = await cluster.leader()
+    try:
+        await asyncio.to_thread(step_at, cluster.addresses[(leader + 1) % 3])
+    except NotLeader as refusal:
+        return refusal.leader == cluster.addresses[leader]
+    return False
+
+
+def step_at(address):
+    """A step of the execution that all share, at this server."""
+    with Book.connect(address) as book:
+        book.step("shared")
 
 
 async def lacks_quorum(address):
@@ -481,33 +506,31 @@ async def questions(words):
     async with Cluster(words.ttl, ask="--ask") as cluster:
         for line in SETUP:
             await cluster.ask(None, line)
-        book = await AsyncBook.connect("cluster:" + ",".join(cluster.addresses))
+        book = await AsyncBook.connect("cluster:" + ",".join(cluster.addresses), retry=PATIENCE)
         for turn in range(words.times + 1):
             number = await cluster.leader()
             for each in range(10):
                 execution = f"q{turn}-{each}"
-                await book.start(execution, "p", {})
-                told = json.loads(await cluster.ask((number + 1) % 3, f"? threads {execution}"))
-                assert told["threads"][0]["moves"] == 0, told
-                await book.step(execution)
-                (row,) = (await book.threads(execution))["threads"]
+                await started(book, execution, {})
+                found = json.loads(await cluster.ask((number + 1) % 3, f"? threads {execution}"))
+                assert found["threads"][0]["moves"] == 0, found
+                await stepped(book, execution)
+                (row,) = (await told(lambda execution=execution: book.threads(execution)))["threads"]
                 assert row["moves"] == 1, row
             for each in range(3):
                 os.kill(follower_of(cluster.servers[each]), signal.SIGKILL)
             for each in range(10):
-                await book.start(f"k{turn}-{each}", "p", {})
+                await started(book, f"k{turn}-{each}", {})
             for each in range(3):
                 await cluster.until(lambda each=each, turn=turn: has_followed(cluster, each, f"k{turn}-9"))
             if turn < words.times:
                 await cluster.end_server(number)
                 cluster.start_server(number)
                 await cluster.ask(number, "history")
-                with contextlib.suppress(ConnectionLost):
-                    await book.history()
+                await told(book.history)
         entries = []
-        for address in cluster.addresses:
-            async with await AsyncBook.connect(address) as one:
-                entries.append((await one.threads())["entries"])
+        for number in range(3):
+            entries.append(json.loads(await cluster.ask(number, "? threads ready"))["entries"])
         assert entries[0] == entries[1] == entries[2], entries
         await book.close()
         await refuses_graphs(cluster)
@@ -523,7 +546,7 @@ async def refuses_graphs(cluster):
     await cluster.end_server(number, signal.SIGTERM)
     for path, status, why in (("/bin/true", 2, "answers no questions"), (graph, 1, f"ProgramGone: {graph}")):
         cluster.start_server(number, words=("--graph", str(path)))
-        assert await asyncio.to_thread(cluster.servers[number].wait, 240) == status, cluster.errors(number)[-500:]
+        assert await asyncio.to_thread(cluster.servers[number].wait, PATIENCE) == status, cluster.errors(number)[-500:]
         assert why in cluster.errors(number), cluster.errors(number)[-500:]
 
 
@@ -532,31 +555,38 @@ async def runner_follows(words):
     async with Cluster(words.ttl, ask="--run") as cluster:
         for line in SETUP[:2]:
             await cluster.ask(None, line)
-        book = await AsyncBook.connect("cluster:" + ",".join(cluster.addresses))
+        book = await AsyncBook.connect("cluster:" + ",".join(cluster.addresses), retry=PATIENCE)
         for turn in range(words.times + 1):
-            await book.start(f"r{turn}", "p", {})
-            assert await book.wait(f"r{turn}", 120) == Done(7)
-            await book.pause(machine="p")
+            await started(book, f"r{turn}", {})
+            assert await told(lambda turn=turn: book.wait(f"r{turn}", PATIENCE)) == Done(7)
+            await told(lambda: book.pause(machine="p"))
             number = await cluster.leader()
             await cluster.end_server(number)
             cluster.start_server(number)
             await cluster.ask(number, "history")
-            with contextlib.suppress(ConnectionLost):
-                await book.history()
-            await book.start(f"late{turn}", "p", {})
+            await started(book, f"late{turn}", {})
             await asyncio.sleep(0.5)
-            assert isinstance(await book.show(f"late{turn}"), Ready), "what was paused is moved by the next leader"
-            standby = await cluster.connect((await cluster.leader() + 1) % 3)
-            assert (await standby.ask("!waits", 60)).startswith("no 40 leader")
-            standby.close()
-            await book.resume(machine="p")
-            assert await book.wait(f"late{turn}", 120) == Done(7)
+            late = await told(lambda turn=turn: book.show(f"late{turn}"))
+            assert isinstance(late, Ready), "what was paused is moved by the next leader"
+            await cluster.until(lambda: names_leader(cluster, "!waits"))
+            await told(lambda: book.resume(machine="p"))
+            assert await told(lambda turn=turn: book.wait(f"late{turn}", PATIENCE)) == Done(7)
         histories = [await cluster.ask(number, "history") for number in range(3)]
         assert histories[0] == histories[1] == histories[2]
         lines, _ = await log_lines(cluster)
         assert sum(1 for _, line in lines if line.startswith("step ")) == 2 * (words.times + 1)
         await book.close()
         return f"{len(lines)} lines of {words.times + 2} leaders"
+
+
+async def names_leader(cluster, line):
+    """Whether a server that stands by refuses a line by the leader's address."""
+    leader = await cluster.leader()
+    standby = await cluster.connect((leader + 1) % 3)
+    try:
+        return await standby.ask(line, PATIENCE) == f"no 40 leader {cluster.addresses[leader]}"
+    finally:
+        standby.close()
 
 
 async def runner_beside(words):
@@ -568,16 +598,14 @@ async def runner_beside(words):
         command = [sys.executable, "-m", "rollback_client.runner", address, "--tls", ",".join(files)]
         runner = subprocess.Popen(command, cwd=TOP / "clients/python", stderr=subprocess.DEVNULL)
         try:
-            async with await AsyncBook.connect(address, tls=files) as book:
+            async with await AsyncBook.connect(address, tls=files, retry=PATIENCE) as book:
                 for turn in range(words.times + 1):
-                    await book.start(f"r{turn}", "p", {})
-                    assert await book.wait(f"r{turn}", 120) == Done(7)
+                    await started(book, f"r{turn}", {})
+                    assert await told(lambda turn=turn: book.wait(f"r{turn}", PATIENCE)) == Done(7)
                     number = await cluster.leader()
                     await cluster.end_server(number)
                     cluster.start_server(number)
                     await cluster.ask(number, "history")
-                    with contextlib.suppress(ConnectionLost):
-                        await book.history()
             return f"{words.times + 1} leaders followed"
         finally:
             runner.kill()
@@ -590,15 +618,16 @@ async def secured(words):
         address = "cluster:" + ",".join(cluster.addresses)
         for line in SETUP:
             await cluster.ask(None, line)
-        book = await asyncio.to_thread(Book.connect, address, tls=cluster.caller_files)
-        other = await AsyncBook.connect(address, tls=cluster.caller_files)
-        await asyncio.gather(asyncio.to_thread(book.step, "shared"), other.step("shared"))
-        assert len(await other.history()) == 3
+        book = await asyncio.to_thread(Book.connect, address, tls=cluster.caller_files, retry=PATIENCE)
+        other = await AsyncBook.connect(address, tls=cluster.caller_files, retry=PATIENCE)
+        await asyncio.gather(asyncio.to_thread(step_at_last, book), told(lambda: other.step("shared")))
+        assert len(await told(other.history)) >= 3
         assert await started(other, "big", ["x" * 1000] * 900) == "big#0"
-        assert await asyncio.to_thread(book.show, "big") == await other.show("big")
+        big = await told(lambda: asyncio.to_thread(book.show, "big"))
+        assert big == await told(lambda: other.show("big"))
         number = await cluster.leader()
         await cluster.end_server(number)
-        await asyncio.to_thread(after_a_loss, book)
+        await asyncio.to_thread(step_at_last, book)
         cluster.start_server(number)
         await cluster.ask(number, "history")
         strangers = Authority(cluster.room / "strangers")
@@ -633,7 +662,7 @@ async def secured(words):
         wrong = ("--etcd-tls", ",".join(strangers.files("wrong")))
         cluster.start_server(0, words=wrong)
         connection = await cluster.until(lambda: cluster.connect(0))
-        assert await connection.ask("history", 60) in ("no 40 election", "no 40 quorum")
+        assert await connection.ask("history", PATIENCE) in ("no 40 election", "no 40 quorum")
         await cluster.until(refuses_for_quorum(cluster))
         assert "CERTIFICATE" in cluster.errors(0).upper(), cluster.errors(0)[-500:]
         connection.close()
@@ -647,19 +676,18 @@ def refuses_for_quorum(cluster):
     async def refuses():
         connection = await cluster.connect(0)
         try:
-            return await connection.ask("step shared", 60) == "no 40 quorum"
+            return await connection.ask("step shared", PATIENCE) == "no 40 quorum"
         finally:
             connection.close()
 
     return refuses
 
 
-def after_a_loss(book):
-    """A call after the leader's death is lost or answered, and the one after it answered."""
-    try:
-        book.step("shared")
-    except ConnectionLost:
-        book.step("shared")
+def step_at_last(book):
+    """Has the execution that all share take a step. A call that was under way is lost, and another one finds who leads."""
+    while True:
+        with contextlib.suppress(*PASSES):
+            return book.step("shared")
 
 
 def connection_fault(address, files):
@@ -683,7 +711,7 @@ async def begins_and_refuses(words):
         assert made.returncode == 0
         before = cluster.journal(0).read_bytes()
         cluster.start_server(0)
-        status = await asyncio.to_thread(cluster.servers[0].wait, 240)
+        status = await asyncio.to_thread(cluster.servers[0].wait, PATIENCE)
         assert status == 5 and "--seed" in cluster.errors(0), (status, cluster.errors(0)[-500:])
         assert cluster.journal(0).read_bytes() == before
         cluster.start_server(0, words=("--seed",))
@@ -738,7 +766,7 @@ async def stands_aside(cluster):
     cluster.start_server(number, other)
     connection = await cluster.until(lambda: cluster.connect(number))
     wanted = f"no 40 leader {cluster.addresses[await cluster.leader()]}"
-    while (reply := await connection.ask("history", 60)) != wanted:
+    while (reply := await connection.ask("history", PATIENCE)) != wanted:
         assert reply == "no 40 election", reply
         await asyncio.sleep(0.05)
     connection.close()
@@ -757,7 +785,7 @@ async def refuses_others(cluster):
     kept = beside.read_text(encoding="utf-8")
     beside.write_text(kept.replace('"cluster_id": "', '"cluster_id": "1'), encoding="utf-8")
     cluster.start_server(number)
-    assert await asyncio.to_thread(cluster.servers[number].wait, 240) == 5
+    assert await asyncio.to_thread(cluster.servers[number].wait, PATIENCE) == 5
     assert "belongs to" in cluster.errors(number) and journal.read_bytes() == before, cluster.errors(number)[-500:]
     beside.write_text(kept, encoding="utf-8")
     first = (await cluster.batches())[1][0]
@@ -767,7 +795,7 @@ async def refuses_others(cluster):
         path.unlink()
     await cluster.etcd_soon("kv/deleterange", {"key": encoded(key)})
     cluster.start_server(number)
-    assert await asyncio.to_thread(cluster.servers[number].wait, 240) == 5
+    assert await asyncio.to_thread(cluster.servers[number].wait, PATIENCE) == 5
     assert "gap" in cluster.errors(number), cluster.errors(number)[-500:]
     assert pair["value"]
 
@@ -801,7 +829,7 @@ TRIALS = {
 def main():
     """Runs trials one after another, and says of each what was found."""
     parser = argparse.ArgumentParser()
-    parser.add_argument("--ttl", type=int, default=2)
+    parser.add_argument("--ttl", type=int, default=TTL)
     parser.add_argument("--times", type=int, default=1)
     parser.add_argument("names", nargs="*", metavar="NAME")
     words = parser.parse_args()
