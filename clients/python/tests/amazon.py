@@ -58,7 +58,12 @@ def client_of(service, url, key="ann", secret="secret", region=REGION):
     """A client of boto3, which gives no call twice."""
     from botocore.config import Config
 
-    settings = Config(retries={"max_attempts": 0, "mode": "standard"}, read_timeout=300, max_pool_connections=32)
+    settings = Config(
+        retries={"max_attempts": 0, "mode": "standard"},
+        connect_timeout=PATIENCE,
+        read_timeout=PATIENCE,
+        max_pool_connections=32,
+    )
     return session().client(
         service,
         endpoint_url=url,

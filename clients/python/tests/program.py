@@ -61,7 +61,7 @@ def follower():
     return PLAIN_FOLLOWER
 
 
-def ratio(one, other, most, times=3):
+def ratio(one, other, most, times=6):
     """How many times as long the one takes as the other: both give their seconds, and are done in turn, at the same load of the machine.
 
     Of each the shortest time counts, and there are further turns as long as the ratio isn't below `most`.
@@ -112,10 +112,14 @@ class InFolder(unittest.TestCase):
     def setUp(self):
         held = tempfile.TemporaryDirectory(dir=FOLDER)
         self.addCleanup(held.cleanup)
-        self.room = held.name
+        self.room, self.began = held.name, time.time()
 
     def path(self, name):
         return os.path.join(self.room, name)
+
+    def is_of_this_test(self, moment):
+        """Whether a time of a clock is between the test's beginning and now, with what its digits leave out."""
+        return self.began - 1 <= moment <= time.time() + 1
 
 
 class Server:

@@ -30,7 +30,7 @@ class Machines(WithAmazon):
             self.assertEqual((found["name"], found["status"], found["type"]), ("order", "ACTIVE", "STANDARD"))
             self.assertEqual(found["loggingConfiguration"], logging)
             self.assertEqual(found["tracingConfiguration"], {"enabled": False})
-            self.assertLess(abs(found["creationDate"].timestamp() - time.time()), 60)
+            self.assertTrue(self.is_of_this_test(found["creationDate"].timestamp()))
             self.assertEqual(self.states.list_tags_for_resource(resourceArn=arn)["tags"], tags)
             # also after a restart, and with a file that is lost the book's own spelling
             self.server.end()
@@ -322,7 +322,7 @@ class Executions(WithAmazon):
         made = ARN + "execution:p:e"
         found = self.ended(self.states, made)
         self.assertEqual((json.loads(found["input"]), found["output"]), ({"b": 1, "a": 2}, "7"))
-        self.assertLess(abs(found["startDate"].timestamp() - time.time()), 60)
+        self.assertTrue(self.is_of_this_test(found["startDate"].timestamp()))
         with Book.connect(self.server.address) as book:
             book.settle()
         settled = self.states.describe_execution(executionArn=made)

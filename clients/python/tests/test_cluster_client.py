@@ -245,7 +245,7 @@ class Secured(InFolder):
         threading.Thread(target=echo, daemon=True).start()
         plain = socket.create_connection(listening.getsockname())
         passing = secured(plain, "127.0.0.1", files, 10)
-        passing.ours.settimeout(60)
+        passing.ours.settimeout(PATIENCE)
         sending = threading.Thread(target=passing.ours.sendall, args=(data,))
         sending.start()
         while sum(map(len, got)) < len(data):
@@ -253,7 +253,7 @@ class Secured(InFolder):
         sending.join()
         self.assertEqual(b"".join(got), data)
         passing.ours.close()
-        passing.join(5)
+        passing.join(PATIENCE)
         self.assertFalse(passing.is_alive())
 
     def test_files_that_are_wrong(self):

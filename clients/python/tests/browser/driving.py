@@ -24,9 +24,8 @@ from tests.program import PATIENCE, PROGRAM, TOP, follower
 
 WIDTH, HEIGHT = 1280, 800
 # How long is waited at most, for a machine that does much else. Nothing that is there is waited for.
-SECONDS = 60
-OF_A_PAGE = 120
-OF_A_CALL = 300
+SECONDS = OF_A_PAGE = 600
+OF_A_CALL = PATIENCE
 CLICKABLE = "a, button, summary"
 # What a driver says of an element or a page that was drawn anew, or is still to be drawn.
 MOVED = (
