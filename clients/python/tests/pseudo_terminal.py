@@ -82,7 +82,7 @@ class PseudoTerminal:
 
     def interrupt(self, text):
         """Presses Ctrl-C until a text is shown. Python overlooks one that comes while readline is at work."""
-        for _ in range(90):
+        for _ in range(PATIENCE // 2):
             self.send(CONTROL_C)
             try:
                 return self.expect(text, 2)

@@ -1,5 +1,6 @@
 """A book for asyncio: calls that wait together, are cancelled, or meet an end."""
 import asyncio
+import contextlib
 import inspect
 import os
 import random
@@ -187,19 +188,24 @@ class Ends(Served):
         fake = FakeServer(self.room, lambda line: replies[0])
         self.addCleanup(fake.close)
 
+        async def connected(timeout):
+            while True:  # a slow machine may need longer for the greeting
+                with contextlib.suppress(ConnectionLost):
+                    return await AsyncBook.connect(fake.address, timeout=timeout)
+
         async def talk():
             with self.assertRaises(NoServer):
                 await AsyncBook.connect(self.path("nothing"))
             with self.assertRaises(NoServer):
                 await AsyncBook.connect("127.0.0.1:1", timeout=PATIENCE)
             for reply, error, timeout in (
-                (b"busy\n", Busy, 60),
-                (b"ok what\n", StreamBroken, 60),
-                (None, ConnectionLost, 60),
+                (b"busy\n", Busy, PATIENCE),
+                (b"ok what\n", StreamBroken, PATIENCE),
+                (None, ConnectionLost, PATIENCE),
                 (b"ok 1\n", ConnectionLost, 2),  # the rest never comes
             ):
                 replies[:] = [reply]
-                book = await AsyncBook.connect(fake.address, timeout=timeout)
+                book = await connected(timeout)
                 with self.assertRaises(error):
                     await book.history()
                 with self.assertRaises(StreamBroken):

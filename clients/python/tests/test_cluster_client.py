@@ -139,7 +139,7 @@ class Followed(unittest.TestCase):
         goes_on = threading.Event()
         self.addCleanup(goes_on.set)
         silent = self.member(lambda line: "no 20" if line == "connect" or goes_on.wait(PATIENCE) else "ok 0")
-        book = self.book(silent, timeout=2)
+        book = self.book(silent, timeout=2, retry=PATIENCE)
         with self.assertRaises(ConnectionLost):
             book.history()
         self.assertFalse(goes_on.is_set())

@@ -26,7 +26,7 @@ from rollback_client import (
     StreamBroken,
     Taken,
 )
-from tests.fakes import FakeServer
+from tests.fakes import FakeServer, greeted
 from tests.program import LOOP, PASS, PATIENCE, PROGRAM, TOP, InFolder
 
 THREADS, CALLS = 8, 2000
@@ -436,7 +436,7 @@ class Places(InFolder):
 
     def test_no_byte_for_as_long_as_the_caller_waits(self):
         server = self.fake(lambda line: b"ok 2\na#0\n")
-        book = Book.connect(server.address, timeout=2)
+        book = greeted(lambda: Book.connect(server.address, timeout=2))
         with self.assertRaisesRegex(ConnectionLost, "history"):
             book.history()
         with self.assertRaises(StreamBroken):
