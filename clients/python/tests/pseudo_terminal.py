@@ -1,6 +1,7 @@
 """A process at a pseudo-terminal, as a person has it."""
 import fcntl
 import os
+import pathlib
 import pty
 import re
 import select
@@ -66,7 +67,8 @@ class PseudoTerminal:
         """Waits for a text, and hands back what was shown before it."""
         ends = time.monotonic() + seconds
         while text not in self.shown():
-            if time.monotonic() > ends or not self._read(0.5) and self.process.poll() is not None:
+            is_over = self.process.poll() is not None  # so what is read after it is all
+            if time.monotonic() > ends or not self._read(0.5) and is_over:
                 raise AssertionError(f"{text!r} wasn't shown, but {self.shown()[-2000:]!r}")
         before, _, behind = self.shown().partition(text)
         self._data = behind.encode()
@@ -81,14 +83,27 @@ class PseudoTerminal:
             self._read(0.05)
 
     def interrupt(self, text):
-        """Presses Ctrl-C until a text is shown. Python overlooks one that comes while readline is at work."""
+        """Presses Ctrl-C, and again whenever it is overlooked, until a text is shown.
+
+        Python overlooks one that comes while readline is at work. Then the process waits on, and does nothing.
+        """
         for _ in range(PATIENCE // 2):
             self.send(CONTROL_C)
-            try:
-                return self.expect(text, 2)
-            except AssertionError:
-                continue
+            while True:
+                before = self._spent()
+                try:
+                    return self.expect(text, 2)
+                except AssertionError:
+                    if self.process.poll() is not None:
+                        raise
+                    if self._spent() == before:
+                        break
         raise AssertionError(f"{text!r} wasn't shown after Ctrl-C, but {self.shown()[-2000:]!r}")
+
+    def _spent(self):
+        """How long the process was at work, if it waits now; else what equals nothing."""
+        fields = pathlib.Path(f"/proc/{self.process.pid}/stat").read_text(encoding="ascii").rpartition(")")[2].split()
+        return fields[11:13] if fields[0] == "S" else object()
 
     def ended(self, seconds=PATIENCE):
         """The status, once the process has ended."""
