@@ -128,8 +128,8 @@ async def leader_stopped(words):
             moment = time.monotonic()
             cluster.servers[number].send_signal(signal.SIGSTOP)
             coming = [
-                asyncio.ensure_future(asked[0].ask("show shared")),
-                asyncio.ensure_future(asked[1].ask("step shared")),
+                asyncio.ensure_future(said_late(asked[0], "show shared")),
+                asyncio.ensure_future(said_late(asked[1], "step shared")),
             ]
             await trial.accepted_since(moment)
             await asyncio.sleep(0.3)
@@ -138,8 +138,15 @@ async def leader_stopped(words):
             for connection in asked:
                 connection.close()
             await cluster.ask(number, "history")
-        assert not any((reply or "").startswith("ok") for reply in late), late
-        return f"late lines got {sorted({str(reply).split(' 127')[0] for reply in late})}; {await trial.end()}"
+        trial.said += late  # so the check looks whether each was true when it came
+        return f"late lines got {sorted({str(each.reply).split(' 127')[0] for each in late})}; {await trial.end()}"
+
+
+async def said_late(connection, line):
+    """A line to a server that is stopped, with what it answers once it goes on."""
+    sent = time.monotonic()
+    reply = await connection.ask(line)
+    return Said("late", line, sent, reply, time.monotonic())
 
 
 async def idle_leader_stopped(words):
