@@ -425,26 +425,10 @@ async def client_follows(words):
             await cluster.ask(None, line)
         book = await asyncio.to_thread(Book.connect, address, retry=PATIENCE)
         other = await AsyncBook.connect(address, retry=PATIENCE)
-        lost = []
+        calls, lost = (lambda: asyncio.to_thread(book.step, "shared"), lambda: other.step("shared")), []
         for turn in range(2 * words.times):
             number, ended = await cluster.leader(), asyncio.Event()
-
-            async def step(call):
-                count = 0
-                while not ended.is_set() or not count:
-                    try:
-                        await call()
-                        count += 1 if ended.is_set() else 0
-                    except ConnectionLost as fault:
-                        assert fault.line == "step shared"
-                        lost.append(fault)
-                    except Unavailable:
-                        pass
-
-            both = [
-                asyncio.ensure_future(step(call))
-                for call in (lambda: asyncio.to_thread(book.step, "shared"), lambda: other.step("shared"))
-            ]
+            both = [asyncio.ensure_future(steps_until(call, ended, lost)) for call in calls]
             await asyncio.sleep(0.2)
             await cluster.end_server(number, signal.SIGKILL if turn % 2 == 0 else signal.SIGTERM)
             ended.set()
@@ -458,9 +442,8 @@ async def client_follows(words):
         taken = await told(lambda: works(other))
         history = await told(other.history)
         assert taken and history[-len(taken) :] == taken
-        standby = cluster.addresses[(await cluster.leader() + 1) % 3]
-        reading = await asyncio.to_thread(Book.connect, standby)
-        assert await told(lambda: asyncio.to_thread(reading.history)) == history
+        for each in cluster.addresses:
+            assert await told(lambda each=each: asyncio.to_thread(history_at, each)) == history
         await cluster.until(lambda: refuses_a_step(cluster))
         await told(lambda: asyncio.to_thread(copy_is_the_log, cluster, address))
         for number in range(3):
@@ -468,6 +451,26 @@ async def client_follows(words):
         await cluster.until(lambda: lacks_quorum(address))
         await other.close()
         return f"{len(lost)} calls were under way at {2 * words.times} ends, {len(history)} steps"
+
+
+async def steps_until(call, ended, lost):
+    """Takes steps, until one was taken since the leader has ended. What was under way then is lost."""
+    is_over = False
+    while not is_over:
+        try:
+            await call()
+            is_over = ended.is_set()
+        except ConnectionLost as fault:
+            assert fault.line == "step shared"
+            lost.append(fault)
+        except Unavailable:
+            pass
+
+
+def history_at(address):
+    """The history, as one server answers it."""
+    with Book.connect(address) as book:
+        return book.history()
 
 
 async def works(book):
@@ -635,44 +638,53 @@ async def secured(words):
         number = await cluster.leader()
         await cluster.end_server(number)
         await asyncio.to_thread(step_at_last, book)
+        await other.close()
         cluster.start_server(number)
         await cluster.ask(number, "history")
-        strangers = Authority(cluster.room / "strangers")
-        for files in (strangers.files("stranger"), (*strangers.files("guest")[:2], cluster.caller_files[2])):
-            await cluster.until(lambda files=files: is_refused_for_certificate(address, files))
-        plain = await Connection.open(cluster.addresses[0])
-        assert await plain.ask("history", 5) is None, "a caller without TLS is answered"
-        files = ",".join(cluster.caller_files)
-        status = await asyncio.to_thread(run_command, cluster.server_words(0) + ["--cluster-status"])
-        assert status.returncode == 0 and "leads since" in status.stdout and " 0 behind" in status.stdout, status
-        copy = [
-            "-m",
-            "rollback_client.copy",
-            address,
-            str(cluster.room / "copy.db"),
-            "--program",
-            PROGRAM,
-            "--tls",
-            files,
-        ]
-        done = await asyncio.to_thread(run_command, [sys.executable, *copy])
-        assert done.returncode == 0 and done.stdout.startswith("ok "), done
-        shell = ["-m", "rollback_client.shell", address, "--tls", files, "-c", "show big"]
-        done = await asyncio.to_thread(run_command, [sys.executable, *shell])
-        assert done.returncode == 0 and "big" in done.stdout, done
-        entries = [line for path in cluster.room.glob("log?") for line in path.read_text(encoding="utf-8").splitlines()]
-        assert any('"name": "caller"' in line for line in entries), "the log file doesn't say who called"
-        # A server whose own certificate etcd doesn't take says so, and refuses by name.
-        await cluster.end_server(0, signal.SIGTERM)
-        wrong = ("--etcd-tls", ",".join(strangers.files("wrong")))
-        cluster.start_server(0, words=wrong)
-        connection = await cluster.until(lambda: cluster.connect(0))
-        assert await connection.ask("history", PATIENCE) in ("no 40 election", "no 40 quorum")
-        await cluster.until(refuses_for_quorum(cluster))
-        assert "CERTIFICATE" in cluster.errors(0).upper(), cluster.errors(0)[-500:]
-        connection.close()
-        await other.close()
+        await takes_certificates(cluster, address)
+        await refuses_certificates(cluster, address)
         return "served, and refused, by certificates"
+
+
+async def takes_certificates(cluster, address):
+    """All commands take a certificate, and the log file says whose it was."""
+    files = ",".join(cluster.caller_files)
+    client = [sys.executable, "-m"]
+    copy = ["rollback_client.copy", address, str(cluster.room / "copy.db"), "--program", PROGRAM, "--tls", files]
+    shell = ["rollback_client.shell", address, "--tls", files, "-c", "show big"]
+    await cluster.until(does_well(cluster.server_words(0) + ["--cluster-status"], "leads since", " 0 behind"))
+    await cluster.until(does_well(client + copy, "ok "))
+    await cluster.until(does_well(client + shell, "big"))
+    entries = [line for path in cluster.room.glob("log?") for line in path.read_text(encoding="utf-8").splitlines()]
+    assert any('"name": "caller"' in line for line in entries), "the log file doesn't say who called"
+
+
+async def refuses_certificates(cluster, address):
+    """Callers with other certificates, or none, are refused. A server that etcd refuses for its own says so, and refuses by name."""
+    strangers = Authority(cluster.room / "strangers")
+    for files in (strangers.files("stranger"), (*strangers.files("guest")[:2], cluster.caller_files[2])):
+        await cluster.until(lambda files=files: is_refused_for_certificate(address, files))
+    plain = await Connection.open(cluster.addresses[0])
+    assert await plain.ask("history", 5) is None, "a caller without TLS is answered"
+    plain.close()
+    await cluster.end_server(0, signal.SIGTERM)
+    cluster.start_server(0, words=("--etcd-tls", ",".join(strangers.files("wrong"))))
+    connection = await cluster.until(lambda: cluster.connect(0))
+    assert await connection.ask("history", PATIENCE) in ("no 40 election", "no 40 quorum")
+    await cluster.until(refuses_for_quorum(cluster))
+    assert "CERTIFICATE" in cluster.errors(0).upper(), cluster.errors(0)[-500:]
+    connection.close()
+
+
+def does_well(command, *said):
+    """Whether a command ends well and says this. A busy server may be too slow for it, and then it is given again."""
+
+    async def ends_well():
+        done = await asyncio.to_thread(run_command, command)
+        assert done.returncode == 0 and all(text in done.stdout for text in said), done
+        return True
+
+    return ends_well
 
 
 def refuses_for_quorum(cluster):
@@ -747,18 +759,28 @@ async def begins_by_a_copy(cluster, history):
 async def shows_who_leads(cluster):
     """The status says who leads and how far the others are, and ends with 1 if one is gone."""
     words = cluster.server_words(1) + ["--cluster-status"]
-    found = await asyncio.to_thread(run_command, words)
-    leader = cluster.addresses[await cluster.leader()]
-    assert found.returncode == 0, found
-    assert (
-        f"book orders: {leader} leads since revision" in found.stdout and "the log has 1405 lines" in found.stdout
-    ), found
-    assert found.stdout.count("1405 lines, 0 behind") == 3 and found.stdout.count("answers, ") == 3, found
+    await cluster.until(lambda: says_all_are_there(cluster, words))
     await cluster.end_server(0)
     found = await asyncio.to_thread(run_command, words)
     assert found.returncode == 1 and "doesn't answer" in found.stdout, found
     cluster.start_server(0)
     await cluster.ask(0, "history")
+
+
+async def says_all_are_there(cluster, words):
+    """Whether the status says that all are there, and who leads."""
+    leader = cluster.addresses[await cluster.leader()]
+    found = await asyncio.to_thread(run_command, words)
+    assert found.returncode == 0, found
+    assert f"book orders: {leader} leads since revision" in found.stdout, found
+    assert "the log has 1405 lines" in found.stdout, found
+    assert found.stdout.count("1405 lines, 0 behind") == 3 and found.stdout.count("answers, ") == 3, found
+    return True
+
+
+async def refusal_of_leader(cluster):
+    """How others refuse lines while a server leads."""
+    return f"no 40 leader {cluster.addresses[await cluster.leader()]}"
 
 
 async def stands_aside(cluster):
@@ -770,9 +792,8 @@ async def stands_aside(cluster):
     other.chmod(0o755)
     cluster.start_server(number, other)
     connection = await cluster.until(lambda: cluster.connect(number))
-    wanted = f"no 40 leader {cluster.addresses[await cluster.leader()]}"
-    while (reply := await connection.ask("history", PATIENCE)) != wanted:
-        assert reply == "no 40 election", reply
+    while (reply := await connection.ask("history", PATIENCE)) != await refusal_of_leader(cluster):
+        assert (reply or "").startswith("no 40 "), reply
         await asyncio.sleep(0.05)
     connection.close()
     assert cluster.events("aside"), "the log file doesn't say that it stands aside"
