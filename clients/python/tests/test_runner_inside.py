@@ -178,14 +178,14 @@ class Runs(Inside):
             book.define("loop", LOOP)
             for number in range(10):
                 book.start(f"e{number}", "loop", {})
-            before = number = 0
-            # a busy machine may begin the follower after the first copies
-            while number < 5 or before <= 10 and number < 300:
-                lines, steps = copy_book(server.address, self.path(f"copy{number}"), PROGRAM, 60)
+            self.until(lambda: len(book.history()) > 20)
+            before = 20
+            for number in range(5):
+                lines, steps = copy_book(server.address, self.path(f"copy{number}"), PROGRAM, PATIENCE)
                 self.assertEqual(lines, 2 + steps)
                 self.assertGreaterEqual(steps, before)
-                before, number = steps, number + 1
-            self.assertGreater(before, 10)
+                before = steps
+            self.until(lambda: len(book.history()) > before)
             book.pause()
 
     def test_a_standing_runner_beside_the_one_inside(self):
