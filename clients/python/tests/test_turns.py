@@ -124,25 +124,23 @@ class LinesOfACaller(unittest.TestCase):
 
 class Turns(Served):
     def test_shows_beside_a_long_drive(self):
-        """Ten shows at least, one after another, are answered while a drive goes on: none waits for all of it.
+        """Ten shows at least, one after another, are answered amid a drive: none waits for all of it.
 
         Another process may hold the caller up for as long as the drive takes, so it is tried a few times.
         """
         self.assertTrue(any(self.shows_beside_a_drive() >= 10 for _ in range(5)))
 
     def shows_beside_a_drive(self):
-        """How many shows of another caller are answered before a drive is."""
+        """How many shows of another caller see that a drive has begun and isn't over."""
         # Each step fills a template, so that the drive takes seconds, and a moment of another process is little beside it.
         fill = {"Type": "Pass", "Parameters": {f"field{number}": number for number in range(100)}, "Next": "A"}
         server = self.begun(machine={"StartAt": "A", "States": {"A": fill}}, journal=None)
         with Book.connect(server.address) as driver, Book.connect(server.address) as other:
             driver.start("a", "p", {})
-            driver.start("b", "p", {})
             with concurrent.futures.ThreadPoolExecutor(1) as threads:
                 drive, count = threads.submit(driver.drive, 20000), 0
                 while not drive.done():
-                    other.show("b")
-                    count += not drive.done()
+                    count += 0 < other.show("a").moves < 20000
                 self.assertEqual(drive.result(), [Step("a", number) for number in range(1, 20001)])
         server.end()
         return count
